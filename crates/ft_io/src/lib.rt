@@ -3,9 +3,19 @@
 #![tactic(auto)]
 
 mod failed;
+mod file_shelf;
+mod memory_shelf;
+mod memory_sink;
 mod shelf;
 mod sink;
+mod std_sink;
+#[cfg(test)]
+mod tests;
 
 pub use failed::Failed;
+pub use file_shelf::FileShelf;
+pub use memory_shelf::MemoryShelf;
+pub use memory_sink::MemorySink;
 pub use shelf::Shelf;
 pub use sink::Sink;
+pub use std_sink::StdSink;
