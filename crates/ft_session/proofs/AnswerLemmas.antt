@@ -1,0 +1,68 @@
+-- Replies that are written one after the other.
+use Rattle.std.proofs.Common.{◌≡◌, ◌∙◌, sym, ap, refl, ℕ, ◌+◌, ◌<◌, Bool, true, false, ◌||◌, List, [], ◌∷◌, ◌++◌, length, drop, get_or, append_assoc}
+use Rattle.std.specs.Prelude.{Option, Some, None}
+use Rattle.std.proofs.lemmas.List.{append-nil, at_drop_more}
+use Rattle.ft_session.specs.declared.command.Command.{Command}
+use Rattle.ft_session.specs.Commands.{commands}
+use Rattle.ft_session.specs.Step.{State, opening, replies, step}
+use Rattle.ft_session.specs.Output.{replies_to}
+use Rattle.ft_session.specs.Run.{TookFront, with_text}
+use Rattle.ft_session.proofs.WrittenLemmas.{with_text_twice}
+
+-- a sink that held `before` holds `now`; with the rest it would hold all
+pub record WrittenSoFar (before now : Option (List ℕ)) (rest all : List ℕ) : Type 0 where
+  pub done : List ℕ
+  pub whole : done ++ rest ≡ all
+  pub holds : now ≡ with_text before done
+
+with_nothing : (before : Option (List ℕ)) → before ≡ with_text before []
+with_nothing None = refl
+with_nothing (Some bytes) = ap Some (sym (append-nil bytes))
+
+-- one more text is written
+pub written_more : (before now next : Option (List ℕ)) (text rest all : List ℕ) → WrittenSoFar before now (text ++ rest) all → next ≡ with_text now text → WrittenSoFar before next rest all
+written_more before now next text rest all so_far wrote = record {
+  done = so_far.done ++ text;
+  whole = append_assoc so_far.done text rest ∙ so_far.whole;
+  holds = wrote ∙ (ap (λ w. with_text w text) so_far.holds ∙ with_text_twice before so_far.done text);
+}
+
+-- a front of one more text is written
+pub front_more : (before now next : Option (List ℕ)) (text rest all : List ℕ) → WrittenSoFar before now (text ++ rest) all → TookFront now next text → TookFront before next all
+front_more before now next text rest all so_far took = record {
+  front = so_far.done ++ took.front;
+  rest = took.rest ++ rest;
+  whole = append_assoc so_far.done took.front (took.rest ++ rest)
+      ∙ (ap (λ t. so_far.done ++ t) (sym (append_assoc took.front took.rest rest) ∙ ap (λ t. t ++ rest) took.whole) ∙ so_far.whole);
+  took = took.took ∙ (ap (λ w. with_text w took.front) so_far.holds ∙ with_text_twice before so_far.done took.front);
+}
+
+-- nothing or all of a text is written
+pub front_nothing : (before : Option (List ℕ)) (text : List ℕ) → TookFront before before text
+front_nothing before text = record { front = []; rest = text; whole = refl; took = with_nothing before }
+
+pub front_all : (before after : Option (List ℕ)) (text : List ℕ) → after ≡ with_text before text → TookFront before after text
+front_all before after text wrote = record { front = text; rest = []; whole = append-nil text; took = wrote }
+
+pub written_all : (before now : Option (List ℕ)) (all : List ℕ) → WrittenSoFar before now [] all → now ≡ with_text before all
+written_all before now all so_far = so_far.holds ∙ ap (with_text before) (sym (append-nil so_far.done) ∙ so_far.whole)
+
+-- the replies to all commands, from the opening state
+pub replies_to-commands : (state : State) (found : List Command) (session : List ℕ) → state ≡ opening → found ≡ commands session → replies state found ≡ replies_to session
+unfolding replies_to
+replies_to-commands state found session opened all = ap (λ s. replies s found) opened ∙ ap (replies opening) all
+
+pub written_start : (before : Option (List ℕ)) (text all : List ℕ) → text ≡ all → WrittenSoFar before before text all
+written_start before text all same = record { done = []; whole = same; holds = with_nothing before }
+
+-- the reply to the next command, and those to what is left
+pub replies-next : (state next : State) (found : List Command) (at : ℕ) (command : Command) → at < length found → command ≡ get_or found at command → next ≡ (step state command).0
+    → replies state (drop at found) ≡ (step state command).1 ∷ replies next (drop (at + 1) found)
+replies-next state next found at command within is after =
+    at_drop_more (replies state) found at command within
+    ∙ (ap (λ (c : Command). replies state (c ∷ drop (at + 1) found)) (sym is)
+    ∙ ap (λ s. (step state command).1 ∷ replies s (drop (at + 1) found)) (sym after))
+
+pub or_assoc : (a b c : Bool) → ((a || b) || c) ≡ (a || (b || c))
+or_assoc true b c = refl
+or_assoc false b c = refl

@@ -1,0 +1,13 @@
+pub mod AnswerLemmas
+pub mod BlockLemmas
+pub mod CommandLemmas
+pub mod LineLemmas
+pub mod PlaceLemmas
+pub mod PlainJoined
+pub mod QueryLemmas
+pub mod ReadLemmas
+pub mod ReadingLemmas
+pub mod SessionLemmas
+pub mod TreeLemmas
+pub mod WordLemmas
+pub mod WrittenLemmas

@@ -1,0 +1,50 @@
+-- Each reply stands behind those before it.
+use Rattle.std.proofs.Common.{◌≡◌, ◌∙◌, sym, ap, refl, subst, ◌||◌, ◌∷◌, ◌++◌, ◌+◌, ℕ, List, drop}
+use Rattle.std.specs.List.{flat_map, list_any}
+use Rattle.std.proofs.lemmas.Result.{err_from_is_err_and}
+use Rattle.ft_session.specs.declared.reply.Reply.{Reply}
+use Rattle.ft_session.specs.Output.{output}
+use Rattle.ft_session.specs.Reply.{is_refusal, reply_text}
+use Rattle.ft_session.specs.Step.{replies, step}
+use Rattle.ft_session.proofs.AnswerLemmas.{WrittenSoFar, front_more, or_assoc, replies-next, replies_to-commands, written_more, written_start}
+use Rattle.ft_session.proofs.answering.answer_session.Goals as goal
+
+pub loop-command-init : goal.loop-command-init
+loop-command-init g c =
+    let session = c.args.bytes.now in
+    let items = c.as_slice-command-items.result.now in
+    let all = replies_to-commands c.in_ok-session.session items session c.in_ok-session.ensures (c.as_slice-command-items.ensures ∙ c.in_ok-commands.ensures) in
+    record {
+      written = written_start (g.K.Sink.written c.args.sink.now) (flat_map reply_text (replies c.in_ok-session.session items)) (output session) (ap (flat_map reply_text) all);
+      refused = ap (list_any is_refusal) all;
+      faults = refl;
+    }
+
+pub loop-command-preserved : goal.loop-command-preserved
+loop-command-preserved g c =
+    let items = c.as_slice-command-items.result.now in
+    let at = c.loop-command.command-index in
+    let reply = (step c.loop-command.session c.command-item.result).1 in
+    let left = replies c.answer.new.session (drop (at + 1) items) in
+    let next = replies-next c.loop-command.session c.answer.new.session items at c.command-item.result c.loop-command-test.true c.command-item.is c.in_ok-refused.ensures.state in
+    record {
+      written = written_more (g.K.Sink.written c.args.sink.now) (g.K.Sink.written c.loop-command.sink) (g.K.Sink.written c.answer.new.sink) (reply_text reply) (flat_map reply_text left) (output c.args.bytes.now)
+          (subst (λ (rs : List Reply). WrittenSoFar (g.K.Sink.written c.args.sink.now) (g.K.Sink.written c.loop-command.sink) (flat_map reply_text rs) (output c.args.bytes.now)) next c.loop-command.invariant.written)
+          c.in_ok-refused.ensures.written;
+      refused = or_assoc c.loop-command.refused c.in_ok-refused.field-0 (list_any is_refusal left)
+          ∙ (ap (λ b. c.loop-command.refused || (b || list_any is_refusal left)) c.in_ok-refused.ensures.refused
+          ∙ (sym (ap (λ (rs : List Reply). c.loop-command.refused || list_any is_refusal rs) next) ∙ c.loop-command.invariant.refused));
+      faults = c.in_ok-refused.ensures.faults ∙ c.loop-command.invariant.faults;
+    }
+
+pub returns-in_err-refused-clause-front : goal.returns-in_err-refused-clause-front
+returns-in_err-refused-clause-front g c =
+    let p = err_from_is_err_and c.from_residual-in_err-refused.result c.from_residual-in_err-refused.ensures.1 in
+    let items = c.as_slice-command-items.result.now in
+    let at = c.loop-command.command-index in
+    let now = step c.loop-command.session c.command-item.result in
+    let left = replies now.0 (drop (at + 1) items) in
+    let next = replies-next c.loop-command.session now.0 items at c.command-item.result c.loop-command-test.true c.command-item.is refl in
+    rw p.1 (front_more (g.K.Sink.written c.args.sink.now) (g.K.Sink.written c.loop-command.sink) (g.K.Sink.written c.answer.new.sink) (reply_text now.1) (flat_map reply_text left) (output c.args.bytes.now)
+    (subst (λ (rs : List Reply). WrittenSoFar (g.K.Sink.written c.args.sink.now) (g.K.Sink.written c.loop-command.sink) (flat_map reply_text rs) (output c.args.bytes.now)) next c.loop-command.invariant.written)
+    c.in_err-refused.ensures.front)

@@ -1,0 +1,11 @@
+pub mod Status
+pub mod Lines
+pub mod Commands
+pub mod PlainBlock
+pub mod ReadingView
+pub mod Query
+pub mod QueryView
+pub mod Reply
+pub mod Step
+pub mod Output
+pub mod Run

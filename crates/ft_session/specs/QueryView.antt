@@ -1,0 +1,21 @@
+-- What the code of a query holds, as the query and the places that it means.
+use Rattle.std.specs.Prelude.{◌≡◌, ℕ, List, map, unwrap_or, count_by, String}
+use Rattle.std.specs.Str.{bytes_eq}
+use Rattle.std.specs.HashMap.{HashMap, get_by_text}
+use Rattle.ft_session.specs.declared.query.AskedElements.{AskedElements}
+use Rattle.ft_session.specs.declared.query.PlaceStep.{PlaceStep}
+use Rattle.ft_session.specs.Query.{Asked, Step}
+
+abbrev pub asked : AskedElements → Asked
+asked q = record { name = q.name.now; word = q.word.now }
+
+abbrev pub step : PlaceStep → Step
+step s = record { name = s.name.now; number = s.number }
+
+-- the count of a name, 0 for a name that was not counted
+abbrev pub count_of : {Y S : Type 0} → HashMap (String Y) ℕ S → List ℕ → ℕ
+count_of counts name = unwrap_or (get_by_text counts name) 0
+
+-- each name is counted as often as it is among these
+abbrev pub IsCountOf : {Y S : Type 0} → HashMap (String Y) ℕ S → List (List ℕ) → Type 0
+IsCountOf counts names = (name : List ℕ) → count_of counts name ≡ count_by (bytes_eq name) names

@@ -1,0 +1,92 @@
+ghost use Rattle.std.specs.Prelude.{◌≡◌, ◌⊎◌, ◌↔◌, ◌+◌, ◌^◌, ◌<◌, ◌≤◌, None, length, map, IfSome, IsSomeAnd, string_bytes};
+ghost use Rattle.std.specs.Option.{ForSome, option_copied};
+ghost use Rattle.ft_io.specs.Shelf.{bytes_of, told_bytes};
+ghost use Rattle.ft_session.specs.Output.{output};
+ghost use Rattle.ft_session.specs.Run.{AnswersAll, IsFinished, TookFront, first_of, is_file_word, session_file, with_text};
+
+use crate::answering::{AnswerError, answer_session};
+use crate::reading::{ReadError, read_session};
+use crate::status::Status;
+use ft_io::{Shelf, Sink};
+use std::alloc::Global;
+use std::marker::Brand;
+use std::sync::ledger::Blank;
+
+/// The session's file that the words of a call name: one word that isn't empty and doesn't begin with a hyphen.
+fn file_of(words: &[String]) -> Option<&str>
+    ensures { option_copied result ≡ session_file (map string_bytes words.now) }
+{
+    match words {
+        [word] if !word.is_empty() && !word.starts_with("-") => Some(word.as_str()),
+        _ => None,
+    }
+}
+
+/// Reads the session's file that the words name, does its commands in order and writes the reply to each.
+///
+/// The words are the arguments of a call, without the program's name. The session is read whole before its first command
+/// is done.
+pub fn run<S: Shelf, K: Sink>(
+    alloc: Global,
+    words: &[String],
+    shelf: &mut S,
+    sink: &mut K,
+) -> Status
+    requires fresh { ForSome (first_of (map string_bytes words.now)) (λ name. S.reached shelf.old name ≡ 0) }
+    requires shelf_countable { ForSome (first_of (map string_bytes words.now)) (λ name. S.faults shelf.old name + 1 < 2 ^ 64) }
+    requires sink_countable { K.faults sink.old + 1 < 2 ^ 64 }
+
+    // The headline: the replies to the session's commands, in order, and which of the two statuses it is.
+    ensures answers { IsFinished result → IfSome (session_file (map string_bytes words.now)) (λ name.
+        IfSome (S.files shelf.old) (λ files. IsSomeAnd (bytes_of files name) (λ session.
+        AnswersAll session (S.reached shelf.new name) (K.written sink.old) (K.written sink.new) result))) }
+    ensures limit { IsFinished result → IfSome (session_file (map string_bytes words.now)) (λ name. S.reached shelf.new name ≤ 67108864) }
+
+    // Whatever the status, no more than a front of those replies is written.
+    ensures front { IfSome (session_file (map string_bytes words.now)) (λ name. IfSome (told_bytes (S.files shelf.old) name) (λ session.
+        TookFront (K.written sink.old) (K.written sink.new) (output session))) }
+
+    // The words name no session's file.
+    ensures usage { (result ≡ Status.Usage) ↔ (session_file (map string_bytes words.now) ≡ None) }
+    ensures usage_leaves_shelf { result ≡ Status.Usage → shelf.new ≡ shelf.old }
+    ensures usage_leaves_sink { result ≡ Status.Usage → sink.new ≡ sink.old }
+
+    // A fault is one that was counted in this call, under the session's name or at the sink.
+    ensures read_fault { result ≡ Status.ReadFault → IfSome (session_file (map string_bytes words.now)) (λ name.
+        S.faults shelf.old name < S.faults shelf.new name) }
+    ensures read_fault_leaves_sink { result ≡ Status.ReadFault → sink.new ≡ sink.old }
+    ensures write_fault { result ≡ Status.WriteFault → K.faults sink.old < K.faults sink.new }
+
+    // The session is too long.
+    ensures too_long { IfSome (session_file (map string_bytes words.now)) (λ name.
+        (result ≡ Status.TooLong) ↔ ((S.reached shelf.new name ≡ 67108865) × (K.faults sink.new ≡ K.faults sink.old))) }
+    ensures too_long_leaves_sink { result ≡ Status.TooLong → sink.new ≡ sink.old }
+
+    // Where nothing fails and the session isn't too long, it is answered, unless memory runs out.
+    ensures complete { IfSome (session_file (map string_bytes words.now)) (λ name.
+        S.faults shelf.new name ≡ S.faults shelf.old name → K.faults sink.new ≡ K.faults sink.old →
+        IfSome (told_bytes (S.files shelf.old) name) (λ session. length session ≤ 67108864 →
+        IsFinished result ⊎ (result ≡ Status.Memory))) }
+{
+    let Some(name) = file_of(words) else {
+        return Status::Usage;
+    };
+    let session = match read_session(alloc, name, shelf) {
+        Ok(session) => session,
+        Err(ReadError::Fault) => return Status::ReadFault,
+        Err(ReadError::TooLong) => return Status::TooLong,
+        Err(ReadError::Memory) => return Status::Memory,
+    };
+    match answer_session::<K, Brand, Brand>(
+        alloc,
+        session.as_slice(),
+        sink,
+        Blank::new(1),
+        Blank::new(1),
+    ) {
+        Ok(true) => Status::SomeRefused,
+        Ok(false) => Status::Done,
+        Err(AnswerError::Fault) => Status::WriteFault,
+        Err(AnswerError::Memory) => Status::Memory,
+    }
+}
