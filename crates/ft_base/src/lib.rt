@@ -1,21 +1,50 @@
 //! What every crate of the search engine shares: the answer for want of memory, lists and lines that contracts see
-//! as plain lists, a counter of steps that takes no bytes, and the limits of a session.
+//! as plain lists, a counter of steps that takes no bytes, the limits of a session, and the plain types of full-text
+//! queries: words with their options and filters, tokens, hits and Matches.
 #![tactic(auto)]
 
+mod filter;
+mod hit;
 mod items;
 mod limits;
 mod line;
 mod memory;
+mod options;
+mod places;
+mod range;
+mod span;
 mod steps;
+mod token;
+mod unit;
+mod walk;
+mod words;
 
+pub use filter::Filter;
+pub use hit::{Hit, Match};
 pub use items::Items;
-pub use limits::{MAX_DEPTH, MAX_DOCUMENTS, MAX_NODES, MAX_PIECE_BYTES, MAX_SESSION_BYTES};
+pub use limits::{
+    MAX_DEPTH, MAX_DOCUMENTS, MAX_NODES, MAX_PIECE_BYTES, MAX_SESSION_BYTES, MAX_TOKENS,
+};
 pub use line::Line;
 pub use memory::Memory;
+pub use options::{Case, Options, StopChoice, StopSource, StopTerm, ThesaurusChoice, ThesaurusUse};
+pub use places::{Breaks, Places};
+pub use range::Range;
+pub use span::Span;
 pub use steps::Steps;
+pub use token::Token;
+pub use unit::TextUnit as Unit;
+pub use walk::walks;
+pub use words::{Mode, Words};
 
 /// A list of bytes.
 pub type Bytes = Items<u8>;
 
 /// A list of lines.
 pub type Lines = Items<Line>;
+
+/// The terms of a stop word option.
+pub type StopTerms = Items<StopTerm>;
+
+/// The choices of a thesaurus option.
+pub type ThesaurusUses = Items<ThesaurusUse>;

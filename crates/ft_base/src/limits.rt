@@ -12,3 +12,6 @@ pub const MAX_DEPTH: usize = 200;
 
 /// How many nodes a document may have, elements and texts together.
 pub const MAX_NODES: usize = 1_000_000;
+
+/// How many tokens a document may have.
+pub const MAX_TOKENS: usize = 1_000_000;

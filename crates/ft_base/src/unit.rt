@@ -1,0 +1,7 @@
+/// What a window or a distance counts (the standard's FTUnit).
+#[derive(Clone, Copy, Debug, PartialEq, Eq)]
+pub enum TextUnit {
+    Words,
+    Sentences,
+    Paragraphs,
+}
