@@ -1,5 +1,5 @@
 -- A block that is read line by line.
-use Rattle.std.proofs.Common.{◌≡◌, ◌∙◌, sym, ap, refl, ℕ, ◌+◌, ◌-◌, suc, Bool, true, false, not, cond, ◌||◌, List, [], ◌∷◌, ◌++◌, length, take, map, arith, append_assoc, length-append}
+use Rattle.std.proofs.Common.{◌≡◌, ◌∙◌, sym, ap, refl, ℕ, ◌+◌, ◌-◌, suc, true, false, not, cond, ◌||◌, List, [], ◌∷◌, ◌++◌, length, take, map, arith, append_assoc, length-append}
 use Rattle.std.specs.Prelude.{Option, Some, None, if◌then◌else◌}
 use Rattle.std.specs.List.{list_any, take_while, prefix_len, join_with_byte}
 use Rattle.std.proofs.lemmas.List.{take_at, append-nil}

@@ -4,6 +4,8 @@ pub mod CommandLemmas
 pub mod LineLemmas
 pub mod PlaceLemmas
 pub mod PlainJoined
+pub mod PlainRead
+pub mod PlainSpelled
 pub mod QueryLemmas
 pub mod ReadLemmas
 pub mod ReadingLemmas

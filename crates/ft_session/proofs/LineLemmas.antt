@@ -1,6 +1,5 @@
 -- Lines and blanks, a byte at a time: what the loops that look for a line's end and for blanks have found so far.
-use Rattle.std.proofs.Common.{◌≡◌, ◌∙◌, sym, ap, refl, ℕ, ◌+◌, ◌-◌, ◌<◌, ◌≤◌, suc, Bool, true, false, not, cond, List, [], ◌∷◌, ◌++◌, length, take, drop, get_or, arith}
-use Rattle.std.proofs.lemmas.List.{take_more, take_all, drop_all}
+use Rattle.std.proofs.Common.{◌≡◌, ◌∙◌, sym, ap, refl, ℕ, ◌+◌, ◌<◌, suc, true, false, not, cond, List, [], ◌∷◌, ◌++◌, length, take, drop, arith}
 use Rattle.std.specs.List.{before_first, after_first, position_or_len, onto_first}
 use Rattle.ft_session.specs.Lines.{is_line_feed, is_blank, lines, trimmed_end, before_trimmed}
 

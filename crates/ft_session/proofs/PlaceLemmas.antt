@@ -1,11 +1,11 @@
 -- Places and lines of a list of children, child by child.
-use Rattle.std.proofs.Common.{◌≡◌, ◌∙◌, sym, ap, refl, ℕ, ◌+◌, ◌<◌, Bool, true, false, cond, List, [], ◌∷◌, ◌++◌, length, map, drop, take, get_or, append_assoc, zero-add}
+use Rattle.std.proofs.Common.{◌≡◌, ◌∙◌, sym, ap, refl, ℕ, ◌+◌, ◌<◌, true, false, cond, List, [], ◌∷◌, ◌++◌, length, map, drop, take, get_or, zero-add}
 use Rattle.std.specs.Prelude.{filter, count_by}
 use Rattle.std.specs.Str.{bytes_eq}
 use Rattle.std.specs.List.{flat_map}
 use Rattle.std.proofs.lemmas.List.Sums.{sum_by-append}
-use Rattle.std.proofs.lemmas.List.{at_drop_more, take_more, map_push, flat_map_more, append-nil}
-use Rattle.plain_tree.specs.Document.{Node, element, text, nodes}
+use Rattle.std.proofs.lemmas.List.{at_drop_more, take_more, map_push, flat_map_more}
+use Rattle.plain_tree.specs.Document.{element, nodes}
 use Rattle.plain_tree.specs.View.{node}
 use Rattle.plain_tree.specs.declared.tree.Attr.{Attr}
 use Rattle.plain_tree.specs.declared.tree.Tree.{Tree}

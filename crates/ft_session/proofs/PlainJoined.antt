@@ -1,13 +1,13 @@
 -- The element that a plain block is has joined texts: none is empty, and no two are neighbours.
-use Rattle.std.proofs.Common.{◌≡◌, ◌∙◌, sym, ap, refl, ℕ, Bool, true, false, not, cond, ◌&&◌, List, [], ◌∷◌, ◌++◌}
+use Rattle.std.proofs.Common.{◌≡◌, ◌∙◌, ap, refl, ℕ, Bool, true, false, not, cond, ◌&&◌, List, [], ◌∷◌, ◌++◌}
 use Rattle.std.specs.Prelude.{Option, Some, None, IfSome, ◌==◌, nat_lt, length, is_some}
-use Rattle.plain_tree.specs.Document.{Node, element, text, nodes, is_text, is_joined, are_joined, begins_with_text, is_document}
+use Rattle.plain_tree.specs.Document.{Node, element, text, nodes, is_text, is_joined, are_joined, is_document}
 use Rattle.ft_session.specs.declared.plain_block.Part.{Part}
 use Rattle.ft_session.specs.declared.plain_block.Part.TheVariants.{Content, StartTag, EndTag}
 use Rattle.ft_session.specs.Commands.{is_empty}
 use Rattle.std.specs.Str.{bytes_eq}
 use Rattle.std.specs.Char.{is_ascii_alphabetic}
-use Rattle.ft_session.specs.PlainBlock.{Open, Reading, and_then_byte, in_content, in_start_tag, in_end_tag, is_content, ended, ended_in, ended_as, with_child, with_text, text_ended, opened, in_part, and_byte, by_part, start}
+use Rattle.ft_session.specs.PlainBlock.{Open, Reading, and_then_byte, in_content, in_start_tag, in_end_tag, is_content, ended_as, with_text, by_part, start}
 
 abbrev ends_with_text : List Node → Bool
 ends_with_text [] = false
@@ -22,7 +22,7 @@ ends_with_text-push (m ∷ k ∷ ns) n = ends_with_text-push (k ∷ ns) n
 both : (a b : Bool) → a ≡ true → b ≡ true → (a && b) ≡ true
 both a b h k = ap (λ t. t && b) h ∙ k
 
-parts : (a b : Bool) → (a && b) ≡ true → (a ≡ true) × (b ≡ true)
+pub parts : (a b : Bool) → (a && b) ≡ true → (a ≡ true) × (b ≡ true)
 parts true b h = (refl, h)
 parts false b h = absurd (let no : ⊥ = cc in no)
 

@@ -1,6 +1,6 @@
 -- Which query a path is.
 use Rattle.std.proofs.Common.{◌≡◌, ◌∙◌, sym, ap, refl, ℕ, ◌+◌, Bool, true, false, not, cond, ◌&&◌, List, length, drop}
-use Rattle.std.specs.Prelude.{Option, Some, None, ◌==◌}
+use Rattle.std.specs.Prelude.{Some, None, ◌==◌}
 use Rattle.std.specs.List.{before_first}
 use Rattle.std.specs.Str.{bytes_eq}
 use Rattle.ft_session.specs.Query.{Asked, is_asked_well, query_guess, query_of_path, query_text}

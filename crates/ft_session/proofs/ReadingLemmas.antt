@@ -1,7 +1,7 @@
 -- The reader's open elements, after a push.
 use Rattle.std.proofs.Common.{◌≡◌, ◌∙◌, ap, refl, List, [], ◌∷◌, ◌++◌, map}
-use Rattle.std.specs.Prelude.{reverse, Option, Some, None}
-use Rattle.std.proofs.lemmas.List.{map-append, reverse-append, map_push}
+use Rattle.std.specs.Prelude.{reverse, Option, Some}
+use Rattle.std.proofs.lemmas.List.{reverse-append, map_push}
 use Rattle.plain_tree.specs.View.{node}
 use Rattle.plain_tree.specs.declared.tree.Tree.{Tree}
 use Rattle.plain_tree.specs.Document.{Node}

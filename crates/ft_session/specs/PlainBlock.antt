@@ -1,6 +1,6 @@
 -- Plain blocks: one element, whose texts are letters, digits, spaces and line feeds, and whose elements have letters alone in
 -- their names and no attributes.
-use Rattle.std.specs.Prelude.{ℕ, Bool, true, false, not, ◌==◌, ◌&&◌, ◌||◌, ◌+◌, ◌≤◌, nat_le, nat_lt, max, if◌then◌else◌, List, [], ◌∷◌, ◌++◌, length, codes, Option, Some, None, is_some}
+use Rattle.std.specs.Prelude.{ℕ, suc, Bool, true, not, ◌==◌, ◌&&◌, ◌||◌, nat_le, nat_lt, max, if◌then◌else◌, List, [], ◌∷◌, ◌++◌, length, codes, Option, Some, None, is_some}
 use Rattle.std.specs.List.{list_all}
 use Rattle.std.specs.Option.{option_and_then}
 use Rattle.std.specs.Char.{is_ascii_alphabetic, is_ascii_alphanumeric}
@@ -115,3 +115,28 @@ abbrev mutual
   pub spelling_of_all : Nodes → List ℕ
   spelling_of_all no_nodes = []
   spelling_of_all (node_then node others) = spelling node ++ spelling_of_all others
+
+-- one or more letters
+abbrev pub is_letters : List ℕ → Bool
+is_letters name = not (is_empty name) && list_all is_ascii_alphabetic name
+
+-- A tree that plain blocks can spell: its names are letters, it has no attributes, and its texts are letters, digits, spaces
+-- and line feeds.
+abbrev mutual
+  pub is_plain : Node → Bool
+  is_plain (element name attributes children) = is_letters name && length attributes == 0 && are_plain children
+  is_plain (text bytes) = list_all is_content bytes
+
+  pub are_plain : Nodes → Bool
+  are_plain no_nodes = true
+  are_plain (node_then node others) = is_plain node && are_plain others
+
+-- the levels of elements in a tree, 1 for an element without elements inside
+abbrev mutual
+  pub height : Node → ℕ
+  height (element name attributes children) = suc (height_of_all children)
+  height (text bytes) = 0
+
+  pub height_of_all : Nodes → ℕ
+  height_of_all no_nodes = 0
+  height_of_all (node_then node others) = max (height node) (height_of_all others)

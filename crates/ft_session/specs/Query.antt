@@ -1,5 +1,5 @@
 -- Which elements a query selects, and the line that names each.
-use Rattle.std.specs.Prelude.{ℕ, Bool, false, not, ◌&&◌, ◌+◌, if◌then◌else◌, List, [], ◌∷◌, ◌++◌, length, map, drop, filter, codes, count_by, Option, Some, None, ◌==◌}
+use Rattle.std.specs.Prelude.{ℕ, Bool, not, ◌&&◌, ◌+◌, if◌then◌else◌, List, [], ◌∷◌, ◌++◌, length, map, drop, filter, codes, count_by, Option, Some, None, ◌==◌}
 use Rattle.std.specs.List.{before_first, list_any, list_all, flat_map, slice_split}
 use Rattle.std.specs.Char.{is_ascii_alphabetic, is_ascii_alphanumeric}
 use Rattle.std.specs.Str.{bytes_eq, str_eq_ignore_ascii_case}

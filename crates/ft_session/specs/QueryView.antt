@@ -1,5 +1,5 @@
 -- What the code of a query holds, as the query and the places that it means.
-use Rattle.std.specs.Prelude.{◌≡◌, ℕ, List, map, unwrap_or, count_by, String}
+use Rattle.std.specs.Prelude.{◌≡◌, ℕ, List, unwrap_or, count_by, String}
 use Rattle.std.specs.Str.{bytes_eq}
 use Rattle.std.specs.HashMap.{HashMap, get_by_text}
 use Rattle.ft_session.specs.declared.query.AskedElements.{AskedElements}

@@ -13,9 +13,12 @@ mod reply;
 mod running;
 mod session;
 mod status;
+#[cfg(test)]
+mod tests;
 mod writing;
 
 pub use command::{Command, Commands, commands};
+pub use plain_block::plain_blocks;
 pub use reply::{Refusal, Reply, print_reply};
 pub use running::run;
 pub use session::Session;

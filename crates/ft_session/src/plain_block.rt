@@ -1,8 +1,8 @@
-ghost use Rattle.std.specs.Prelude.{◌≡◌, IfOk, IsTrue, OnOk};
+ghost use Rattle.std.specs.Prelude.{ℕ, List, Some, length, ◌≡◌, ◌≤◌, IfOk, IsTrue, OnOk};
 ghost use Rattle.std.specs.Option.{ForSome, option_map};
-ghost use Rattle.plain_tree.specs.Document.{is_document};
+ghost use Rattle.plain_tree.specs.Document.{Node, is_document};
 ghost use Rattle.plain_tree.specs.View.{node};
-ghost use Rattle.ft_session.specs.PlainBlock.{is_content, plain_block};
+ghost use Rattle.ft_session.specs.PlainBlock.{height, is_content, is_plain, plain_block, spelling};
 ghost use Rattle.ft_session.specs.ReadingView.{AddsChild, open_list};
 
 use ft_base::{Line, MAX_DEPTH, Memory};
@@ -59,6 +59,14 @@ pub(crate) fn read_plain_block(alloc: Global, block: &[u8]) -> Result<Option<Pla
     }
     Ok(reading.finish())
 }
+
+/// The law of plain blocks, for the proofs of callers (a call does nothing): a block that is read as a tree is how that
+/// tree is spelled, and each document whose names are letters, whose texts are letters, digits, spaces and line feeds, that
+/// has no attributes, at most 200 levels of elements and a spelling of at most 1,000,000 bytes is read from its spelling.
+pub fn plain_blocks()
+    ensures spelled { (block : List ℕ) (root : Node) → plain_block block ≡ Some root → spelling root ≡ block }
+    ensures read { (root : Node) → IsTrue (is_document root) → IsTrue (is_plain root) → height root ≤ 200 → length (spelling root) ≤ 1000000 → plain_block (spelling root) ≡ Some root }
+{}
 
 /// A letter, a digit, a space or a line feed.
 fn can_stand_in_text(byte: u8) -> bool

@@ -1,5 +1,5 @@
 -- Each reply stands behind those before it.
-use Rattle.std.proofs.Common.{◌≡◌, ◌∙◌, sym, ap, refl, subst, ◌||◌, ◌∷◌, ◌++◌, ◌+◌, ℕ, List, drop}
+use Rattle.std.proofs.Common.{◌∙◌, sym, ap, refl, subst, ◌||◌, ◌+◌, List, drop}
 use Rattle.std.specs.List.{flat_map, list_any}
 use Rattle.std.proofs.lemmas.Result.{err_from_is_err_and}
 use Rattle.ft_session.specs.declared.reply.Reply.{Reply}

@@ -1,6 +1,6 @@
 -- The block ends with the line that closes it, or is open where no line does.
-use Rattle.std.proofs.Common.{◌≡◌, ◌∙◌, sym, ap, ◌-◌, ◌++◌, ◌∷◌, [], true, cond, length, take, arith, rules}
-use Rattle.std.specs.Prelude.{Some, None}
+use Rattle.std.proofs.Common.{◌≡◌, ◌∙◌, sym, ap, ◌-◌, ◌++◌, ◌∷◌, [], cond, take, arith, rules}
+use Rattle.std.specs.Prelude.{Some}
 use Rattle.std.proofs.lemmas.List.{nil_from_length}
 use Rattle.ft_session.specs.Commands.{unquoted}
 use Rattle.ft_session.specs.Lines.{lines}

@@ -1,5 +1,5 @@
 -- A path that is text is the query's path.
-use Rattle.std.proofs.Common.{◌≡◌, ◌∙◌, sym, ap}
+use Rattle.std.proofs.Common.{◌∙◌, sym, ap}
 use Rattle.ft_session.specs.declared.command.Command.TheVariants.{Query}
 use Rattle.ft_session.proofs.CommandLemmas.{query_of-text}
 use Rattle.ft_session.proofs.command.read_query.Goals as goal

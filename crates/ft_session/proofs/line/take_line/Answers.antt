@@ -1,5 +1,5 @@
 -- The first line ends at the first line feed, or is all there is.
-use Rattle.std.proofs.Common.{◌≡◌, ◌∙◌, sym, ap, ◌+◌, ◌-◌, ◌<◌, ◌≤◌, ◌∷◌, [], length, take, drop, arith}
+use Rattle.std.proofs.Common.{◌∙◌, sym, ap, ◌+◌, ◌≤◌, ◌∷◌, length, take, drop, arith}
 use Rattle.std.proofs.lemmas.List.{take_rest, take_all, drop_all}
 use Rattle.ft_session.specs.Lines.{lines}
 use Rattle.ft_session.proofs.LineLemmas.{lines_first}

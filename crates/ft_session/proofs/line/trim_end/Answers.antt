@@ -1,6 +1,6 @@
 -- The byte before the end goes where it is a blank, and stays with all before it where it isn't.
 use Rattle.std.proofs.Common.{◌≡◌, ◌∙◌, sym, ap, ◌-◌, ◌+◌, ◌<◌, ◌≤◌, ◌++◌, ◌∷◌, [], ℕ, List, length, take, get_or, arith}
-use Rattle.std.proofs.lemmas.List.{take_more, take_all}
+use Rattle.std.proofs.lemmas.List.{take_more}
 use Rattle.ft_session.specs.Lines.{trimmed_end}
 use Rattle.ft_session.proofs.LineLemmas.{trimmed_end_blank, trimmed_end_other}
 use Rattle.ft_session.proofs.line.trim_end.Goals.{then-loop-end-test+else-is_blank, else-loop-end-test}

@@ -1,5 +1,5 @@
 -- Only blanks stand behind the end.
-use Rattle.std.proofs.Common.{◌≡◌, ◌-◌, ◌≤◌, length, take}
+use Rattle.std.proofs.Common.{◌≡◌, ◌≤◌, length, take}
 use Rattle.ft_session.specs.Lines.{trimmed_end}
 use Rattle.ft_session.proofs.line.trim_end.Given as goal
 

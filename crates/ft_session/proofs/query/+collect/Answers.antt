@@ -1,11 +1,11 @@
 -- An element's line stands before those of what is below it.
-use Rattle.std.proofs.Common.{◌≡◌, ◌∙◌, sym, ap, ℕ, ◌+◌, List, [], ◌∷◌, ◌++◌, map, drop, take, cond, append_assoc}
+use Rattle.std.proofs.Common.{◌≡◌, ◌∙◌, sym, ap, ◌+◌, [], ◌∷◌, ◌++◌, map, take, cond, append_assoc}
 use Rattle.std.specs.Prelude.{count_by}
 use Rattle.std.specs.Str.{bytes_eq}
 use Rattle.std.proofs.lemmas.List.{append-nil, drop_all, map_push}
 use Rattle.plain_tree.specs.View.{node}
 use Rattle.plain_tree.specs.declared.tree.Tree.TheVariants.{Elem}
-use Rattle.ft_session.specs.Query.{Step, asked_lines, names, placed, placed_at, step_to}
+use Rattle.ft_session.specs.Query.{asked_lines, names, placed, placed_at, step_to}
 use Rattle.ft_session.specs.QueryView.{asked, step, count_of}
 use Rattle.ft_session.proofs.PlaceLemmas.{count_more, lines_below, names_element, names_of, names_text, placed_element, placed_text, same_step, step_by}
 use Rattle.ft_session.proofs.query.+collect.Goals as goal

@@ -1,8 +1,6 @@
 -- A child that has the word is enough.
-use Rattle.std.proofs.Common.{◌≡◌, ◌∙◌, sym, ap, ◌||◌, true, false, ◌+◌, drop}
-use Rattle.plain_tree.specs.View.{node}
-use Rattle.ft_session.specs.Query.{contains_word}
-use Rattle.ft_session.proofs.TreeLemmas.{contains_word-element, children_have, children_have-more}
+use Rattle.std.proofs.Common.{◌∙◌, sym, ap, ◌||◌, ◌+◌, drop}
+use Rattle.ft_session.proofs.TreeLemmas.{children_have, children_have-more}
 use Rattle.ft_session.proofs.query.+tree_has_word.Goals as goal
 
 pub returns-then-tree_has_word : goal.returns-then-tree_has_word

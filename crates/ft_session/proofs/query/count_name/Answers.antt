@@ -1,7 +1,6 @@
 -- The name has one more, every other name as many as before.
 use Rattle.std.proofs.Common.{arith}
 use Rattle.std.proofs.lemmas.Map.Text.{text_keys}
-use Rattle.std.proofs.lemmas.Grind.{text_counts}
 use Rattle.ft_session.proofs.query.count_name.Goals as goal
 
 pub returns-clause-counted : goal.returns-clause-counted

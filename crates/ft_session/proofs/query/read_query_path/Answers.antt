@@ -1,9 +1,9 @@
 -- The path is the query that it could be, or none.
-use Rattle.std.proofs.Common.{◌≡◌, ◌∙◌, sym, ap, ◌+◌, Bool, true, false, ◌&&◌, cond, length, drop}
+use Rattle.std.proofs.Common.{◌∙◌, sym, ap, true, false, ◌&&◌}
 use Rattle.std.specs.Prelude.{◌==◌}
 use Rattle.std.specs.Str.{bytes_eq}
 use Rattle.std.specs.List.{before_first}
-use Rattle.ft_session.specs.Query.{query_text, is_asked_well}
+use Rattle.ft_session.specs.Query.{query_text}
 use Rattle.ft_session.proofs.QueryLemmas.{query_of_path-guess, guess_is, asked_by, not_true, not_false}
 use Rattle.ft_session.proofs.query.read_query_path.Goals as goal
 

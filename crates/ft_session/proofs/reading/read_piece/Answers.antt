@@ -1,5 +1,5 @@
 -- The piece stands behind what was read before, as it does in the file.
-use Rattle.std.proofs.Common.{◌≡◌, ◌∙◌, ap, ◌+◌, ◌≤◌, ◌++◌, length, take, drop, arith}
+use Rattle.std.proofs.Common.{◌∙◌, ap, ◌++◌, take, drop, arith}
 use Rattle.ft_io.specs.Shelf.{told_bytes}
 use Rattle.ft_session.proofs.ReadLemmas.{told_front_grows}
 use Rattle.ft_session.proofs.reading.read_piece.Goals as goal

@@ -1,5 +1,5 @@
 -- What was read is the front of the file, and as long as the file was reached.
-use Rattle.std.proofs.Common.{◌≡◌, ◌-◌, ◌≤◌, length}
+use Rattle.std.proofs.Common.{◌≡◌, ◌-◌, ◌≤◌}
 use Rattle.std.specs.Prelude.{vec_len}
 use Rattle.ft_io.specs.Shelf.{told_bytes}
 use Rattle.ft_session.specs.Run.{BeginsWith}

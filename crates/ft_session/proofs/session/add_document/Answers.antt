@@ -1,15 +1,13 @@
 -- A name that is taken is found, and a new document is the last one.
-use Rattle.std.proofs.Common.{◌≡◌, ◌∙◌, sym, ap, true, false, ℕ, ◌∷◌, ◌++◌, [], List, length, map, rules}
+use Rattle.std.proofs.Common.{◌≡◌, ◌∙◌, sym, ap, true, false, ◌∷◌, ◌++◌, [], length, map, rules}
 use Rattle.std.specs.Prelude.{◌==◌, None}
 use Rattle.std.specs.Str.{bytes_eq}
 use Rattle.std.specs.HashMap.{get}
 use Rattle.std.proofs.lemmas.List.{length-map, map_push}
 use Rattle.indexmap.proofs.CallerLemmas.{insert_entry-new}
-use Rattle.plain_tree.specs.Document.{Node}
-use Rattle.ft_session.specs.declared.reply.Reply.{Reply}
 use Rattle.ft_session.specs.declared.reply.Reply.TheVariants.{Done, Refused}
 use Rattle.ft_session.specs.declared.reply.Refusal.TheVariants.{NameTaken}
-use Rattle.ft_session.specs.Step.{State, has_name, loaded, to_document}
+use Rattle.ft_session.specs.Step.{has_name, to_document}
 use Rattle.ft_session.proofs.SessionLemmas.{has_name-lookup, loaded-room, none-from_test, with_reply}
 use Rattle.ft_session.proofs.session.add_document.Goals as goal
 

@@ -1,5 +1,5 @@
 -- What a write took stands behind what the writes before it took.
-use Rattle.std.proofs.Common.{◌≡◌, ◌∙◌, sym, ap, ◌+◌, ◌≤◌, length, take, drop, arith}
+use Rattle.std.proofs.Common.{◌∙◌, sym, ap, take, drop, arith}
 use Rattle.std.proofs.Math.Seq.{take-add}
 use Rattle.std.proofs.lemmas.List.{take_rest, take-append-drop}
 use Rattle.std.proofs.lemmas.Result.{err_from_is_err_and}

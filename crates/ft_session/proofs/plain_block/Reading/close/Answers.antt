@@ -3,7 +3,6 @@ use Rattle.std.proofs.Common.{arith}
 use Rattle.std.proofs.lemmas.Grind.{common_steps}
 use Rattle.plain_tree.specs.View.{node}
 use Rattle.ft_session.specs.ReadingView.{open_list}
-use Rattle.std.specs.Prelude.{Some}
 use Rattle.plain_tree.specs.declared.tree.Tree.TheVariants.{Elem}
 use Rattle.std.specs.Option.{option_map}
 use Rattle.ft_session.proofs.ReadingLemmas.{ended_alone, reading_steps}
