@@ -1,0 +1,17 @@
+pub mod Bytes
+pub mod Spelled
+pub mod Moves
+pub mod Steps
+pub mod StepsOfTags
+pub mod Accepted
+pub mod Classes
+pub mod Walks
+pub mod WalksOfElements
+pub mod Completed
+pub mod CompletedTags
+pub mod Bottom
+pub mod Laws
+pub mod Joined
+pub mod Counts
+pub mod Passed
+pub mod PassedFaults

@@ -1,0 +1,7 @@
+pub mod Characters
+pub mod Grammar
+pub mod Machine
+pub mod Texts
+pub mod Reading
+pub mod Opened
+pub mod Limits

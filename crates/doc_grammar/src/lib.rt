@@ -1,0 +1,11 @@
+//! What a document is as text: its grammar, the texts that begin a document, the limits, and laws about them.
+#![tactic(auto)]
+
+ghost use Rattle.std.specs.Prelude.{◌≡◌, ℕ, List};
+ghost use Rattle.plain_tree.specs.Document.{Node};
+ghost use Rattle.doc_grammar.specs.Texts.{Kind, Spells};
+
+/// A text spells one document, or one fragment, at most.
+pub fn one_reading()
+    ensures { (kind : Kind) (text : List ℕ) (ks ls : List Node) → Spells kind text ks → Spells kind text ls → ks ≡ ls }
+{}
