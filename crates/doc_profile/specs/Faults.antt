@@ -1,0 +1,84 @@
+-- What each fault of a text says.
+use Rattle.std.specs.Prelude.{◌≡◌, ℕ, ◌+◌, ◌-◌, ◌≤◌, ◌<◌, ◌⊎◌, Bool, true, List, length, encode_utf8_all, ⊤}
+use Rattle.std.specs.Str.{IsUtf8, IsValidUpTo}
+use Rattle.doc_grammar.specs.Machine.{State}
+use Rattle.doc_grammar.specs.Texts.{Kind, GoesWrong}
+use Rattle.doc_grammar.specs.Limits.{Limit, depth_limit, node_limit, Passes, KeepsLimits, text_here, element_here, depth}
+use Rattle.doc_profile.specs.declared.fault.DocFault.{DocFault}
+use Rattle.doc_profile.specs.declared.fault.DocFault.TheVariants as faults
+
+-- the deepest level, and the most elements and texts
+abbrev pub max_depth : ℕ
+max_depth = 200
+
+abbrev pub max_nodes : ℕ
+max_nodes = 1_000_000
+
+-- the text passes no limit
+abbrev pub Fits : Kind → List ℕ → Type 0
+Fits kind text = (front : List ℕ) (limit : Limit) → Passes max_depth max_nodes kind text front limit → ⊥
+
+-- the place behind a front of a text that begins at the place `from`
+abbrev pub IsPlace : ℕ → List ℕ → ℕ → Type 0
+IsPlace from front at = at ≡ from + length (encode_utf8_all front)
+
+-- the text goes wrong at the place, and passes no limit before
+pub record SyntaxAt (kind : Kind) (text : List ℕ) (from at : ℕ) : Type 0 where
+  pub front : List ℕ
+  pub goes_wrong : GoesWrong kind text front
+  pub keeps : KeepsLimits max_depth max_nodes kind text front
+  pub is_place : IsPlace from front at
+
+-- elements stand too deep from the place on, and no limit is passed before
+pub record DepthAt (kind : Kind) (text : List ℕ) (from at : ℕ) : Type 0 where
+  pub front : List ℕ
+  pub passes : Passes max_depth max_nodes kind text front depth_limit
+  pub keeps : KeepsLimits max_depth max_nodes kind text front
+  pub is_place : IsPlace from front at
+
+-- there are too many nodes from the place on, elements don't stand too deep there, and no limit is passed before
+pub record NodesAt (kind : Kind) (text : List ℕ) (from at : ℕ) : Type 0 where
+  pub front : List ℕ
+  pub passes : Passes max_depth max_nodes kind text front node_limit
+  pub not_deep : Passes max_depth max_nodes kind text front depth_limit → ⊥
+  pub keeps : KeepsLimits max_depth max_nodes kind text front
+  pub is_place : IsPlace from front at
+
+-- a fault of characters, whose first stands at the place `from`
+abbrev pub FaultIn : Kind → List ℕ → ℕ → DocFault → Type 0
+FaultIn kind text from (faults.NotUtf8 at) = ⊥
+FaultIn kind text from (faults.Syntax at) = SyntaxAt kind text from at
+FaultIn kind text from (faults.Depth at) = DepthAt kind text from at
+FaultIn kind text from (faults.Nodes at) = NodesAt kind text from at
+FaultIn kind text from faults.Memory = ⊤
+
+-- The bytes are not UTF-8, and the place is where they stop to be.
+abbrev pub IsNotUtf8 : List ℕ → DocFault → Type 0
+IsNotUtf8 bytes (faults.NotUtf8 at) = ¬ (IsUtf8 bytes) × IsValidUpTo bytes at
+IsNotUtf8 bytes (faults.Syntax at) = ⊥
+IsNotUtf8 bytes (faults.Depth at) = ⊥
+IsNotUtf8 bytes (faults.Nodes at) = ⊥
+IsNotUtf8 bytes faults.Memory = ⊥
+
+-- a fault of bytes, whose text stands behind the place `from`
+abbrev pub FaultOf : Kind → List ℕ → List ℕ → ℕ → DocFault → Type 0
+FaultOf kind bytes text from (faults.NotUtf8 at) = ¬ (IsUtf8 bytes) × IsValidUpTo bytes at
+FaultOf kind bytes text from (faults.Syntax at) = IsUtf8 bytes × SyntaxAt kind text from at
+FaultOf kind bytes text from (faults.Depth at) = IsUtf8 bytes × DepthAt kind text from at
+FaultOf kind bytes text from (faults.Nodes at) = IsUtf8 bytes × NodesAt kind text from at
+FaultOf kind bytes text from faults.Memory = ⊤
+
+-- the next character passes no limit
+pub record FitsHere (s : State) (nodes : ℕ) (behind_return : Bool) (c : ℕ) : Type 0 where
+  pub text_fits : text_here s behind_return c ≡ true → nodes < max_nodes
+  pub shallow : element_here s c ≡ true → depth s.place.outer < max_depth
+  pub element_fits : element_here s c ≡ true → nodes < max_nodes
+
+-- it passes one
+abbrev pub StopsHere : State → ℕ → Bool → ℕ → ℕ → DocFault → Type 0
+StopsHere s nodes behind_return c at (faults.NotUtf8 place) = ⊥
+StopsHere s nodes behind_return c at (faults.Syntax place) = ⊥
+StopsHere s nodes behind_return c at (faults.Depth place) = (element_here s c ≡ true) × (max_depth ≤ depth s.place.outer) × (place ≡ at - 1)
+StopsHere s nodes behind_return c at (faults.Nodes place) =
+    ((element_here s c ≡ true) × (depth s.place.outer < max_depth) × (max_nodes ≤ nodes) × (place ≡ at - 1)) ⊎ ((text_here s behind_return c ≡ true) × (max_nodes ≤ nodes) × (place ≡ at))
+StopsHere s nodes behind_return c at faults.Memory = ⊥

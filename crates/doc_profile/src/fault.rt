@@ -1,0 +1,28 @@
+use ft_base::Memory;
+
+/// Why bytes were not read as a document or a fragment. A place counts the bytes before it.
+#[derive(Clone, Copy, Debug, PartialEq, Eq)]
+pub enum DocFault {
+    /// The bytes are not UTF-8: the first byte of the first sequence that is none.
+    NotUtf8 { at: usize },
+    /// The text can't go on like this: the bytes before the place begin a document, and one character more doesn't.
+    Syntax { at: usize },
+    /// More than 200 elements stand in one another: the `<` of the first tag at the 201st level.
+    Depth { at: usize },
+    /// There are more than 1,000,000 elements and texts: the first byte of the first one too many.
+    Nodes { at: usize },
+    /// There was not enough memory.
+    Memory,
+}
+
+impl From<Memory> for DocFault {
+    ghost use Rattle.std.specs.Prelude.{◌≡◌};
+    ghost use Rattle.doc_profile.specs.declared.fault.DocFault.{DocFault};
+    ghost use Rattle.doc_profile.specs.declared.fault.DocFault.TheVariants as the_fault;
+
+    ghost from_gives = { λ _ fault. fault ≡ the_fault.Memory };
+
+    fn from(_memory: Memory) -> DocFault {
+        DocFault::Memory
+    }
+}

@@ -1,0 +1,20 @@
+//! Documents as bytes: reading a document or a fragment.
+#![tactic(auto)]
+
+mod characters;
+mod content;
+mod end_tags;
+mod fault;
+mod phase;
+#[cfg(test)]
+mod print;
+mod read;
+mod reader;
+mod references;
+mod start_tags;
+#[cfg(test)]
+mod tests;
+mod values;
+
+pub use fault::DocFault;
+pub use read::{read_doc, read_fragment};

@@ -1,0 +1,157 @@
+ghost use Rattle.std.specs.Prelude.{◌≡◌, ◌+◌, ◌^◌, ◌<◌, ◌∷◌, [], length, map, IfErr, IfOk, OnOk};
+ghost use Rattle.std.specs.Str.{IsUtf8, chars};
+ghost use Rattle.plain_tree.specs.View.{node};
+ghost use Rattle.doc_grammar.specs.Grammar.{lines_from};
+ghost use Rattle.doc_grammar.specs.Machine as m;
+ghost use Rattle.doc_grammar.specs.Reading.{outer_of, read};
+ghost use Rattle.doc_grammar.specs.Texts.{Kind, Spells, mark_len, without_mark};
+ghost use Rattle.doc_profile.specs.Faults.{FaultIn, FaultOf, Fits, FitsHere, IsNotUtf8, StopsHere};
+ghost use Rattle.doc_grammar.specs.Limits.{node_here, one_if};
+ghost use Rattle.doc_profile.specs.View.{Goes, kind_of, nodes_of, state_of};
+
+use crate::fault::DocFault;
+use crate::reader::Reader;
+use ft_base::{Items, MAX_DEPTH, MAX_NODES, Memory};
+use plain_tree::{Kids, PlainDoc, Tree};
+use std::alloc::Global;
+
+/// The text that the bytes spell.
+fn text_of(bytes: &[u8]) -> Result<&str, DocFault>
+    ensures ok { IfOk result (λ text. (text.now ≡ bytes.now) × IsUtf8 bytes.now) }
+    ensures err { IfErr result (IsNotUtf8 bytes.now) }
+{
+    match str::from_utf8(bytes) {
+        Ok(text) => Ok(text),
+        Err(error) => Err(DocFault::NotUtf8 {
+            at: error.valid_up_to(),
+        }),
+    }
+}
+
+/// Takes one character of the text as it is written; says whether it may stand here.
+fn take(reader: &mut Reader, behind_return: bool, c: char) -> Result<bool, Memory>
+    ensures { Goes result (m.run_on (Some (state_of reader.old)) (lines_from behind_return (c ∷ []))) (state_of reader.new) }
+{
+    if c == '\r' {
+        reader.step('\n')
+    } else if c == '\n' && behind_return {
+        Ok(true)
+    } else {
+        reader.step(c)
+    }
+}
+
+/// Reads the text, whose places count from `from`; an `Err` is the first fault.
+fn read_text(reader: &mut Reader, text: &str, from: usize) -> Result<(), DocFault>
+    requires start { state_of reader.old ≡ m.start (outer_of (kind_of reader.old.fragment)) }
+    requires fits { from + length text.now < 2 ^ 64 }
+    ensures read { OnOk result (read (kind_of reader.old.fragment) (chars text.now) ≡ Some (state_of reader.new)) }
+    ensures fits { OnOk result (Fits (kind_of reader.old.fragment) (chars text.now)) }
+    ensures faults { IfErr result (λ fault. FaultIn (kind_of reader.old.fragment) (chars text.now) from fault) }
+{
+    let mut behind_return = false;
+    let mut nodes = 0;
+    let mut walk = text.char_indices();
+    while let Some((at, c)) = walk.next() {
+        nodes = match count(reader, nodes, from + at, behind_return, c) {
+            Ok(more) => more,
+            Err(fault) => return Err(fault),
+        };
+        if !take(reader, behind_return, c)? {
+            return Err(DocFault::Syntax { at: from + at });
+        }
+        behind_return = c == '\r';
+    }
+    Ok(())
+}
+
+/// Counts the node, if one begins with the character at the place; an `Err` is the limit that it passes.
+#[tactic(auto, using(std::proofs::lemmas::Bool::Decides::nat_tests, crate::proofs::Readers::depth_is))]
+fn count(
+    reader: &Reader,
+    nodes: usize,
+    at: usize,
+    behind_return: bool,
+    c: char,
+) -> Result<usize, DocFault>
+    ensures count { IfOk result (λ more. more ≡ nodes + one_if (node_here (state_of reader.now) behind_return c)) }
+    ensures fits { OnOk result (FitsHere (state_of reader.now) nodes behind_return c) }
+    ensures stops { IfErr result (StopsHere (state_of reader.now) nodes behind_return c at) }
+{
+    if reader.begins_element(c) {
+        if reader.levels.len() >= MAX_DEPTH {
+            return Err(DocFault::Depth {
+                at: at.saturating_sub(1),
+            });
+        }
+        if nodes >= MAX_NODES {
+            return Err(DocFault::Nodes {
+                at: at.saturating_sub(1),
+            });
+        }
+        return Ok(nodes + 1);
+    }
+    if !reader.begins_text(behind_return, c) {
+        return Ok(nodes);
+    }
+    if nodes >= MAX_NODES {
+        return Err(DocFault::Nodes { at });
+    }
+    Ok(nodes + 1)
+}
+
+/// The text behind a byte order mark, if one stands at the front, and the place where it begins.
+fn behind_mark(text: &str) -> (&str, usize)
+    ensures rest { chars result.0.now ≡ without_mark (chars text.now) }
+    ensures place { result.1 ≡ mark_len (chars text.now) }
+    ensures room { result.1 + length result.0.now ≡ length text.now }
+{
+    let mut walk = text.chars();
+    match walk.next() {
+        Some('\u{FEFF}') => (walk.as_str(), 3),
+        _ => (text, 0),
+    }
+}
+
+/// The nodes that the text spells; its places count from `from`.
+fn nodes_in(alloc: Global, fragment: bool, text: &str, from: usize) -> Result<Vec<Tree>, DocFault>
+    requires { from + length text.now < 2 ^ 64 }
+    ensures read { IfOk result (λ kids. Spells (kind_of fragment) (chars text.now) (nodes_of kids)) }
+    ensures fits { OnOk result (Fits (kind_of fragment) (chars text.now)) }
+    ensures faults { IfErr result (FaultIn (kind_of fragment) (chars text.now) from) }
+{
+    let mut reader = Reader::new(alloc, fragment);
+    read_text(&mut reader, text, from)?;
+    if !reader.is_finished() {
+        return Err(DocFault::Syntax {
+            at: from + text.len(),
+        });
+    }
+    Ok(reader.finish()?)
+}
+
+/// The document that the bytes spell, or the first fault. A byte order mark at the front is skipped.
+pub fn read_doc(alloc: Global, bytes: &[u8]) -> Result<PlainDoc, DocFault>
+    ensures read { IfOk result (λ doc. IsUtf8 bytes.now × Spells Kind.document (without_mark (chars bytes.now)) (doc ∷ [])) }
+    ensures fits { OnOk result (Fits Kind.document (without_mark (chars bytes.now))) }
+    ensures faults { IfErr result (FaultOf Kind.document bytes.now (without_mark (chars bytes.now)) (mark_len (chars bytes.now))) }
+{
+    let text = text_of(bytes)?;
+    let (text, from) = behind_mark(text);
+    let mut kids = nodes_in(alloc, false, text, from)?;
+    match kids.pop() {
+        Some(root) => Ok(PlainDoc::from_tree(root)),
+        None => unreachable!(),
+    }
+}
+
+/// The content that the bytes spell, or the first fault.
+pub fn read_fragment(alloc: Global, bytes: &[u8]) -> Result<Kids, DocFault>
+    ensures read { IfOk result (λ kids. IsUtf8 bytes.now × Spells Kind.fragment (chars bytes.now) (map node kids)) }
+    ensures fits { OnOk result (Fits Kind.fragment (chars bytes.now)) }
+    ensures faults { IfErr result (FaultOf Kind.fragment bytes.now (chars bytes.now) 0) }
+{
+    let text = text_of(bytes)?;
+    let kids = nodes_in(alloc, true, text, 0)?;
+    Ok(Items::from_vec(kids))
+}
