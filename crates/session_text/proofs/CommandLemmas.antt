@@ -1,0 +1,98 @@
+-- Each command that is read has names that are names, texts that aren't empty, and no block but the one behind its line.
+use Rattle.std.proofs.Common.{◌≡◌, refl, ℕ, Bool, true, false, not, cond, List}
+use Rattle.std.specs.Prelude.{Option, Some, None, Ok, Err, codes}
+use Rattle.session_text.specs.declared.command.Command.{Command}
+use Rattle.session_text.specs.declared.command.Command.TheVariants as command
+use Rattle.session_text.specs.declared.how.How.{How}
+use Rattle.session_text.specs.Commands.{made, named, with_text, how_of, insertion, query_at, command_of_line, command_of_block}
+use Rattle.session_text.specs.Lines.{command_text, first_word, behind_first_word}
+use Rattle.session_text.specs.Words.{is_text, is_empty, is_name, is_one_word, is_command_line}
+
+-- what holds of both holds of the one that is chosen
+chosen : (P : Command → Type 0) (t : Bool) (a b : Command) → P a → P b → P (cond t a b)
+chosen P true a b p q = p
+chosen P false a b p q = q
+
+-- a name makes a command only where it is a name
+of_name : (P : Command → Type 0) (number : ℕ) (rest : List ℕ) (make : List ℕ → Command)
+    → ((n : ℕ) → P (command.BadCommand n)) → ((n : ℕ) → P (command.BadName n)) → ((name : List ℕ) → is_name name ≡ true → P (make name)) → P (named number rest make)
+of_name P number rest make bad bad_name good = by (is_one_word rest) (is_name rest) refl
+  where
+    by : (one name : Bool) → is_name rest ≡ name → P (made make (cond (not one) (Err (command.BadCommand number)) (cond name (Ok rest) (Err (command.BadName number)))))
+    by false name e = bad number
+    by true true e = good rest e
+    by true false e = bad_name number
+
+-- a text makes a command only where it isn't empty
+of_text : (P : Command → Type 0) (number : ℕ) (rest : List ℕ) (make : List ℕ → Command)
+    → ((n : ℕ) → P (command.BadCommand n)) → ((text : List ℕ) → is_empty text ≡ false → P (make text)) → P (with_text number rest make)
+of_text P number rest make bad good = by (is_empty rest) refl
+  where
+    by : (empty : Bool) → is_empty rest ≡ empty → P (made make (cond empty (Err (command.BadCommand number)) (Ok rest)))
+    by true e = bad number
+    by false e = good rest e
+
+-- what holds of each command that a line without a block may be
+pub record HoldsOfLines (P : Command → Type 0) : Type 0 where
+  pub bad : (n : ℕ) → P (command.BadCommand n)
+  pub bad_name : (n : ℕ) → P (command.BadName n)
+  pub drop : (name : List ℕ) → is_name name ≡ true → P (command.Drop name)
+  pub mark : (name : List ℕ) → is_name name ≡ true → P (command.Mark name)
+  pub unmark : (name : List ℕ) → is_name name ≡ true → P (command.Unmark name)
+  pub stats : P command.Stats
+  pub delete : (path : List ℕ) → is_empty path ≡ false → P (command.Delete path)
+  pub print : (path : List ℕ) → is_empty path ≡ false → P (command.Print path)
+  pub explain : (text : List ℕ) → is_empty text ≡ false → P (command.Explain text)
+  pub query : (path : List ℕ) → is_empty path ≡ false → P (command.Query path)
+  pub query_at : (name path : List ℕ) → is_name name ≡ true → is_empty path ≡ false → P (command.QueryAt name path)
+
+-- and one with this block
+pub record HoldsOfBlocks (P : Command → Type 0) (block : List ℕ) : Type 0 where
+  pub bad : (n : ℕ) → P (command.BadCommand n)
+  pub bad_name : (n : ℕ) → P (command.BadName n)
+  pub load : (name : List ℕ) → is_name name ≡ true → P (command.Load name block)
+  pub insert : (h : How) (path : List ℕ) → is_empty path ≡ false → P (command.Insert h path block)
+  pub replace : (path : List ℕ) → is_empty path ≡ false → P (command.Replace path block)
+  pub stop : (name : List ℕ) → is_name name ≡ true → P (command.Stop name block)
+  pub stems : P (command.Stems block)
+  pub thesaurus : (name : List ℕ) → is_name name ≡ true → P (command.Thesaurus name block)
+
+query_at_holds : (P : Command → Type 0) → HoldsOfLines P → (number : ℕ) (name path : List ℕ) → P (query_at number name path)
+query_at_holds P h number name path = by (is_empty path) (is_name name) refl refl
+  where
+    by : (empty named : Bool) → is_empty path ≡ empty → is_name name ≡ named → P (cond empty (command.BadCommand number) (cond named (command.QueryAt name path) (command.BadName number)))
+    by true named e f = h.bad number
+    by false true e f = h.query_at name path f e
+    by false false e f = h.bad_name number
+
+pub holds_of_line : (P : Command → Type 0) → HoldsOfLines P → (number : ℕ) (line : List ℕ) → P (command_of_line number line)
+holds_of_line P h number line =
+    let word = first_word (command_text line) in
+    let rest = behind_first_word (command_text line) in
+    chosen P (is_command_line line) _ _
+    (chosen P (is_text word (codes "query")) _ _ (chosen P (is_text (first_word rest) (codes "at")) _ _ (query_at_holds P h number (first_word (behind_first_word rest)) (behind_first_word (behind_first_word rest))) (of_text P number rest command.Query h.bad h.query))
+    (chosen P (is_text word (codes "print")) _ _ (of_text P number rest command.Print h.bad h.print)
+    (chosen P (is_text word (codes "explain")) _ _ (of_text P number rest command.Explain h.bad h.explain)
+    (chosen P (is_text word (codes "delete")) _ _ (of_text P number rest command.Delete h.bad h.delete)
+    (chosen P (is_text word (codes "drop")) _ _ (of_name P number rest command.Drop h.bad h.bad_name h.drop)
+    (chosen P (is_text word (codes "mark")) _ _ (of_name P number rest command.Mark h.bad h.bad_name h.mark)
+    (chosen P (is_text word (codes "unmark")) _ _ (of_name P number rest command.Unmark h.bad h.bad_name h.unmark)
+    (chosen P (is_text word (codes "stats")) _ _ (chosen P (is_empty rest) _ _ h.stats (h.bad number)) (h.bad number)))))))))
+    (h.bad number)
+
+insertion_holds : (P : Command → Type 0) (block : List ℕ) → HoldsOfBlocks P block → (number : ℕ) (where_to : Option How) (path : List ℕ) → P (insertion number where_to path block)
+insertion_holds P block h number None path = h.bad number
+insertion_holds P block h number (Some how) path = of_text P number path (λ p. command.Insert how p block) h.bad (h.insert how)
+
+pub holds_of_block : (P : Command → Type 0) (block : List ℕ) → HoldsOfBlocks P block → (number : ℕ) (line : List ℕ) → P (command_of_block number line block)
+holds_of_block P block h number line =
+    let word = first_word (command_text line) in
+    let rest = behind_first_word (command_text line) in
+    chosen P (is_command_line line) _ _
+    (chosen P (is_text word (codes "load")) _ _ (of_name P number rest (λ name. command.Load name block) h.bad h.bad_name h.load)
+    (chosen P (is_text word (codes "insert")) _ _ (insertion_holds P block h number (how_of (first_word rest)) (behind_first_word rest))
+    (chosen P (is_text word (codes "replace")) _ _ (of_text P number rest (λ path. command.Replace path block) h.bad h.replace)
+    (chosen P (is_text word (codes "stop")) _ _ (of_name P number rest (λ name. command.Stop name block) h.bad h.bad_name h.stop)
+    (chosen P (is_text word (codes "stems")) _ _ (chosen P (is_empty rest) _ _ h.stems (h.bad number))
+    (chosen P (is_text word (codes "thesaurus")) _ _ (of_name P number rest (λ name. command.Thesaurus name block) h.bad h.bad_name h.thesaurus) (h.bad number)))))))
+    (h.bad number)

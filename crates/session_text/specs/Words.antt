@@ -1,0 +1,29 @@
+-- What the words of a command line may be.
+use Rattle.std.specs.Prelude.{ℕ, Bool, not, ◌==◌, ◌&&◌, ◌||◌, nat_le, nat_eq, List, length}
+use Rattle.std.specs.List.{list_all}
+use Rattle.std.specs.Cmp.Lexicographic.{pointwise}
+use Rattle.std.specs.Char.{is_ascii_alphanumeric}
+use Rattle.std.specs.Str.{is_utf8}
+use Rattle.session_text.specs.Lines.{without_return, command_text, behind_first_word}
+
+-- whether two texts have the same bytes
+abbrev pub is_text : List ℕ → List ℕ → Bool
+is_text a b = pointwise nat_eq a b
+
+abbrev pub is_empty : List ℕ → Bool
+is_empty text = length text == 0
+
+-- a name: 1 to 64 letters, digits, periods, low lines and hyphens
+abbrev pub is_name_byte : ℕ → Bool
+is_name_byte byte = is_ascii_alphanumeric byte || byte == 46 || byte == 95 || byte == 45
+
+abbrev pub is_name : List ℕ → Bool
+is_name text = not (is_empty text) && nat_le (length text) 64 && list_all is_name_byte text
+
+-- a command line has at most 65,536 bytes, the blanks at both ends counted, and is UTF-8
+abbrev pub is_command_line : List ℕ → Bool
+is_command_line line = nat_le (length (without_return line)) 65536 && is_utf8 (command_text line)
+
+-- a text that is exactly one word
+abbrev pub is_one_word : List ℕ → Bool
+is_one_word text = not (is_empty text) && is_empty (behind_first_word text)

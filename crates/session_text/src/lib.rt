@@ -1,0 +1,20 @@
+//! The text of a session: the commands of its bytes, in whatever pieces these come, and the text of each reply.
+#![tactic(auto)]
+
+mod command;
+mod how;
+mod line;
+mod parse;
+mod place;
+mod print;
+mod reader;
+mod reply;
+#[cfg(test)]
+mod tests;
+mod words;
+
+pub use command::{Command, Commands};
+pub use how::How;
+pub use print::print_reply;
+pub use reader::Lines_;
+pub use reply::{Counts, FullOf, LimitOf, Refusal, Reply};

@@ -1,0 +1,284 @@
+ghost use Rattle.std.specs.Prelude.{◌≡◌, true, false, IfOk, IfSome, IfNone};
+ghost use Rattle.session_text.specs.Lines.{command_text};
+ghost use Rattle.session_text.specs.Commands.{block_command, command_of_block, command_of_line, how_of, insertion, is_skipped, line_command, list_command, name_command, name_in, opens_block as block_follows, query, query_at, text_in};
+ghost use Rattle.session_text.specs.Words.{is_command_line};
+
+use crate::line::{drop_return, is_word, text_of, word_end};
+use crate::words::{can_name, is_single_word, split_word};
+use crate::{Command, How};
+use ft_base::{Bytes, Line, Memory};
+use std::alloc::Global;
+
+/// The longest command line, in bytes, without its line end.
+const MAX_LINE_BYTES: usize = 65_536;
+
+/// Whether the line says nothing or is a comment.
+pub(crate) fn skips(line: &[u8]) -> bool
+    ensures { result ≡ is_skipped line.now }
+{
+    let text = text_of(line);
+    text.is_empty() || text.starts_with(b"#")
+}
+
+/// What follows a command's word, where that is to be one name.
+fn read_name(alloc: Global, number: u64, rest: &str) -> Result<Result<Line, Command>, Memory>
+    ensures { IfOk result (λ read. read ≡ name_in number rest.now) }
+{
+    if !is_single_word(rest) {
+        return Ok(Err(Command::BadCommand { line: number }));
+    }
+    if !can_name(rest) {
+        return Ok(Err(Command::BadName { line: number }));
+    }
+    Ok(Ok(Line::read(alloc, rest)?))
+}
+
+/// What follows a command's word, where that is to be a path or a selection.
+fn read_text(alloc: Global, number: u64, rest: &str) -> Result<Result<Line, Command>, Memory>
+    ensures { IfOk result (λ read. read ≡ text_in number rest.now) }
+{
+    if rest.is_empty() {
+        return Ok(Err(Command::BadCommand { line: number }));
+    }
+    Ok(Ok(Line::read(alloc, rest)?))
+}
+
+/// Where an insertion puts its content.
+fn read_how(word: &str) -> Option<How>
+    ensures { result ≡ how_of word.now }
+{
+    match word {
+        "first" => Some(How::First),
+        "last" => Some(How::Last),
+        "before" => Some(How::Before),
+        "after" => Some(How::After),
+        _ => None,
+    }
+}
+
+/// `insert first PATH` and its block, and the like.
+fn read_insertion(
+    alloc: Global,
+    number: u64,
+    how: Option<How>,
+    path: &str,
+    block: Bytes,
+) -> Result<Command, Memory>
+    ensures { IfOk result (λ command. command ≡ insertion number how path.now block) }
+{
+    let how = match how {
+        Some(how) => how,
+        None => return Ok(Command::BadCommand { line: number }),
+    };
+    Ok(match read_text(alloc, number, path)? {
+        Ok(path) => Command::Insert { how, path, block },
+        Err(fault) => fault,
+    })
+}
+
+/// The command with that first word and that rest, and the block behind it.
+fn read_block_command(
+    alloc: Global,
+    number: u64,
+    word: &str,
+    rest: &str,
+    block: Bytes,
+) -> Result<Command, Memory>
+    ensures { IfOk result (λ command. command ≡ block_command number word.now rest.now block) }
+{
+    if word == "load" {
+        return Ok(match read_name(alloc, number, rest)? {
+            Ok(name) => Command::Load { name, block },
+            Err(fault) => fault,
+        });
+    }
+    if word == "insert" {
+        let (how, path) = split_word(rest);
+        return read_insertion(alloc, number, read_how(how), path, block);
+    }
+    if word == "replace" {
+        return Ok(match read_text(alloc, number, rest)? {
+            Ok(path) => Command::Replace { path, block },
+            Err(fault) => fault,
+        });
+    }
+    read_list_command(alloc, number, word, rest, block)
+}
+
+/// The same for the commands that read a list.
+fn read_list_command(
+    alloc: Global,
+    number: u64,
+    word: &str,
+    rest: &str,
+    block: Bytes,
+) -> Result<Command, Memory>
+    ensures { IfOk result (λ command. command ≡ list_command number word.now rest.now block) }
+{
+    if word == "stop" {
+        return Ok(match read_name(alloc, number, rest)? {
+            Ok(name) => Command::Stop { name, block },
+            Err(fault) => fault,
+        });
+    }
+    if word == "stems" {
+        return Ok(if rest.is_empty() {
+            Command::Stems { block }
+        } else {
+            Command::BadCommand { line: number }
+        });
+    }
+    if word == "thesaurus" {
+        return Ok(match read_name(alloc, number, rest)? {
+            Ok(name) => Command::Thesaurus { name, block },
+            Err(fault) => fault,
+        });
+    }
+    Ok(Command::BadCommand { line: number })
+}
+
+/// `query at NAME PATH`.
+fn read_query_at(alloc: Global, number: u64, name: &str, path: &str) -> Result<Command, Memory>
+    ensures { IfOk result (λ command. command ≡ query_at number name.now path.now) }
+{
+    if path.is_empty() {
+        return Ok(Command::BadCommand { line: number });
+    }
+    if !can_name(name) {
+        return Ok(Command::BadName { line: number });
+    }
+    Ok(Command::QueryAt {
+        name: Line::read(alloc, name)?,
+        path: Line::read(alloc, path)?,
+    })
+}
+
+/// `query at NAME PATH` wherever the second word is `at`, else `query PATH`.
+fn read_query(alloc: Global, number: u64, rest: &str) -> Result<Command, Memory>
+    ensures { IfOk result (λ command. command ≡ query number rest.now) }
+{
+    let (second, behind) = split_word(rest);
+    if second == "at" {
+        let (name, path) = split_word(behind);
+        return read_query_at(alloc, number, name, path);
+    }
+    Ok(match read_text(alloc, number, rest)? {
+        Ok(path) => Command::Query { path },
+        Err(fault) => fault,
+    })
+}
+
+/// The command with that first word and that rest, without a block.
+fn read_name_command(alloc: Global, number: u64, word: &str, rest: &str) -> Result<Command, Memory>
+    ensures { IfOk result (λ command. command ≡ name_command number word.now rest.now) }
+{
+    if word == "drop" {
+        return Ok(match read_name(alloc, number, rest)? {
+            Ok(name) => Command::Drop { name },
+            Err(fault) => fault,
+        });
+    }
+    if word == "mark" {
+        return Ok(match read_name(alloc, number, rest)? {
+            Ok(name) => Command::Mark { name },
+            Err(fault) => fault,
+        });
+    }
+    if word == "unmark" {
+        return Ok(match read_name(alloc, number, rest)? {
+            Ok(name) => Command::Unmark { name },
+            Err(fault) => fault,
+        });
+    }
+    if word == "stats" && rest.is_empty() {
+        return Ok(Command::Stats);
+    }
+    Ok(Command::BadCommand { line: number })
+}
+
+/// The same, and first the commands with a path or a selection.
+fn read_line_command(alloc: Global, number: u64, word: &str, rest: &str) -> Result<Command, Memory>
+    ensures { IfOk result (λ command. command ≡ line_command number word.now rest.now) }
+{
+    if word == "query" {
+        return read_query(alloc, number, rest);
+    }
+    if word == "print" {
+        return Ok(match read_text(alloc, number, rest)? {
+            Ok(path) => Command::Print { path },
+            Err(fault) => fault,
+        });
+    }
+    if word == "explain" {
+        return Ok(match read_text(alloc, number, rest)? {
+            Ok(text) => Command::Explain { text },
+            Err(fault) => fault,
+        });
+    }
+    if word == "delete" {
+        return Ok(match read_text(alloc, number, rest)? {
+            Ok(path) => Command::Delete { path },
+            Err(fault) => fault,
+        });
+    }
+    read_name_command(alloc, number, word, rest)
+}
+
+/// What a command line says, unless it is too long or isn't UTF-8.
+fn command_text_of(line: &[u8]) -> Option<&str>
+    ensures text { IfSome result (λ text. (is_command_line line.now ≡ true) × (text.now ≡ command_text line.now)) }
+    ensures none { IfNone result (is_command_line line.now ≡ false) }
+{
+    if drop_return(line).len() > MAX_LINE_BYTES {
+        return None;
+    }
+    match std::str::from_utf8(text_of(line)) {
+        Ok(text) => Some(text),
+        Err(_) => None,
+    }
+}
+
+/// Whether a block follows the line.
+pub(crate) fn opens_block(line: &[u8]) -> bool
+    ensures { result ≡ block_follows line.now }
+{
+    let text = text_of(line);
+    let word = &text[..word_end(text)];
+    is_word(word, "load")
+        || is_word(word, "insert")
+        || is_word(word, "replace")
+        || is_word(word, "stop")
+        || is_word(word, "stems")
+        || is_word(word, "thesaurus")
+}
+
+/// The command of the line of that number, which no block follows.
+pub(crate) fn read_line(alloc: Global, number: u64, line: &[u8]) -> Result<Command, Memory>
+    ensures { IfOk result (λ command. command ≡ command_of_line number line.now) }
+{
+    match command_text_of(line) {
+        Some(text) => {
+            let (word, rest) = split_word(text);
+            read_line_command(alloc, number, word, rest)
+        }
+        None => Ok(Command::BadCommand { line: number }),
+    }
+}
+
+/// The command of the line of that number and the block behind it.
+pub(crate) fn read_block(
+    alloc: Global,
+    number: u64,
+    line: &[u8],
+    block: Bytes,
+) -> Result<Command, Memory>
+    ensures { IfOk result (λ command. command ≡ command_of_block number line.now block) }
+{
+    match command_text_of(line) {
+        Some(text) => {
+            let (word, rest) = split_word(text);
+            read_block_command(alloc, number, word, rest, block)
+        }
+        None => Ok(Command::BadCommand { line: number }),
+    }
+}

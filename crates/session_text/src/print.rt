@@ -1,0 +1,132 @@
+ghost use Rattle.std.specs.Prelude.{◌≡◌, ◌++◌, codes, length, string_bytes, IfOk, OnOk};
+ghost use Rattle.std.specs.Fmt.{decimal};
+ghost use Rattle.session_text.specs.Replies.{counted_lines, counts_line, document_words, ended_line, full_words, limit_words, refusal_line, reply_text};
+
+use crate::{Counts, FullOf, LimitOf, Refusal, Reply};
+use doc_profile::DocFault;
+use ft_base::{Line, Lines, Memory};
+use std::alloc::Global;
+
+/// The lines of a reply, each ended by a line feed. A refusal for want of memory isn't one, and is answered `Memory`.
+pub fn print_reply(alloc: Global, reply: &Reply) -> Result<Line, Memory>
+    ensures { IfOk result (λ text. text ≡ reply_text reply.now) }
+{
+    match reply {
+        Reply::Done => Ok(Line::read(alloc, "ok\n")?),
+        Reply::Nodes(lines) => print_lines(alloc, lines),
+        Reply::Texts(lines) => print_lines(alloc, lines),
+        Reply::Explained(text) => print_named(alloc, "= ", text.as_str()),
+        Reply::Counts(counts) => print_counts(alloc, counts),
+        Reply::Refused(refusal) => print_refusal(alloc, refusal),
+    }
+}
+
+/// How many lines there are, and the lines.
+fn print_lines(alloc: Global, lines: &Lines) -> Result<Line, Memory>
+    ensures { IfOk result (λ text. text ≡ counted_lines lines.now) }
+{
+    let count = lines.len();
+    let mut text = format!(in alloc; "= {count}\n")?;
+    for line in lines.as_slice() {
+        text.push_str(line.as_str())?;
+        text.push('\n')?;
+    }
+    Ok(Line::from_string(text))
+}
+
+/// The counts, each behind its word.
+fn print_counts(alloc: Global, counts: &Counts) -> Result<Line, Memory>
+    ensures { IfOk result (λ text. text ≡ ended_line (counts_line counts.now)) }
+{
+    let mut text = String::new(alloc);
+    push_counted(&mut text, "= documents ", counts.documents)?;
+    push_counted(&mut text, " tokens ", counts.tokens)?;
+    push_counted(&mut text, " terms ", counts.terms)?;
+    push_counted(&mut text, " marks ", counts.marks)?;
+    push_counted(&mut text, " plans ", counts.plans)?;
+    push_counted(&mut text, " hits ", counts.hits)?;
+    text.push('\n')?;
+    Ok(Line::from_string(text))
+}
+
+/// Adds words and a number.
+fn push_counted(text: &mut String, words: &str, number: u64) -> Result<(), Memory>
+    ensures { OnOk result (string_bytes text.new ≡ string_bytes text.old ++ words.now ++ decimal number) }
+{
+    write!(text, "{words}{number}")?;
+    Ok(())
+}
+
+/// A line that ends with a name or a text.
+fn print_named(alloc: Global, words: &str, name: &str) -> Result<Line, Memory>
+    ensures { IfOk result (λ text. text ≡ ended_line (words.now ++ name.now)) }
+{
+    let mut text = String::from_str(alloc, words)?;
+    text.push_str(name)?;
+    text.push('\n')?;
+    Ok(Line::from_string(text))
+}
+
+/// A line that ends with a number.
+fn print_numbered(alloc: Global, words: &str, number: u64) -> Result<Line, Memory>
+    ensures { IfOk result (λ text. text ≡ ended_line (words.now ++ decimal number)) }
+{
+    let text = format!(in alloc; "{words}{number}\n")?;
+    Ok(Line::from_string(text))
+}
+
+/// The line of a refusal.
+fn print_refusal(alloc: Global, refusal: &Refusal) -> Result<Line, Memory>
+    ensures { IfOk result (λ text. text ≡ ended_line (refusal_line refusal.now)) }
+{
+    match refusal {
+        Refusal::BadCommand { line } => print_numbered(alloc, "! 1 bad command at line ", *line),
+        Refusal::BadName { line } => print_numbered(alloc, "! 2 bad name at line ", *line),
+        Refusal::NameTaken { name } => print_named(alloc, "! 3 name taken: ", name.as_str()),
+        Refusal::NoSuchName { name } => print_named(alloc, "! 4 no such name: ", name.as_str()),
+        Refusal::Full { what } => print_named(alloc, "! 5 full at ", full(*what)),
+        Refusal::Document(fault) => print_document(alloc, *fault),
+        Refusal::TooManyTokens => print_named(alloc, "! 6 document: ", "tokens"),
+        Refusal::List { line } => print_numbered(alloc, "! 6 list: bad line ", *line),
+        Refusal::NoSuchDoc { name } => print_named(alloc, "! 8 no such document: ", name.as_str()),
+        Refusal::NoSuchList { name } => print_named(alloc, "! 9 no such list: ", name.as_str()),
+        Refusal::NoTarget => print_named(alloc, "! 10 ", "no target"),
+        Refusal::ManyTargets { count } => print_numbered(alloc, "! 11 many targets: ", *count),
+        Refusal::RootTarget => print_named(alloc, "! 12 ", "root target"),
+        Refusal::Limit { what } => print_named(alloc, "! 13 limit: ", limit(*what)),
+    }
+}
+
+/// The line of a fault of a document.
+fn print_document(alloc: Global, fault: DocFault) -> Result<Line, Memory>
+    ensures { IfOk result (λ text. text ≡ ended_line (codes "! 6 document: " ++ document_words fault)) }
+{
+    match fault {
+        DocFault::NotUtf8 { at } => print_numbered(alloc, "! 6 document: not utf-8 at ", at as u64),
+        DocFault::Syntax { at } => print_numbered(alloc, "! 6 document: syntax at ", at as u64),
+        DocFault::Depth { at } => print_numbered(alloc, "! 6 document: depth at ", at as u64),
+        DocFault::Nodes { at } => print_numbered(alloc, "! 6 document: nodes at ", at as u64),
+        DocFault::Memory => Err(Memory),
+    }
+}
+
+fn full(what: FullOf) -> &'static str
+    ensures { result.now ≡ full_words what }
+{
+    match what {
+        FullOf::Documents => "4096 documents",
+        FullOf::Marks => "64 marks",
+        FullOf::StopLists => "64 stop lists",
+        FullOf::Thesauri => "64 thesauri",
+    }
+}
+
+fn limit(what: LimitOf) -> &'static str
+    ensures { result.now ≡ limit_words what }
+{
+    match what {
+        LimitOf::Depth => "depth",
+        LimitOf::Nodes => "nodes",
+        LimitOf::Tokens => "tokens",
+    }
+}

@@ -1,0 +1,54 @@
+ghost use Rattle.std.specs.Prelude.{◌≡◌, ◌≤◌, length, drop};
+ghost use Rattle.std.specs.List.{list_all};
+ghost use Rattle.session_text.specs.Lines.{command_text, first_word, behind_first_word};
+ghost use Rattle.session_text.specs.Words.{is_name, is_name_byte, is_one_word};
+
+use crate::line::{skip_blanks, word_end};
+
+/// The longest name, in bytes.
+const MAX_NAME_BYTES: usize = 64;
+
+/// The text's first word, and what stands behind it and the blanks after it.
+#[tactic(auto, using(crate::proofs::WordLemmas::word_boundary, crate::proofs::WordLemmas::rest_boundary))]
+pub(crate) fn split_word(text: &str) -> (&str, &str)
+    ensures word { result.0.now ≡ first_word text.now }
+    ensures rest { result.1.now ≡ behind_first_word text.now }
+{
+    let at = word_end(text.as_bytes());
+    let behind = &text[at..];
+    (&text[..at], &behind[skip_blanks(behind.as_bytes())..])
+}
+
+/// Whether the text is exactly one word.
+pub(crate) fn is_single_word(text: &str) -> bool
+    ensures { result ≡ is_one_word text.now }
+{
+    let (_, rest) = split_word(text);
+    !text.is_empty() && rest.is_empty()
+}
+
+/// Whether the text is a name: 1 to 64 letters, digits, periods, low lines and hyphens.
+pub(crate) fn can_name(text: &str) -> bool
+    ensures { result ≡ is_name text.now }
+{
+    !text.is_empty() && text.len() <= MAX_NAME_BYTES && has_only_name_letters(text.as_bytes())
+}
+
+/// Whether each byte may stand in a name.
+fn has_only_name_letters(bytes: &[u8]) -> bool
+    ensures { result ≡ list_all is_name_byte bytes.now }
+{
+    for byte in bytes {
+        if !is_name_letter(*byte) {
+            return false;
+        }
+    }
+    true
+}
+
+/// A letter, a digit, a period, a low line or a hyphen.
+fn is_name_letter(byte: u8) -> bool
+    ensures { result ≡ is_name_byte byte }
+{
+    byte.is_ascii_alphanumeric() || byte == b'.' || byte == b'_' || byte == b'-'
+}
