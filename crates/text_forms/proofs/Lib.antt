@@ -1,0 +1,2 @@
+pub mod FormsLemmas
+pub mod CasesLemmas
