@@ -1,0 +1,6 @@
+pub mod DocumentsLemmas
+pub mod GapLemmas
+pub mod NumberingLemmas
+pub mod StartsLemmas
+pub mod WalksLemmas
+pub mod WordsLemmas

@@ -1,0 +1,75 @@
+ghost use Rattle.std.specs.Prelude.{◌≡◌, false, true};
+ghost use Rattle.std.specs.Str.{chars};
+ghost use Rattle.tokenizer.specs.GapSteps.{after_character, after_characters, after_tag};
+
+use crate::blocks::is_block_element;
+
+/// What is known of the gap behind a word, as far as it was seen.
+#[derive(Clone, Copy, Debug)]
+pub(crate) struct Gap {
+    /// A mark that ends sentences was seen.
+    pub(crate) sentence_ends: bool,
+    /// A blank line or a tag of a block element was seen.
+    pub(crate) paragraph_ends: bool,
+    /// Behind the last line feed only blanks were seen.
+    pub(crate) after_line_feed: bool,
+}
+
+impl Gap {
+    /// A gap of which nothing was seen.
+    pub(crate) fn new() -> Gap
+        ensures { result ≡ record { sentence_ends = false; paragraph_ends = false; after_line_feed = false } }
+    {
+        Gap {
+            sentence_ends: false,
+            paragraph_ends: false,
+            after_line_feed: false,
+        }
+    }
+
+    /// What stands before the first word, as if a paragraph ended in it.
+    pub(crate) fn before_all() -> Gap
+        ensures { result ≡ record { sentence_ends = true; paragraph_ends = true; after_line_feed = false } }
+    {
+        Gap {
+            sentence_ends: true,
+            paragraph_ends: true,
+            after_line_feed: false,
+        }
+    }
+
+    /// Goes past characters of the gap. All that is asked of them is ASCII, so their bytes are looked at.
+    pub(crate) fn pass_characters(&mut self, text: &str)
+        ensures { self.new ≡ after_characters self.old (chars text.now) }
+    {
+        for byte in text.as_bytes() {
+            self.pass_byte(*byte);
+        }
+    }
+
+    /// Goes past a tag of an element of this name.
+    pub(crate) fn pass_tag(&mut self, name: &str)
+        ensures { self.new ≡ after_tag self.old name.now }
+    {
+        if is_block_element(name) {
+            self.paragraph_ends = true;
+        }
+    }
+
+    fn pass_byte(&mut self, byte: u8)
+        ensures { self.new ≡ after_character self.old byte }
+    {
+        match byte {
+            b'\n' => {
+                self.paragraph_ends |= self.after_line_feed;
+                self.after_line_feed = true;
+            }
+            b' ' | b'\t' => {}
+            b'.' | b'!' | b'?' => {
+                self.sentence_ends = true;
+                self.after_line_feed = false;
+            }
+            _ => self.after_line_feed = false,
+        }
+    }
+}

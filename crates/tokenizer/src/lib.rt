@@ -1,0 +1,18 @@
+//! The words of a text, and the tokens of a document: its words with the numbers of their sentences and paragraphs.
+#![tactic(auto)]
+
+mod blocks;
+mod breaks;
+mod gap;
+mod numbering;
+mod starts;
+#[cfg(test)]
+mod tests;
+mod tokens;
+mod walk;
+mod words;
+
+pub use breaks::breaks_of;
+pub use ft_base::Token;
+pub use tokens::{TokenFault, tokens_of};
+pub use words::{Piece, count_words, words_of};

@@ -1,0 +1,120 @@
+ghost use Rattle.std.specs.Prelude.{◌≡◌, ◌≤◌, ◌<◌, List, ◌∷◌, ◌++◌, map, length, Err, IfOk, OnOk};
+ghost use Rattle.unicode_segmentation.specs.Word.{word_bounds};
+ghost use Rattle.tokenizer.specs.Numbering.{tokens_left};
+ghost use Rattle.tokenizer.specs.Parts.{Part, word, part_of_segment};
+ghost use Rattle.tokenizer.specs.Tokens.{tokens};
+
+use crate::numbering::Numbering;
+use crate::walk::{Event, Walk};
+use crate::words::is_word;
+use ft_base::{Line, MAX_TOKENS, Memory, Token};
+use plain_tree::PlainDoc;
+use std::alloc::{AllocFailed, Global};
+use unicode::segmentation::UnicodeSegmentation;
+
+/// Why a document's tokens are not given.
+#[derive(Clone, Copy, Debug, PartialEq, Eq)]
+pub enum TokenFault {
+    /// The document has more than `MAX_TOKENS` tokens.
+    Tokens,
+    Memory,
+}
+
+impl From<Memory> for TokenFault {
+    ghost use Rattle.std.specs.Prelude.{◌≡◌};
+    ghost use Rattle.tokenizer.specs.declared.tokens.TokenFault.TheVariants as Fault;
+
+    ghost from_gives = { λ _ fault. fault ≡ Fault.Memory };
+
+    fn from(_memory: Memory) -> TokenFault {
+        TokenFault::Memory
+    }
+}
+
+impl From<AllocFailed<Token>> for TokenFault {
+    ghost use Rattle.std.specs.Prelude.{◌≡◌};
+    ghost use Rattle.tokenizer.specs.declared.tokens.TokenFault.TheVariants as Fault;
+
+    ghost from_gives = { λ _ fault. fault ≡ Fault.Memory };
+
+    fn from(_failed: AllocFailed<Token>) -> TokenFault {
+        TokenFault::Memory
+    }
+}
+
+/// The tokens of the document, in order.
+pub fn tokens_of(alloc: Global, doc: &PlainDoc) -> Result<Vec<Token>, TokenFault>
+    ensures tokens { IfOk result (λ out. out.items ≡ tokens doc.now) }
+    ensures few { OnOk result (length (tokens doc.now) ≤ MAX_TOKENS) }
+    ensures full { result ≡ Err TokenFault.Tokens → MAX_TOKENS < length (tokens doc.now) }
+{
+    let mut out = Vec::new(alloc);
+    let mut last = Numbering::new();
+    let mut walk = Walk::new(alloc, doc.root());
+    while let Some(event) = walk.next()? {
+        match event {
+            Event::Tag(name) => last.pass_tag(name),
+            Event::Text(text) => push_tokens(alloc, &mut out, &mut last, text)?,
+        }
+    }
+    Ok(out)
+}
+
+/// Puts the tokens of a text to the end.
+fn push_tokens(
+    alloc: Global,
+    out: &mut Vec<Token>,
+    last: &mut Numbering,
+    text: &str,
+) -> Result<(), TokenFault>
+    requires few { length out.old.items ≤ MAX_TOKENS }
+    requires sentence { last.old.sentence ≤ length out.old.items }
+    requires paragraph { last.old.paragraph ≤ length out.old.items }
+    ensures ok { OnOk result ((rest : List Part) →
+        out.old.items ++ tokens_left last.old (map part_of_segment (word_bounds text.now) ++ rest)
+        ≡ out.new.items ++ tokens_left last.new rest) }
+    ensures full { result ≡ Err TokenFault.Tokens → (rest : List Part) → MAX_TOKENS
+        < length (out.old.items ++ tokens_left last.old (map part_of_segment (word_bounds text.now) ++ rest)) }
+    ensures few { OnOk result (length out.new.items ≤ MAX_TOKENS) }
+    ensures sentence { OnOk result (last.new.sentence ≤ length out.new.items) }
+    ensures paragraph { OnOk result (last.new.paragraph ≤ length out.new.items) }
+{
+    for segment in text.split_word_bounds() {
+        if is_word(segment) {
+            push_token(alloc, out, last, segment)?;
+        } else {
+            last.pass_characters(segment);
+        }
+    }
+    Ok(())
+}
+
+/// Puts the token of a word to the end.
+fn push_token(
+    alloc: Global,
+    out: &mut Vec<Token>,
+    last: &mut Numbering,
+    text: &str,
+) -> Result<(), TokenFault>
+    requires few { length out.old.items ≤ MAX_TOKENS }
+    requires sentence { last.old.sentence ≤ length out.old.items }
+    requires paragraph { last.old.paragraph ≤ length out.old.items }
+    ensures ok { OnOk result ((rest : List Part) → out.old.items ++ tokens_left last.old (word text.now ∷ rest)
+        ≡ out.new.items ++ tokens_left last.new rest) }
+    ensures full { result ≡ Err TokenFault.Tokens → MAX_TOKENS ≤ length out.old.items }
+    ensures few { OnOk result (length out.new.items ≤ MAX_TOKENS) }
+    ensures sentence { OnOk result (last.new.sentence ≤ length out.new.items) }
+    ensures paragraph { OnOk result (last.new.paragraph ≤ length out.new.items) }
+{
+    if out.len() >= MAX_TOKENS {
+        return Err(TokenFault::Tokens);
+    }
+    let word = Line::read(alloc, text)?;
+    last.pass_word();
+    out.push(Token {
+        word,
+        sentence: last.sentence,
+        paragraph: last.paragraph,
+    })?;
+    Ok(())
+}
