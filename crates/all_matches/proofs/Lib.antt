@@ -1,0 +1,9 @@
+pub mod ListTests
+pub mod BooleanLaws
+pub mod Raised
+pub mod RaisedFilters
+pub mod Numbering
+pub mod Compositional
+pub mod Choices
+pub mod BareWays
+pub mod WayLaws

@@ -1,0 +1,16 @@
+pub mod Tokens
+pub mod Variants
+pub mod Hits
+pub mod Boolean
+pub mod MildNot
+pub mod Positions
+pub mod Join
+pub mod Window
+pub mod Distance
+pub mod Filters
+pub mod Numbering
+pub mod Times
+pub mod Meaning
+pub mod Compositional
+pub mod Ways
+pub mod Examples
