@@ -1,0 +1,6 @@
+pub mod Bounds
+pub mod Fronts
+pub mod Places
+pub mod QuotedStrings
+pub mod Runs
+pub mod Turns

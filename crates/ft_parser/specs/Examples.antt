@@ -1,0 +1,17 @@
+-- Symbols for examples.
+use Rattle.std.specs.Prelude.{ℕ, List, Some, None}
+use Rattle.ft_parser.specs.declared.symbol.Symbol.{Symbol}
+use Rattle.ft_parser.specs.declared.symbol.Placed.{Placed}
+use Rattle.ft_parser.specs.declared.symbol.Symbols.{Symbols}
+
+-- a symbol from a place to another
+abbrev pub from_to : ℕ → ℕ → Symbol → Placed
+from_to from to symbol = record { symbol = symbol; from = from; to = to }
+
+-- symbols that make up the whole text
+abbrev pub whole : List Placed → Symbols
+whole placed = record { placed = placed; bad = None }
+
+-- symbols in front of a place at which none begins
+abbrev pub bad_at : ℕ → List Placed → Symbols
+bad_at place placed = record { placed = placed; bad = Some place }

@@ -1,0 +1,3 @@
+pub mod NameCharacters
+pub mod Symbols
+pub mod Examples

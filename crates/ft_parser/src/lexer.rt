@@ -1,0 +1,95 @@
+//! The symbols of a text.
+
+ghost use Rattle.std.specs.Prelude.{◌≡◌, ◌≤◌, ◌<◌, IfOk, chars, encode_utf8_all, length};
+ghost use Rattle.ft_parser.specs.Symbols.{Stays_within, Steps_to, bytes_of_first, symbols_of, symbols_within};
+
+use crate::characters::is_blank;
+use crate::front::front;
+use crate::lexeme::Turn;
+use crate::symbol::{Placed, Symbols};
+use ft_base::{Items, Memory};
+use std::alloc::Global;
+
+/// The symbols of a text with their places, up to the first character that begins none. It reads the text once.
+pub fn symbols(alloc: Global, text: &str) -> Result<Symbols, Memory>
+    ensures { IfOk result (λ symbols. symbols ≡ symbols_of text.now) }
+{
+    let letters = letters_of(alloc, text)?;
+    all_symbols(alloc, &letters, text.len())
+}
+
+fn letters_of(alloc: Global, text: &str) -> Result<Vec<char>, Memory>
+    ensures { IfOk result (λ letters. letters.items ≡ chars text.now) }
+{
+    Ok(text.chars().collect(alloc)?)
+}
+
+/// The symbols of characters that have so many bytes together.
+fn all_symbols(alloc: Global, letters: &[char], bytes: usize) -> Result<Symbols, Memory>
+    requires { length (encode_utf8_all letters.now) ≤ bytes }
+    ensures { IfOk result (λ symbols. symbols ≡ symbols_within (length letters.now) 0 letters.now) }
+{
+    let mut placed = Items::new(alloc);
+    let mut next = 0;
+    let mut place = 0;
+    for step in 0..letters.len() {
+        if next == letters.len() {
+            return Ok(Symbols { placed, bad: None });
+        }
+        match turn(alloc, letters, bytes, next, place, &mut placed)? {
+            Turn::Passed(to, at) => {
+                next = to;
+                place = at;
+            }
+            Turn::Bad => return Ok(Symbols {
+                placed,
+                bad: Some(place),
+            }),
+        }
+    }
+    Ok(Symbols { placed, bad: None })
+}
+
+/// Passes over a blank, or reads a symbol.
+fn turn(
+    alloc: Global,
+    letters: &[char],
+    bytes: usize,
+    next: usize,
+    place: usize,
+    placed: &mut Items<Placed>,
+) -> Result<Turn, Memory>
+    requires fits { length (encode_utf8_all letters.now) ≤ bytes }
+    requires here { next < length letters.now }
+    requires small { place ≤ bytes_of_first next letters.now }
+    ensures value { IfOk result (Steps_to letters.now placed.old next place placed.new) }
+    ensures within { IfOk result (Stays_within letters.now) }
+{
+    if is_blank(letters[next]) {
+        return Ok(Turn::Passed(next + 1, place + 1));
+    }
+    let Some(lexeme) = front(alloc, &letters[next..])? else {
+        return Ok(Turn::Bad);
+    };
+    let size = lexeme.size;
+    let to = place + byte_count(&letters[next..next + size], bytes);
+    let one = Placed {
+        symbol: lexeme.symbol,
+        from: place,
+        to,
+    };
+    placed.push(one)?;
+    Ok(Turn::Passed(next + size, to))
+}
+
+/// The number of bytes of characters that have at most so many.
+fn byte_count(letters: &[char], most: usize) -> usize
+    requires { length (encode_utf8_all letters.now) ≤ most }
+    ensures { result ≡ length (encode_utf8_all letters.now) }
+{
+    let mut count = 0;
+    for letter in letters {
+        count += letter.len_utf8();
+    }
+    count
+}
