@@ -15,3 +15,5 @@ pub mod Joined
 pub mod Counts
 pub mod Passed
 pub mod PassedFaults
+pub mod PrintedPieces
+pub mod PrintedTrees

@@ -5,3 +5,4 @@ pub mod Texts
 pub mod Reading
 pub mod Opened
 pub mod Limits
+pub mod Printed

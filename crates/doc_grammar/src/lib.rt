@@ -1,11 +1,17 @@
 //! What a document is as text: its grammar, the texts that begin a document, the limits, and laws about them.
 #![tactic(auto)]
 
-ghost use Rattle.std.specs.Prelude.{◌≡◌, ℕ, List};
-ghost use Rattle.plain_tree.specs.Document.{Node};
+ghost use Rattle.std.specs.Prelude.{◌≡◌, ◌∷◌, [], ℕ, List, true};
+ghost use Rattle.plain_tree.specs.Document.{Node, is_document};
+ghost use Rattle.doc_grammar.specs.Printed.{IsPrintable, printed};
 ghost use Rattle.doc_grammar.specs.Texts.{Kind, Spells};
 
 /// A text spells one document, or one fragment, at most.
 pub fn one_reading()
     ensures { (kind : Kind) (text : List ℕ) (ks ls : List Node) → Spells kind text ks → Spells kind text ls → ks ≡ ls }
+{}
+
+/// What is printed of a document is a text that spells it.
+pub fn printed_spells()
+    ensures { (tree : Node) → IsPrintable tree → is_document tree ≡ true → Spells Kind.document (printed tree) (tree ∷ []) }
 {}
