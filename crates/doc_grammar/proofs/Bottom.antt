@@ -4,7 +4,7 @@ use Rattle.plain_tree.specs.Document.{Node}
 use Rattle.plain_tree.specs.declared.tree.Attr.{Attr}
 use Rattle.std.specs.Prelude.{◌==◌, ◌&&◌, nat_eq, encode_utf8}
 use Rattle.std.specs.List.{starts_with}
-use Rattle.doc_grammar.specs.Characters.{is_char, is_space, is_name_start, is_name_char}
+use Rattle.ft_base.specs.Characters.{is_char, is_space, is_name_start, is_name_char}
 use Rattle.doc_grammar.specs.Grammar.{is_quote, has_name}
 use Rattle.doc_grammar.specs.Opened.{bottom}
 use Rattle.doc_grammar.specs.Machine as m

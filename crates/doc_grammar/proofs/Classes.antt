@@ -4,7 +4,7 @@ use Rattle.std.proofs.lemmas.Bool.{eqb-true, leb-true}
 use Rattle.std.proofs.lemmas.Bool.Decides.{nat_tests}
 use Rattle.std.specs.Prelude.{◌==◌, nat_le}
 use Rattle.std.specs.List.{list_all}
-use Rattle.doc_grammar.specs.Characters.{is_within, is_in, is_char, is_space, is_name_start, is_name_char}
+use Rattle.ft_base.specs.Characters.{is_within, is_in, is_char, is_space, is_name_start, is_name_char}
 use Rattle.doc_grammar.proofs.Bytes.{both}
 
 -- a character of a class isn't one outside it

@@ -8,7 +8,7 @@ use Rattle.std.specs.Prelude.{◌==◌, encode_utf8, encode_utf8_all, nat_eq}
 use Rattle.std.specs.Cmp.Lexicographic.{pointwise}
 use Rattle.plain_tree.specs.Document.{Node}
 use Rattle.plain_tree.specs.declared.tree.Attr.{Attr}
-use Rattle.doc_grammar.specs.Characters.{is_name_start, is_name_char}
+use Rattle.ft_base.specs.Characters.{is_name_start, is_name_char}
 use Rattle.doc_grammar.specs.Grammar.{is_quote, has_name, Name, Tag}
 use Rattle.doc_grammar.specs.Machine as m
 use Rattle.doc_grammar.specs.Machine.{Outer, document, fragment, level, Place, Phase, State, is_content, with_node, step_at, run_on}

@@ -7,7 +7,7 @@ use Rattle.std.specs.Prelude.{◌==◌, nat_eq, encode_utf8}
 use Rattle.std.specs.List.{starts_with}
 use Rattle.plain_tree.specs.Document.{Node, element, nodes, no_nodes, is_empty}
 use Rattle.plain_tree.specs.declared.tree.Attr.{Attr}
-use Rattle.doc_grammar.specs.Characters.{is_char, is_space, is_name_start, is_name_char}
+use Rattle.ft_base.specs.Characters.{is_char, is_space, is_name_start, is_name_char}
 use Rattle.doc_grammar.specs.Grammar.{text_node, is_quote, has_name}
 use Rattle.doc_grammar.specs.Machine as m
 use Rattle.doc_grammar.specs.Machine.{Outer, document, fragment, level, Place, Phase, State, Judged, is_content, takes_element, step_at}

@@ -3,7 +3,7 @@ use Rattle.std.proofs.Common.{◌≡◌, ℕ, Bool, true, false, ◌&&◌, not, 
 use Rattle.std.proofs.lemmas.List.{append-nil}
 use Rattle.std.specs.Prelude.{◌==◌, codes, encode_utf8, is_some}
 use Rattle.plain_tree.specs.Document.{Node, element, no_nodes}
-use Rattle.doc_grammar.specs.Characters.{is_name_start, is_name_char}
+use Rattle.ft_base.specs.Characters.{is_name_start, is_name_char}
 use Rattle.doc_grammar.specs.Grammar.{text_node, Document, Fragment, lines_from, with_line_ends}
 use Rattle.doc_grammar.specs.Texts.{Kind, Spells, Begins, GoesWrong}
 use Rattle.doc_grammar.specs.Machine as m

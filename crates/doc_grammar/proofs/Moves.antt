@@ -3,7 +3,7 @@ use Rattle.std.proofs.Common.{◌≡◌, ℕ, false, List, [], ◌∷◌, ◌++�
 use Rattle.std.proofs.lemmas.List.{append-nil}
 use Rattle.std.specs.Prelude.{IsTrue, codes, encode_utf8_all}
 use Rattle.plain_tree.specs.Document.{Node}
-use Rattle.doc_grammar.specs.Characters.{is_space}
+use Rattle.ft_base.specs.Characters.{is_space}
 use Rattle.doc_grammar.specs.Grammar as g
 use Rattle.doc_grammar.specs.Grammar.{text_node, Spaces, Reference, Skipped, Misc, Tag, Element, Content}
 use Rattle.doc_grammar.specs.Machine.{Place, is_content, takes_element, with_node, left}

@@ -5,7 +5,7 @@ use Rattle.std.proofs.lemmas.Bool.{eqb-true}
 use Rattle.std.proofs.Math.Bool.{or-false}
 use Rattle.std.specs.Prelude.{◌==◌}
 use Rattle.plain_tree.specs.Document.{is_empty}
-use Rattle.doc_grammar.specs.Characters.{is_char, is_name_start}
+use Rattle.ft_base.specs.Characters.{is_char, is_name_start}
 use Rattle.doc_grammar.specs.Grammar.{lines_from, with_line_ends}
 use Rattle.doc_grammar.specs.Texts.{Kind}
 use Rattle.doc_grammar.specs.Machine as m

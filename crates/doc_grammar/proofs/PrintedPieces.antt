@@ -5,7 +5,7 @@ use Rattle.std.proofs.lemmas.Bool.{eqb-true}
 use Rattle.std.specs.Prelude.{IsTrue, ◌==◌, codes, encode_utf8, encode_utf8_all}
 use Rattle.std.specs.List.{flat_map, list_all}
 use Rattle.plain_tree.specs.Document.{Node}
-use Rattle.doc_grammar.specs.Characters.{is_char, is_space}
+use Rattle.ft_base.specs.Characters.{is_char, is_space}
 use Rattle.doc_grammar.specs.Grammar as g
 use Rattle.doc_grammar.specs.Grammar.{Digits, Reference, Value, Content, in_value}
 use Rattle.doc_grammar.specs.Printed.{escaped_in_text, escaped_in_value}

@@ -7,7 +7,7 @@ use Rattle.std.specs.List.{flat_map, list_all}
 use Rattle.std.specs.Str.{chars}
 use Rattle.plain_tree.specs.Document.{Node, element, text, Nodes, no_nodes, node_then, nodes, is_text, is_joined, are_joined, begins_with_text, is_empty, is_document}
 use Rattle.plain_tree.specs.declared.tree.Attr.{Attr}
-use Rattle.doc_grammar.specs.Characters.{is_space}
+use Rattle.ft_base.specs.Characters.{is_space}
 use Rattle.doc_grammar.specs.Grammar as g
 use Rattle.doc_grammar.specs.Grammar.{text_node, Spaces, Value, Attribute, Tag, Element, Content, Misc, Document}
 use Rattle.doc_grammar.specs.Printed.{escaped_in_text, escaped_in_value, printed_value, printed_attribute, printed_attributes, printed, printed_all, IsName, AreChars, AreAttributes, IsPrintable, ArePrintable}

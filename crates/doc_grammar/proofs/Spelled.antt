@@ -3,7 +3,7 @@ use Rattle.std.proofs.Common.{◌≡◌, ℕ, ◌≤◌, Bool, true, false, List
 use Rattle.std.specs.List.{list_all}
 use Rattle.std.specs.Prelude.{IsTrue, ◌==◌, not, codes, encode_utf8_all, if◌then◌else◌}
 use Rattle.plain_tree.specs.declared.tree.Attr.{Attr}
-use Rattle.doc_grammar.specs.Characters.{is_space}
+use Rattle.ft_base.specs.Characters.{is_space}
 use Rattle.doc_grammar.specs.Grammar.{is_quote, has_name, Name, Spaces, Digits, Reference, Remark, Instruction, Value, Tag}
 use Rattle.doc_grammar.specs.Opened.{At}
 use Rattle.doc_grammar.specs.Machine as m

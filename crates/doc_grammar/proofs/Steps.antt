@@ -7,7 +7,7 @@ use Rattle.std.specs.Prelude.{IsTrue, ◌==◌, codes, encode_utf8, encode_utf8_
 use Rattle.std.specs.List.{starts_with}
 use Rattle.std.specs.Char.{digit_value}
 use Rattle.plain_tree.specs.Document.{Node}
-use Rattle.doc_grammar.specs.Characters.{is_char, is_space, is_name_start}
+use Rattle.ft_base.specs.Characters.{is_char, is_space, is_name_start}
 use Rattle.doc_grammar.specs.Grammar as g
 use Rattle.doc_grammar.specs.Grammar.{is_digit, one_dash_more, in_value, is_quote, has_name, text_node, Name, Spaces, Digits, Reference, Remark, Instruction, Skipped, Misc, Value, Attribute, Tag, Element, Content}
 use Rattle.doc_grammar.specs.Machine as m

@@ -3,7 +3,7 @@ use Rattle.std.proofs.Common.{◌≡◌, ℕ, false, List, [], ◌∷◌, ◌++�
 use Rattle.std.proofs.lemmas.List.{append-nil}
 use Rattle.std.specs.Prelude.{IsTrue, ◌==◌, codes, encode_utf8}
 use Rattle.plain_tree.specs.declared.tree.Attr.{Attr}
-use Rattle.doc_grammar.specs.Characters.{is_char, is_space, is_name_start, is_name_char}
+use Rattle.ft_base.specs.Characters.{is_char, is_space, is_name_start, is_name_char}
 use Rattle.doc_grammar.specs.Grammar as g
 use Rattle.doc_grammar.specs.Grammar.{in_value, is_quote, has_name, Name, Spaces, Value, Attribute, Tag, Element, Content}
 use Rattle.doc_grammar.specs.Machine as m

@@ -4,7 +4,7 @@ use Rattle.std.proofs.lemmas.Bool.{eqb-true, le-leb}
 use Rattle.std.specs.Prelude.{◌==◌, codes, encode_utf8}
 use Rattle.std.specs.Char.{digit_value}
 use Rattle.plain_tree.specs.declared.tree.Attr.{Attr}
-use Rattle.doc_grammar.specs.Characters.{is_char, is_space, is_name_start, is_name_char}
+use Rattle.ft_base.specs.Characters.{is_char, is_space, is_name_start, is_name_char}
 use Rattle.doc_grammar.specs.Grammar as g
 use Rattle.doc_grammar.specs.Grammar.{is_digit, one_dash_more, in_value, is_quote, has_name, Name, Spaces, Digits, Reference, Remark, Instruction, Skipped, Misc, Value}
 use Rattle.doc_grammar.specs.Machine as m

@@ -7,7 +7,7 @@ use Rattle.std.specs.Prelude.{◌==◌, codes, encode_utf8, encode_utf8_all, nat
 use Rattle.std.specs.List.{starts_with}
 use Rattle.plain_tree.specs.Document.{Node, element, no_nodes, nodes}
 use Rattle.plain_tree.specs.declared.tree.Attr.{Attr}
-use Rattle.doc_grammar.specs.Characters.{is_char, is_space, is_name_start, is_name_char}
+use Rattle.ft_base.specs.Characters.{is_char, is_space, is_name_start, is_name_char}
 use Rattle.doc_grammar.specs.Grammar.{is_quote, has_name, text_node, Attribute, Tag, Element, Content, Document}
 use Rattle.doc_grammar.specs.Opened.{At, before, after, in_fragment, within, bottom}
 use Rattle.doc_grammar.specs.Machine as m

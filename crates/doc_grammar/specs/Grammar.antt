@@ -6,7 +6,7 @@ use Rattle.std.specs.Cmp.Lexicographic.{pointwise}
 use Rattle.std.specs.Char.{digit_value}
 use Rattle.plain_tree.specs.Document.{Node, element, text, no_nodes, nodes}
 use Rattle.plain_tree.specs.declared.tree.Attr.{Attr}
-use Rattle.doc_grammar.specs.Characters.{is_char, is_space, is_name_start, is_name_char}
+use Rattle.ft_base.specs.Characters.{is_char, is_space, is_name_start, is_name_char}
 
 -- a name, and its bytes (production 5)
 pub data Name : List ℕ → List ℕ → Type 0 where

@@ -1,4 +1,3 @@
-pub mod Characters
 pub mod Grammar
 pub mod Machine
 pub mod Texts

@@ -4,7 +4,7 @@ use Rattle.std.specs.List.{flat_map, list_all}
 use Rattle.std.specs.Str.{IsUtf8, chars}
 use Rattle.plain_tree.specs.Document.{Node, element, text, Nodes, no_nodes, node_then}
 use Rattle.plain_tree.specs.declared.tree.Attr.{Attr}
-use Rattle.doc_grammar.specs.Characters.{is_char}
+use Rattle.ft_base.specs.Characters.{is_char}
 use Rattle.doc_grammar.specs.Grammar.{Name, has_name}
 
 -- a character of a text, and of a value

@@ -7,7 +7,7 @@ use Rattle.std.proofs.lemmas.Bool.{eqb-true, eq-eqb}
 use Rattle.std.specs.Int.{IsInRange}
 use Rattle.std.specs.Char.{len_utf8}
 use Rattle.std.specs.List.{starts_with}
-use Rattle.doc_grammar.specs.Characters.{is_char}
+use Rattle.ft_base.specs.Characters.{is_char}
 use Rattle.doc_grammar.proofs.Bytes.{starts_with-true}
 use Rattle.std.proofs.Math.Dec.{eqb-suc-zero, eqb-suc-suc}
 use Rattle.std.specs.Prelude.{fold, ◌==◌, ◌&&◌, is_some, string_bytes, nat_eq, if◌then◌else◌, encode_utf8}

@@ -6,7 +6,7 @@ use Rattle.plain_tree.specs.declared.tree.Attr.{Attr}
 use Rattle.std.specs.declared.vec.Vec.{Vec}
 use Rattle.std.specs.declared.alloc.Global.{Global}
 use Rattle.plain_tree.specs.declared.tree.Tree.{Tree}
-use Rattle.doc_grammar.specs.Characters.{is_char, is_name_start}
+use Rattle.ft_base.specs.Characters.{is_char, is_name_start}
 use Rattle.doc_grammar.specs.Grammar.{text_node}
 use Rattle.doc_grammar.specs.Texts.{Kind}
 use Rattle.doc_grammar.specs.Machine as m

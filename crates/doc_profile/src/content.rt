@@ -3,10 +3,9 @@ ghost use Rattle.doc_grammar.specs.Machine as m;
 ghost use Rattle.doc_grammar.specs.Limits.{begins_text, element_here, text_here};
 ghost use Rattle.doc_profile.specs.View.{Goes, Stepped, content_of, place_of, start_of, state_of};
 
-use crate::characters::{is_char, is_name_start, is_space};
 use crate::phase::{Phase, Refer};
 use crate::reader::Reader;
-use ft_base::Memory;
+use ft_base::{Memory, is_char, is_name_start, is_space};
 
 impl Reader {
     #[tactic(auto, using(std::proofs::lemmas::Bool::Decides::nat_tests), unfolding(doc_grammar::specs::Machine::from_ready))]

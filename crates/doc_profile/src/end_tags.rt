@@ -5,10 +5,9 @@ ghost use Rattle.doc_grammar.specs.Grammar.{text_node};
 ghost use Rattle.doc_grammar.specs.Machine as m;
 ghost use Rattle.doc_profile.specs.View.{Goes, closed, name_of, nodes_of, place_of, state_of};
 
-use crate::characters::is_space;
 use crate::phase::Phase;
 use crate::reader::{Level, Reader};
-use ft_base::{Items, Line, Memory};
+use ft_base::{Items, Line, Memory, is_space};
 use plain_tree::{Attr, Tree};
 use std::alloc::Global;
 use std::mem;

@@ -1,7 +1,6 @@
 //! Documents as bytes: reading a document or a fragment.
 #![tactic(auto)]
 
-mod characters;
 mod content;
 mod end_tags;
 mod fault;

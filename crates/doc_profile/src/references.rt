@@ -1,12 +1,11 @@
 ghost use Rattle.std.specs.Prelude.{◌≡◌, ◌≤◌, ◌+◌, ◌*◌, if◌then◌else◌, nat_le};
-ghost use Rattle.doc_grammar.specs.Characters as chars;
+ghost use Rattle.ft_base.specs.Characters as chars;
 ghost use Rattle.doc_grammar.specs.Machine as m;
 ghost use Rattle.doc_profile.specs.View.{Goes, attr_of, judged_of, meaning_of, name_of, place_of, refer_of, spelling_of, state_of, value_of};
 
-use crate::characters::is_char;
 use crate::phase::{Entity, Phase, Refer};
 use crate::reader::Reader;
-use ft_base::Memory;
+use ft_base::{Memory, is_char};
 
 /// What a character makes of a reference.
 #[derive(Clone, Copy, Debug, PartialEq, Eq)]

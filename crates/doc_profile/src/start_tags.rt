@@ -3,11 +3,10 @@ ghost use Rattle.doc_grammar.specs.Grammar as grammar;
 ghost use Rattle.doc_grammar.specs.Machine as m;
 ghost use Rattle.doc_profile.specs.View.{Goes, Stepped, attr_of, name_of, place_of, state_of};
 
-use crate::characters::{is_name_char, is_name_start, is_space};
 use crate::end_tags::with_node;
 use crate::phase::Phase;
 use crate::reader::{Level, Reader};
-use ft_base::{Items, Line, Memory};
+use ft_base::{Items, Line, Memory, is_name_char, is_name_start, is_space};
 use plain_tree::{Attr, Tree};
 use std::mem;
 

@@ -2,10 +2,9 @@ ghost use Rattle.std.specs.Prelude.{◌≡◌, ◌++◌, ◌∷◌, [], OnOk};
 ghost use Rattle.doc_grammar.specs.Machine as m;
 ghost use Rattle.doc_profile.specs.View.{Goes, Stepped, attr_of, name_of, place_of, state_of, value_of};
 
-use crate::characters::{is_char, is_space};
 use crate::phase::{Phase, Refer};
 use crate::reader::Reader;
-use ft_base::{Line, Memory};
+use ft_base::{Line, Memory, is_char, is_space};
 use plain_tree::Attr;
 use std::mem;
 

@@ -1,8 +1,10 @@
 //! What every crate of the search engine shares: the answer for want of memory, lists and lines that contracts see
 //! as plain lists, a counter of steps that takes no bytes, the limits of a session, and the plain types of full-text
-//! queries: words with their options and filters, tokens, hits and Matches.
+//! queries: words with their options and filters, tokens, hits, Matches and faults.
 #![tactic(auto)]
 
+mod characters;
+mod fault;
 mod filter;
 mod hit;
 mod items;
@@ -19,6 +21,8 @@ mod unit;
 mod walk;
 mod words;
 
+pub use characters::{is_char, is_name_char, is_name_start, is_space};
+pub use fault::{ListFault, QueryFault};
 pub use filter::Filter;
 pub use hit::{Hit, Match};
 pub use items::Items;

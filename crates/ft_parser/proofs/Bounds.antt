@@ -3,7 +3,7 @@ use Rattle.std.proofs.Common.{◌≡◌, ℕ, zero, suc, ◌+◌, ◌≤◌, Lis
 use Rattle.std.specs.Prelude.{IfSome, option_map}
 use Rattle.std.specs.List.{prefix_len}
 use Rattle.std.proofs.lemmas.Bool.{cond_both}
-use Rattle.ft_parser.specs.NameCharacters.{is_name_start, is_only_inside, is_name_char}
+use Rattle.ft_base.specs.Characters.{is_name_start, is_only_inside, is_name_char}
 use Rattle.ft_parser.specs.declared.lexeme.Lexeme.{Lexeme}
 use Rattle.ft_parser.specs.declared.lexeme.Quoted.{Quoted}
 use Rattle.ft_parser.specs.declared.symbol.Symbol.{Symbol}

@@ -1,3 +1,2 @@
-pub mod NameCharacters
 pub mod Symbols
 pub mod Examples

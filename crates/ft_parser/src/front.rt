@@ -1,13 +1,13 @@
 //! The symbol at the front of characters.
 
 ghost use Rattle.std.specs.Prelude.{◌≡◌, ◌∷◌, ◌≤◌, ◌<◌, IfOk, IfSome, Some, drop, encode_utf8_all, length};
-ghost use Rattle.ft_parser.specs.NameCharacters as names;
+ghost use Rattle.ft_base.specs.Characters as names;
 ghost use Rattle.ft_parser.specs.Symbols as spec;
 
-use crate::characters::{is_digit, is_name_char, is_name_start, is_quote, is_slash};
+use crate::characters::{is_digit, is_quote, is_slash};
 use crate::lexeme::{Lexeme, Quoted};
 use crate::symbol::Symbol;
-use ft_base::{Line, Memory};
+use ft_base::{Line, Memory, is_name_char, is_name_start};
 use std::alloc::Global;
 
 /// The symbol that begins with the first character.

@@ -1,7 +1,7 @@
 -- The characters so far pass, and the run is they and what is left of it.
 use Rattle.std.proofs.Common.{◌≡◌, ◌+◌, drop}
 use Rattle.std.specs.List.{prefix_len}
-use Rattle.ft_parser.specs.NameCharacters.{is_name_char}
+use Rattle.ft_base.specs.Characters.{is_name_char}
 use Rattle.ft_parser.proofs.front.name_run.Given as goal
 
 abbrev pub invariant-loop-letter : goal.invariant-loop-letter

@@ -2,7 +2,7 @@
 use Rattle.std.proofs.Common.{refl}
 use Rattle.std.specs.Str.{chars}
 use Rattle.std.proofs.Math.Utf8.{encode}
-use Rattle.ft_parser.specs.NameCharacters.{is_name_start, is_name_char}
+use Rattle.ft_base.specs.Characters.{is_name_start, is_name_char}
 use Rattle.ft_parser.specs.Symbols.{symbols_of, symbols_within, front}
 use Rattle.ft_parser.proofs.symbol_examples.names_and_numbers.Goals as goal
 

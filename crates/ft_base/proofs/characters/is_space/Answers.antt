@@ -1,7 +1,7 @@
 -- The ranges, tested one after another, are those of the class.
 use Rattle.std.proofs.Math.Bool.{or_assoc, or-false}
-use Rattle.doc_grammar.specs.Characters as chars
-use Rattle.doc_profile.proofs.characters.is_space.Goals as goal
+use Rattle.ft_base.specs.Characters as chars
+use Rattle.ft_base.proofs.characters.is_space.Goals as goal
 
 pub returns : goal.returns
 unfolding chars.is_space

@@ -1,5 +1,5 @@
 ghost use Rattle.std.specs.Prelude.{◌≡◌};
-ghost use Rattle.doc_grammar.specs.Characters as chars;
+ghost use Rattle.ft_base.specs.Characters as chars;
 
 /// Whether the character is one from `low` to `high`.
 fn is_within(c: char, low: u32, high: u32) -> bool
@@ -20,21 +20,21 @@ pub fn is_char(c: char) -> bool
         | is_within(c, 0x1_0000, 0x10_FFFF)
 }
 
-/// Whether the character is white space (production 3).
+/// Whether the character is white space (XML 1.0, production 3).
 pub fn is_space(c: char) -> bool
     ensures { result ≡ chars.is_space c }
 {
     is_within(c, 0x20, 0x20) | is_within(c, 0x9, 0xA) | is_within(c, 0xD, 0xD)
 }
 
-/// Whether a name may begin with the character (production 4).
+/// Whether a name may begin with the character (XML 1.0, production 4).
 pub fn is_name_start(c: char) -> bool
     ensures { result ≡ chars.is_name_start c }
 {
-    is_within(c, 0x61, 0x7A)
-        | is_within(c, 0x41, 0x5A)
-        | is_within(c, 0x3A, 0x3A)
-        | is_within(c, 0x5F, 0x5F)
+    if c.is_ascii() {
+        return is_ascii_name_start(c);
+    }
+    is_ascii_name_start(c)
         | is_within(c, 0xC0, 0xD6)
         | is_within(c, 0xD8, 0xF6)
         | is_within(c, 0xF8, 0x2FF)
@@ -49,7 +49,17 @@ pub fn is_name_start(c: char) -> bool
         | is_within(c, 0x1_0000, 0xE_FFFF)
 }
 
-/// Whether a name may go on with the character (production 4a).
+/// Whether the character is one of the ASCII characters with which a name may begin.
+fn is_ascii_name_start(c: char) -> bool
+    ensures { result ≡ chars.is_ascii_name_start c }
+{
+    is_within(c, 0x61, 0x7A)
+        | is_within(c, 0x41, 0x5A)
+        | is_within(c, 0x3A, 0x3A)
+        | is_within(c, 0x5F, 0x5F)
+}
+
+/// Whether a name may go on with the character (XML 1.0, production 4a).
 pub fn is_name_char(c: char) -> bool
     ensures { result ≡ chars.is_name_char c }
 {
