@@ -14,5 +14,5 @@ mod words;
 
 pub use breaks::breaks_of;
 pub use ft_base::Token;
-pub use tokens::{TokenFault, tokens_of};
+pub use tokens::{TokenFault, tokens_of, tokens_of_tree};
 pub use words::{Piece, count_words, words_of};

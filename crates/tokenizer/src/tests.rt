@@ -4,7 +4,9 @@ ghost use Rattle.plain_tree.specs.Document.{nodes, is_joined, are_joined, is_tex
 ghost use Rattle.plain_tree.specs.View.{node};
 
 use crate::blocks::{BLOCK_ELEMENTS, is_block_element};
-use crate::{Piece, Token, TokenFault, breaks_of, count_words, tokens_of, words_of};
+use crate::{
+    Piece, Token, TokenFault, breaks_of, count_words, tokens_of, tokens_of_tree, words_of,
+};
 use ft_base::Line;
 use plain_tree::{Attrs, Kids, PlainDoc, Tree};
 use std::alloc::Global;
@@ -190,6 +192,20 @@ fn tokens_have_their_sentences_and_paragraphs(rt: HostRuntime) -> Result<(), Fai
     let breaks = breaks_of(alloc, &doc)?;
     assert_eq!(rt; breaks.sentences.as_slice(), [1, 3, 4, 5].as_slice());
     assert_eq!(rt; breaks.paragraphs.as_slice(), [1, 3, 5].as_slice());
+    Ok(())
+}
+
+#[test]
+fn an_element_counts_its_own_tokens(rt: HostRuntime) -> Result<(), Fail> {
+    let alloc = rt.alloc();
+    let alone = element(alloc, "p", "z. w")?;
+    let tokens = tokens_of_tree(alloc, &alone)?;
+    assert!(rt; have(tokens.as_slice(), &[("z", 1, 1), ("w", 2, 1)]));
+    let text = Tree::Text {
+        text: Line::read(alloc, "v")?,
+    };
+    let tokens = tokens_of_tree(alloc, &text)?;
+    assert!(rt; have(tokens.as_slice(), &[("v", 1, 1)]));
     Ok(())
 }
 

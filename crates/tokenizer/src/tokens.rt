@@ -1,4 +1,5 @@
 ghost use Rattle.std.specs.Prelude.{◌≡◌, ◌≤◌, ◌<◌, List, ◌∷◌, ◌++◌, map, length, Err, IfOk, OnOk};
+ghost use Rattle.plain_tree.specs.View.{node};
 ghost use Rattle.unicode_segmentation.specs.Word.{word_bounds};
 ghost use Rattle.tokenizer.specs.Numbering.{tokens_left};
 ghost use Rattle.tokenizer.specs.Parts.{Part, word, part_of_segment};
@@ -8,7 +9,7 @@ use crate::numbering::Numbering;
 use crate::walk::{Event, Walk};
 use crate::words::is_word;
 use ft_base::{Line, MAX_TOKENS, Memory, Token};
-use plain_tree::PlainDoc;
+use plain_tree::{PlainDoc, Tree};
 use std::alloc::{AllocFailed, Global};
 use unicode::segmentation::UnicodeSegmentation;
 
@@ -48,9 +49,18 @@ pub fn tokens_of(alloc: Global, doc: &PlainDoc) -> Result<Vec<Token>, TokenFault
     ensures few { OnOk result (length (tokens doc.now) ≤ MAX_TOKENS) }
     ensures full { result ≡ Err TokenFault.Tokens → MAX_TOKENS < length (tokens doc.now) }
 {
+    tokens_of_tree(alloc, doc.root())
+}
+
+/// The tokens of an element or a text by itself, in order: sentences and paragraphs count from its own first token.
+pub fn tokens_of_tree(alloc: Global, tree: &Tree) -> Result<Vec<Token>, TokenFault>
+    ensures tokens { IfOk result (λ out. out.items ≡ tokens (node tree.now)) }
+    ensures few { OnOk result (length (tokens (node tree.now)) ≤ MAX_TOKENS) }
+    ensures full { result ≡ Err TokenFault.Tokens → MAX_TOKENS < length (tokens (node tree.now)) }
+{
     let mut out = Vec::new(alloc);
     let mut last = Numbering::new();
-    let mut walk = Walk::new(alloc, doc.root());
+    let mut walk = Walk::new(alloc, tree);
     while let Some(event) = walk.next()? {
         match event {
             Event::Tag(name) => last.pass_tag(name),

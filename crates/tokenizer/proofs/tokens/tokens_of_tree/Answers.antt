@@ -1,16 +1,17 @@
 use Rattle.std.proofs.Common.{◌≡◌, ◌≤◌, ◌++◌, [], flat_map, length, sym, ap, ◌∙◌, append-nil, zero-le, subst}
 use Rattle.ft_base.specs.declared.limits.TheConstants.{MAX_TOKENS}
+use Rattle.plain_tree.specs.View.{node}
 use Rattle.tokenizer.specs.Numbering.{tokens_left}
 use Rattle.tokenizer.specs.Parts.{parts, parts_of_event}
 use Rattle.tokenizer.specs.Tokens.{tokens}
 use Rattle.tokenizer.specs.Walks.{events_left}
 use Rattle.tokenizer.proofs.NumberingLemmas.{tokens_left-nil}
-use Rattle.tokenizer.proofs.tokens.tokens_of.Goals as goal
+use Rattle.tokenizer.proofs.tokens.tokens_of_tree.Goals as goal
 
 pub loop-walk-init : goal.loop-walk-init
 unfolding tokens
 loop-walk-init c = record {
-  left = rw (c.new-out.ensures.items, c.new-walk.ensures, c.root.ensures.tree) (sym (c.new-last.ensures.tokens (parts c.args.doc.now)));
+  left = rw (c.new-out.ensures.items, c.new-walk.ensures) (sym (c.new-last.ensures.tokens (parts (node c.args.tree.now))));
   few = rw c.new-out.ensures.items zero-le;
   sentence = rw c.new-last.ensures.sentence zero-le;
   paragraph = rw c.new-last.ensures.paragraph zero-le;

@@ -1,14 +1,15 @@
 use Rattle.std.proofs.Common.{◌≡◌, ◌≤◌, ◌++◌, flat_map, length}
 use Rattle.ft_base.specs.declared.limits.TheConstants.{MAX_TOKENS}
+use Rattle.plain_tree.specs.View.{node}
 use Rattle.tokenizer.specs.Numbering.{tokens_left}
 use Rattle.tokenizer.specs.Parts.{parts_of_event}
 use Rattle.tokenizer.specs.Tokens.{tokens}
 use Rattle.tokenizer.specs.Walks.{events_left}
-use Rattle.tokenizer.proofs.tokens.tokens_of.Given as goal
+use Rattle.tokenizer.proofs.tokens.tokens_of_tree.Given as goal
 
 abbrev pub invariant-loop-walk : goal.invariant-loop-walk
 invariant-loop-walk l = record {
-  left : tokens l.doc ≡ l.out.items ++ tokens_left l.last (flat_map parts_of_event (events_left l.walk));
+  left : tokens (node l.tree) ≡ l.out.items ++ tokens_left l.last (flat_map parts_of_event (events_left l.walk));
   few : length l.out.items ≤ MAX_TOKENS;
   sentence : l.last.sentence ≤ length l.out.items;
   paragraph : l.last.paragraph ≤ length l.out.items;
