@@ -1,2 +1,6 @@
 pub mod Readers
 pub mod Walked
+pub mod Readings
+pub mod Left
+pub mod BytesRead
+pub mod Answered

@@ -1,5 +1,5 @@
 -- What the fields of a reader tell of the state that it stands for.
-use Rattle.std.proofs.Common.{◌≡◌, ℕ, suc, ◌+◌, ◌<◌, ◌≤◌, ◌⊎◌, Bool, true, false, ◌||◌, not, cond, List, [], ◌∷◌, ◌++◌, length, get_or, drop, map, Option, Some, None, refl, sym, ◌∙◌, ap, arith}
+use Rattle.std.proofs.Common.{◌≡◌, ℕ, suc, ◌+◌, ◌<◌, ◌≤◌, ◌⊎◌, Bool, true, false, ◌||◌, not, cond, List, [], ◌∷◌, ◌++◌, length, get_or, drop, map, Option, None, refl, sym, ◌∙◌, ap, arith}
 use Rattle.std.proofs.lemmas.List.{at_drop_more, at_drop_all, length-drop}
 use Rattle.std.proofs.lemmas.Str.{drop_past_char}
 use Rattle.std.proofs.lemmas.Bool.Decides.{nat_tests}
@@ -10,7 +10,7 @@ use Rattle.std.specs.List.{starts_with}
 use Rattle.ft_base.specs.Characters.{is_char}
 use Rattle.doc_grammar.proofs.Bytes.{starts_with-true}
 use Rattle.std.proofs.Math.Dec.{eqb-suc-zero, eqb-suc-suc}
-use Rattle.std.specs.Prelude.{fold, ◌==◌, ◌&&◌, is_some, string_bytes, nat_eq, if◌then◌else◌, encode_utf8}
+use Rattle.std.specs.Prelude.{fold, ◌==◌, ◌&&◌, is_some, string_bytes, nat_eq, encode_utf8}
 use Rattle.std.proofs.lemmas.List.Sums.{fold-append}
 use Rattle.plain_tree.specs.Document.{Node}
 use Rattle.plain_tree.specs.View.{node}

@@ -1,9 +1,8 @@
 -- What each fault of a text says.
-use Rattle.std.specs.Prelude.{◌≡◌, ℕ, ◌+◌, ◌-◌, ◌≤◌, ◌<◌, ◌⊎◌, Bool, true, List, length, encode_utf8_all, ⊤}
+use Rattle.std.specs.Prelude.{◌≡◌, ℕ, ◌+◌, List, length, encode_utf8_all, ⊤}
 use Rattle.std.specs.Str.{IsUtf8, IsValidUpTo}
-use Rattle.doc_grammar.specs.Machine.{State}
 use Rattle.doc_grammar.specs.Texts.{Kind, GoesWrong}
-use Rattle.doc_grammar.specs.Limits.{Limit, depth_limit, node_limit, Passes, KeepsLimits, text_here, element_here, depth}
+use Rattle.doc_grammar.specs.Limits.{Limit, depth_limit, node_limit, Passes, KeepsLimits}
 use Rattle.doc_profile.specs.declared.fault.DocFault.{DocFault}
 use Rattle.doc_profile.specs.declared.fault.DocFault.TheVariants as faults
 
@@ -68,17 +67,7 @@ FaultOf kind bytes text from (faults.Depth at) = IsUtf8 bytes × DepthAt kind te
 FaultOf kind bytes text from (faults.Nodes at) = IsUtf8 bytes × NodesAt kind text from at
 FaultOf kind bytes text from faults.Memory = ⊤
 
--- the next character passes no limit
-pub record FitsHere (s : State) (nodes : ℕ) (behind_return : Bool) (c : ℕ) : Type 0 where
-  pub text_fits : text_here s behind_return c ≡ true → nodes < max_nodes
-  pub shallow : element_here s c ≡ true → depth s.place.outer < max_depth
-  pub element_fits : element_here s c ≡ true → nodes < max_nodes
-
--- it passes one
-abbrev pub StopsHere : State → ℕ → Bool → ℕ → ℕ → DocFault → Type 0
-StopsHere s nodes behind_return c at (faults.NotUtf8 place) = ⊥
-StopsHere s nodes behind_return c at (faults.Syntax place) = ⊥
-StopsHere s nodes behind_return c at (faults.Depth place) = (element_here s c ≡ true) × (max_depth ≤ depth s.place.outer) × (place ≡ at - 1)
-StopsHere s nodes behind_return c at (faults.Nodes place) =
-    ((element_here s c ≡ true) × (depth s.place.outer < max_depth) × (max_nodes ≤ nodes) × (place ≡ at - 1)) ⊎ ((text_here s behind_return c ≡ true) × (max_nodes ≤ nodes) × (place ≡ at))
-StopsHere s nodes behind_return c at faults.Memory = ⊥
+-- the same, and no want of memory
+pub record IsFaultOf (kind : Kind) (bytes text : List ℕ) (from : ℕ) (fault : DocFault) : Type 0 where
+  pub is_fault : FaultOf kind bytes text from fault
+  pub no_memory : fault ≡ faults.Memory → ⊥

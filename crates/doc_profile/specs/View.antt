@@ -1,5 +1,5 @@
 -- What a reader has read, as a state of the machine.
-use Rattle.std.specs.Prelude.{◌≡◌, ◌==◌, ◌&&◌, ◌++◌, encode_utf8, ℕ, Bool, true, false, List, [], ◌∷◌, map, fold, drop, Option, Some, None, Result, Ok, Err, string_bytes, if◌then◌else◌, codes, ⊤}
+use Rattle.std.specs.Prelude.{◌≡◌, ◌==◌, ◌&&◌, ◌++◌, encode_utf8, ℕ, Bool, true, false, List, map, fold, drop, Option, Some, None, Result, Ok, Err, string_bytes, if◌then◌else◌, codes, ⊤}
 use Rattle.plain_tree.specs.Document.{Node, element, nodes}
 use Rattle.plain_tree.specs.View.{node}
 use Rattle.plain_tree.specs.declared.tree.Attr.{Attr}
@@ -11,6 +11,8 @@ use Rattle.doc_grammar.specs.Grammar.{text_node}
 use Rattle.doc_grammar.specs.Texts.{Kind}
 use Rattle.doc_grammar.specs.Machine as m
 use Rattle.doc_grammar.specs.Machine.{Outer, Place, State}
+use Rattle.doc_profile.specs.Readings.{Faults}
+use Rattle.doc_profile.specs.declared.fault.DocFault.{DocFault}
 use Rattle.doc_profile.specs.declared.phase.Entity.{Entity}
 use Rattle.doc_profile.specs.declared.phase.Entity.TheVariants as entities
 use Rattle.doc_profile.specs.declared.phase.Refer.{Refer}
@@ -98,6 +100,11 @@ Stepped false next s = next ≡ None
 abbrev pub Goes : {E : Type 0} → Result Bool E → Option State → State → Type 0
 Goes (Ok b) next s = Stepped b next s
 Goes (Err e) next s = ⊤
+
+-- the machine goes over a text to this state, or the text has this fault
+abbrev pub Walks : Result Unit DocFault → Result State DocFault → State → Type 0
+Walks (Ok u) expected s = expected ≡ Ok s
+Walks (Err fault) expected s = Faults expected fault
 
 -- a start tag, where one may stand
 abbrev pub start_of : Place → ℕ → Option State

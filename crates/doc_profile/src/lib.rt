@@ -4,6 +4,7 @@
 mod content;
 mod end_tags;
 mod fault;
+mod law;
 mod phase;
 #[cfg(test)]
 mod print;
@@ -16,4 +17,5 @@ mod tests;
 mod values;
 
 pub use fault::DocFault;
+pub use law::reading_law;
 pub use read::{read_doc, read_fragment};

@@ -1,13 +1,14 @@
-ghost use Rattle.std.specs.Prelude.{◌≡◌, ◌+◌, ◌^◌, ◌<◌, ◌∷◌, [], length, map, IfErr, IfOk, OnOk};
+ghost use Rattle.std.specs.Prelude.{◌≡◌, ◌+◌, ◌^◌, ◌<◌, ◌∷◌, [], false, length, map, None, Ok, Some, true, IfErr, IfOk, OnOk};
 ghost use Rattle.std.specs.Str.{IsUtf8, chars};
 ghost use Rattle.plain_tree.specs.View.{node};
-ghost use Rattle.doc_grammar.specs.Grammar.{lines_from};
+ghost use Rattle.doc_grammar.specs.Limits.{node_here, one_if, place_count};
 ghost use Rattle.doc_grammar.specs.Machine as m;
-ghost use Rattle.doc_grammar.specs.Reading.{outer_of, read};
+ghost use Rattle.doc_grammar.specs.Reading.{outer_of};
 ghost use Rattle.doc_grammar.specs.Texts.{Kind, Spells, mark_len, without_mark};
-ghost use Rattle.doc_profile.specs.Faults.{FaultIn, FaultOf, Fits, FitsHere, IsNotUtf8, StopsHere};
-ghost use Rattle.doc_grammar.specs.Limits.{node_here, one_if};
-ghost use Rattle.doc_profile.specs.View.{Goes, kind_of, nodes_of, state_of};
+ghost use Rattle.doc_profile.specs.Faults.{FaultOf, Fits, IsNotUtf8};
+ghost use Rattle.doc_profile.specs.Readings as readings;
+ghost use Rattle.doc_profile.specs.Readings.{Faults, document_of, fragment_of, passes, taken, walk};
+ghost use Rattle.doc_profile.specs.View.{Goes, Walks, kind_of, nodes_of, state_of};
 
 use crate::fault::DocFault;
 use crate::reader::Reader;
@@ -30,7 +31,7 @@ fn text_of(bytes: &[u8]) -> Result<&str, DocFault>
 
 /// Takes one character of the text as it is written; says whether it may stand here.
 fn take(reader: &mut Reader, behind_return: bool, c: char) -> Result<bool, Memory>
-    ensures { Goes result (m.run_on (Some (state_of reader.old)) (lines_from behind_return (c ∷ []))) (state_of reader.new) }
+    ensures { Goes result (taken (state_of reader.old) behind_return c) (state_of reader.new) }
 {
     if c == '\r' {
         reader.step('\n')
@@ -45,9 +46,7 @@ fn take(reader: &mut Reader, behind_return: bool, c: char) -> Result<bool, Memor
 fn read_text(reader: &mut Reader, text: &str, from: usize) -> Result<(), DocFault>
     requires start { state_of reader.old ≡ m.start (outer_of (kind_of reader.old.fragment)) }
     requires fits { from + length text.now < 2 ^ 64 }
-    ensures read { OnOk result (read (kind_of reader.old.fragment) (chars text.now) ≡ Some (state_of reader.new)) }
-    ensures fits { OnOk result (Fits (kind_of reader.old.fragment) (chars text.now)) }
-    ensures faults { IfErr result (λ fault. FaultIn (kind_of reader.old.fragment) (chars text.now) from fault) }
+    ensures { Walks result (walk (chars text.now) (state_of reader.old) false from) (state_of reader.new) }
 {
     let mut behind_return = false;
     let mut nodes = 0;
@@ -74,9 +73,10 @@ fn count(
     behind_return: bool,
     c: char,
 ) -> Result<usize, DocFault>
+    requires { node_here (state_of reader.now) behind_return c ≡ true → nodes ≡ place_count (state_of reader.now).place }
     ensures count { IfOk result (λ more. more ≡ nodes + one_if (node_here (state_of reader.now) behind_return c)) }
-    ensures fits { OnOk result (FitsHere (state_of reader.now) nodes behind_return c) }
-    ensures stops { IfErr result (StopsHere (state_of reader.now) nodes behind_return c at) }
+    ensures ok { OnOk result (passes (state_of reader.now) behind_return c at ≡ None) }
+    ensures err { IfErr result (λ fault. passes (state_of reader.now) behind_return c at ≡ Some fault) }
 {
     if reader.begins_element(c) {
         if reader.levels.len() >= MAX_DEPTH {
@@ -116,9 +116,8 @@ fn behind_mark(text: &str) -> (&str, usize)
 /// The nodes that the text spells; its places count from `from`.
 fn nodes_in(alloc: Global, fragment: bool, text: &str, from: usize) -> Result<Vec<Tree>, DocFault>
     requires { from + length text.now < 2 ^ 64 }
-    ensures read { IfOk result (λ kids. Spells (kind_of fragment) (chars text.now) (nodes_of kids)) }
-    ensures fits { OnOk result (Fits (kind_of fragment) (chars text.now)) }
-    ensures faults { IfErr result (FaultIn (kind_of fragment) (chars text.now) from) }
+    ensures ok { IfOk result (λ kids. readings.nodes_in (kind_of fragment) (chars text.now) from (from + length text.now) ≡ Ok (nodes_of kids)) }
+    ensures err { IfErr result (λ fault. Faults (readings.nodes_in (kind_of fragment) (chars text.now) from (from + length text.now)) fault) }
 {
     let mut reader = Reader::new(alloc, fragment);
     read_text(&mut reader, text, from)?;
@@ -132,21 +131,34 @@ fn nodes_in(alloc: Global, fragment: bool, text: &str, from: usize) -> Result<Ve
 
 /// The document that the bytes spell, or the first fault. A byte order mark at the front is skipped.
 pub fn read_doc(alloc: Global, bytes: &[u8]) -> Result<PlainDoc, DocFault>
+    ensures answer_ok { IfOk result (λ doc. document_of bytes.now ≡ Ok doc) }
+    ensures answer_err { IfErr result (λ fault. Faults (document_of bytes.now) fault) }
     ensures read { IfOk result (λ doc. IsUtf8 bytes.now × Spells Kind.document (without_mark (chars bytes.now)) (doc ∷ [])) }
     ensures fits { OnOk result (Fits Kind.document (without_mark (chars bytes.now))) }
     ensures faults { IfErr result (FaultOf Kind.document bytes.now (without_mark (chars bytes.now)) (mark_len (chars bytes.now))) }
+{
+    let root = root_of(alloc, bytes)?;
+    Ok(PlainDoc::from_tree(root))
+}
+
+/// The root of the document that the bytes spell.
+fn root_of(alloc: Global, bytes: &[u8]) -> Result<Tree, DocFault>
+    ensures ok { IfOk result (λ root. document_of bytes.now ≡ Ok (node root)) }
+    ensures err { IfErr result (λ fault. Faults (document_of bytes.now) fault) }
 {
     let text = text_of(bytes)?;
     let (text, from) = behind_mark(text);
     let mut kids = nodes_in(alloc, false, text, from)?;
     match kids.pop() {
-        Some(root) => Ok(PlainDoc::from_tree(root)),
+        Some(root) => Ok(root),
         None => unreachable!(),
     }
 }
 
 /// The content that the bytes spell, or the first fault.
 pub fn read_fragment(alloc: Global, bytes: &[u8]) -> Result<Kids, DocFault>
+    ensures answer_ok { IfOk result (λ kids. fragment_of bytes.now ≡ Ok (map node kids)) }
+    ensures answer_err { IfErr result (λ fault. Faults (fragment_of bytes.now) fault) }
     ensures read { IfOk result (λ kids. IsUtf8 bytes.now × Spells Kind.fragment (chars bytes.now) (map node kids)) }
     ensures fits { OnOk result (Fits Kind.fragment (chars bytes.now)) }
     ensures faults { IfErr result (FaultOf Kind.fragment bytes.now (chars bytes.now) 0) }

@@ -1,5 +1,5 @@
 -- A character of an end tag, in its name and behind it.
-use Rattle.std.proofs.Common.{Some, sym, subst, ◌∙◌, ap, drop, ◌+◌, arith}
+use Rattle.std.proofs.Common.{sym, subst, ◌∙◌, ap, drop, ◌+◌, arith}
 use Rattle.std.specs.Prelude.{nat_eq, encode_utf8}
 use Rattle.std.specs.List.{starts_with}
 use Rattle.doc_grammar.specs.Machine as m

@@ -1,5 +1,5 @@
 -- A text may not end in an open element.
-use Rattle.std.proofs.Common.{◌≡◌, false, length, string_bytes, sym, ◌∙◌, ap, arith}
+use Rattle.std.proofs.Common.{◌≡◌, false, length, string_bytes, sym, ◌∙◌, arith}
 use Rattle.std.specs.Prelude.{◌==◌}
 use Rattle.std.proofs.lemmas.Bool.Decides.{nat_tests}
 use Rattle.doc_profile.specs.View.{phase_of}
