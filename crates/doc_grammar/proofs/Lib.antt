@@ -17,3 +17,4 @@ pub mod Passed
 pub mod PassedFaults
 pub mod PrintedPieces
 pub mod PrintedTrees
+pub mod Printable

@@ -2,8 +2,8 @@
 use Rattle.std.proofs.Common.{◌≡◌, ℕ, Bool, true, false, ◌&&◌, not, cond, ◌⊎◌, inl, inr, List, [], ◌∷◌, ◌++◌, refl, sym, ◌∙◌, ap, subst, append_assoc}
 use Rattle.std.proofs.lemmas.List.{append-nil}
 use Rattle.std.proofs.lemmas.Str.{encodes-chars}
-use Rattle.std.specs.Prelude.{IsTrue, ◌==◌, codes, encode_utf8_all}
-use Rattle.std.specs.List.{flat_map, list_all}
+use Rattle.std.specs.Prelude.{◌==◌, codes, encode_utf8_all}
+use Rattle.std.specs.List.{flat_map}
 use Rattle.std.specs.Str.{chars}
 use Rattle.plain_tree.specs.Document.{Node, element, text, Nodes, no_nodes, node_then, nodes, is_text, is_joined, are_joined, begins_with_text, is_empty, is_document}
 use Rattle.plain_tree.specs.declared.tree.Attr.{Attr}

@@ -2,8 +2,8 @@
 #![tactic(auto)]
 
 ghost use Rattle.std.specs.Prelude.{◌≡◌, ◌∷◌, [], ℕ, List, true};
-ghost use Rattle.plain_tree.specs.Document.{Node, is_document};
-ghost use Rattle.doc_grammar.specs.Printed.{IsPrintable, printed};
+ghost use Rattle.plain_tree.specs.Document.{Node, is_document, nodes};
+ghost use Rattle.doc_grammar.specs.Printed.{ArePrintable, IsPrintable, printed};
 ghost use Rattle.doc_grammar.specs.Texts.{Kind, Spells};
 
 /// A text spells one document, or one fragment, at most.
@@ -14,4 +14,10 @@ pub fn one_reading()
 /// What is printed of a document is a text that spells it.
 pub fn printed_spells()
     ensures { (tree : Node) → IsPrintable tree → is_document tree ≡ true → Spells Kind.document (printed tree) (tree ∷ []) }
+{}
+
+/// What a text spells can be printed.
+pub fn spelled_is_printable()
+    ensures document { (text : List ℕ) (tree : Node) → Spells Kind.document text (tree ∷ []) → IsPrintable tree }
+    ensures fragment { (text : List ℕ) (kids : List Node) → Spells Kind.fragment text kids → ArePrintable (nodes kids) }
 {}

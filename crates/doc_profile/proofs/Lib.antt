@@ -4,3 +4,5 @@ pub mod Readings
 pub mod Left
 pub mod BytesRead
 pub mod Answered
+pub mod Printing
+pub mod ReadBack

@@ -1,4 +1,4 @@
-//! Documents as bytes: reading a document or a fragment.
+//! Documents as bytes: reading a document or a fragment, and printing on one line.
 #![tactic(auto)]
 
 mod content;
@@ -6,7 +6,6 @@ mod end_tags;
 mod fault;
 mod law;
 mod phase;
-#[cfg(test)]
 mod print;
 mod read;
 mod reader;
@@ -18,4 +17,5 @@ mod values;
 
 pub use fault::DocFault;
 pub use law::reading_law;
+pub use print::{print_doc, print_tree};
 pub use read::{read_doc, read_fragment};

@@ -1,8 +1,10 @@
 ghost use Rattle.std.specs.Prelude.{◌≡◌, ◌+◌, ◌^◌, ◌<◌, ◌∷◌, [], false, length, map, None, Ok, Some, true, IfErr, IfOk, OnOk};
 ghost use Rattle.std.specs.Str.{IsUtf8, chars};
+ghost use Rattle.plain_tree.specs.Document.{nodes};
 ghost use Rattle.plain_tree.specs.View.{node};
 ghost use Rattle.doc_grammar.specs.Limits.{node_here, one_if, place_count};
 ghost use Rattle.doc_grammar.specs.Machine as m;
+ghost use Rattle.doc_grammar.specs.Printed.{ArePrintable, IsPrintable};
 ghost use Rattle.doc_grammar.specs.Reading.{outer_of};
 ghost use Rattle.doc_grammar.specs.Texts.{Kind, Spells, mark_len, without_mark};
 ghost use Rattle.doc_profile.specs.Faults.{FaultOf, Fits, IsNotUtf8};
@@ -135,6 +137,7 @@ pub fn read_doc(alloc: Global, bytes: &[u8]) -> Result<PlainDoc, DocFault>
     ensures answer_err { IfErr result (λ fault. Faults (document_of bytes.now) fault) }
     ensures read { IfOk result (λ doc. IsUtf8 bytes.now × Spells Kind.document (without_mark (chars bytes.now)) (doc ∷ [])) }
     ensures fits { OnOk result (Fits Kind.document (without_mark (chars bytes.now))) }
+    ensures printable { IfOk result IsPrintable }
     ensures faults { IfErr result (FaultOf Kind.document bytes.now (without_mark (chars bytes.now)) (mark_len (chars bytes.now))) }
 {
     let root = root_of(alloc, bytes)?;
@@ -161,6 +164,7 @@ pub fn read_fragment(alloc: Global, bytes: &[u8]) -> Result<Kids, DocFault>
     ensures answer_err { IfErr result (λ fault. Faults (fragment_of bytes.now) fault) }
     ensures read { IfOk result (λ kids. IsUtf8 bytes.now × Spells Kind.fragment (chars bytes.now) (map node kids)) }
     ensures fits { OnOk result (Fits Kind.fragment (chars bytes.now)) }
+    ensures printable { IfOk result (λ kids. ArePrintable (nodes (map node kids))) }
     ensures faults { IfErr result (FaultOf Kind.fragment bytes.now (chars bytes.now) 0) }
 {
     let text = text_of(bytes)?;

@@ -6,6 +6,7 @@ use Rattle.doc_grammar.specs.Texts.{Kind, without_mark, mark_len}
 use Rattle.doc_profile.specs.Faults.{FaultOf}
 use Rattle.doc_profile.specs.Readings.{document_of}
 use Rattle.doc_profile.proofs.Answered.{at_exit, fault_right}
+use Rattle.doc_grammar.proofs.Printable as printable
 use Rattle.doc_profile.proofs.BytesRead as law
 use Rattle.doc_profile.proofs.read.read_doc.Goals as goal
 
@@ -28,3 +29,6 @@ returns-clause-read c =
 
 pub returns-clause-fits : goal.returns-clause-fits
 returns-clause-fits c = (law.document c.args.bytes.now (node c.in_ok-root.root) c.in_ok-root.ensures.ok).2
+
+pub returns-clause-printable : goal.returns-clause-printable
+returns-clause-printable c = printable.document (without_mark (chars c.args.bytes.now)) c.from_tree.result (law.document c.args.bytes.now c.from_tree.result (c.in_ok-root.ensures.ok ∙ ap Ok (sym c.from_tree.ensures))).1

@@ -6,6 +6,7 @@ use Rattle.doc_grammar.specs.Texts.{Kind}
 use Rattle.doc_profile.specs.Faults.{FaultOf}
 use Rattle.doc_profile.specs.Readings.{Faults, fragment_of}
 use Rattle.doc_profile.proofs.Answered.{at_exit, fragment_no_text, fragment_same, fault_right}
+use Rattle.doc_grammar.proofs.Printable as printable
 use Rattle.doc_profile.proofs.BytesRead as law
 use Rattle.doc_profile.proofs.read.read_fragment.Goals as goal
 
@@ -33,3 +34,6 @@ returns-clause-read c =
 
 pub returns-clause-fits : goal.returns-clause-fits
 returns-clause-fits c = (law.fragment c.args.bytes.now (map node c.in_ok-kids.kids.items) (sym (fragment_same c.args.bytes.now c.in_ok-text.text.now c.in_ok-text.ensures.ok) ∙ c.in_ok-kids.ensures.ok)).2
+
+pub returns-clause-printable : goal.returns-clause-printable
+returns-clause-printable c = printable.fragment (chars c.args.bytes.now) (map node c.from_vec.result) (law.fragment c.args.bytes.now (map node c.from_vec.result) (sym (fragment_same c.args.bytes.now c.in_ok-text.text.now c.in_ok-text.ensures.ok) ∙ c.in_ok-kids.ensures.ok ∙ ap (λ ts. Ok (map node ts)) (sym c.from_vec.ensures))).1
