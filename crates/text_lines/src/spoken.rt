@@ -1,0 +1,74 @@
+ghost use Rattle.std.specs.Prelude.{◌≡◌, ◌∷◌, [], MatchOption, ◌<◌, ◌+◌, ◌^◌, length, drop};
+ghost use Rattle.text_lines.specs.Lines.{lines, spoken};
+ghost use Rattle.text_lines.specs.View.{spoken_of};
+
+use crate::line::{is_skipped, line_end, trim_line};
+use std::marker::Model;
+
+/// A line that isn't skipped: its number, counted from 1, and what it says.
+#[derive(Clone, Copy, Debug)]
+pub struct SpokenLine<'a> {
+    pub number: usize,
+    pub text: &'a [u8],
+}
+
+/// The lines of a text that aren't skipped, which contracts see as the list of those that are still to come.
+#[derive(Drop)]
+pub struct SpokenLines<'a> {
+    rest: &'a [u8],
+    passed: usize,
+}
+
+impl<'a> Model for SpokenLines<'a> {
+    ghost use Rattle.std.specs.Prelude.{List, ◌+◌, ◌<◌, ◌^◌, length};
+    ghost use Rattle.text_lines.specs.Lines.{Spoken, lines, spoken};
+
+    ghost Value = { List Spoken };
+
+    ghost view = { λ l. spoken (l.passed + 1) (lines l.rest.now) };
+
+    ghost invariant = { λ l. l.passed + length l.rest.now < 2 ^ 64 };
+}
+
+impl<'a> SpokenLines<'a> {
+    /// Before the first line of the text.
+    pub fn of(text: &'a [u8]) -> SpokenLines<'a>
+        ensures { result ≡ spoken 1 (lines text.now) }
+    {
+        SpokenLines {
+            rest: text,
+            passed: 0,
+        }
+    }
+
+    /// The next line that isn't skipped.
+    pub fn next(&mut self) -> Option<SpokenLine<'a>>
+        ensures { MatchOption result (self.old ≡ []) (λ line. self.old ≡ spoken_of line ∷ self.new) }
+    {
+        while !self.rest.is_empty() {
+            let end = line_end(self.rest);
+            let line = &self.rest[..end];
+            self.rest = behind(self.rest, end);
+            self.passed += 1;
+            if !is_skipped(line) {
+                return Some(SpokenLine {
+                    number: self.passed,
+                    text: trim_line(line),
+                });
+            }
+        }
+        None
+    }
+}
+
+/// What stands behind the place and one byte more.
+fn behind(bytes: &[u8], place: usize) -> &[u8]
+    requires { place < 2 ^ 63 }
+    ensures { result.now ≡ drop (place + 1) bytes.now }
+{
+    if place < bytes.len() {
+        &bytes[place + 1..]
+    } else {
+        &[]
+    }
+}
