@@ -40,6 +40,13 @@ impl Line {
         Line { text }
     }
 
+    /// The text as a string, in its memory.
+    pub fn into_string(self) -> String
+        ensures { string_bytes result ≡ self }
+    {
+        self.text
+    }
+
     /// The text.
     pub fn as_str(&self) -> &str
         ensures { result.now ≡ self.now }
