@@ -62,6 +62,5 @@ fn word_at(text: &str, piece: Piece) -> &str
 pub(crate) fn text_key(alloc: Global, word: &str) -> Result<String, Memory>
     ensures { IfOk result (λ text. string_bytes text ≡ key_of word.now) }
 {
-    let key = key(alloc, word)?;
-    Ok(String::from_str(alloc, key.as_str())?)
+    Ok(key(alloc, word)?.into_string())
 }
