@@ -4,6 +4,8 @@ use Rattle.std.specs.List.{flat_map}
 use Rattle.std.specs.Fmt.{decimal}
 use Rattle.doc_profile.specs.declared.fault.DocFault.{DocFault}
 use Rattle.doc_profile.specs.declared.fault.DocFault.TheVariants as fault
+use Rattle.ft_base.specs.declared.fault.QueryFault.{QueryFault}
+use Rattle.ft_base.specs.declared.fault.QueryFault.TheVariants as query
 use Rattle.session_text.specs.declared.reply.Counts.{Counts}
 use Rattle.session_text.specs.declared.reply.FullOf.{FullOf}
 use Rattle.session_text.specs.declared.reply.FullOf.TheVariants as full
@@ -38,6 +40,18 @@ document_words (fault.Depth at) = codes "depth at " ++ decimal at
 document_words (fault.Nodes at) = codes "nodes at " ++ decimal at
 document_words fault.Memory = []
 
+-- a fault of a path or a selection and its place, the same for want of memory
+abbrev pub query_words : QueryFault → List ℕ
+query_words (query.Syntax at) = codes "syntax at " ++ decimal at
+query_words (query.Deep at) = codes "deep at " ++ decimal at
+query_words (query.Number at) = codes "number at " ++ decimal at
+query_words (query.Phrases at) = codes "phrases at " ++ decimal at
+query_words (query.OptionTwice at) = codes "option twice at " ++ decimal at
+query_words (query.BadWildcard at) = codes "bad wildcard at " ++ decimal at
+query_words (query.MildNotExclude at) = codes "mild not exclude at " ++ decimal at
+query_words (query.InsideFilter at) = codes "inside filter at " ++ decimal at
+query_words query.Memory = []
+
 -- the line of a refusal
 abbrev pub refusal_line : Refusal → List ℕ
 refusal_line (refusal.BadCommand line) = codes "! 1 bad command at line " ++ decimal line
@@ -48,12 +62,14 @@ refusal_line (refusal.Full what) = codes "! 5 full at " ++ full_words what
 refusal_line (refusal.Document why) = codes "! 6 document: " ++ document_words why
 refusal_line refusal.TooManyTokens = codes "! 6 document: tokens"
 refusal_line (refusal.List line) = codes "! 6 list: bad line " ++ decimal line
+refusal_line (refusal.Query why) = codes "! 7 query: " ++ query_words why
 refusal_line (refusal.NoSuchDoc name) = codes "! 8 no such document: " ++ name
 refusal_line (refusal.NoSuchList name) = codes "! 9 no such list: " ++ name
 refusal_line refusal.NoTarget = codes "! 10 no target"
 refusal_line (refusal.ManyTargets count) = codes "! 11 many targets: " ++ decimal count
 refusal_line refusal.RootTarget = codes "! 12 root target"
 refusal_line (refusal.Limit what) = codes "! 13 limit: " ++ limit_words what
+refusal_line refusal.NotYet = codes "! 14 not yet"
 
 -- how many lines follow, and these lines
 abbrev pub counted_lines : List (List ℕ) → List ℕ

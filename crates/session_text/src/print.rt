@@ -1,10 +1,10 @@
 ghost use Rattle.std.specs.Prelude.{◌≡◌, ◌++◌, codes, length, string_bytes, IfOk, OnOk};
 ghost use Rattle.std.specs.Fmt.{decimal};
-ghost use Rattle.session_text.specs.Replies.{counted_lines, counts_line, document_words, ended_line, full_words, limit_words, refusal_line, reply_text};
+ghost use Rattle.session_text.specs.Replies.{counted_lines, counts_line, document_words, ended_line, full_words, limit_words, query_words, refusal_line, reply_text};
 
 use crate::{Counts, FullOf, LimitOf, Refusal, Reply};
 use doc_profile::DocFault;
-use ft_base::{Line, Lines, Memory};
+use ft_base::{Line, Lines, Memory, QueryFault};
 use std::alloc::Global;
 
 /// The lines of a reply, each ended by a line feed. A refusal for want of memory isn't one, and is answered `Memory`.
@@ -88,12 +88,14 @@ fn print_refusal(alloc: Global, refusal: &Refusal) -> Result<Line, Memory>
         Refusal::Document(fault) => print_document(alloc, *fault),
         Refusal::TooManyTokens => print_named(alloc, "! 6 document: ", "tokens"),
         Refusal::List { line } => print_numbered(alloc, "! 6 list: bad line ", *line),
+        Refusal::Query(fault) => print_query(alloc, *fault),
         Refusal::NoSuchDoc { name } => print_named(alloc, "! 8 no such document: ", name.as_str()),
         Refusal::NoSuchList { name } => print_named(alloc, "! 9 no such list: ", name.as_str()),
         Refusal::NoTarget => print_named(alloc, "! 10 ", "no target"),
         Refusal::ManyTargets { count } => print_numbered(alloc, "! 11 many targets: ", *count),
         Refusal::RootTarget => print_named(alloc, "! 12 ", "root target"),
         Refusal::Limit { what } => print_named(alloc, "! 13 limit: ", limit(*what)),
+        Refusal::NotYet => print_named(alloc, "! 14 ", "not yet"),
     }
 }
 
@@ -107,6 +109,31 @@ fn print_document(alloc: Global, fault: DocFault) -> Result<Line, Memory>
         DocFault::Depth { at } => print_numbered(alloc, "! 6 document: depth at ", at as u64),
         DocFault::Nodes { at } => print_numbered(alloc, "! 6 document: nodes at ", at as u64),
         DocFault::Memory => Err(Memory),
+    }
+}
+
+/// The line of a fault of a path or a selection.
+fn print_query(alloc: Global, fault: QueryFault) -> Result<Line, Memory>
+    ensures { IfOk result (λ text. text ≡ ended_line (codes "! 7 query: " ++ query_words fault)) }
+{
+    match fault {
+        QueryFault::Syntax { at } => print_numbered(alloc, "! 7 query: syntax at ", at as u64),
+        QueryFault::Deep { at } => print_numbered(alloc, "! 7 query: deep at ", at as u64),
+        QueryFault::Number { at } => print_numbered(alloc, "! 7 query: number at ", at as u64),
+        QueryFault::Phrases { at } => print_numbered(alloc, "! 7 query: phrases at ", at as u64),
+        QueryFault::OptionTwice { at } => {
+            print_numbered(alloc, "! 7 query: option twice at ", at as u64)
+        }
+        QueryFault::BadWildcard { at } => {
+            print_numbered(alloc, "! 7 query: bad wildcard at ", at as u64)
+        }
+        QueryFault::MildNotExclude { at } => {
+            print_numbered(alloc, "! 7 query: mild not exclude at ", at as u64)
+        }
+        QueryFault::InsideFilter { at } => {
+            print_numbered(alloc, "! 7 query: inside filter at ", at as u64)
+        }
+        QueryFault::Memory => Err(Memory),
     }
 }
 

@@ -2,7 +2,7 @@ ghost use Rattle.std.specs.Prelude.{◌≡◌};
 ghost use Rattle.session_text.specs.Replies.{is_refusal};
 
 use doc_profile::DocFault;
-use ft_base::{Line, Lines};
+use ft_base::{Line, Lines, QueryFault};
 
 /// What a command is answered.
 #[derive(Debug, Drop)]
@@ -68,6 +68,8 @@ pub enum Refusal {
     TooManyTokens,
     /// The block isn't a list: the line of the block, from 1.
     List { line: u64 },
+    /// The path or the selection has that fault.
+    Query(QueryFault),
     /// The path names a document that isn't there.
     NoSuchDoc { name: Line },
     /// A selection names a list that isn't there.
@@ -80,6 +82,8 @@ pub enum Refusal {
     RootTarget,
     /// A document would have too many levels, nodes or tokens.
     Limit { what: LimitOf },
+    /// The command, or the form of its path, is not carried out yet.
+    NotYet,
 }
 
 impl Reply {

@@ -3,7 +3,7 @@ ghost use Rattle.std.specs.Prelude.{◌<◌, ◌^◌, length};
 
 use crate::{Command, Commands, Counts, FullOf, How, LimitOf, Lines_, Refusal, Reply, print_reply};
 use doc_profile::DocFault;
-use ft_base::{Bytes, Line, Lines};
+use ft_base::{Bytes, Line, Lines, QueryFault};
 use std::alloc::{AllocError, Global};
 use std::process::Abort;
 use std::test::Fail;
@@ -374,4 +374,36 @@ fn refusals_of_blocks_and_targets_have_their_texts(rt: HostRuntime) -> Result<()
         },
         "! 13 limit: tokens\n",
     )
+}
+
+#[test]
+fn refusals_of_queries_have_their_texts(rt: HostRuntime) -> Result<(), Fail> {
+    for (fault, text) in [
+        (QueryFault::Syntax { at: 5 }, "! 7 query: syntax at 5\n"),
+        (QueryFault::Deep { at: 96 }, "! 7 query: deep at 96\n"),
+        (QueryFault::Number { at: 16 }, "! 7 query: number at 16\n"),
+        (
+            QueryFault::Phrases { at: 608 },
+            "! 7 query: phrases at 608\n",
+        ),
+        (
+            QueryFault::OptionTwice { at: 51 },
+            "! 7 query: option twice at 51\n",
+        ),
+        (
+            QueryFault::BadWildcard { at: 32 },
+            "! 7 query: bad wildcard at 32\n",
+        ),
+        (
+            QueryFault::MildNotExclude { at: 43 },
+            "! 7 query: mild not exclude at 43\n",
+        ),
+        (
+            QueryFault::InsideFilter { at: 40 },
+            "! 7 query: inside filter at 40\n",
+        ),
+    ] {
+        refuses(&rt, rt.alloc(), Refusal::Query(fault), text)?;
+    }
+    refuses(&rt, rt.alloc(), Refusal::NotYet, "! 14 not yet\n")
 }

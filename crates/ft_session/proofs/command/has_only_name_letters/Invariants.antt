@@ -1,8 +1,0 @@
--- Each byte so far may stand in a name.
-use Rattle.std.proofs.Common.{◌≡◌, drop}
-use Rattle.std.specs.List.{list_all}
-use Rattle.ft_session.specs.Commands.{is_name_byte}
-use Rattle.ft_session.proofs.command.has_only_name_letters.Given as goal
-
-abbrev pub invariant-loop-byte : goal.invariant-loop-byte
-invariant-loop-byte l = list_all is_name_byte (drop l.byte-index l.bytes) ≡ list_all is_name_byte l.bytes

@@ -1,8 +1,0 @@
--- The two counts stand on the ledgers that are opened for them.
-use Rattle.ft_session.proofs.running.run.Given as goal
-
-abbrev pub ghosts-answer_session-L-Ledger : goal.ghosts-answer_session-L-Ledger
-ghosts-answer_session-L-Ledger g a = record { name = a.rows.name; parts = a.rows.parts }
-
-abbrev pub ghosts-answer_session-M-Ledger : goal.ghosts-answer_session-M-Ledger
-ghosts-answer_session-M-Ledger g a = record { name = a.moves.name; parts = a.moves.parts }
