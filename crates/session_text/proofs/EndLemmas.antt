@@ -4,9 +4,9 @@ use Rattle.std.specs.Prelude.{Option, Some, None, ◌==◌}
 use Rattle.std.specs.Option.{option_to_list}
 use Rattle.std.proofs.lemmas.List.{append-nil, nil_from_length}
 use Rattle.session_text.specs.declared.command.Command.{Command}
-use Rattle.session_text.specs.Commands.{is_skipped, opens_block, closes_block, unquoted, command_of_line, command_of_block}
+use Rattle.session_text.specs.Commands.{opens_block, closes_block, unquoted, command_of_line, command_of_block}
 use Rattle.session_text.specs.Blocks.{without_last}
-use Rattle.session_text.specs.Lines.{lines}
+use Rattle.text_lines.specs.Lines.{is_skipped, lines}
 use Rattle.std.specs.List.{onto_first}
 use Rattle.session_text.specs.Reading.{Opened, Place, behind_lines, commands_on, commands_from, ended_at, line_ended, open_at_end, place_behind, is_unended}
 use Rattle.session_text.proofs.ReadingLemmas.{commands_on-line, unended_behind, left, right, not_true}

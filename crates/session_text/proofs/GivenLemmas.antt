@@ -7,7 +7,8 @@ use Rattle.std.proofs.lemmas.List.Folds.{list_all-append}
 use Rattle.std.proofs.lemmas.List.Sums.{sum_by-append}
 use Rattle.session_text.specs.declared.command.Command.{Command}
 use Rattle.session_text.specs.Blocks.{without_last}
-use Rattle.session_text.specs.Commands.{is_skipped, opens_block, closes_block, unquoted, command_of_line, command_of_block}
+use Rattle.session_text.specs.Commands.{opens_block, closes_block, unquoted, command_of_line, command_of_block}
+use Rattle.text_lines.specs.Lines.{is_skipped}
 use Rattle.session_text.specs.Given.{block_length, block_lengths, is_readable}
 use Rattle.session_text.specs.Reading.{Opened, Place, behind_lines, ended_at, held_length, line_ended, open_at_end, opened_length, place_behind}
 use Rattle.session_text.proofs.CommandLemmas.{holds_of_line, holds_of_block}

@@ -2,7 +2,6 @@ pub mod BlockLemmas
 pub mod CommandLemmas
 pub mod EndLemmas
 pub mod GivenLemmas
-pub mod LineLemmas
 pub mod PlaceLemmas
 pub mod ReadingLemmas
 pub mod WordLemmas

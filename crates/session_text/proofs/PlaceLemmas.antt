@@ -6,7 +6,7 @@ use Rattle.std.specs.List.{position_or_len}
 use Rattle.std.proofs.lemmas.List.{take_all}
 use Rattle.std.proofs.lemmas.List.Sums.{split_at_first, passes_at_first}
 use Rattle.session_text.specs.declared.command.Command.{Command}
-use Rattle.session_text.specs.Lines.{is_line_feed}
+use Rattle.text_lines.specs.Lines.{is_line_feed}
 use Rattle.session_text.specs.Reading.{Place, commands_from, ended_at, place_behind, is_unended}
 use Rattle.session_text.proofs.ReadingLemmas.{commands_from-line, commands_from-rest, unended_append}
 

@@ -1,21 +1,18 @@
 -- The commands of a session's bytes.
-use Rattle.std.specs.Prelude.{ℕ, ◌+◌, Bool, true, false, not, ◌||◌, if◌then◌else◌, nat_eq, List, [], ◌∷◌, ◌++◌, drop, map, codes, Option, Some, None, Result, Ok, Err}
+use Rattle.std.specs.Prelude.{ℕ, ◌+◌, Bool, true, false, not, if◌then◌else◌, nat_eq, List, [], ◌∷◌, ◌++◌, drop, map, codes, Option, Some, None, Result, Ok, Err}
 use Rattle.std.specs.List.{starts_with, take_while, list_any, join_with_byte}
 use Rattle.session_text.specs.declared.command.Command.{Command}
 use Rattle.session_text.specs.declared.command.Command.TheVariants as command
 use Rattle.session_text.specs.declared.how.How.{How}
 use Rattle.session_text.specs.declared.how.How.TheVariants as how
-use Rattle.session_text.specs.Lines.{lines, lines_of, without_mark, without_return, command_text, first_word, behind_first_word}
+use Rattle.text_lines.specs.Lines.{behind_first_word, first_word, is_skipped, lines, trimmed_line, without_return}
+use Rattle.session_text.specs.Lines.{lines_of, without_mark}
 use Rattle.session_text.specs.Words.{is_text, is_empty, is_name, is_command_line, is_one_word}
-
--- a line that says nothing, or begins with a number sign
-abbrev pub is_skipped : List ℕ → Bool
-is_skipped line = is_empty (command_text line) || starts_with nat_eq (command_text line) (codes "#")
 
 -- a line whose command is followed by a block, whatever else it holds
 abbrev pub opens_block : List ℕ → Bool
 opens_block line =
-    list_any (is_text (first_word (command_text line)))
+    list_any (is_text (first_word (trimmed_line line)))
     (codes "load" ∷ codes "insert" ∷ codes "replace" ∷ codes "stop" ∷ codes "stems" ∷ codes "thesaurus" ∷ [])
 
 -- the line that ends a block: a period
@@ -122,13 +119,13 @@ line_command number word rest =
 -- the command of a line that no block follows
 abbrev pub command_of_line : ℕ → List ℕ → Command
 command_of_line number line =
-    if is_command_line line then line_command number (first_word (command_text line)) (behind_first_word (command_text line))
+    if is_command_line line then line_command number (first_word (trimmed_line line)) (behind_first_word (trimmed_line line))
     else command.BadCommand number
 
 -- the command of a line and the block behind it
 abbrev pub command_of_block : ℕ → List ℕ → List ℕ → Command
 command_of_block number line block =
-    if is_command_line line then block_command number (first_word (command_text line)) (behind_first_word (command_text line)) block
+    if is_command_line line then block_command number (first_word (trimmed_line line)) (behind_first_word (trimmed_line line)) block
     else command.BadCommand number
 
 -- the same, where the block may be open: where the session ends, that is a bad command, and else no command yet

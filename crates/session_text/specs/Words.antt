@@ -4,7 +4,7 @@ use Rattle.std.specs.List.{list_all}
 use Rattle.std.specs.Cmp.Lexicographic.{pointwise}
 use Rattle.std.specs.Char.{is_ascii_alphanumeric}
 use Rattle.std.specs.Str.{is_utf8}
-use Rattle.session_text.specs.Lines.{without_return, command_text, behind_first_word}
+use Rattle.text_lines.specs.Lines.{without_return, trimmed_line, behind_first_word}
 
 -- whether two texts have the same bytes
 abbrev pub is_text : List ℕ → List ℕ → Bool
@@ -22,7 +22,7 @@ is_name text = not (is_empty text) && nat_le (length text) 64 && list_all is_nam
 
 -- a command line has at most 65,536 bytes, the blanks at both ends counted, and is UTF-8
 abbrev pub is_command_line : List ℕ → Bool
-is_command_line line = nat_le (length (without_return line)) 65536 && is_utf8 (command_text line)
+is_command_line line = nat_le (length (without_return line)) 65536 && is_utf8 (trimmed_line line)
 
 -- a text that is exactly one word
 abbrev pub is_one_word : List ℕ → Bool

@@ -1,24 +1,17 @@
 ghost use Rattle.std.specs.Prelude.{◌≡◌, true, false, IfOk, IfSome, IfNone};
-ghost use Rattle.session_text.specs.Lines.{command_text};
-ghost use Rattle.session_text.specs.Commands.{block_command, command_of_block, command_of_line, how_of, insertion, is_skipped, line_command, list_command, name_command, name_in, opens_block as block_follows, query, query_at, text_in};
+ghost use Rattle.text_lines.specs.Lines.{is_skipped, trimmed_line};
+ghost use Rattle.session_text.specs.Commands.{block_command, command_of_block, command_of_line, how_of, insertion, line_command, list_command, name_command, name_in, opens_block as block_follows, query, query_at, text_in};
 ghost use Rattle.session_text.specs.Words.{is_command_line};
 
-use crate::line::{drop_return, is_word, text_of, word_end};
+use crate::line::is_word;
 use crate::words::{can_name, is_single_word, split_word};
 use crate::{Command, How};
 use ft_base::{Bytes, Line, Memory};
 use std::alloc::Global;
+use text_lines::{drop_return, trim_line, word_end};
 
 /// The longest command line, in bytes, without its line end.
 const MAX_LINE_BYTES: usize = 65_536;
-
-/// Whether the line says nothing or is a comment.
-pub(crate) fn skips(line: &[u8]) -> bool
-    ensures { result ≡ is_skipped line.now }
-{
-    let text = text_of(line);
-    text.is_empty() || text.starts_with(b"#")
-}
 
 /// What follows a command's word, where that is to be one name.
 fn read_name(alloc: Global, number: u64, rest: &str) -> Result<Result<Line, Command>, Memory>
@@ -226,13 +219,13 @@ fn read_line_command(alloc: Global, number: u64, word: &str, rest: &str) -> Resu
 
 /// What a command line says, unless it is too long or isn't UTF-8.
 fn command_text_of(line: &[u8]) -> Option<&str>
-    ensures text { IfSome result (λ text. (is_command_line line.now ≡ true) × (text.now ≡ command_text line.now)) }
+    ensures text { IfSome result (λ text. (is_command_line line.now ≡ true) × (text.now ≡ trimmed_line line.now)) }
     ensures none { IfNone result (is_command_line line.now ≡ false) }
 {
     if drop_return(line).len() > MAX_LINE_BYTES {
         return None;
     }
-    match std::str::from_utf8(text_of(line)) {
+    match std::str::from_utf8(trim_line(line)) {
         Ok(text) => Some(text),
         Err(_) => None,
     }
@@ -242,7 +235,7 @@ fn command_text_of(line: &[u8]) -> Option<&str>
 pub(crate) fn opens_block(line: &[u8]) -> bool
     ensures { result ≡ block_follows line.now }
 {
-    let text = text_of(line);
+    let text = trim_line(line);
     let word = &text[..word_end(text)];
     is_word(word, "load")
         || is_word(word, "insert")

@@ -2,17 +2,18 @@ ghost use Rattle.std.specs.Prelude.{◌≡◌, ◌+◌, ◌++◌, ◌≤◌, ◌
 ghost use Rattle.std.specs.List.{list_all, position_or_len};
 ghost use Rattle.session_text.specs.Given.{block_lengths, is_readable};
 ghost use Rattle.std.specs.Option.{option_to_list};
-ghost use Rattle.session_text.specs.Lines.{is_line_feed};
+ghost use Rattle.text_lines.specs.Lines.{is_line_feed};
 ghost use Rattle.session_text.specs.Blocks.{without_last};
 ghost use Rattle.session_text.specs.Commands.{closes_block, unquoted};
 ghost use Rattle.session_text.specs.Reading.{at_start, behind_lines, commands_from, ended_at, held_length, is_unended, line_ended, open_at_end, place_behind};
 
-use crate::line::{drop_return, is_word, line_end, skip_mark};
-use crate::parse::{opens_block, read_block, read_line, skips};
+use crate::line::{is_word, skip_mark};
+use crate::parse::{opens_block, read_block, read_line};
 use crate::{Command, Commands};
 use ft_base::{Bytes, Memory};
 use std::alloc::Global;
 use std::marker::Model;
+use text_lines::{drop_return, is_skipped, line_end};
 
 /// A command whose block is open: its line, and the block's lines so far, each with a line feed behind it.
 #[derive(Drop)]
@@ -115,7 +116,7 @@ fn end_command_line(
 ) -> Result<(Option<Command>, Option<OpenBlock>), Memory>
     ensures { IfOk result (λ ended. ended ≡ line_ended number None line.now) }
 {
-    if skips(line) {
+    if is_skipped(line) {
         return Ok((None, None));
     }
     if opens_block(line) {

@@ -1,9 +1,9 @@
 ghost use Rattle.std.specs.Prelude.{◌≡◌, ◌≤◌, length, drop};
 ghost use Rattle.std.specs.List.{list_all};
-ghost use Rattle.session_text.specs.Lines.{command_text, first_word, behind_first_word};
+ghost use Rattle.text_lines.specs.Lines.{trimmed_line, first_word, behind_first_word};
 ghost use Rattle.session_text.specs.Words.{is_name, is_name_byte, is_one_word};
 
-use crate::line::{skip_blanks, word_end};
+use text_lines::{skip_blanks, word_end};
 
 /// The longest name, in bytes.
 const MAX_NAME_BYTES: usize = 64;
