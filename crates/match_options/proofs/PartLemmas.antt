@@ -1,0 +1,93 @@
+-- The parts of a text, one character after the other.
+use Rattle.std.proofs.Common.{◌≡◌, refl, sym, ap, ◌∙◌, ℕ, ◌+◌, ◌<◌, true, false, List, [], ◌∷◌, ◌++◌, map, filter, length, get_or, take, append_assoc, append-nil, arith, inl, inr, encode_utf8_all, chars}
+use Rattle.std.specs.Prelude.{encode_utf8}
+use Rattle.std.specs.List.{slice_split, onto_first}
+use Rattle.std.specs.Char.{is_whitespace}
+use Rattle.std.proofs.lemmas.Bool.{cond-true, cond-false, cases_Bool}
+use Rattle.std.proofs.lemmas.List.{take_more}
+use Rattle.std.proofs.lemmas.List.Splits.{slice_split-cons_yes, slice_split-cons_no, length-slice_split}
+use Rattle.std.proofs.lemmas.Str.{encodes-append}
+use Rattle.match_options.specs.Patterns.{is_not_empty, parts}
+use Rattle.match_options.specs.PartsLeft.{ended, parts_left}
+
+-- ---- text of characters
+
+-- the bytes of one character more
+pub encodes_more : (letters : List ℕ) (i c : ℕ) → i < length letters → c ≡ get_or letters i c → encode_utf8_all (take (i + 1) letters) ≡ encode_utf8_all (take i letters) ++ encode_utf8 c
+encodes_more letters i c h is =
+    ap encode_utf8_all (take_more letters i c h ∙ ap (λ d. take i letters ++ d ∷ []) (sym is))
+    ∙ encodes-append (take i letters) (c ∷ []) ∙ ap (λ bs. encode_utf8_all (take i letters) ++ bs) (append-nil (encode_utf8 c))
+
+-- ---- parts
+
+-- characters put before the first of some lists
+onto_front : List ℕ → List (List ℕ) → List (List ℕ)
+onto_front front [] = []
+onto_front front (part ∷ rest) = (front ++ part) ∷ rest
+
+texts : List (List ℕ) → List (List ℕ)
+texts pieces = map encode_utf8_all (filter is_not_empty pieces)
+
+texts_cons : (piece : List ℕ) (rest : List (List ℕ)) → texts (piece ∷ rest) ≡ ended piece ++ texts rest
+unfolding texts
+texts_cons [] rest = refl
+texts_cons (c ∷ piece) rest = refl
+
+onto_one : (front : List ℕ) (c : ℕ) (pieces : List (List ℕ)) → 0 < length pieces → onto_front front (onto_first c pieces) ≡ onto_front (front ++ c ∷ []) pieces
+unfolding onto_front
+onto_one front c [] h = absurd (omega arith)
+onto_one front c (piece ∷ rest) h = ap (λ p. p ∷ rest) (sym (append_assoc front (c ∷ []) piece))
+
+onto_none : (pieces : List (List ℕ)) → onto_front [] pieces ≡ pieces
+unfolding onto_front
+onto_none [] = refl
+onto_none (piece ∷ rest) = refl
+
+some_pieces : (cs : List ℕ) → 0 < length (slice_split is_whitespace cs)
+some_pieces cs = rw (length-slice_split is_whitespace cs) (omega arith)
+
+-- what is left makes the parts that it makes behind the first characters of a part
+left_split : (front cs : List ℕ) → texts (onto_front front (slice_split is_whitespace cs)) ≡ parts_left front cs
+unfolding onto_front texts parts_left
+left_split front [] = ap (λ f. texts (f ∷ [])) (append-nil front)
+left_split front (c ∷ cs) = elim (cases_Bool (is_whitespace c)) [
+  | inl white ↦
+      ap (λ pieces. texts (onto_front front pieces)) (slice_split-cons_yes is_whitespace c cs white)
+      ∙ ap (λ f. texts (f ∷ slice_split is_whitespace cs)) (append-nil front)
+      ∙ texts_cons front (slice_split is_whitespace cs)
+      ∙ ap (λ ts. ended front ++ ts) (ap texts (sym (onto_none (slice_split is_whitespace cs))) ∙ left_split [] cs)
+      ∙ sym (cond-true _ _ _ white)
+  | inr other ↦
+      ap (λ pieces. texts (onto_front front pieces)) (slice_split-cons_no is_whitespace c cs other)
+      ∙ ap texts (onto_one front c (slice_split is_whitespace cs) (some_pieces cs))
+      ∙ left_split (front ++ c ∷ []) cs
+      ∙ sym (cond-false _ _ _ other)
+]
+
+-- the parts of a text are those of its characters
+pub text_parts : (text : List ℕ) → parts_left [] (chars text) ≡ parts text
+unfolding texts
+text_parts text = sym (left_split [] (chars text)) ∙ ap texts (onto_none (slice_split is_whitespace (chars text)))
+
+-- one character more
+pub white_passed : (done new : List (List ℕ)) (part : List ℕ) (c : ℕ) (rest : List ℕ) → is_whitespace c ≡ true → new ≡ done ++ ended part → new ++ parts_left [] rest ≡ done ++ parts_left part (c ∷ rest)
+unfolding parts_left
+white_passed done new part c rest white put =
+    ap (λ ts. ts ++ parts_left [] rest) put ∙ append_assoc done (ended part) (parts_left [] rest) ∙ ap (λ ts. done ++ ts) (sym (cond-true _ _ _ white))
+
+pub letter_passed : (done : List (List ℕ)) (part more : List ℕ) (c : ℕ) (rest : List ℕ) → is_whitespace c ≡ false → more ≡ part ++ c ∷ [] → done ++ parts_left more rest ≡ done ++ parts_left part (c ∷ rest)
+unfolding parts_left
+letter_passed done part more c rest other put = ap (λ p. done ++ parts_left p rest) put ∙ ap (λ ts. done ++ ts) (sym (cond-false _ _ _ other))
+
+pub part_ended : (part : List ℕ) (text : List ℕ) → 0 < length part → text ≡ encode_utf8_all part → text ∷ [] ≡ ended part
+part_ended [] text some e = absurd (omega arith)
+part_ended (c ∷ part) text some e = ap (λ t. t ∷ []) e
+
+pub nothing_ended : (part : List ℕ) (done : List (List ℕ)) → length part ≡ 0 → done ≡ done ++ ended part
+nothing_ended [] done none = sym (append-nil done)
+nothing_ended (c ∷ part) done none = absurd (omega arith)
+
+-- nothing is left
+pub nothing_left : (part : List ℕ) → parts_left part [] ≡ ended part
+unfolding parts_left
+nothing_left part = refl

@@ -1,0 +1,76 @@
+-- The atoms of a pattern, one after the other.
+use Rattle.std.proofs.Common.{◌≡◌, refl, sym, ap, ◌∙◌, ℕ, zero, suc, ◌+◌, ◌-◌, ◌<◌, ◌≤◌, List, [], ◌∷◌, ◌++◌, length, get_or, drop, Option, Some, None, append_assoc, append-nil, arith, drop-drop}
+use Rattle.std.specs.Prelude.{option_map, ◌==◌, false}
+use Rattle.std.proofs.lemmas.List.{drop_more, drop_all}
+use Rattle.match_options.specs.declared.atom.Atom.{Atom}
+use Rattle.match_options.specs.declared.atom.SizedAtom.{SizedAtom}
+use Rattle.match_options.specs.Patterns.{front_atom, atom_before, atoms_behind, atoms_of}
+
+-- the characters of an atom that is read are passed
+pub passed : (n : ℕ) (letters : List ℕ) → n ≤ length letters → atoms_behind n letters ≡ atoms_behind 0 (drop n letters)
+unfolding atoms_behind
+passed zero letters h = refl
+passed (suc n) [] h = absurd (omega arith)
+passed (suc n) (c ∷ rest) h = passed n rest (omega arith)
+
+-- atoms that are read, before what is left
+abbrev pub behind_read : List Atom → Option (List Atom) → Option (List Atom)
+behind_read front further = option_map (λ rest. front ++ rest) further
+
+one_read : (front more : List Atom) (atom : Atom) (further : Option (List Atom)) → more ≡ front ++ atom ∷ [] → behind_read front (option_map (λ atoms. atom ∷ atoms) further) ≡ behind_read more further
+one_read front more atom None e = refl
+one_read front more atom (Some rest) e = ap Some (sym (ap (λ xs. xs ++ rest) e ∙ append_assoc front (atom ∷ []) rest))
+
+-- the front atom of what is left
+pub atoms_front : (c : ℕ) (rest : List ℕ) (first : SizedAtom) → front_atom c rest ≡ Some first → atoms_behind 0 (c ∷ rest) ≡ option_map (λ atoms. first.atom ∷ atoms) (atoms_behind (first.size - 1) rest)
+unfolding atoms_behind
+atoms_front c rest first e = ap (λ o. atom_before o (λ n. atoms_behind n rest)) e
+
+pub atoms_bad : (c : ℕ) (rest : List ℕ) → front_atom c rest ≡ None → atoms_behind 0 (c ∷ rest) ≡ None
+unfolding atoms_behind
+atoms_bad c rest e = ap (λ o. atom_before o (λ n. atoms_behind n rest)) e
+
+module _ (letters : List ℕ) {whole : Option (List Atom)} (atoms : List Atom) (i c : ℕ) (h : i < length letters) (is : c ≡ get_or letters i c) (told : behind_read atoms (atoms_behind 0 (drop i letters)) ≡ whole) where
+  split : drop i letters ≡ c ∷ drop (i + 1) letters
+  split = drop_more letters i c h ∙ ap (λ d. d ∷ drop (i + 1) letters) (sym is)
+
+  -- no atom begins here
+  pub bad_here : front_atom c (drop (i + 1) letters) ≡ None → None ≡ whole
+  bad_here bad = sym (ap (behind_read atoms) (ap (atoms_behind 0) split ∙ atoms_bad c (drop (i + 1) letters) bad)) ∙ told
+
+  -- one atom more
+  pub atom_read : (first : SizedAtom) (new : List Atom) → front_atom c (drop (i + 1) letters) ≡ Some first → 0 < first.size → first.size ≤ length (drop (i + 1) letters) + 1 → new ≡ atoms ++ first.atom ∷ []
+      → behind_read new (atoms_behind 0 (drop (i + first.size) letters)) ≡ whole
+  atom_read first new found some within written =
+      let place : i + first.size ≡ (i + 1) + (first.size - 1) = omega arith in
+      ap (λ n. behind_read new (atoms_behind 0 (drop n letters))) place
+      ∙ ap (λ d. behind_read new (atoms_behind 0 d)) (sym (drop-drop (first.size - 1) (i + 1) letters))
+      ∙ ap (behind_read new) (sym (passed (first.size - 1) (drop (i + 1) letters) (omega arith)))
+      ∙ sym (one_read atoms new first.atom (atoms_behind (first.size - 1) (drop (i + 1) letters)) written)
+      ∙ ap (behind_read atoms) (sym (ap (atoms_behind 0) split ∙ atoms_front c (drop (i + 1) letters) first found))
+      ∙ told
+
+-- nothing is left
+pub all_read : (letters : List ℕ) {whole : Option (List Atom)} (atoms : List Atom) (i : ℕ) → length letters ≤ i → behind_read atoms (atoms_behind 0 (drop i letters)) ≡ whole → Some atoms ≡ whole
+unfolding atoms_behind
+all_read letters atoms i h told = ap Some (sym (append-nil atoms)) ∙ sym (ap (λ d. behind_read atoms (atoms_behind 0 d)) (drop_all i letters h)) ∙ told
+
+-- a pattern has at least one character
+pub no_pattern : (letters : List ℕ) → length letters ≡ 0 → None ≡ atoms_of letters
+unfolding atoms_of
+no_pattern [] none = refl
+no_pattern (c ∷ rest) none = absurd (omega arith)
+
+pub some_pattern : (letters : List ℕ) → 0 < length letters → atoms_behind 0 letters ≡ atoms_of letters
+unfolding atoms_of
+some_pattern [] some = absurd (omega arith)
+some_pattern (c ∷ rest) some = refl
+
+pub not_empty : (letters : List ℕ) → (length letters == 0) ≡ false → 0 < length letters
+not_empty [] h = cc
+not_empty (c ∷ rest) h = omega arith
+
+-- before the first atom
+pub nothing_read : (letters : List ℕ) (found : Option (List Atom)) → found ≡ atoms_of letters → behind_read [] found ≡ atoms_of letters
+nothing_read letters None e = e
+nothing_read letters (Some atoms) e = e

@@ -1,0 +1,4 @@
+pub mod Patterns
+pub mod PartsLeft
+pub mod Grammar
+pub mod Examples

@@ -1,0 +1,129 @@
+//! The atom at the front of characters.
+
+ghost use Rattle.std.specs.Prelude.{◌≡◌, ◌+◌, ◌≤◌, ◌<◌, IfSome, length};
+ghost use Rattle.std.specs.List.{prefix_len};
+ghost use Rattle.match_options.specs.Patterns as spec;
+
+use crate::atom::{Atom, Number, SizedAtom};
+
+/// The atom that begins with the character, where one does.
+pub(crate) fn front_atom(first: char, behind: &[char]) -> Option<SizedAtom>
+    ensures value { result ≡ spec.front_atom first behind.now }
+    ensures some { IfSome result (λ sized. 0 < sized.size) }
+    ensures within { IfSome result (λ sized. sized.size ≤ length behind.now + 1) }
+{
+    match first {
+        '.' => period_before(behind),
+        '\\' => backslash_before(behind),
+        _ => sized(Atom::Letter(first), 1),
+    }
+}
+
+fn sized(atom: Atom, size: usize) -> Option<SizedAtom>
+    ensures { result ≡ spec.sized atom size }
+{
+    Some(SizedAtom { atom, size })
+}
+
+/// A backslash makes the next character a letter.
+fn backslash_before(behind: &[char]) -> Option<SizedAtom>
+    ensures value { result ≡ spec.backslash_before behind.now }
+    ensures some { IfSome result (λ sized. 0 < sized.size) }
+    ensures within { IfSome result (λ sized. sized.size ≤ length behind.now + 1) }
+{
+    match behind.first() {
+        None => None,
+        Some(letter) => sized(Atom::Letter(*letter), 2),
+    }
+}
+
+/// The longest form that begins with a period.
+fn period_before(behind: &[char]) -> Option<SizedAtom>
+    ensures value { result ≡ spec.period_before behind.now }
+    ensures some { IfSome result (λ sized. 0 < sized.size) }
+    ensures within { IfSome result (λ sized. sized.size ≤ length behind.now + 1) }
+{
+    match behind.first() {
+        Some('?') => sized(Atom::Gap(0, Some(1)), 2),
+        Some('*') => sized(Atom::Gap(0, None), 2),
+        Some('+') => sized(Atom::Gap(1, None), 2),
+        Some('{') => braces(&behind[1..]),
+        _ => sized(Atom::Gap(1, Some(1)), 1),
+    }
+}
+
+/// A number, a comma, a number and a closing brace, behind `.{`.
+fn braces(letters: &[char]) -> Option<SizedAtom>
+    ensures value { result ≡ spec.braces_at letters.now }
+    ensures some { IfSome result (λ sized. 0 < sized.size) }
+    ensures within { IfSome result (λ sized. sized.size ≤ length letters.now + 2) }
+{
+    let Some(low) = number_before(letters, ',') else {
+        return None;
+    };
+    let Some(high) = number_before(&letters[low.size..], '}') else {
+        return None;
+    };
+    if low.value > high.value || high.value > 1_000_000 {
+        return None;
+    }
+    sized(
+        Atom::Gap(low.value, Some(high.value)),
+        low.size + high.size + 2,
+    )
+}
+
+/// A number with a closing character behind it.
+fn number_before(letters: &[char], closing: char) -> Option<Number>
+    ensures value { result ≡ spec.number_before closing letters.now }
+    ensures within { IfSome result (λ number. number.size ≤ length letters.now) }
+{
+    let digits = digit_run(letters);
+    if digits == 0 || !begins_with(&letters[digits..], closing) {
+        return None;
+    }
+    Some(Number {
+        value: number_of(&letters[..digits]),
+        size: digits + 1,
+    })
+}
+
+fn digit_run(letters: &[char]) -> usize
+    ensures value { result ≡ prefix_len spec.is_digit letters.now }
+    ensures within { result ≤ length letters.now }
+{
+    let mut size = 0;
+    for letter in letters {
+        if !is_digit(*letter) {
+            return size;
+        }
+        size += 1;
+    }
+    size
+}
+
+fn is_digit(c: char) -> bool
+    ensures { result ≡ spec.is_digit c }
+{
+    '0' <= c && c <= '9'
+}
+
+/// The number that digits stand for; past a million it is a million and one.
+fn number_of(digits: &[char]) -> u32
+    ensures { result ≡ spec.number_of digits.now }
+{
+    let mut number: u32 = 0;
+    for digit in digits {
+        number = (number * 10 + (*digit as u32).saturating_sub(48)).min(1_000_001);
+    }
+    number
+}
+
+fn begins_with(letters: &[char], first: char) -> bool
+    ensures { result ≡ spec.begins_with first letters.now }
+{
+    match letters.first() {
+        None => false,
+        Some(c) => *c == first,
+    }
+}

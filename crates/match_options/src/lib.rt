@@ -1,0 +1,15 @@
+//! Match options of full-text queries (XQuery and XPath Full Text 3.0, section 3.4): when a word of a text is the same as a word of a
+//! query, and patterns with wildcards.
+#![tactic(auto)]
+
+mod atom;
+mod front;
+mod pattern;
+mod pattern_examples;
+mod pattern_laws;
+mod splitting;
+
+pub use pattern::{has_bad_pattern, is_pattern};
+pub use pattern_examples::{braces, literals, periods};
+pub use pattern_laws::pattern_law;
+pub use splitting::parts;
