@@ -1,4 +1,5 @@
 pub mod Patterns
 pub mod PartsLeft
 pub mod Grammar
+pub mod Items
 pub mod Examples

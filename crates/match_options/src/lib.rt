@@ -4,11 +4,13 @@
 
 mod atom;
 mod front;
+mod item;
 mod pattern;
 mod pattern_examples;
 mod pattern_laws;
 mod splitting;
 
+pub use item::{QueryItem, items_of};
 pub use pattern::{has_bad_pattern, is_pattern};
 pub use pattern_examples::{braces, literals, periods};
 pub use pattern_laws::pattern_law;
