@@ -4,6 +4,7 @@ pub mod Raised
 pub mod RaisedFilters
 pub mod Numbering
 pub mod Compositional
+pub mod Counting
 pub mod Choices
 pub mod BareWays
 pub mod WayLaws

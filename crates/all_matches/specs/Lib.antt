@@ -12,5 +12,6 @@ pub mod Numbering
 pub mod Times
 pub mod Meaning
 pub mod Compositional
+pub mod Counting
 pub mod Ways
 pub mod Examples

@@ -5,6 +5,7 @@
 #![tactic(auto)]
 
 mod boolean_laws;
+mod count_laws;
 mod filter_examples;
 mod not_examples;
 mod sat_laws;
@@ -12,6 +13,7 @@ mod way_laws;
 mod word_examples;
 
 pub use boolean_laws::{and_law, choice_law, not_law, occurs_law, or_law};
+pub use count_laws::{occurrences_law, places_law};
 pub use filter_examples::{
     anchors, distances, distances_without_excludes, entire, nested_filters, order, scopes, windows,
 };
