@@ -3,15 +3,19 @@
 #![tactic(auto)]
 
 mod atom;
+mod comparing;
 mod front;
 mod item;
 mod pattern;
 mod pattern_examples;
 mod pattern_laws;
 mod splitting;
+mod word_forms;
 
+pub use comparing::{forms, same_token};
 pub use item::{QueryItem, items_of};
 pub use pattern::{has_bad_pattern, is_pattern};
 pub use pattern_examples::{braces, literals, periods};
 pub use pattern_laws::pattern_law;
 pub use splitting::parts;
+pub use word_forms::Forms;
