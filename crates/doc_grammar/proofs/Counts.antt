@@ -70,15 +70,15 @@ choose : {n : ℕ} {x y : Option State} (b : Bool) → (b ≡ true → Counts n 
 choose true f h = f refl
 choose false f h = h refl
 
-list_count-append : (xs ys : List Node) → list_count (xs ++ ys) ≡ list_count xs + list_count ys
+pub list_count-append : (xs ys : List Node) → list_count (xs ++ ys) ≡ list_count xs + list_count ys
 list_count-append [] ys = omega arith
 list_count-append (x ∷ xs) ys = omega (arith, list_count-append xs ys)
 
-nodes_count-nodes : (xs : List Node) → nodes_count (nodes xs) ≡ list_count xs
+pub nodes_count-nodes : (xs : List Node) → nodes_count (nodes xs) ≡ list_count xs
 nodes_count-nodes [] = refl
 nodes_count-nodes (x ∷ xs) = ap (λ n. node_count x + n) (nodes_count-nodes xs)
 
-list_count-text : (bytes : List ℕ) → list_count (text_node bytes) ≡ text_count bytes
+pub list_count-text : (bytes : List ℕ) → list_count (text_node bytes) ≡ text_count bytes
 list_count-text [] = refl
 list_count-text (b ∷ bytes) = omega arith
 
@@ -108,7 +108,7 @@ pub and-no : (x y : Bool) → y ≡ false → (x && y) ≡ false
 and-no true y h = h
 and-no false y h = refl
 
-no-and : (x y : Bool) → x ≡ false → (x && y) ≡ false
+pub no-and : (x y : Bool) → x ≡ false → (x && y) ≡ false
 no-and true y h = cc
 no-and false y h = refl
 

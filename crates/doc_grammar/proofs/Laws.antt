@@ -178,7 +178,7 @@ ready_is (m.quoted_reference name attrs attr quote value r) h = cc
 ready_is (m.valued name attrs) h = cc
 ready_is (m.slashed name attrs) h = cc
 
-finished_parts : (b : Bool) (x : Option (List Node)) (kids : List Node) → cond b x None ≡ Some kids → (b ≡ true) × (x ≡ Some kids)
+pub finished_parts : (b : Bool) (x : Option (List Node)) (kids : List Node) → cond b x None ≡ Some kids → (b ≡ true) × (x ≡ Some kids)
 finished_parts true x kids e = (refl, e)
 finished_parts false x kids e = cc
 
@@ -255,7 +255,7 @@ ends_wrong kind text s a f = record {
         cc
 
 -- the nodes of a text that ends here
-in_finished : (o : Outer) (kids ks : List Node) (text : List ℕ) → finished_in o kids text ≡ Some ks → ks ≡ kids ++ text_node text
+pub in_finished : (o : Outer) (kids ks : List Node) (text : List ℕ) → finished_in o kids text ≡ Some ks → ks ≡ kids ++ text_node text
 in_finished document [] ks text e = cc
 in_finished document (n ∷ []) ks text e = cc
 in_finished document (n ∷ k ∷ kids) ks text e = cc

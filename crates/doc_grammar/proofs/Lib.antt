@@ -13,8 +13,10 @@ pub mod Bottom
 pub mod Laws
 pub mod Joined
 pub mod Counts
+pub mod Heights
 pub mod Passed
 pub mod PassedFaults
+pub mod WithinLimits
 pub mod PrintedPieces
 pub mod PrintedTrees
 pub mod Printable

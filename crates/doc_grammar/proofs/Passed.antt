@@ -87,7 +87,7 @@ pub record Checked (max_depth max_nodes : ℕ) (s : State) (b : Bool) (c : ℕ) 
   pub element_fits : element_here s c ≡ true → place_count s.place < max_nodes
 
 -- where the machine stands behind a `<` between two items
-opened_read : (kind : Kind) (front : List ℕ) (p : Place) → read kind front ≡ Some (st p m.ready) → read kind (front ++ 60 ∷ []) ≡ Some (st p m.opened)
+pub opened_read : (kind : Kind) (front : List ℕ) (p : Place) → read kind front ≡ Some (st p m.ready) → read kind (front ++ 60 ∷ []) ≡ Some (st p m.opened)
 unfolding step_at m.from_ready
 opened_read kind front p e = read-append kind front (60 ∷ []) ∙ ap (λ o. run_on o (lines_from (returned false front) (60 ∷ []))) e
 

@@ -16,7 +16,7 @@ use Rattle.doc_grammar.specs.Limits.{node_here, one_if, is_opened, text_here, el
 use Rattle.doc_grammar.proofs.Bottom.{run_bottom}
 use Rattle.doc_grammar.proofs.Bytes.{both}
 use Rattle.doc_grammar.proofs.Classes.{start-is, either}
-use Rattle.doc_grammar.proofs.Counts.{and-no, phase_count, begins, begun, step_counts, counted}
+use Rattle.doc_grammar.proofs.Counts.{and-no, no-and, phase_count, begins, begun, step_counts, counted}
 use Rattle.doc_grammar.proofs.Spelled.{Spelled, Part}
 use Rattle.doc_grammar.proofs.Walks.{opened_start, run_on-nil}
 use Rattle.doc_grammar.proofs.Laws.{lines-return, lines-skipped, lines-kept, and-false, read_spelled, spelled_ready, ready_is}
@@ -113,10 +113,6 @@ text_not_deep max_depth max_nodes kind whole front c more s e h (too_deep p x k)
     let two : not (60 == 60) ≡ true = subst (λ (d : ℕ). not (d == 60) ≡ true) is_markup no_markup in
     cc
 
-no-and : (x y : Bool) → x ≡ false → (x && y) ≡ false
-no-and true y h = cc
-no-and false y h = refl
-
 ready_not_opened : (phase : Phase) → m.is_ready phase ≡ true → is_opened phase ≡ false
 ready_not_opened phase h = ap is_opened (ready_is phase h)
 
@@ -163,7 +159,7 @@ is_here (m.quoted_reference name attrs attr quote value r) p c = refl
 is_here (m.valued name attrs) p c = refl
 is_here (m.slashed name attrs) p c = refl
 
-step_adds : (s t : State) (c : ℕ) → step s c ≡ Some t → begun t ≡ begun s + one_if (node_here s false c)
+pub step_adds : (s t : State) (c : ℕ) → step s c ≡ Some t → begun t ≡ begun s + one_if (node_here s false c)
 step_adds s t c e = counted (step_counts s.place s.phase c) t e ∙ ap (λ (x : Bool). begun s + one_if x) (is_here s.phase s.place c)
 
 -- an LF that stands for a CR begins what the CR begins

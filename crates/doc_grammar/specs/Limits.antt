@@ -1,5 +1,5 @@
 -- Where a text passes the limits: its elements stand too deep, or it has too many elements and texts.
-use Rattle.std.specs.Prelude.{◌≡◌, ℕ, ◌+◌, ◌≤◌, Bool, true, false, ◌&&◌, ◌||◌, not, if◌then◌else◌, ◌==◌, List, [], ◌∷◌, ◌++◌, length, IsTrue}
+use Rattle.std.specs.Prelude.{◌≡◌, ℕ, ◌+◌, ◌≤◌, max, Bool, true, false, ◌&&◌, ◌||◌, not, if◌then◌else◌, ◌==◌, List, [], ◌∷◌, ◌++◌, length, IsTrue}
 use Rattle.plain_tree.specs.Document.{Node, element, text, Nodes, no_nodes, node_then, is_empty}
 use Rattle.ft_base.specs.Characters.{is_char, is_name_start}
 use Rattle.doc_grammar.specs.Grammar.{with_line_ends}
@@ -18,6 +18,16 @@ abbrev mutual
   pub nodes_count : Nodes → ℕ
   nodes_count no_nodes = 0
   nodes_count (node_then n ns) = node_count n + nodes_count ns
+
+-- how many levels of elements there are
+abbrev mutual
+  pub height : Node → ℕ
+  height (element name attrs kids) = 1 + heights kids
+  height (text bytes) = 0
+
+  pub heights : Nodes → ℕ
+  heights no_nodes = 0
+  heights (node_then n ns) = max (height n) (heights ns)
 
 abbrev pub list_count : List Node → ℕ
 list_count [] = 0

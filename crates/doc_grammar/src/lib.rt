@@ -1,8 +1,9 @@
 //! What a document is as text: its grammar, the texts that begin a document, the limits, and laws about them.
 #![tactic(auto)]
 
-ghost use Rattle.std.specs.Prelude.{◌≡◌, ◌∷◌, [], ℕ, List, true};
+ghost use Rattle.std.specs.Prelude.{◌≡◌, ◌≤◌, ◌∷◌, [], ℕ, List, true};
 ghost use Rattle.plain_tree.specs.Document.{Node, is_document, nodes};
+ghost use Rattle.doc_grammar.specs.Limits.{Limit, Passes, heights, nodes_count};
 ghost use Rattle.doc_grammar.specs.Printed.{ArePrintable, IsPrintable, printed};
 ghost use Rattle.doc_grammar.specs.Texts.{Kind, Spells};
 
@@ -20,4 +21,10 @@ pub fn printed_spells()
 pub fn spelled_is_printable()
     ensures document { (text : List ℕ) (tree : Node) → Spells Kind.document text (tree ∷ []) → IsPrintable tree }
     ensures fragment { (text : List ℕ) (kids : List Node) → Spells Kind.fragment text kids → ArePrintable (nodes kids) }
+{}
+
+/// A text passes no limit that the nodes which it spells keep.
+pub fn limits_of_nodes()
+    ensures { (max_depth max_nodes : ℕ) (kind : Kind) (text : List ℕ) (kids : List Node) → Spells kind text kids → heights (nodes kids) ≤ max_depth → nodes_count (nodes kids) ≤ max_nodes →
+        (front : List ℕ) (limit : Limit) → Passes max_depth max_nodes kind text front limit → ⊥ }
 {}

@@ -6,14 +6,15 @@ use Rattle.std.specs.Str.Lossy.{valid_len_up_to, utf8_valid_len}
 use Rattle.std.proofs.lemmas.Bool.{cases_lt, cond-true, cond-false, eqb-true}
 use Rattle.std.proofs.lemmas.List.{length-append}
 use Rattle.std.proofs.lemmas.Str.{IsUtf8-from_is_utf8, is_utf8-from_IsUtf8, encodes-chars, length-encode}
-use Rattle.plain_tree.specs.Document.{Node, is_document}
+use Rattle.plain_tree.specs.Document.{Node, nodes, is_document}
 use Rattle.doc_grammar.specs.Machine.{finished, start}
 use Rattle.doc_grammar.specs.Limits.{depth_limit, node_limit}
 use Rattle.doc_grammar.specs.Reading.{outer_of}
 use Rattle.doc_grammar.specs.Texts.{Kind, Spells, GoesWrong, without_mark, mark_len}
 use Rattle.doc_grammar.proofs.Joined.{document_joined}
 use Rattle.doc_grammar.proofs.Laws.{one_reading}
-use Rattle.doc_profile.specs.Faults.{Fits, FaultIn, FaultOf, IsFaultOf}
+use Rattle.doc_grammar.proofs.WithinLimits.{passes_none}
+use Rattle.doc_profile.specs.Faults.{max_depth, max_nodes, Fits, IsWithin, AreWithin, FaultIn, FaultOf, IsFaultOf}
 use Rattle.doc_profile.specs.Readings.{walk, at_end, only, document_of, fragment_of}
 use Rattle.doc_profile.specs.declared.fault.DocFault.{DocFault}
 use Rattle.doc_profile.specs.declared.fault.DocFault.TheVariants as faults
@@ -96,15 +97,15 @@ document_refused : (bytes : List ℕ) → is_utf8 bytes ≡ false → document_o
 unfolding document_of
 document_refused bytes e = cond-false _ _ _ e
 
-pub document : (bytes : List ℕ) (doc : Node) → document_of bytes ≡ Ok doc → IsUtf8 bytes × Spells Kind.document (without_mark (chars bytes)) (doc ∷ []) × Fits Kind.document (without_mark (chars bytes)) × (is_document doc ≡ true)
+pub document : (bytes : List ℕ) (doc : Node) → document_of bytes ≡ Ok doc → IsUtf8 bytes × Spells Kind.document (without_mark (chars bytes)) (doc ∷ []) × Fits Kind.document (without_mark (chars bytes)) × IsWithin doc × (is_document doc ≡ true)
 document bytes doc e = go (is_utf8 bytes) refl
   where
-    go : (b : Bool) → is_utf8 bytes ≡ b → IsUtf8 bytes × Spells Kind.document (without_mark (chars bytes)) (doc ∷ []) × Fits Kind.document (without_mark (chars bytes)) × (is_document doc ≡ true)
+    go : (b : Bool) → is_utf8 bytes ≡ b → IsUtf8 bytes × Spells Kind.document (without_mark (chars bytes)) (doc ∷ []) × Fits Kind.document (without_mark (chars bytes)) × IsWithin doc × (is_document doc ≡ true)
     go false n = let impossible : Err (faults.NotUtf8 (utf8_valid_len bytes)) ≡ Ok doc = sym (document_refused bytes n) ∙ e in cc
     go true u =
         let utf8 = IsUtf8-from_is_utf8 bytes u in
         let x = subst (IsDocument (without_mark (chars bytes)) (mark_len (chars bytes))) e (document_is bytes utf8) in
-        (utf8, x.0, x.1, joined x.0)
+        (utf8, x.0, x.1, x.2, joined x.0)
       where
         joined : Spells Kind.document (without_mark (chars bytes)) (doc ∷ []) → is_document doc ≡ true
         joined (node, same, d) = let one : doc ≡ node = cc in ap is_document one ∙ document_joined d
@@ -129,15 +130,15 @@ fragment_refused : (bytes : List ℕ) → is_utf8 bytes ≡ false → fragment_o
 unfolding fragment_of
 fragment_refused bytes e = cond-false _ _ _ e
 
-pub fragment : (bytes : List ℕ) (kids : List Node) → fragment_of bytes ≡ Ok kids → IsUtf8 bytes × Spells Kind.fragment (chars bytes) kids × Fits Kind.fragment (chars bytes)
+pub fragment : (bytes : List ℕ) (kids : List Node) → fragment_of bytes ≡ Ok kids → IsUtf8 bytes × Spells Kind.fragment (chars bytes) kids × Fits Kind.fragment (chars bytes) × AreWithin (nodes kids)
 fragment bytes kids e = go (is_utf8 bytes) refl
   where
-    go : (b : Bool) → is_utf8 bytes ≡ b → IsUtf8 bytes × Spells Kind.fragment (chars bytes) kids × Fits Kind.fragment (chars bytes)
+    go : (b : Bool) → is_utf8 bytes ≡ b → IsUtf8 bytes × Spells Kind.fragment (chars bytes) kids × Fits Kind.fragment (chars bytes) × AreWithin (nodes kids)
     go false n = let impossible : Err (faults.NotUtf8 (utf8_valid_len bytes)) ≡ Ok kids = sym (fragment_refused bytes n) ∙ e in cc
     go true u =
         let utf8 = IsUtf8-from_is_utf8 bytes u in
         let x = subst (IsReading Kind.fragment (chars bytes) 0) e (fragment_is bytes utf8) in
-        (utf8, x.0, x.1)
+        (utf8, x.0, x.1, x.2)
 
 pub fragment_fault : (bytes : List ℕ) (fault : DocFault) → fragment_of bytes ≡ Err fault → IsFaultOf Kind.fragment bytes (chars bytes) 0 fault
 fragment_fault bytes fault e = go (is_utf8 bytes) refl
@@ -163,16 +164,19 @@ no_fault kind text from kids (faults.Depth at) x fits f = fits f.is_fault.front 
 no_fault kind text from kids (faults.Nodes at) x fits f = fits f.is_fault.front node_limit f.is_fault.passes
 no_fault kind text from kids faults.Memory x fits f = f.no_memory refl
 
-pub every_document : (bytes : List ℕ) (doc : Node) → IsUtf8 bytes → Spells Kind.document (without_mark (chars bytes)) (doc ∷ []) → Fits Kind.document (without_mark (chars bytes)) → document_of bytes ≡ Ok doc
-every_document bytes doc u x fits = go (document_of bytes) refl (document_is bytes u)
+fits_within : (kind : Kind) (text : List ℕ) (kids : List Node) → Spells kind text kids → AreWithin (nodes kids) → Fits kind text
+fits_within kind text kids x within = passes_none max_depth max_nodes kind text kids x within.0 within.1
+
+pub every_document : (bytes : List ℕ) (doc : Node) → IsUtf8 bytes → Spells Kind.document (without_mark (chars bytes)) (doc ∷ []) → IsWithin doc → document_of bytes ≡ Ok doc
+every_document bytes doc u x within = go (document_of bytes) refl (document_is bytes u)
   where
     go : (r : Result Node DocFault) → document_of bytes ≡ r → IsDocument (without_mark (chars bytes)) (mark_len (chars bytes)) r → document_of bytes ≡ Ok doc
-    go (Err fault) e y = absurd (no_fault Kind.document (without_mark (chars bytes)) (mark_len (chars bytes)) (doc ∷ []) fault x fits y)
+    go (Err fault) e y = absurd (no_fault Kind.document (without_mark (chars bytes)) (mark_len (chars bytes)) (doc ∷ []) fault x (fits_within Kind.document (without_mark (chars bytes)) (doc ∷ []) x (omega (arith, within.0), omega (arith, within.1))) y)
     go (Ok n) e y = let same : n ∷ [] ≡ doc ∷ [] = one_reading Kind.document (without_mark (chars bytes)) (n ∷ []) (doc ∷ []) y.0 x in e ∙ (let one : n ≡ doc = cc in ap Ok one)
 
-pub every_fragment : (bytes : List ℕ) (kids : List Node) → IsUtf8 bytes → Spells Kind.fragment (chars bytes) kids → Fits Kind.fragment (chars bytes) → fragment_of bytes ≡ Ok kids
-every_fragment bytes kids u x fits = go (fragment_of bytes) refl (fragment_is bytes u)
+pub every_fragment : (bytes : List ℕ) (kids : List Node) → IsUtf8 bytes → Spells Kind.fragment (chars bytes) kids → AreWithin (nodes kids) → fragment_of bytes ≡ Ok kids
+every_fragment bytes kids u x within = go (fragment_of bytes) refl (fragment_is bytes u)
   where
     go : (r : Result (List Node) DocFault) → fragment_of bytes ≡ r → IsReading Kind.fragment (chars bytes) 0 r → fragment_of bytes ≡ Ok kids
-    go (Err fault) e y = absurd (no_fault Kind.fragment (chars bytes) 0 kids fault x fits y)
+    go (Err fault) e y = absurd (no_fault Kind.fragment (chars bytes) 0 kids fault x (fits_within Kind.fragment (chars bytes) kids x within) y)
     go (Ok ks) e y = e ∙ ap Ok (one_reading Kind.fragment (chars bytes) ks kids y.0 x)

@@ -8,7 +8,7 @@ use Rattle.doc_grammar.specs.Printed.{printed, IsPrintable}
 use Rattle.doc_grammar.specs.Texts.{Kind, Spells, without_mark}
 use Rattle.doc_grammar.proofs.Laws.{one_reading}
 use Rattle.doc_grammar.proofs.PrintedTrees.{printed_spells}
-use Rattle.doc_profile.specs.Faults.{Fits}
+use Rattle.doc_profile.specs.Faults.{IsWithin}
 use Rattle.doc_profile.specs.Readings.{document_of}
 use Rattle.doc_profile.proofs.BytesRead.{every_document}
 
@@ -27,5 +27,5 @@ line_spells doc line d u e p = subst (λ z. Spells Kind.document z (doc ∷ []))
 pub line_only : (doc other : Node) (line : List ℕ) → is_document doc ≡ true → IsUtf8 line → line ≡ encode_utf8_all (printed doc) → IsPrintable doc → Spells Kind.document (without_mark (chars line)) (other ∷ []) → other ≡ doc
 line_only doc other line d u e p x = let same = one_reading Kind.document (without_mark (chars line)) (other ∷ []) (doc ∷ []) x (line_spells doc line d u e p) in cc
 
-pub line_read : (doc : Node) (line : List ℕ) → is_document doc ≡ true → IsUtf8 line → line ≡ encode_utf8_all (printed doc) → IsPrintable doc → Fits Kind.document (printed doc) → document_of line ≡ Ok doc
-line_read doc line d u e p fits = every_document line doc u (line_spells doc line d u e p) (subst (Fits Kind.document) (sym (line_chars doc line d u e)) fits)
+pub line_read : (doc : Node) (line : List ℕ) → is_document doc ≡ true → IsUtf8 line → line ≡ encode_utf8_all (printed doc) → IsPrintable doc → IsWithin doc → document_of line ≡ Ok doc
+line_read doc line d u e p within = every_document line doc u (line_spells doc line d u e p) within

@@ -1,12 +1,15 @@
 -- What bytes are read as is right by the grammar, and has the first fault.
-use Rattle.std.proofs.Common.{◌≡◌, ℕ, ◌+◌, Bool, false, List, [], ◌∷◌, length, Option, Some, None, Ok, Err, refl, sym, subst}
+use Rattle.std.proofs.Common.{◌≡◌, ℕ, ◌+◌, ◌≤◌, Bool, false, List, [], ◌∷◌, length, Option, Some, None, Ok, Err, refl, sym, subst, arith}
 use Rattle.std.specs.Prelude.{Result, ◌==◌, encode_utf8, encode_utf8_all}
 use Rattle.doc_grammar.specs.Machine.{State, finished, start}
 use Rattle.doc_grammar.specs.Texts.{Kind, Spells}
 use Rattle.doc_grammar.specs.Reading.{outer_of, read}
 use Rattle.doc_grammar.proofs.Laws.{read_spells, ends_wrong}
-use Rattle.plain_tree.specs.Document.{Node}
-use Rattle.doc_profile.specs.Faults.{Fits}
+use Rattle.plain_tree.specs.Document.{Node, nodes}
+use Rattle.doc_profile.specs.Faults.{max_depth, max_nodes, Fits, IsWithin, AreWithin}
+use Rattle.doc_grammar.proofs.Counts.{begun, nodes_count-nodes}
+use Rattle.doc_grammar.proofs.Heights.{reached, heights-nodes}
+use Rattle.doc_grammar.proofs.WithinLimits.{totals}
 use Rattle.doc_profile.specs.Readings.{passes, taken, or_fault, walk, or_too_soon, at_end, only}
 use Rattle.doc_profile.specs.declared.fault.DocFault.{DocFault}
 use Rattle.doc_profile.specs.declared.fault.DocFault.TheVariants as faults
@@ -14,12 +17,12 @@ use Rattle.doc_profile.proofs.Walked.{Walked, Faulty, walked_start, walked_furth
 
 -- characters that are all taken, and none that passes a limit, or the first fault
 abbrev pub IsWalk : Kind → List ℕ → ℕ → Result State DocFault → Type 0
-IsWalk kind text from (Ok s) = (read kind text ≡ Some s) × Fits kind text
+IsWalk kind text from (Ok s) = (read kind text ≡ Some s) × Fits kind text × (reached s ≤ max_depth) × (begun s ≤ max_nodes)
 IsWalk kind text from (Err fault) = Faulty kind text from fault
 
 walk_right : (kind : Kind) (text rest : List ℕ) (from at : ℕ) (s : State) (b : Bool) → Walked kind text rest from at s b → IsWalk kind text from (walk rest s b at)
 unfolding walk
-walk_right kind text [] from at s b w = let e = walked_end kind text from at s b w in (e.0, e.1)
+walk_right kind text [] from at s b w = walked_end kind text from at s b w
 walk_right kind text (c ∷ rest) from at s b w = go (passes s b c at) (taken s b c) refl refl (walk_right kind text rest from (at + length (encode_utf8 c)))
   where
     go : (limit : Option DocFault) (next : Option State) → passes s b c at ≡ limit → taken s b c ≡ next
@@ -42,19 +45,21 @@ too_soon kind text from end s e r fits f = record {
 
 -- nodes that the text spells within the limits, or its first fault
 abbrev pub IsReading : Kind → List ℕ → ℕ → Result (List Node) DocFault → Type 0
-IsReading kind text from (Ok kids) = Spells kind text kids × Fits kind text
+IsReading kind text from (Ok kids) = Spells kind text kids × Fits kind text × AreWithin (nodes kids)
 IsReading kind text from (Err fault) = Faulty kind text from fault
 
 pub text_read : (kind : Kind) (text : List ℕ) (from end : ℕ) → end ≡ from + length (encode_utf8_all text) → IsReading kind text from (at_end finished end (walk text (start (outer_of kind)) false from))
 text_read kind text from end e = go (walk text (start (outer_of kind)) false from) (text_walk kind text from)
   where
-    last : (s : State) (o : Option (List Node)) → finished s ≡ o → read kind text ≡ Some s → Fits kind text → IsReading kind text from (or_too_soon o end)
-    last s None f r fits = too_soon kind text from end s e r fits f
-    last s (Some kids) f r fits = (read_spells kind text s kids r f, fits)
+    last : (s : State) (o : Option (List Node)) → finished s ≡ o → (read kind text ≡ Some s) × Fits kind text × (reached s ≤ max_depth) × (begun s ≤ max_nodes) → IsReading kind text from (or_too_soon o end)
+    last s None f x = too_soon kind text from end s e x.0 x.1 f
+    last s (Some kids) f x =
+        let all = totals s kids f in
+        (read_spells kind text s kids x.0 f, x.1, (omega (arith, x.2, all.reached_is, heights-nodes kids), omega (arith, x.3, all.begun_is, nodes_count-nodes kids)))
 
     go : (w : Result State DocFault) → IsWalk kind text from w → IsReading kind text from (at_end finished end w)
     go (Err fault) x = x
-    go (Ok s) x = last s (finished s) refl x.0 x.1
+    go (Ok s) x = last s (finished s) refl x
 
 -- the root is the only node of a document
 abbrev pub root_of : Result (List Node) DocFault → ℕ → Result Node DocFault
@@ -70,14 +75,14 @@ at_end-root end (Ok s) = go (finished s)
     go (Some kids) = refl
 
 abbrev pub IsDocument : List ℕ → ℕ → Result Node DocFault → Type 0
-IsDocument text from (Ok doc) = Spells Kind.document text (doc ∷ []) × Fits Kind.document text
+IsDocument text from (Ok doc) = Spells Kind.document text (doc ∷ []) × Fits Kind.document text × IsWithin doc
 IsDocument text from (Err fault) = Faulty Kind.document text from fault
 
 root_read : (text : List ℕ) (from end : ℕ) (r : Result (List Node) DocFault) → IsReading Kind.document text from r → IsDocument text from (root_of r end)
 root_read text from end (Err fault) x = x
-root_read text from end (Ok []) ((node, e, d), fits) = cc
-root_read text from end (Ok (n ∷ [])) (spells, fits) = (spells, fits)
-root_read text from end (Ok (n ∷ k ∷ ks)) ((node, e, d), fits) = cc
+root_read text from end (Ok []) ((node, e, d), fits, within) = cc
+root_read text from end (Ok (n ∷ [])) (spells, fits, within) = (spells, fits, (omega (arith, within.0), omega (arith, within.1)))
+root_read text from end (Ok (n ∷ k ∷ ks)) ((node, e, d), fits, within) = cc
 
 pub document_read : (text : List ℕ) (from end : ℕ) → end ≡ from + length (encode_utf8_all text) → IsDocument text from (at_end (λ s. only (finished s)) end (walk text (start (outer_of Kind.document)) false from))
 document_read text from end e =

@@ -7,11 +7,15 @@ use Rattle.std.specs.Prelude.{◌==◌, nat_le, encode_utf8, encode_utf8_all}
 use Rattle.doc_grammar.specs.Grammar.{lines_from}
 use Rattle.doc_grammar.specs.Machine.{State, run_on, start}
 use Rattle.doc_grammar.specs.Texts.{Kind}
-use Rattle.doc_grammar.specs.Limits.{text_here, element_here, place_count, depth, too_deep, element_too_many, text_too_many}
+use Rattle.doc_grammar.specs.Limits.{text_here, element_here, node_here, one_if, place_count, depth, too_deep, element_too_many, text_too_many}
 use Rattle.doc_grammar.specs.Reading.{outer_of, read, returned}
+use Rattle.doc_grammar.proofs.Classes.{either}
+use Rattle.doc_grammar.proofs.Counts.{begun}
+use Rattle.doc_grammar.proofs.Heights.{reached, one_level_if}
 use Rattle.doc_grammar.proofs.Laws.{read-append, goes_wrong}
 use Rattle.doc_grammar.proofs.Passed.{Clean, Checked, clean_start, clean_further, clean_end, clean_keeps}
-use Rattle.doc_grammar.proofs.PassedFaults.{element_begins, text_begins, element_keeps, not_deep, text_not_deep, text_no_element, refused_no_element}
+use Rattle.doc_grammar.proofs.PassedFaults.{element_begins, text_begins, element_keeps, not_deep, text_not_deep, text_no_element, refused_no_element, taken_adds, here_count}
+use Rattle.doc_grammar.proofs.WithinLimits.{taken_reaches}
 use Rattle.doc_profile.specs.Faults.{max_depth, max_nodes, Fits, IsPlace, SyntaxAt, DepthAt, NodesAt, FaultIn}
 use Rattle.doc_profile.specs.Readings.{element_passes, text_passes, passes, taken}
 use Rattle.doc_profile.specs.declared.fault.DocFault.{DocFault}
@@ -24,9 +28,19 @@ pub record Walked (kind : Kind) (text rest : List ℕ) (from at : ℕ) (s : Stat
   pub is_read : read kind front ≡ Some s
   pub behind : returned false front ≡ b
   pub clean : Clean max_depth max_nodes kind text front
+  pub low : reached s ≤ max_depth
+  pub few : begun s ≤ max_nodes
 
 pub walked_start : (kind : Kind) (text : List ℕ) (from : ℕ) → Walked kind text text from from (start (outer_of kind)) false
-walked_start kind text from = record { front = []; split = refl; is_place = omega arith; is_read = refl; behind = refl; clean = clean_start max_depth max_nodes kind text }
+walked_start kind text from = record { front = []; split = refl; is_place = omega arith; is_read = refl; behind = refl; clean = clean_start max_depth max_nodes kind text; low = none_reached kind; few = none_begun kind }
+  where
+    none_reached : (k : Kind) → reached (start (outer_of k)) ≤ max_depth
+    none_reached Kind.document = omega arith
+    none_reached Kind.fragment = omega arith
+
+    none_begun : (k : Kind) → begun (start (outer_of k)) ≤ max_nodes
+    none_begun Kind.document = omega arith
+    none_begun Kind.fragment = omega arith
 
 returned-append : (b : Bool) (u : List ℕ) (c : ℕ) → returned b (u ++ c ∷ []) ≡ (c == 13)
 returned-append b [] c = refl
@@ -68,6 +82,24 @@ checked s b c at e = go (if_none (element_here s c) (element_passes s at) _ e)
       element_fits = λ t. let both : true ≡ false = sym t ∙ h in cc;
     }
 
+still_low : (s t : State) (b : Bool) (c : ℕ) → reached s ≤ max_depth → Checked max_depth max_nodes s b c → taken s b c ≡ Some t → reached t ≤ max_depth
+still_low s t b c h k e = go (element_here s c) refl
+  where
+    go : (x : Bool) → element_here s c ≡ x → reached t ≤ max_depth
+    go true i = omega (arith, taken_reaches s t b c e, ap (λ (y : Bool). one_level_if y (depth s.place.outer)) i, k.shallow i)
+    go false i = omega (arith, taken_reaches s t b c e, ap (λ (y : Bool). one_level_if y (depth s.place.outer)) i)
+
+still_few : (s t : State) (b : Bool) (c : ℕ) → begun s ≤ max_nodes → Checked max_depth max_nodes s b c → taken s b c ≡ Some t → begun t ≤ max_nodes
+still_few s t b c h k e = go (node_here s b c) refl
+  where
+    room : ((text_here s b c ≡ true) ⊎ (element_here s c ≡ true)) → place_count s.place < max_nodes
+    room (inl i) = k.text_fits i
+    room (inr i) = k.element_fits i
+
+    go : (x : Bool) → node_here s b c ≡ x → begun t ≤ max_nodes
+    go true i = omega (arith, taken_adds s t b c e, ap one_if i, here_count s b c i, room (either (text_here s b c) (element_here s c) i))
+    go false i = omega (arith, taken_adds s t b c e, ap one_if i)
+
 pub walked_further : (kind : Kind) (text rest : List ℕ) (from at : ℕ) (s t : State) (b : Bool) (c : ℕ) → Walked kind text (c ∷ rest) from at s b → passes s b c at ≡ None → taken s b c ≡ Some t
     → Walked kind text rest from (at + length (encode_utf8 c)) t (c == 13)
 walked_further kind text rest from at s t b c w e r = record {
@@ -77,6 +109,8 @@ walked_further kind text rest from at s t b c w e r = record {
   is_read = read_one w c (Some t) r;
   behind = returned-append false w.front c;
   clean = clean_further max_depth max_nodes kind text w.front c rest s w.clean w.split w.is_read (subst (λ x. Checked max_depth max_nodes s x c) (sym w.behind) (checked s b c at e));
+  low = still_low s t b c w.low (checked s b c at e) r;
+  few = still_few s t b c w.few (checked s b c at e) r;
 }
 
 pub walked_refused : (kind : Kind) (text rest : List ℕ) (from at : ℕ) (s : State) (b : Bool) (c : ℕ) → Walked kind text (c ∷ rest) from at s b → taken s b c ≡ None → SyntaxAt kind text from at
@@ -157,7 +191,7 @@ walked_stops kind text rest from at s b c fault w e = element (element_here s c)
     element true h e = full_element (nat_le max_depth (depth s.place.outer)) (nat_le max_nodes (place_count s.place)) h refl refl e
     element false h e = text_first (text_here s b c) refl e
 
-pub walked_end : (kind : Kind) (text : List ℕ) (from at : ℕ) (s : State) (b : Bool) → Walked kind text [] from at s b → (read kind text ≡ Some s) × Fits kind text × (at ≡ from + length (encode_utf8_all text))
+pub walked_end : (kind : Kind) (text : List ℕ) (from at : ℕ) (s : State) (b : Bool) → Walked kind text [] from at s b → (read kind text ≡ Some s) × Fits kind text × (reached s ≤ max_depth) × (begun s ≤ max_nodes)
 walked_end kind text from at s b w =
     let whole : w.front ≡ text = sym (w.split ∙ append-nil w.front) in
-    (ap (read kind) (sym whole) ∙ w.is_read, clean_end max_depth max_nodes kind text (subst (λ z. Clean max_depth max_nodes kind text z) whole w.clean), w.is_place ∙ ap (λ z. from + length (encode_utf8_all z)) whole)
+    (ap (read kind) (sym whole) ∙ w.is_read, clean_end max_depth max_nodes kind text (subst (λ z. Clean max_depth max_nodes kind text z) whole w.clean), w.low, w.few)

@@ -1,8 +1,9 @@
 -- What each fault of a text says.
-use Rattle.std.specs.Prelude.{◌≡◌, ℕ, ◌+◌, List, length, encode_utf8_all, ⊤}
+use Rattle.std.specs.Prelude.{◌≡◌, ℕ, ◌+◌, ◌≤◌, List, length, encode_utf8_all, ⊤}
 use Rattle.std.specs.Str.{IsUtf8, IsValidUpTo}
+use Rattle.plain_tree.specs.Document.{Node, Nodes}
 use Rattle.doc_grammar.specs.Texts.{Kind, GoesWrong}
-use Rattle.doc_grammar.specs.Limits.{Limit, depth_limit, node_limit, Passes, KeepsLimits}
+use Rattle.doc_grammar.specs.Limits.{Limit, depth_limit, node_limit, Passes, KeepsLimits, height, heights, node_count, nodes_count}
 use Rattle.doc_profile.specs.declared.fault.DocFault.{DocFault}
 use Rattle.doc_profile.specs.declared.fault.DocFault.TheVariants as faults
 
@@ -16,6 +17,13 @@ max_nodes = 1_000_000
 -- the text passes no limit
 abbrev pub Fits : Kind → List ℕ → Type 0
 Fits kind text = (front : List ℕ) (limit : Limit) → Passes max_depth max_nodes kind text front limit → ⊥
+
+-- a node, and nodes, are no deeper and have no more elements and texts
+abbrev pub IsWithin : Node → Type 0
+IsWithin n = (height n ≤ max_depth) × (node_count n ≤ max_nodes)
+
+abbrev pub AreWithin : Nodes → Type 0
+AreWithin ns = (heights ns ≤ max_depth) × (nodes_count ns ≤ max_nodes)
 
 -- the place behind a front of a text that begins at the place `from`
 abbrev pub IsPlace : ℕ → List ℕ → ℕ → Type 0

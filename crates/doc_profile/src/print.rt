@@ -7,7 +7,7 @@ ghost use Rattle.plain_tree.specs.View.{node};
 ghost use Rattle.doc_grammar.specs.Printed as printed;
 ghost use Rattle.doc_grammar.specs.Printed.{IsPrintable};
 ghost use Rattle.doc_grammar.specs.Texts.{Kind, Spells, without_mark};
-ghost use Rattle.doc_profile.specs.Faults.{Fits};
+ghost use Rattle.doc_profile.specs.Faults.{IsWithin};
 ghost use Rattle.doc_profile.specs.Readings.{document_of};
 
 use ft_base::{Line, Memory};
@@ -19,7 +19,7 @@ pub fn print_doc(alloc: Global, doc: &PlainDoc) -> Result<Line, Memory>
     ensures line { IfOk result (λ line. line ≡ encode_utf8_all (printed.printed doc.now)) }
     ensures spelled { IfOk result (λ line. IsPrintable doc.now → IsUtf8 line × Spells Kind.document (without_mark (chars line)) (doc.now ∷ [])) }
     ensures only { IfOk result (λ line. IsPrintable doc.now → (other : Node) → Spells Kind.document (without_mark (chars line)) (other ∷ []) → other ≡ doc.now) }
-    ensures read_back { IfOk result (λ line. IsPrintable doc.now → Fits Kind.document (printed.printed doc.now) → document_of line ≡ Ok doc.now) }
+    ensures read_back { IfOk result (λ line. IsPrintable doc.now → IsWithin doc.now → document_of line ≡ Ok doc.now) }
 {
     let line = print_tree(alloc, doc.root())?;
     Ok(line)

@@ -7,7 +7,7 @@ ghost use Rattle.doc_grammar.specs.Machine as m;
 ghost use Rattle.doc_grammar.specs.Printed.{ArePrintable, IsPrintable};
 ghost use Rattle.doc_grammar.specs.Reading.{outer_of};
 ghost use Rattle.doc_grammar.specs.Texts.{Kind, Spells, mark_len, without_mark};
-ghost use Rattle.doc_profile.specs.Faults.{FaultOf, Fits, IsNotUtf8};
+ghost use Rattle.doc_profile.specs.Faults.{AreWithin, FaultOf, Fits, IsNotUtf8, IsWithin};
 ghost use Rattle.doc_profile.specs.Readings as readings;
 ghost use Rattle.doc_profile.specs.Readings.{Faults, document_of, fragment_of, passes, taken, walk};
 ghost use Rattle.doc_profile.specs.View.{Goes, Walks, kind_of, nodes_of, state_of};
@@ -137,6 +137,7 @@ pub fn read_doc(alloc: Global, bytes: &[u8]) -> Result<PlainDoc, DocFault>
     ensures answer_err { IfErr result (λ fault. Faults (document_of bytes.now) fault) }
     ensures read { IfOk result (λ doc. IsUtf8 bytes.now × Spells Kind.document (without_mark (chars bytes.now)) (doc ∷ [])) }
     ensures fits { OnOk result (Fits Kind.document (without_mark (chars bytes.now))) }
+    ensures within { IfOk result IsWithin }
     ensures printable { IfOk result IsPrintable }
     ensures faults { IfErr result (FaultOf Kind.document bytes.now (without_mark (chars bytes.now)) (mark_len (chars bytes.now))) }
 {
@@ -164,6 +165,7 @@ pub fn read_fragment(alloc: Global, bytes: &[u8]) -> Result<Kids, DocFault>
     ensures answer_err { IfErr result (λ fault. Faults (fragment_of bytes.now) fault) }
     ensures read { IfOk result (λ kids. IsUtf8 bytes.now × Spells Kind.fragment (chars bytes.now) (map node kids)) }
     ensures fits { OnOk result (Fits Kind.fragment (chars bytes.now)) }
+    ensures within { IfOk result (λ kids. AreWithin (nodes (map node kids))) }
     ensures printable { IfOk result (λ kids. ArePrintable (nodes (map node kids))) }
     ensures faults { IfErr result (FaultOf Kind.fragment bytes.now (chars bytes.now) 0) }
 {

@@ -139,3 +139,62 @@ fn two_hundred_levels_are_read(rt: HostRuntime) -> Result<(), Fail> {
     assert!(rt; read_doc(rt.alloc(), fits.as_bytes()).is_ok());
     Ok(())
 }
+
+fn repeated(
+    alloc: Global,
+    first: &str,
+    piece: &str,
+    times: usize,
+    last: &str,
+) -> Result<String, Fail> {
+    let mut text = String::new(alloc);
+    text.push_str(first)?;
+    for _ in 0..times {
+        text.push_str(piece)?;
+    }
+    text.push_str(last)?;
+    Ok(text)
+}
+
+#[test]
+fn a_million_nodes_are_read(rt: HostRuntime) -> Result<(), Fail> {
+    let table: [(&str, usize, &str, usize); 3] = [
+        ("<b/>", 1_000_000, "</a>", 3_999_999),
+        ("x<b/>", 500_000, "</a>", 2_499_999),
+        ("<b/>", 999_999, "&foo;", 3_999_999),
+    ];
+    for (piece, times, last, at) in table {
+        let text = repeated(rt.alloc(), "<a>", piece, times, last)?;
+        let got = says(rt.alloc(), text.as_bytes())?;
+        let want = format!(in rt.alloc(); "{:?}", DocFault::Nodes { at })?;
+        assert_eq!(rt; got.as_str(), want.as_str());
+    }
+    let fits = repeated(rt.alloc(), "<a>", "<b/>", 999_999, "</a>")?;
+    assert!(rt; read_doc(rt.alloc(), fits.as_bytes()).is_ok());
+    Ok(())
+}
+
+#[test]
+fn every_escape_is_read_back(rt: HostRuntime) -> Result<(), Fail> {
+    let table: [(&[u8], &str); 3] = [
+        (
+            b"<a v='&amp;&lt;&quot;&#9;&#13;&#10;&gt;\t&apos;'/>",
+            "<a v=\"&amp;&lt;&quot;&#9;&#13;&#10;> '\"/>",
+        ),
+        (
+            b"<a>&amp;&lt;>&#13;\n\t\"'</a>",
+            "<a>&amp;&lt;&gt;&#13;&#10;\t\"'</a>",
+        ),
+        (
+            "<é v=\"ß\u{1F600}\" w=\"\"><b><c></c></b>ü<d/></é>".as_bytes(),
+            "<é v=\"ß\u{1F600}\" w=\"\"><b><c/></b>ü<d/></é>",
+        ),
+    ];
+    for (text, want) in table {
+        let once = says(rt.alloc(), text)?;
+        assert_eq!(rt; once.as_str(), want);
+        let twice = says(rt.alloc(), once.as_bytes())?;
+        assert_eq!(rt; twice.as_str(), want);
+    }
+    Ok(())
+}

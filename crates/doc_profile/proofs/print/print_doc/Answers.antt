@@ -16,5 +16,5 @@ returns c =
       line = is_line;
       spelled = λ p. (utf8, line_spells doc line document utf8 is_line p);
       only = λ p other x. line_only doc other line document utf8 is_line p x;
-      read_back = λ p fits. line_read doc line document utf8 is_line p fits;
+      read_back = λ p within. line_read doc line document utf8 is_line p within;
     }

@@ -17,7 +17,7 @@ returns-in_err-root-clause-faults c =
     (fault_right Kind.document bytes (without_mark (chars bytes)) (mark_len (chars bytes)) (document_of bytes) c.in_err-root.field-0.0 (law.document_fault bytes) c.in_err-root.ensures.err)
 
 pub from_tree-requires : goal.from_tree-requires
-from_tree-requires c = (law.document c.args.bytes.now (node c.in_ok-root.root) c.in_ok-root.ensures.ok).3
+from_tree-requires c = (law.document c.args.bytes.now (node c.in_ok-root.root) c.in_ok-root.ensures.ok).4
 
 pub returns-clause-answer_ok : goal.returns-clause-answer_ok
 returns-clause-answer_ok c = c.in_ok-root.ensures.ok ∙ ap Ok (sym c.from_tree.ensures)
@@ -32,3 +32,6 @@ returns-clause-fits c = (law.document c.args.bytes.now (node c.in_ok-root.root) 
 
 pub returns-clause-printable : goal.returns-clause-printable
 returns-clause-printable c = printable.document (without_mark (chars c.args.bytes.now)) c.from_tree.result (law.document c.args.bytes.now c.from_tree.result (c.in_ok-root.ensures.ok ∙ ap Ok (sym c.from_tree.ensures))).1
+
+pub returns-clause-within : goal.returns-clause-within
+returns-clause-within c = (law.document c.args.bytes.now c.from_tree.result (c.in_ok-root.ensures.ok ∙ ap Ok (sym c.from_tree.ensures))).3

@@ -37,3 +37,6 @@ returns-clause-fits c = (law.fragment c.args.bytes.now (map node c.in_ok-kids.ki
 
 pub returns-clause-printable : goal.returns-clause-printable
 returns-clause-printable c = printable.fragment (chars c.args.bytes.now) (map node c.from_vec.result) (law.fragment c.args.bytes.now (map node c.from_vec.result) (sym (fragment_same c.args.bytes.now c.in_ok-text.text.now c.in_ok-text.ensures.ok) ∙ c.in_ok-kids.ensures.ok ∙ ap (λ ts. Ok (map node ts)) (sym c.from_vec.ensures))).1
+
+pub returns-clause-within : goal.returns-clause-within
+returns-clause-within c = (law.fragment c.args.bytes.now (map node c.from_vec.result) (sym (fragment_same c.args.bytes.now c.in_ok-text.text.now c.in_ok-text.ensures.ok) ∙ c.in_ok-kids.ensures.ok ∙ ap (λ ts. Ok (map node ts)) (sym c.from_vec.ensures))).3
