@@ -1,0 +1,26 @@
+-- Where a phrase begins, one word after the other.
+use Rattle.std.proofs.Common.{◌≡◌, refl, sym, ap, ◌∙◌, ℕ, zero, suc, ◌+◌, ◌<◌, ◌≤◌, Bool, true, false, ◌&&◌, List, [], ◌∷◌, length, drop, arith, cond, drop-drop, length-drop}
+use Rattle.all_matches.specs.Counting.{begins_as, places}
+
+module _ {X Y : Type 0} (passes : X → Y → Bool) where
+  -- a text has no phrase that is longer
+  pub too_long : (items : List X) (words : List Y) → length words < length items → false ≡ begins_as passes items words
+  too_long [] words h = absurd (omega arith)
+  too_long (item ∷ items) [] h = refl
+  too_long (item ∷ items) (word ∷ words) h = none (passes item word) (too_long items words (omega arith))
+    where
+      none : (b : Bool) → {c : Bool} → false ≡ c → false ≡ (b && c)
+      none true e = e
+      none false e = refl
+
+  split_places : (items : List X) (words rest : List Y) → 0 < length words → drop 1 words ≡ rest → places passes items words ≡ cond (begins_as passes items words) 1 0 + places passes items rest
+  split_places items [] rest h e = absurd (omega arith)
+  split_places items (word ∷ words) rest h e = ap (λ r. cond (begins_as passes items (word ∷ words)) 1 0 + places passes items r) e
+
+  -- one place more is passed
+  pub place_passed : (items : List X) (words : List Y) (start count more n : ℕ) → start < length words → count + places passes items (drop start words) ≡ n
+      → more ≡ count + cond (begins_as passes items (drop start words)) 1 0 → more + places passes items (drop (start + 1) words) ≡ n
+  place_passed items words start count more n h told counted =
+      let left : 0 < length (drop start words) = omega (arith, length-drop start words) in
+      let split = split_places items (drop start words) (drop (start + 1) words) left (drop-drop 1 start words) in
+      omega arith

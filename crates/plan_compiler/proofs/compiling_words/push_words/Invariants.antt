@@ -1,0 +1,8 @@
+-- The first words were added.
+use Rattle.std.proofs.Common.{◌≡◌, ◌++◌, map, take}
+use Rattle.match_options.specs.Items.{item}
+use Rattle.plan_compiler.specs.WordsMeant.{alone, item_key}
+use Rattle.plan_compiler.proofs.compiling_words.push_words.Given as goal
+
+abbrev pub invariant-loop-item : goal.invariant-loop-item
+invariant-loop-item l = l.phrases ≡ l.fn.phrases ++ alone (map item_key (map item (take l.item-index l.item-items)))

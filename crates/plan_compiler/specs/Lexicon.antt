@@ -1,0 +1,26 @@
+-- What words, options and lists mean.
+use Rattle.std.specs.Prelude.{ℕ, Bool, false, List, [], bytes_eq}
+use Rattle.ft_base.specs.declared.options.Options.{Options}
+use Rattle.text_forms.specs.Forms.{key_of}
+use Rattle.tokenizer.specs.Words.{words}
+use Rattle.all_matches.specs.Variants.{Item, any_word, word, pattern, Lexicon}
+use Rattle.match_options.specs.Items.{items_of}
+use Rattle.match_options.specs.TokenTest.{is_on, same_token}
+use Rattle.match_options.specs.WordForms.{forms_of}
+
+-- whether a word of a text passes an item under its options
+abbrev pub accepts : Options → Item → List ℕ → Bool
+accepts options any_word w = false
+accepts options (word q) w = same_token options (forms_of q) (forms_of w)
+accepts options (pattern p) w = false
+
+-- words, where no list is named
+abbrev pub lexicon : Lexicon
+lexicon = record {
+  words_of = words;
+  items_of = λ options text. items_of (is_on options.wildcards) text;
+  key = key_of;
+  accepts = accepts;
+  stop_list_holds = λ name key. false;
+  reached = λ choice phrase. [];
+}

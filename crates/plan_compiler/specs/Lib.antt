@@ -1,0 +1,4 @@
+pub mod Lexicon
+pub mod Decided
+pub mod WordsMeant
+pub mod NodeMeant
