@@ -7,9 +7,9 @@ use Rattle.all_matches.specs.Counting.{product}
 
 product_capped : (a b : ℕ) → min (min a (2 ^ 64 - 1) * b) (2 ^ 64 - 1) ≡ min (a * b) (2 ^ 64 - 1)
 product_capped a b = elim (cases_lt a (2 ^ 64)) [
-    | inl small ↦ let same : min a (2 ^ 64 - 1) ≡ a = omega arith in ap (λ n. min (n * b) (2 ^ 64 - 1)) same
-    | inr large ↦ let same : min a (2 ^ 64 - 1) ≡ 2 ^ 64 - 1 = omega arith in ap (λ n. min (n * b) (2 ^ 64 - 1)) same ∙ by_count a b large
-  ]
+  | inl small ↦ let same : min a (2 ^ 64 - 1) ≡ a = omega arith in ap (λ n. min (n * b) (2 ^ 64 - 1)) same
+  | inr large ↦ let same : min a (2 ^ 64 - 1) ≡ 2 ^ 64 - 1 = omega arith in ap (λ n. min (n * b) (2 ^ 64 - 1)) same ∙ by_count a b large
+]
   where
     by_count : (a b : ℕ) → 2 ^ 64 ≤ a → min ((2 ^ 64 - 1) * b) (2 ^ 64 - 1) ≡ min (a * b) (2 ^ 64 - 1)
     by_count a zero large = let z = mul-zero a in omega arith

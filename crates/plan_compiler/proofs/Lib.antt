@@ -1,3 +1,6 @@
 pub mod Capped
 pub mod Places
 pub mod NodeViews
+pub mod DecidedLemmas
+pub mod PhrasesMeant
+pub mod SelectionsMeant

@@ -1,5 +1,5 @@
 -- What each kind of compiled selection says.
-use Rattle.std.proofs.Common.{◌≡◌, refl, ap, ◌∙◌, ℕ, List, [], ◌∷◌, map, Box, Global, rules, not, Bool, ◌&&◌, ◌||◌}
+use Rattle.std.proofs.Common.{◌≡◌, refl, ap, ◌∙◌, ℕ, List, [], ◌∷◌, map, Box, Global, rules, not, ◌&&◌, ◌||◌}
 use Rattle.std.specs.List.{list_any, list_all}
 use Rattle.plan_compiler.specs.NodeMeant.{layer, truth}
 use Rattle.plan_compiler.specs.WordsMeant.{words_truth}

@@ -1,5 +1,5 @@
 -- Where a phrase begins, one word after the other.
-use Rattle.std.proofs.Common.{◌≡◌, refl, sym, ap, ◌∙◌, ℕ, zero, suc, ◌+◌, ◌<◌, ◌≤◌, Bool, true, false, ◌&&◌, List, [], ◌∷◌, length, drop, arith, cond, drop-drop, length-drop}
+use Rattle.std.proofs.Common.{◌≡◌, refl, ap, ℕ, ◌+◌, ◌<◌, Bool, true, false, ◌&&◌, List, [], ◌∷◌, length, drop, arith, cond, drop-drop, length-drop}
 use Rattle.all_matches.specs.Counting.{begins_as, places}
 
 module _ {X Y : Type 0} (passes : X → Y → Bool) where

@@ -1,5 +1,5 @@
 -- The selections that plans decide: without options, filters and `not in`.
-use Rattle.std.specs.Prelude.{Bool, true, false, ◌&&◌, Option, None, Some}
+use Rattle.std.specs.Prelude.{Bool, true, false, ◌&&◌}
 use Rattle.std.specs.Option.{is_none}
 use Rattle.ft_base.specs.declared.options.Options.{Options}
 use Rattle.ft_base.specs.Selection.{Form, Forms, words, or_of, and_of, mild_not, not_of, filtered, with_options, none, more}

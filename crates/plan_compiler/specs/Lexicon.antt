@@ -1,5 +1,5 @@
 -- What words, options and lists mean.
-use Rattle.std.specs.Prelude.{ℕ, Bool, false, List, [], bytes_eq}
+use Rattle.std.specs.Prelude.{ℕ, Bool, false, List, []}
 use Rattle.ft_base.specs.declared.options.Options.{Options}
 use Rattle.text_forms.specs.Forms.{key_of}
 use Rattle.tokenizer.specs.Words.{words}

@@ -3,13 +3,20 @@
 //! A plan decides a selection by truth values and counts, and makes no AllMatches.
 #![tactic(auto)]
 
+mod compiling;
 mod compiling_words;
 mod counting;
+mod decided;
 mod deciding;
 mod fault;
 mod lists;
 mod node;
+mod plan;
+#[cfg(test)]
+mod tests;
 mod words_plan;
 
+pub use decided::is_decided;
 pub use fault::CompileFault;
 pub use lists::Lists;
+pub use plan::Plan;

@@ -1,5 +1,5 @@
 -- The keys of the first strings.
-use Rattle.std.proofs.Common.{◌≡◌, map, take}
+use Rattle.std.proofs.Common.{◌≡◌, take}
 use Rattle.std.specs.Prelude.{flat_map}
 use Rattle.plan_compiler.specs.WordsMeant.{alone, string_keys}
 use Rattle.plan_compiler.proofs.compiling_words.each_word.Given as goal

@@ -1,5 +1,5 @@
 -- One place more is passed.
-use Rattle.std.proofs.Common.{◌≡◌, ◌+◌, ◌∙◌, ℕ, Bool, true, false, sym, ap, cond, drop, arith}
+use Rattle.std.proofs.Common.{◌≡◌, ◌+◌, ◌∙◌, Bool, sym, ap, cond, drop, arith}
 use Rattle.std.specs.Prelude.{bytes_eq}
 use Rattle.std.proofs.lemmas.List.{take_rest}
 use Rattle.all_matches.specs.Counting.{begins_as}
@@ -10,7 +10,7 @@ use Rattle.plan_compiler.proofs.counting.places.Goals as goal
 pub loop-start-preserved : goal.loop-start-preserved
 loop-start-preserved c =
     let here : begins_as bytes_eq c.args.phrase.now (drop c.loop-start.start c.args.words.now) ≡ c.begins_as.result =
-        ap (begins_as bytes_eq c.args.phrase.now) (sym (take_rest c.args.words.now c.loop-start.start)) ∙ sym c.begins_as.ensures in
+    ap (begins_as bytes_eq c.args.phrase.now) (sym (take_rest c.args.words.now c.loop-start.start)) ∙ sym c.begins_as.ensures in
     elim c.if-begins_as.branch [
       | then-begins_as w ↦
           let counted : c.if-begins_as.count ≡ c.loop-start.count + cond (begins_as bytes_eq c.args.phrase.now (drop c.loop-start.start c.args.words.now)) 1 0 = w.count-is ∙ ap (λ (b : Bool). c.loop-start.count + cond b 1 0) (sym (here ∙ w.if-begins_as.true)) in

@@ -1,5 +1,5 @@
 -- One factor more.
-use Rattle.std.proofs.Common.{◌≡◌, ◌*◌, ◌-◌, ◌^◌, ◌∙◌, min, ap, List, ℕ}
+use Rattle.std.proofs.Common.{◌*◌, ◌-◌, ◌^◌, ◌∙◌, min, ap, List, ℕ}
 use Rattle.plan_compiler.specs.WordsMeant.{phrase_places}
 use Rattle.plan_compiler.proofs.Capped.{product_more}
 use Rattle.plan_compiler.proofs.counting.product_of_places.Goals as goal

@@ -1,0 +1,11 @@
+-- The first parts were compiled.
+use Rattle.std.proofs.Common.{◌≡◌, List, map, take}
+use Rattle.ft_base.specs.declared.token.Token.{Token}
+use Rattle.ft_syntax.specs.View.{form}
+use Rattle.all_matches.specs.Meaning.{no_options, sat_under}
+use Rattle.plan_compiler.specs.Lexicon.{lexicon}
+use Rattle.plan_compiler.specs.NodeMeant.{keys_of, truth}
+use Rattle.plan_compiler.proofs.compiling.+compile.Given as goal
+
+abbrev pub invariant-compile_all-loop-part : goal.invariant-compile_all-loop-part
+invariant-compile_all-loop-part l = (tokens : List Token) → map (λ node. truth node (keys_of tokens)) l.nodes ≡ map (λ part. sat_under lexicon no_options (form part) tokens) (take l.part-index l.part-items)

@@ -1,0 +1,152 @@
+//! Small texts and selections without options.
+
+use super::*;
+use ft_base::{Items, Line, Memory, Mode, Options, Range, Token, Words};
+use ft_syntax::{Selection, Selections};
+use std::alloc::Global;
+use std::test::Fail;
+use tokenizer::words_of;
+
+fn tokens(alloc: Global, text: &str) -> Result<Vec<Token>, Memory> {
+    let mut tokens = Vec::new(alloc);
+    let pieces = words_of(alloc, text)?;
+    for piece in &pieces {
+        let word = Line::read(alloc, &text[piece.from..piece.to])?;
+        tokens.push(Token {
+            word,
+            sentence: 1,
+            paragraph: 1,
+        })?;
+    }
+    Ok(tokens)
+}
+
+fn no_options() -> Options {
+    Options {
+        case: None,
+        diacritics_sensitive: None,
+        stemming: None,
+        thesaurus: None,
+        stop_words: None,
+        language: None,
+        wildcards: None,
+    }
+}
+
+fn words(
+    alloc: Global,
+    strings: &[&str],
+    mode: Mode,
+    times: Option<Range>,
+) -> Result<Selection, Memory> {
+    let mut values = Items::new(alloc);
+    for string in strings {
+        values.push(Line::read(alloc, string)?)?;
+    }
+    Ok(Selection::Words(Words {
+        values,
+        mode,
+        times,
+        options: no_options(),
+    }))
+}
+
+fn quoted(alloc: Global, string: &str) -> Result<Selection, Memory> {
+    words(alloc, &[string], Mode::Any, None)
+}
+
+fn not(alloc: Global, operand: Selection) -> Result<Selection, Memory> {
+    Ok(Selection::Not(Box::new(alloc, operand)?))
+}
+
+fn both(alloc: Global, left: Selection, right: Selection) -> Result<Selections, Memory> {
+    let mut parts = Items::new(alloc);
+    parts.push(left)?;
+    parts.push(right)?;
+    Ok(parts)
+}
+
+/// What the plan of the selection says of the text, if there can be one.
+fn satisfies(alloc: Global, text: &str, selection: Selection) -> Result<Option<bool>, Fail> {
+    if !is_decided(&selection) {
+        return Ok(None);
+    }
+    let lists = Lists::new(alloc);
+    let plan = match Plan::compile(alloc, &selection, &lists) {
+        Ok(plan) => plan,
+        Err(_fault) => return Ok(None),
+    };
+    let tokens = tokens(alloc, text)?;
+    Ok(Some(plan.check(&tokens)?))
+}
+
+fn counted(alloc: Global, text: &str, strings: &[&str], range: Range) -> Result<bool, Fail> {
+    let selection = words(alloc, strings, Mode::Any, Some(range))?;
+    Ok(satisfies(alloc, text, selection)? == Some(true))
+}
+
+#[test]
+fn and_or_not(rt: HostRuntime) -> Result<(), Fail> {
+    let alloc = rt.alloc();
+    let new_not_york = Selection::And(both(
+        alloc,
+        quoted(alloc, "new")?,
+        not(alloc, quoted(alloc, "york")?)?,
+    )?);
+    assert_eq!(rt; satisfies(alloc, "New Mexico", new_not_york)?, Some(true));
+    let new_not_york = Selection::And(both(
+        alloc,
+        quoted(alloc, "new")?,
+        not(alloc, quoted(alloc, "york")?)?,
+    )?);
+    assert_eq!(rt; satisfies(alloc, "New York", new_not_york)?, Some(false));
+    let twice = not(alloc, not(alloc, quoted(alloc, "a")?)?)?;
+    assert_eq!(rt; satisfies(alloc, "a", twice)?, Some(true));
+    let either = Selection::Or(both(alloc, quoted(alloc, "x")?, quoted(alloc, "ÉTÉ")?)?);
+    assert_eq!(rt; satisfies(alloc, "un ete", either)?, Some(true));
+    Ok(())
+}
+
+#[test]
+fn modes(rt: HostRuntime) -> Result<(), Fail> {
+    let alloc = rt.alloc();
+    for (text, mode, expected) in [
+        ("a c b", Mode::All, false),
+        ("a c b", Mode::AllWords, true),
+        ("a c b", Mode::Any, true),
+        ("x a b", Mode::Any, true),
+        ("x b", Mode::Any, false),
+        ("x b", Mode::AnyWord, true),
+        ("a b c", Mode::Phrase, true),
+        ("a b x c", Mode::Phrase, false),
+    ] {
+        let selection = words(alloc, &["a b", "c"], mode, None)?;
+        assert_eq!(rt; satisfies(alloc, text, selection)?, Some(expected));
+    }
+    for (mode, expected) in [
+        (Mode::AllWords, true),
+        (Mode::All, false),
+        (Mode::Any, true),
+    ] {
+        let selection = words(alloc, &["a", "-"], mode, None)?;
+        assert_eq!(rt; satisfies(alloc, "a", selection)?, Some(expected));
+    }
+    let nothing = words(alloc, &["-"], Mode::AllWords, None)?;
+    assert_eq!(rt; satisfies(alloc, "a", nothing)?, Some(false));
+    Ok(())
+}
+
+#[test]
+fn times(rt: HostRuntime) -> Result<(), Fail> {
+    let alloc = rt.alloc();
+    assert!(rt; !counted(alloc, "b", &["a"], Range::FromTo(3, 2))?);
+    assert!(rt; counted(alloc, "b", &["a"], Range::AtLeast(0))?);
+    assert!(rt; counted(alloc, "a b a", &["a"], Range::Exactly(2))?);
+    assert!(rt; !counted(alloc, "a b a", &["a"], Range::Exactly(1))?);
+    assert!(rt; !counted(alloc, "a b a", &["a"], Range::AtMost(1))?);
+    assert!(rt; counted(alloc, "a a a", &["a a"], Range::Exactly(2))?);
+    assert!(rt; counted(alloc, "a", &["a", "a"], Range::Exactly(2))?);
+    let pairs = words(alloc, &["a", "b"], Mode::All, Some(Range::Exactly(6)))?;
+    assert_eq!(rt; satisfies(alloc, "a b a b b", pairs)?, Some(true));
+    Ok(())
+}
