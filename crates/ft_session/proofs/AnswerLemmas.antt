@@ -2,10 +2,8 @@
 use Rattle.std.proofs.Common.{◌≡◌, ◌∙◌, sym, ap, refl, ℕ, ◌+◌, ◌<◌, Bool, true, false, ◌||◌, List, [], ◌∷◌, ◌++◌, length, drop, get_or, append_assoc}
 use Rattle.std.specs.Prelude.{Option, Some, None}
 use Rattle.std.proofs.lemmas.List.{append-nil, at_drop_more}
-use Rattle.ft_session.specs.declared.command.Command.{Command}
-use Rattle.ft_session.specs.Commands.{commands}
-use Rattle.ft_session.specs.Step.{State, opening, replies, step}
-use Rattle.ft_session.specs.Output.{replies_to}
+use Rattle.session_text.specs.declared.command.Command.{Command}
+use Rattle.ft_session.specs.Step.{State, replies, state_after, step}
 use Rattle.ft_session.specs.Run.{TookFront, with_text}
 use Rattle.ft_session.proofs.WrittenLemmas.{with_text_twice}
 
@@ -15,7 +13,7 @@ pub record WrittenSoFar (before now : Option (List ℕ)) (rest all : List ℕ) :
   pub whole : done ++ rest ≡ all
   pub holds : now ≡ with_text before done
 
-with_nothing : (before : Option (List ℕ)) → before ≡ with_text before []
+pub with_nothing : (before : Option (List ℕ)) → before ≡ with_text before []
 with_nothing None = refl
 with_nothing (Some bytes) = ap Some (sym (append-nil bytes))
 
@@ -47,11 +45,6 @@ front_all before after text wrote = record { front = text; rest = []; whole = ap
 pub written_all : (before now : Option (List ℕ)) (all : List ℕ) → WrittenSoFar before now [] all → now ≡ with_text before all
 written_all before now all so_far = so_far.holds ∙ ap (with_text before) (sym (append-nil so_far.done) ∙ so_far.whole)
 
--- the replies to all commands, from the opening state
-pub replies_to-commands : (state : State) (found : List Command) (session : List ℕ) → state ≡ opening → found ≡ commands session → replies state found ≡ replies_to session
-unfolding replies_to
-replies_to-commands state found session opened all = ap (λ s. replies s found) opened ∙ ap (replies opening) all
-
 pub written_start : (before : Option (List ℕ)) (text all : List ℕ) → text ≡ all → WrittenSoFar before before text all
 written_start before text all same = record { done = []; whole = same; holds = with_nothing before }
 
@@ -62,6 +55,13 @@ replies-next state next found at command within is after =
     at_drop_more (replies state) found at command within
     ∙ (ap (λ (c : Command). replies state (c ∷ drop (at + 1) found)) (sym is)
     ∙ ap (λ s. (step state command).1 ∷ replies s (drop (at + 1) found)) (sym after))
+
+-- the state that the next command leaves
+pub state_after-next : (state next : State) (found : List Command) (at : ℕ) (command : Command) → at < length found → command ≡ get_or found at command → next ≡ (step state command).0
+    → state_after state (drop at found) ≡ state_after next (drop (at + 1) found)
+state_after-next state next found at command within is after =
+    at_drop_more (state_after state) found at command within
+    ∙ (ap (λ (c : Command). state_after state (c ∷ drop (at + 1) found)) (sym is) ∙ ap (λ s. state_after s (drop (at + 1) found)) (sym after))
 
 pub or_assoc : (a b c : Bool) → ((a || b) || c) ≡ (a || (b || c))
 or_assoc true b c = refl

@@ -1,15 +1,8 @@
 pub mod AnswerLemmas
-pub mod BlockLemmas
-pub mod CommandLemmas
-pub mod LineLemmas
 pub mod PlaceLemmas
-pub mod PlainJoined
-pub mod PlainRead
-pub mod PlainSpelled
+pub mod ProgressLemmas
 pub mod QueryLemmas
 pub mod ReadLemmas
-pub mod ReadingLemmas
 pub mod SessionLemmas
 pub mod TreeLemmas
-pub mod WordLemmas
 pub mod WrittenLemmas

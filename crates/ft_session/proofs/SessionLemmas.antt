@@ -1,13 +1,20 @@
--- When a document is loaded, and when it is refused.
-use Rattle.std.proofs.Common.{◌≡◌, ◌∙◌, ap, refl, ℕ, Bool, true, false, cond, ◌||◌, List, [], ◌∷◌, ◌++◌, length, map}
-use Rattle.std.specs.Prelude.{Option, Some, None, is_some, ◌==◌}
-use Rattle.std.specs.Map.{lookup}
+-- When a document is loaded or taken out, and when that is refused.
+use Rattle.std.proofs.Common.{◌≡◌, ◌≢◌, ◌∙◌, sym, ap, refl, ℕ, ◌<◌, ◌≤◌, arith, Bool, true, false, cond, ◌||◌, List, [], ◌∷◌, length, map}
+use Rattle.std.specs.Prelude.{Option, Some, None, Result, Ok, Err, is_some, nat_le, nat_lt}
+use Rattle.std.proofs.lemmas.Bool.Decides.{nat_tests}
+use Rattle.std.specs.Map.{lookup, remove_entry}
 use Rattle.std.specs.Str.{bytes_eq}
+use Rattle.doc_profile.specs.declared.fault.DocFault.{DocFault}
+use Rattle.doc_profile.specs.declared.fault.DocFault.TheVariants as faults
 use Rattle.plain_tree.specs.Document.{Node}
-use Rattle.ft_session.specs.declared.reply.Reply.{Reply}
-use Rattle.ft_session.specs.declared.reply.Reply.TheVariants.{Refused, Done}
-use Rattle.ft_session.specs.declared.reply.Refusal.TheVariants.{NameTaken, NotYet}
-use Rattle.ft_session.specs.Step.{State, has_name, loaded, to_document}
+use Rattle.session_text.specs.declared.reply.FullOf.TheVariants.{Documents}
+use Rattle.session_text.specs.declared.reply.Refusal.{Refusal}
+use Rattle.session_text.specs.declared.reply.Refusal.TheVariants.{Document, Full, NameTaken, NoSuchName, TooManyTokens}
+use Rattle.session_text.specs.declared.reply.Reply.{Reply}
+use Rattle.session_text.specs.declared.reply.Reply.TheVariants.{Refused, Done}
+use Rattle.tokenizer.specs.Tokens.{tokens}
+use Rattle.doc_profile.specs.Readings.{Faults, document_of}
+use Rattle.ft_session.specs.Step.{State, added, dropped, has_name, loadable, loaded, max_documents, max_tokens, to_document, with_few_tokens, without}
 
 -- a name is taken where a look-up finds it
 pub has_name-lookup : (name : List ℕ) (entries : List (List ℕ × Node)) → has_name name (map to_document entries) ≡ is_some (lookup (bytes_eq name) entries)
@@ -16,16 +23,55 @@ has_name-lookup name (e ∷ es) =
     elim (bytes_eq name e.0) as (λ t. (t || has_name name (map to_document es)) ≡ is_some (cond t (Some e.1) (lookup (bytes_eq name) es)))
     [ true ↦ refl | false ↦ has_name-lookup name es ]
 
--- where there is room, the name decides
-pub loaded-room : (documents : State) (name : List ℕ) (root : Node) (taken : Bool) → (length documents == 4096) ≡ false → has_name name documents ≡ taken
-    → loaded documents name (Some root) ≡ cond taken (documents, Refused (NameTaken name)) (documents ++ to_document (name, root) ∷ [], Done)
-loaded-room documents name root taken room has =
-    ap (λ t. cond t (documents, Refused NotYet) (cond (has_name name documents) (documents, Refused (NameTaken name)) (documents ++ to_document (name, root) ∷ [], Done))) room
-    ∙ ap (λ t. cond t (documents, Refused (NameTaken name)) (documents ++ to_document (name, root) ∷ [], Done)) has
+-- the two tests decide, before the block is looked at
+pub loaded-tests : (documents : State) (name : List ℕ) (read : Result Node Refusal) (taken full : Bool) → has_name name documents ≡ taken → nat_le max_documents (length documents) ≡ full
+    → loaded documents name read ≡ cond taken (documents, Refused (NameTaken name)) (cond full (documents, Refused (Full Documents)) (added documents name read))
+loaded-tests documents name read taken full has long =
+    ap (λ t. cond t (documents, Refused (NameTaken name)) (cond (nat_le max_documents (length documents)) (documents, Refused (Full Documents)) (added documents name read))) has
+    ∙ ap (λ t. cond taken (documents, Refused (NameTaken name)) (cond t (documents, Refused (Full Documents)) (added documents name read))) long
+
+pub dropped-test : (documents : State) (name : List ℕ) (there : Bool) → has_name name documents ≡ there
+    → dropped documents name ≡ cond there (without name documents, Done) (documents, Refused (NoSuchName name))
+dropped-test documents name there has = ap (λ t. cond t (without name documents, Done) (documents, Refused (NoSuchName name))) has
+
+-- the entries without the first of the name
+pub without-removed : (name : List ℕ) (entries : List (List ℕ × Node)) → map to_document (remove_entry (bytes_eq name) entries) ≡ without name (map to_document entries)
+without-removed name [] = refl
+without-removed name (e ∷ es) =
+    elim (bytes_eq name e.0) as (λ t. map to_document (cond t es (e ∷ remove_entry (bytes_eq name) es)) ≡ cond t (map to_document es) (to_document e ∷ without name (map to_document es)))
+    [ true ↦ refl | false ↦ ap (λ ds. to_document e ∷ ds) (without-removed name es) ]
 
 pub none-from_test : {A : Type 0} (o : Option A) → is_some o ≡ false → o ≡ None
 none-from_test None h = refl
 none-from_test (Some x) h = absurd (let no : ⊥ = cc in no)
 
+test_true : (a b : ℕ) → a < b → nat_lt a b ≡ true
+test_true a b h = grind (arith, nat_tests)
+
+test_false : (a b : ℕ) → b ≤ a → nat_lt a b ≡ false
+test_false a b h = grind (arith, nat_tests)
+
 abbrev pub with_reply : State → Reply → State × Reply
 with_reply state reply = (state, reply)
+
+-- a block's fault, too many tokens, or its document
+module _ (block : List ℕ) where
+  pub loadable-fault : (fault : DocFault) → document_of block ≡ Err fault → loadable block ≡ Err (Document fault)
+  unfolding loadable
+  loadable-fault fault is = ap with_few_tokens is
+
+  pub loadable-many : (root : Node) → document_of block ≡ Ok root → max_tokens < length (tokens root) → loadable block ≡ Err TooManyTokens
+  unfolding loadable
+  loadable-many root is many = ap with_few_tokens is ∙ ap (λ t. cond t (Err TooManyTokens) (Ok root)) (test_true max_tokens (length (tokens root)) many)
+
+  pub loadable-few : (root : Node) → document_of block ≡ Ok root → length (tokens root) ≤ max_tokens → loadable block ≡ Ok root
+  unfolding loadable
+  loadable-few root is few = ap with_few_tokens is ∙ ap (λ t. cond t (Err TooManyTokens) (Ok root)) (test_false max_tokens (length (tokens root)) few)
+
+  -- a fault that isn't want of memory is the block's
+  pub loadable-refused : (fault : DocFault) (why : Refusal) → Faults (document_of block) fault → fault ≢ faults.Memory → why ≡ Document fault → Err why ≡ loadable block
+  loadable-refused (faults.NotUtf8 at) why h other is = ap Err is ∙ sym (loadable-fault (faults.NotUtf8 at) h)
+  loadable-refused (faults.Syntax at) why h other is = ap Err is ∙ sym (loadable-fault (faults.Syntax at) h)
+  loadable-refused (faults.Depth at) why h other is = ap Err is ∙ sym (loadable-fault (faults.Depth at) h)
+  loadable-refused (faults.Nodes at) why h other is = ap Err is ∙ sym (loadable-fault (faults.Nodes at) h)
+  loadable-refused faults.Memory why h other is = absurd (other refl)

@@ -1,11 +1,8 @@
 pub mod Status
-pub mod Lines
-pub mod Commands
-pub mod PlainBlock
-pub mod ReadingView
 pub mod Query
 pub mod QueryView
-pub mod Reply
 pub mod Step
+pub mod LoadView
 pub mod Output
 pub mod Run
+pub mod Pieces

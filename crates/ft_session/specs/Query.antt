@@ -1,58 +1,59 @@
 -- Which elements a query selects, and the line that names each.
 use Rattle.std.specs.Prelude.{ℕ, Bool, not, ◌&&◌, ◌+◌, if◌then◌else◌, List, [], ◌∷◌, ◌++◌, length, map, drop, filter, codes, count_by, Option, Some, None, ◌==◌}
-use Rattle.std.specs.List.{before_first, list_any, list_all, flat_map, slice_split}
-use Rattle.std.specs.Char.{is_ascii_alphabetic, is_ascii_alphanumeric}
-use Rattle.std.specs.Str.{bytes_eq, str_eq_ignore_ascii_case}
+use Rattle.std.specs.List.{before_first, list_any, list_all, flat_map}
+use Rattle.std.specs.Char.{is_ascii_alphabetic}
+use Rattle.std.specs.Str.{bytes_eq, is_utf8}
 use Rattle.std.specs.Fmt.{decimal}
 use Rattle.plain_tree.specs.Document.{Node, element, text, Nodes, no_nodes, node_then}
-use Rattle.ft_session.specs.Commands.{is_empty}
+use Rattle.session_text.specs.Words.{is_empty}
+use Rattle.text_forms.specs.Forms.{key_of}
+use Rattle.tokenizer.specs.Tokens.{tokens}
+use Rattle.tokenizer.specs.Words.{words}
 
--- the elements of this name that contain this word
-pub record Asked : Type 0 where
+-- a query as it is written: a name, and a text in quotes
+pub record Written : Type 0 where
   pub name : List ℕ
-  pub word : List ℕ
+  pub quoted : List ℕ
 
--- how a query for them is written
-abbrev pub query_text : Asked → List ℕ
-query_text q = codes "collection()//" ++ q.name ++ codes "[. contains text \"" ++ q.word ++ codes "\"]"
+abbrev pub query_text : Written → List ℕ
+query_text w = codes "collection()//" ++ w.name ++ codes "[. contains text \"" ++ w.quoted ++ codes "\"]"
 
--- the only query that a path could be: its name ends at the bracket, its word at the second quote
-abbrev pub query_guess : List ℕ → Asked
+-- the only way in which a path could be a query: its name ends at the bracket, its text at the second quote
+abbrev pub query_guess : List ℕ → Written
 query_guess path =
     let name = before_first (λ byte. byte == 91) (drop 14 path) in
-    record { name = name; word = before_first (λ byte. byte == 34) (drop (32 + length name) path) }
+    record { name = name; quoted = before_first (λ byte. byte == 34) (drop (32 + length name) path) }
 
--- a name has letters alone, a word letters and digits, and neither is empty
-abbrev pub is_asked_well : Asked → Bool
-is_asked_well q =
-    not (is_empty q.name) && list_all is_ascii_alphabetic q.name && (not (is_empty q.word) && list_all is_ascii_alphanumeric q.word)
+abbrev pub written_as : List ℕ → List ℕ → Written
+written_as name quoted = record { name = name; quoted = quoted }
+
+-- a name that has letters alone and isn't empty
+abbrev pub is_named_well : List ℕ → Bool
+is_named_well name = not (is_empty name) && list_all is_ascii_alphabetic name
+
+-- what is asked for: the elements of this name that have a word of this key
+pub record Asked : Type 0 where
+  pub name : List ℕ
+  pub key : List ℕ
+
+-- the text in quotes has exactly one word
+abbrev pub asked_by : List ℕ → List (List ℕ) → Option Asked
+asked_by name (word ∷ []) = Some (record { name = name; key = key_of word })
+asked_by name _ = None
 
 -- the query that a path is
 unfoldable pub query_of_path : List ℕ → Option Asked
 query_of_path path =
-    let q = query_guess path in
-    if is_asked_well q && bytes_eq path (query_text q) then Some q else None
+    let w = query_guess path in
+    if is_named_well w.name && bytes_eq path (query_text w) && is_utf8 w.quoted then asked_by w.name (words w.quoted) else None
 
--- the texts of a node, in the order of the document
-abbrev mutual
-  pub texts : Node → List (List ℕ)
-  texts (element name attributes children) = texts_of_all children
-  texts (text bytes) = bytes ∷ []
+-- whether a word has the key
+abbrev pub has_key : List ℕ → List ℕ → Bool
+has_key key word = bytes_eq (key_of word) key
 
-  pub texts_of_all : Nodes → List (List ℕ)
-  texts_of_all no_nodes = []
-  texts_of_all (node_then node others) = texts node ++ texts_of_all others
-
--- the longest runs of letters and digits of a text
-abbrev pub words : List ℕ → List (List ℕ)
-words bytes = filter (λ word. not (is_empty word)) (slice_split (λ byte. not (is_ascii_alphanumeric byte)) bytes)
-
--- whether a text has the word, in lower case or upper case
-abbrev pub has_word : List ℕ → List ℕ → Bool
-has_word word bytes = list_any (str_eq_ignore_ascii_case word) (words bytes)
-
-abbrev pub contains_word : List ℕ → Node → Bool
-contains_word word node = list_any (has_word word) (texts node)
+-- whether some token of a node has the key
+abbrev pub contains_key : List ℕ → Node → Bool
+contains_key key node = list_any (λ token. has_key key token.word) (tokens node)
 
 -- the name of an element
 abbrev pub names : Node → List (List ℕ)
@@ -89,9 +90,9 @@ abbrev mutual
   placed_all above before no_nodes = []
   placed_all above before (node_then node others) = placed above before node ++ placed_all above (before ++ names node) others
 
--- whether a node is an element of the asked name that contains the word
+-- whether a node is an element of the asked name that has a word of the key
 abbrev pub asks : Asked → Node → Bool
-asks q node = list_any (bytes_eq q.name) (names node) && contains_word q.word node
+asks q node = list_any (bytes_eq q.name) (names node) && contains_key q.key node
 
 -- `/`, the name, and the number in brackets
 abbrev pub step_text : Step → List ℕ

@@ -7,7 +7,7 @@ use Rattle.ft_session.specs.declared.query.PlaceStep.{PlaceStep}
 use Rattle.ft_session.specs.Query.{Asked, Step}
 
 abbrev pub asked : AskedElements → Asked
-asked q = record { name = q.name.now; word = q.word.now }
+asked q = record { name = q.name.now; key = q.key }
 
 abbrev pub step : PlaceStep → Step
 step s = record { name = s.name.now; number = s.number }

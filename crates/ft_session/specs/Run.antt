@@ -3,7 +3,7 @@ use Rattle.std.specs.Prelude.{◌≡◌, ◌⊎◌, ℕ, Bool, ◌&&◌, not, na
 use Rattle.std.specs.List.{starts_with}
 use Rattle.ft_session.specs.declared.status.Status.{Status}
 use Rattle.ft_session.specs.declared.status.Status.TheVariants.{Done, SomeRefused}
-use Rattle.ft_session.specs.Commands.{is_empty}
+use Rattle.session_text.specs.Words.{is_empty}
 use Rattle.ft_session.specs.Output.{output, has_refusal}
 
 -- a word that can be a session's file: it isn't empty and doesn't begin with a hyphen

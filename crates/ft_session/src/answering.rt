@@ -1,18 +1,17 @@
-ghost use Rattle.std.specs.Prelude.{◌≡◌, ◌+◌, ◌^◌, ◌<◌, ◌≤◌, ◌||◌, [], map, IfErr, IfOk, IsErrOf, OnOk, string_bytes};
-ghost use Rattle.std.specs.List.{flat_map, list_any};
-ghost use Rattle.ft_session.specs.Output.{has_refusal, output};
-ghost use Rattle.ft_session.specs.Reply.{is_refusal, reply_text};
+ghost use Rattle.std.specs.Prelude.{◌≡◌, ◌+◌, ◌^◌, ◌<◌, IfErr, IfOk, IsErrOf, OnErr, OnOk};
+ghost use Rattle.std.specs.List.{list_any};
+ghost use Rattle.session_text.specs.Replies.{is_refusal, reply_text};
+ghost use Rattle.ft_session.specs.Output.{texts_of};
 ghost use Rattle.ft_session.specs.Run.{TookFront, with_text};
-ghost use Rattle.ft_session.specs.Step.{replies, step};
+ghost use Rattle.ft_session.specs.Step.{replies, state_after, step};
 
-use crate::command::{Command, commands};
-use crate::reply::print_reply;
 use crate::session::Session;
 use crate::writing::write_all;
 use ft_base::{Memory, Steps};
 use ft_io::{Failed, Sink};
+use session_text::{Command, Commands, print_reply};
 use std::alloc::Global;
-use std::sync::ledger::{Blank, Ledger};
+use std::sync::ledger::Ledger;
 
 /// Why not all replies were written.
 #[derive(Clone, Copy, Debug, PartialEq, Eq)]
@@ -42,7 +41,7 @@ impl From<Failed> for AnswerError {
 }
 
 /// Steps one command, writes its reply, and says whether that is a refusal.
-fn answer<K: Sink, L: Ledger, M: Ledger>(
+pub(crate) fn answer<K: Sink, L: Ledger, M: Ledger>(
     alloc: Global,
     session: &mut Session,
     command: &Command,
@@ -54,7 +53,7 @@ fn answer<K: Sink, L: Ledger, M: Ledger>(
     ensures state { OnOk result (session.new ≡ (step session.old command.now).0) }
     ensures refused { IfOk result (λ refused. refused ≡ is_refusal (step session.old command.now).1) }
     ensures written { OnOk result (K.written sink.new ≡ with_text (K.written sink.old) (reply_text (step session.old command.now).1)) }
-    ensures front { IfErr result (λ _. TookFront (K.written sink.old) (K.written sink.new) (reply_text (step session.old command.now).1)) }
+    ensures front { OnErr result (TookFront (K.written sink.old) (K.written sink.new) (reply_text (step session.old command.now).1)) }
     ensures faults { OnOk result (K.faults sink.new ≡ K.faults sink.old) }
     ensures cause { IsErrOf result AnswerError.Fault → K.faults sink.old < K.faults sink.new }
 {
@@ -64,33 +63,26 @@ fn answer<K: Sink, L: Ledger, M: Ledger>(
     Ok(reply.is_refusal())
 }
 
-/// Answers the commands of a session's bytes, one after the other, and says whether a reply is a refusal.
-pub(crate) fn answer_session<K: Sink, L: Ledger, M: Ledger>(
+/// Answers the commands, one after the other, and says whether a reply is a refusal.
+pub(crate) fn answer_all<K: Sink, L: Ledger, M: Ledger>(
     alloc: Global,
-    bytes: &[u8],
+    session: &mut Session,
+    commands: &[Command],
     sink: &mut K,
-    moves: Blank,
-    rows: Blank,
+    moves: &mut Steps<M>,
+    rows: &mut Steps<L>,
 ) -> Result<bool, AnswerError>
-    requires countable { K.faults sink.old + 1 < 2 ^ 64 }
-    requires moves_name { moves.name ≡ M.name }
-    requires moves_parts { moves.parts ≡ M.parts }
-    requires moves_whole { 0 < moves.parts }
-    requires rows_name { rows.name ≡ L.name }
-    requires rows_parts { rows.parts ≡ L.parts }
-    requires rows_whole { 0 < rows.parts }
-    ensures refused { IfOk result (λ refused. refused ≡ has_refusal bytes.now) }
-    ensures written { OnOk result (K.written sink.new ≡ with_text (K.written sink.old) (output bytes.now)) }
-    ensures front { IfErr result (λ _. TookFront (K.written sink.old) (K.written sink.new) (output bytes.now)) }
+    requires { K.faults sink.old + 1 < 2 ^ 64 }
+    ensures state { OnOk result (session.new ≡ state_after session.old commands.now) }
+    ensures refused { IfOk result (λ refused. refused ≡ list_any is_refusal (replies session.old commands.now)) }
+    ensures written { OnOk result (K.written sink.new ≡ with_text (K.written sink.old) (texts_of (replies session.old commands.now))) }
+    ensures front { OnErr result (TookFront (K.written sink.old) (K.written sink.new) (texts_of (replies session.old commands.now))) }
+    ensures faults { OnOk result (K.faults sink.new ≡ K.faults sink.old) }
     ensures cause { IsErrOf result AnswerError.Fault → K.faults sink.old < K.faults sink.new }
 {
-    let mut session = Session::new(alloc)?;
-    let mut moves = Steps::<M>::new(moves);
-    let mut rows = Steps::<L>::new(rows);
-    let commands = commands(alloc, bytes)?;
     let mut refused = false;
-    for command in commands.as_slice() {
-        refused |= answer(alloc, &mut session, command, sink, &mut moves, &mut rows)?;
+    for command in commands {
+        refused |= answer(alloc, session, command, sink, moves, rows)?;
     }
     Ok(refused)
 }

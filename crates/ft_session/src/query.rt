@@ -1,26 +1,26 @@
-ghost use Rattle.std.specs.Prelude.{◌≡◌, ◌<◌, ◌≤◌, ◌&&◌, ◌++◌, ◌∷◌, ◌+◌, ◌==◌, [], true, drop, slice_index, IfSome, MatchOption, length, map, not, unwrap_or, IfOk, OnOk, string_bytes, if◌then◌else◌, ℕ, List};
+ghost use Rattle.std.specs.Prelude.{◌≡◌, ◌≤◌, ◌++◌, ◌∷◌, ◌+◌, ◌==◌, [], drop, length, map, IfOk, OnOk, if◌then◌else◌, ℕ, List};
 ghost use Rattle.std.specs.Option.{option_map};
-ghost use Rattle.std.specs.HashMap.{get_by_text};
-ghost use Rattle.std.specs.List.{before_first, flat_map, list_all, list_any, position_or_len, prefix_len, take_while};
-ghost use Rattle.std.specs.Char.{is_ascii_alphabetic, is_ascii_alphanumeric};
+ghost use Rattle.std.specs.List.{before_first, list_all, position_or_len};
+ghost use Rattle.std.specs.Char.{is_ascii_alphabetic};
 ghost use Rattle.std.specs.Str.{bytes_eq};
-ghost use Rattle.plain_tree.specs.Document.{Node, nodes};
 ghost use Rattle.plain_tree.specs.View.{node};
-ghost use Rattle.ft_session.specs.Query.{asked_lines, asks, contains_word, has_word, is_asked_well, lines_of_document, names, place_line, placed, placed_at, query_of_path, query_text, step_text, words};
-ghost use Rattle.ft_session.specs.Commands.{is_empty};
+ghost use Rattle.tokenizer.specs.Words.{words};
+ghost use Rattle.ft_session.specs.Query.{asked_by, asked_lines, asks, is_named_well, lines_of_document, names, place_line, placed, placed_at, query_of_path, query_text, written_as};
 ghost use Rattle.ft_session.specs.QueryView.{asked, count_of, step, IsCountOf};
 
-use crate::line::position_of;
+use crate::words::tree_has_key;
 use ft_base::{Line, Lines, Memory};
-use plain_tree::{PlainDoc, Tree};
+use plain_tree::Tree;
 use std::alloc::Global;
 use std::collections::HashMap;
+use text_forms::key;
+use tokenizer::words_of;
 
-/// The elements of a name that contain a word.
-#[derive(Clone, Copy)]
+/// The elements of a name that have a word of a key.
+#[derive(Drop)]
 pub(crate) struct AskedElements<'a> {
     name: &'a [u8],
-    word: &'a [u8],
+    key: Line,
 }
 
 /// A step from a parent to a child.
@@ -38,15 +38,30 @@ pub(crate) fn read_query_path<'a>(
     ensures { IfOk result (λ query. option_map asked query ≡ query_of_path path.now) }
 {
     let name = before(b'[', behind(path, 14));
-    let word = before(b'"', behind(path, 32 + name.len()));
-    let query = AskedElements { name, word };
-    if !is_well_asked(query) {
+    let quoted = before(b'"', behind(path, 32 + name.len()));
+    if !names_element(name) {
         return Ok(None);
     }
-    if path != spell(alloc, query)?.as_slice() {
+    if path != spell(alloc, name, quoted)?.as_slice() {
         return Ok(None);
     }
-    Ok(Some(query))
+    match std::str::from_utf8(quoted) {
+        Ok(text) => ask(alloc, name, text),
+        Err(_) => Ok(None),
+    }
+}
+
+/// The query for the elements of the name that have the one word of the text, or nothing where the text hasn't one word.
+fn ask<'a>(alloc: Global, name: &'a [u8], text: &str) -> Result<Option<AskedElements<'a>>, Memory>
+    ensures { IfOk result (λ query. option_map asked query ≡ asked_by name.now (words text.now)) }
+{
+    let pieces = words_of(alloc, text)?;
+    if pieces.len() != 1 {
+        return Ok(None);
+    }
+    let word = &text[pieces[0].from..pieces[0].to];
+    let key = key(alloc, word)?;
+    Ok(Some(AskedElements { name, key }))
 }
 
 /// What stands behind the first bytes.
@@ -56,6 +71,18 @@ fn behind(bytes: &[u8], count: usize) -> &[u8]
     &bytes[count.min(bytes.len())..]
 }
 
+/// Where the byte first stands, or the length.
+fn position_of(byte: u8, bytes: &[u8]) -> usize
+    ensures within { result ≤ length bytes.now }
+    ensures first { result ≡ position_or_len (λ other. other == byte) bytes.now }
+{
+    let mut at = 0;
+    while at < bytes.len() && bytes[at] != byte {
+        at += 1;
+    }
+    at
+}
+
 /// What stands before the first such byte.
 fn before(byte: u8, bytes: &[u8]) -> &[u8]
     ensures { result.now ≡ before_first (λ other. other == byte) bytes.now }
@@ -63,14 +90,11 @@ fn before(byte: u8, bytes: &[u8]) -> &[u8]
     &bytes[..position_of(byte, bytes)]
 }
 
-/// Whether the name has letters alone, the word letters and digits, and neither is empty.
-fn is_well_asked(query: AskedElements<'_>) -> bool
-    ensures { result ≡ is_asked_well (asked query.entry) }
+/// Whether the name has letters alone and isn't empty.
+fn names_element(name: &[u8]) -> bool
+    ensures { result ≡ is_named_well name.now }
 {
-    !query.name.is_empty()
-        && has_only_letters(query.name)
-        && !query.word.is_empty()
-        && has_only_letters_and_digits(query.word)
+    !name.is_empty() && has_only_letters(name)
 }
 
 fn has_only_letters(bytes: &[u8]) -> bool
@@ -79,92 +103,17 @@ fn has_only_letters(bytes: &[u8]) -> bool
     bytes.iter().all(|byte| byte.is_ascii_alphabetic())
 }
 
-fn has_only_letters_and_digits(bytes: &[u8]) -> bool
-    ensures { result ≡ list_all is_ascii_alphanumeric bytes.now }
-{
-    bytes.iter().all(|byte| byte.is_ascii_alphanumeric())
-}
-
-/// How the query is written.
-fn spell(alloc: Global, query: AskedElements<'_>) -> Result<Vec<u8>, Memory>
-    ensures { IfOk result (λ text. text.items ≡ query_text (asked query.entry)) }
+/// How a query of that name and that quoted text is written.
+fn spell(alloc: Global, name: &[u8], quoted: &[u8]) -> Result<Vec<u8>, Memory>
+    ensures { IfOk result (λ text. text.items ≡ query_text (written_as name.now quoted.now)) }
 {
     let mut text = Vec::new(alloc);
     text.extend_from_slice(b"collection()//")?;
-    text.extend_from_slice(query.name)?;
+    text.extend_from_slice(name)?;
     text.extend_from_slice(b"[. contains text \"")?;
-    text.extend_from_slice(query.word)?;
+    text.extend_from_slice(quoted)?;
     text.extend_from_slice(b"\"]")?;
     Ok(text)
-}
-
-/// The letters and digits at the front.
-fn leading_word(text: &[u8]) -> &[u8]
-    ensures { result.now ≡ take_while is_ascii_alphanumeric text.now }
-{
-    let mut at = 0;
-    while at < text.len() && text[at].is_ascii_alphanumeric() {
-        at += 1;
-    }
-    &text[..at]
-}
-
-/// The text from its first word on.
-fn skip_to_word(text: &[u8]) -> &[u8]
-    ensures same { words result.now ≡ words text.now }
-    ensures begins { 0 < length result.now → is_ascii_alphanumeric (slice_index result.now 0) ≡ true }
-    ensures shorter { length result.now ≤ length text.now }
-{
-    let mut at = 0;
-    while at < text.len() && !text[at].is_ascii_alphanumeric() {
-        at += 1;
-    }
-    &text[at..]
-}
-
-/// The first word, and what stands behind it.
-fn next_word(text: &[u8]) -> Option<(&[u8], &[u8])>
-    ensures words { MatchOption result (words text.now ≡ []) (λ next. words text.now ≡ next.0.now ∷ words next.1.now) }
-    ensures shorter { IfSome result (λ next. length next.1.now < length text.now) }
-{
-    let text = skip_to_word(text);
-    if text.is_empty() {
-        return None;
-    }
-    let word = leading_word(text);
-    Some((word, &text[word.len()..]))
-}
-
-/// Whether the text has the word, in lower case or upper case.
-fn text_has_word(text: &[u8], word: &[u8]) -> bool
-    ensures { result ≡ has_word word.now text.now }
-{
-    let mut rest = text;
-    while let Some((found, behind)) = next_word(rest) {
-        if word.eq_ignore_ascii_case(found) {
-            return true;
-        }
-        rest = behind;
-    }
-    false
-}
-
-/// Whether some text of the tree has the word.
-#[tactic(auto, using(plain_tree::proofs::Views::views))]
-fn tree_has_word(tree: &Tree, word: &[u8]) -> bool
-    ensures { result ≡ contains_word word.now (node tree.now) }
-{
-    match tree {
-        Tree::Text { text } => text_has_word(text.as_str().as_bytes(), word),
-        Tree::Elem { kids, .. } => {
-            for kid in kids.as_slice() {
-                if tree_has_word(kid, word) {
-                    return true;
-                }
-            }
-            false
-        }
-    }
 }
 
 /// How many children of each name there were.
@@ -185,15 +134,18 @@ fn count_name(alloc: Global, counts: &mut NameCounts, name: &str) -> Result<u64,
     Ok(number)
 }
 
-/// Whether the node is an element of the asked name that contains the word.
+/// Whether the node is an element of the asked name that has a word of the key.
 #[tactic(auto, using(plain_tree::proofs::Views::views))]
-fn is_asked(query: AskedElements<'_>, tree: &Tree) -> bool
-    ensures { result ≡ asks (asked query.entry) (node tree.now) }
+fn is_asked(alloc: Global, query: &AskedElements<'_>, tree: &Tree) -> Result<bool, Memory>
+    ensures { IfOk result (λ is. is ≡ asks (asked query.now) (node tree.now)) }
 {
     match tree {
-        Tree::Text { .. } => false,
+        Tree::Text { .. } => Ok(false),
         Tree::Elem { name, .. } => {
-            query.name == name.as_str().as_bytes() && tree_has_word(tree, query.word)
+            if query.name != name.as_str().as_bytes() {
+                return Ok(false);
+            }
+            tree_has_key(alloc, tree, query.key.as_str())
         }
     }
 }
@@ -214,15 +166,15 @@ fn print_place(alloc: Global, document: &str, place: &[PlaceStep<'_>]) -> Result
 /// Puts the line of the node at the place behind those found so far, where it is asked for.
 fn push_if_asked(
     alloc: Global,
-    query: AskedElements<'_>,
+    query: &AskedElements<'_>,
     document: &str,
     tree: &Tree,
     place: &[PlaceStep<'_>],
     found: &mut Lines,
 ) -> Result<(), Memory>
-    ensures { OnOk result (found.new ≡ found.old ++ asked_lines (asked query.entry) document.now (placed_at (map step place.now) (node tree.now) ∷ [])) }
+    ensures { OnOk result (found.new ≡ found.old ++ asked_lines (asked query.now) document.now (placed_at (map step place.now) (node tree.now) ∷ [])) }
 {
-    if is_asked(query, tree) {
+    if is_asked(alloc, query, tree)? {
         found.push(print_place(alloc, document, place)?)?;
     }
     Ok(())
@@ -233,7 +185,7 @@ fn push_if_asked(
 #[tactic(auto, using(crate::proofs::PlaceLemmas::place_steps))]
 fn collect<'a>(
     alloc: Global,
-    query: AskedElements<'_>,
+    query: &AskedElements<'_>,
     document: &str,
     tree: &'a Tree,
     counts: &mut NameCounts,
@@ -241,7 +193,7 @@ fn collect<'a>(
     found: &mut Lines,
 ) -> Result<(), Memory>
     ensures found { OnOk result ((before : List (List ℕ)) → IsCountOf counts.old before →
-        found.new ≡ found.old ++ asked_lines (asked query.entry) document.now (placed (map step place.old.items) before (node tree.now))) }
+        found.new ≡ found.old ++ asked_lines (asked query.now) document.now (placed (map step place.old.items) before (node tree.now))) }
     ensures counts { OnOk result ((before : List (List ℕ)) → IsCountOf counts.old before → IsCountOf counts.new (before ++ names (node tree.now))) }
     ensures place { OnOk result (place.new.items ≡ place.old.items) }
 {
@@ -267,12 +219,12 @@ fn collect<'a>(
 /// Puts the lines of a document's elements that are asked for behind those found so far.
 pub(crate) fn collect_lines(
     alloc: Global,
-    query: AskedElements<'_>,
+    query: &AskedElements<'_>,
     document: &str,
     root: &Tree,
     found: &mut Lines,
 ) -> Result<(), Memory>
-    ensures { OnOk result (found.new ≡ found.old ++ lines_of_document (asked query.entry) document.now (node root.now)) }
+    ensures { OnOk result (found.new ≡ found.old ++ lines_of_document (asked query.now) document.now (node root.now)) }
 {
     let mut counts = NameCounts::new(alloc);
     let mut place = Vec::new(alloc);

@@ -1,11 +1,10 @@
-ghost use Rattle.std.specs.Prelude.{◌≡◌, ◌⊎◌, ◌↔◌, ◌+◌, ◌^◌, ◌<◌, ◌≤◌, None, length, map, IfSome, IsSomeAnd, string_bytes};
-ghost use Rattle.std.specs.Option.{ForSome, option_copied};
+ghost use Rattle.std.specs.Prelude.{◌≡◌, ◌⊎◌, ◌↔◌, ◌+◌, ◌^◌, ◌<◌, ◌≤◌, None, length, map, take, IfSome, IsSomeAnd, string_bytes};
+ghost use Rattle.std.specs.Option.{ForSome, option_copied, option_map};
 ghost use Rattle.ft_io.specs.Shelf.{bytes_of, told_bytes};
-ghost use Rattle.ft_session.specs.Output.{output};
+ghost use Rattle.ft_session.specs.Output.{output, output_of_whole};
 ghost use Rattle.ft_session.specs.Run.{AnswersAll, IsFinished, TookFront, first_of, is_file_word, session_file, with_text};
 
-use crate::answering::{AnswerError, answer_session};
-use crate::reading::{ReadError, read_session};
+use crate::pieces::{Stopped, answer_file};
 use crate::status::Status;
 use ft_io::{Shelf, Sink};
 use std::alloc::Global;
@@ -13,19 +12,19 @@ use std::marker::Brand;
 use std::sync::ledger::Blank;
 
 /// The session's file that the words of a call name: one word that isn't empty and doesn't begin with a hyphen.
-fn file_of(words: &[String]) -> Option<&str>
-    ensures { option_copied result ≡ session_file (map string_bytes words.now) }
+fn file_of(words: &[String]) -> Option<&String>
+    ensures { option_map string_bytes (option_copied result) ≡ session_file (map string_bytes words.now) }
 {
     match words {
-        [word] if !word.is_empty() && !word.starts_with("-") => Some(word.as_str()),
+        [word] if !word.is_empty() && !word.starts_with("-") => Some(word),
         _ => None,
     }
 }
 
 /// Reads the session's file that the words name, does its commands in order and writes the reply to each.
 ///
-/// The words are the arguments of a call, without the program's name. The session is read whole before its first command
-/// is done.
+/// The words are the arguments of a call, without the program's name. The file is read in pieces of at most 65,536 bytes, and
+/// each command is answered before the piece behind its last byte is read.
 pub fn run<S: Shelf, K: Sink>(
     alloc: Global,
     words: &[String],
@@ -54,13 +53,19 @@ pub fn run<S: Shelf, K: Sink>(
     // A fault is one that was counted in this call, under the session's name or at the sink.
     ensures read_fault { result ≡ Status.ReadFault → IfSome (session_file (map string_bytes words.now)) (λ name.
         S.faults shelf.old name < S.faults shelf.new name) }
-    ensures read_fault_leaves_sink { result ≡ Status.ReadFault → sink.new ≡ sink.old }
+    ensures read_fault_writes { result ≡ Status.ReadFault → IfSome (session_file (map string_bytes words.now)) (λ name.
+        IfSome (told_bytes (S.files shelf.old) name) (λ session.
+        K.written sink.new ≡ with_text (K.written sink.old) (output_of_whole (take (S.reached shelf.new name) session)))) }
     ensures write_fault { result ≡ Status.WriteFault → K.faults sink.old < K.faults sink.new }
 
-    // The session is too long.
-    ensures too_long { IfSome (session_file (map string_bytes words.now)) (λ name.
-        (result ≡ Status.TooLong) ↔ ((S.reached shelf.new name ≡ 67108865) × (K.faults sink.new ≡ K.faults sink.old))) }
-    ensures too_long_leaves_sink { result ≡ Status.TooLong → sink.new ≡ sink.old }
+    // The session is too long: one byte more than it may have was read. Then too the commands that were whole are answered.
+    ensures too_long { result ≡ Status.TooLong → IfSome (session_file (map string_bytes words.now)) (λ name.
+        (S.reached shelf.new name ≡ 67108865) × (K.faults sink.new ≡ K.faults sink.old)) }
+    ensures too_long_only { IfSome (session_file (map string_bytes words.now)) (λ name.
+        S.reached shelf.new name ≡ 67108865 → K.faults sink.new ≡ K.faults sink.old → (result ≡ Status.TooLong) ⊎ (result ≡ Status.Memory)) }
+    ensures too_long_writes { result ≡ Status.TooLong → IfSome (session_file (map string_bytes words.now)) (λ name.
+        IfSome (told_bytes (S.files shelf.old) name) (λ session.
+        K.written sink.new ≡ with_text (K.written sink.old) (output_of_whole (take (S.reached shelf.new name) session)))) }
 
     // Where nothing fails and the session isn't too long, it is answered, unless memory runs out.
     ensures complete { IfSome (session_file (map string_bytes words.now)) (λ name.
@@ -71,22 +76,19 @@ pub fn run<S: Shelf, K: Sink>(
     let Some(name) = file_of(words) else {
         return Status::Usage;
     };
-    let session = match read_session(alloc, name, shelf) {
-        Ok(session) => session,
-        Err(ReadError::Fault) => return Status::ReadFault,
-        Err(ReadError::TooLong) => return Status::TooLong,
-        Err(ReadError::Memory) => return Status::Memory,
-    };
-    match answer_session::<K, Brand, Brand>(
+    match answer_file::<S, K, Brand, Brand>(
         alloc,
-        session.as_slice(),
+        name,
+        shelf,
         sink,
         Blank::new(1),
         Blank::new(1),
     ) {
         Ok(true) => Status::SomeRefused,
         Ok(false) => Status::Done,
-        Err(AnswerError::Fault) => Status::WriteFault,
-        Err(AnswerError::Memory) => Status::Memory,
+        Err(Stopped::ReadFault) => Status::ReadFault,
+        Err(Stopped::WriteFault) => Status::WriteFault,
+        Err(Stopped::TooLong) => Status::TooLong,
+        Err(Stopped::Memory) => Status::Memory,
     }
 }

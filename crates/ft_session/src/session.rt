@@ -1,17 +1,15 @@
 ghost use Rattle.std.specs.Prelude.{◌≡◌, [], map, IfOk, OnErr};
 ghost use Rattle.std.specs.List.{flat_map};
-ghost use Rattle.ft_session.specs.PlainBlock.{plain_block};
 ghost use Rattle.ft_session.specs.Query.{lines_of_document, query_of_path};
 ghost use Rattle.ft_session.specs.QueryView.{asked};
-ghost use Rattle.ft_session.specs.Step.{answer, loaded, step, to_document};
+ghost use Rattle.ft_session.specs.Step.{answer, dropped, loadable, loaded, step, to_document};
 
-use crate::command::Command;
-use crate::plain_block::read_plain_block;
+use crate::loading::{Outcome, read_document};
 use crate::query::{AskedElements, collect_lines, read_query_path};
-use crate::reply::{Refusal, Reply};
 use ft_base::{Line, Lines, MAX_DOCUMENTS, Memory, Steps};
 use indexmap::IndexMap;
 use plain_tree::PlainDoc;
+use session_text::{Command, FullOf, Refusal, Reply};
 use std::alloc::Global;
 use std::marker::Model;
 use std::sync::ledger::Ledger;
@@ -59,26 +57,32 @@ impl Session {
         ensures moves { moves.new ≡ moves.old }
         ensures rows { rows.new ≡ rows.old }
     {
-        let _ = moves;
-        let _ = rows;
         match command {
             Command::Load { name, block } => self.load(name, block.as_slice()),
+            Command::Drop { name } => self.remove(name),
             Command::Query { path } => self.query(path.as_str()),
-            Command::NotYet => Ok(Reply::Refused(Refusal::NotYet)),
+            Command::BadCommand { line } => {
+                Ok(Reply::Refused(Refusal::BadCommand { line: *line }))
+            }
+            Command::BadName { line } => Ok(Reply::Refused(Refusal::BadName { line: *line })),
+            _ => Ok(Reply::Refused(Refusal::NotYet)),
         }
     }
-}
 
-impl Session {
     /// Loads the block as a document under the name.
     fn load(&mut self, name: &Line, block: &[u8]) -> Result<Reply, Memory>
-        ensures answer { IfOk result (λ reply. (self.new, reply) ≡ loaded self.old name.now (plain_block block.now)) }
+        ensures answer { IfOk result (λ reply. (self.new, reply) ≡ loaded self.old name.now (loadable block.now)) }
         ensures err { OnErr result (self.new ≡ self.old) }
     {
-        match read_plain_block(self.alloc, block)? {
-            None => Ok(Reply::Refused(Refusal::NotYet)),
-            Some(document) => add_document(self.alloc, &mut self.documents, name, document),
-        }
+        load_document(self.alloc, &mut self.documents, name, block)
+    }
+
+    /// Takes the document of the name out.
+    fn remove(&mut self, name: &Line) -> Result<Reply, Memory>
+        ensures answer { IfOk result (λ reply. (self.new, reply) ≡ dropped self.old name.now) }
+        ensures err { OnErr result (self.new ≡ self.old) }
+    {
+        drop_document(self.alloc, &mut self.documents, name)
     }
 
     /// The lines of the elements that the path selects.
@@ -87,39 +91,64 @@ impl Session {
     {
         match read_query_path(self.alloc, path.as_bytes())? {
             None => Ok(Reply::Refused(Refusal::NotYet)),
-            Some(query) => Ok(Reply::Nodes(collect_all(self.alloc, query, &self.documents)?)),
+            Some(query) => Ok(Reply::Nodes(collect_all(self.alloc, &query, &self.documents)?)),
         }
     }
 }
 
-/// Puts the document behind those that are there, unless there are too many or its name is taken.
-fn add_document(
+/// Puts the document that the block is behind those that are there, unless its name is taken, there are as many as there
+/// may be, or the block is none that can be loaded.
+fn load_document(
     alloc: Global,
     documents: &mut IndexMap<Line, PlainDoc>,
     name: &Line,
-    document: PlainDoc,
+    block: &[u8],
 ) -> Result<Reply, Memory>
-    ensures answer { IfOk result (λ reply. (map to_document documents.new.entries, reply) ≡ loaded (map to_document documents.old.entries) name.now (Some document)) }
+    ensures answer { IfOk result (λ reply.
+        (map to_document documents.new.entries, reply) ≡ loaded (map to_document documents.old.entries) name.now (loadable block.now)) }
     ensures err { OnErr result (documents.new.entries ≡ documents.old.entries) }
 {
-    if documents.len() == MAX_DOCUMENTS {
-        return Ok(Reply::Refused(Refusal::NotYet));
-    }
     let name = Line::read(alloc, name.as_str())?;
     if documents.contains_key(&name) {
         return Ok(Reply::Refused(Refusal::NameTaken { name }));
     }
-    documents.insert(name, document)?;
-    Ok(Reply::Done)
+    if documents.len() >= MAX_DOCUMENTS {
+        let what = FullOf::Documents;
+        return Ok(Reply::Refused(Refusal::Full { what }));
+    }
+    match read_document(alloc, block)? {
+        Outcome::Refused(refusal) => Ok(Reply::Refused(refusal)),
+        Outcome::Document(document) => {
+            documents.insert(name, document)?;
+            Ok(Reply::Done)
+        }
+    }
+}
+
+/// Takes the document of the name out, unless there is none.
+fn drop_document(
+    alloc: Global,
+    documents: &mut IndexMap<Line, PlainDoc>,
+    name: &Line,
+) -> Result<Reply, Memory>
+    ensures answer { IfOk result (λ reply.
+        (map to_document documents.new.entries, reply) ≡ dropped (map to_document documents.old.entries) name.now) }
+    ensures err { OnErr result (documents.new.entries ≡ documents.old.entries) }
+{
+    let name = Line::read(alloc, name.as_str())?;
+    match documents.shift_remove(&name) {
+        Some(_) => Ok(Reply::Done),
+        None => Ok(Reply::Refused(Refusal::NoSuchName { name })),
+    }
 }
 
 /// The lines of the asked elements of all documents, in their order.
 fn collect_all(
     alloc: Global,
-    query: AskedElements<'_>,
+    query: &AskedElements<'_>,
     documents: &IndexMap<Line, PlainDoc>,
 ) -> Result<Lines, Memory>
-    ensures { IfOk result (λ found. found ≡ flat_map (λ d. lines_of_document (asked query.entry) d.name d.root) (map to_document documents.now.entries)) }
+    ensures { IfOk result (λ found. found ≡ flat_map (λ d. lines_of_document (asked query.now) d.name d.root) (map to_document documents.now.entries)) }
 {
     let mut found = Lines::new(alloc);
     for (name, document) in documents.iter() {

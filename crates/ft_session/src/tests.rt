@@ -1,10 +1,46 @@
+// Sessions, with what they write and how they end.
+ghost use Rattle.std.specs.Prelude.{◌≡◌, ◌+◌, ◌^◌, ◌<◌};
+
 use crate::{Status, exit_of, line_of, run};
 use ft_io::{MemoryShelf, MemorySink};
 use std::alloc::{AllocError, Global};
 use std::process::Abort;
 use std::test::Fail;
 
+/// Runs the shelf's file `s` over the sink, and compares what is written and how it ends.
+fn expect_over(
+    rt: &impl Abort,
+    alloc: Global,
+    shelf: &mut MemoryShelf,
+    sink: &mut MemorySink,
+    output: &str,
+    status: Status,
+) -> Result<(), Fail>
+    requires fresh { shelf.old.reached ≡ 0 }
+    requires shelf_countable { shelf.old.faults + 1 < 2 ^ 64 }
+    requires sink_countable { sink.old.faults + 1 < 2 ^ 64 }
+{
+    let words = [String::from_str(alloc, "s")?];
+    let ended = run(alloc, words.as_slice(), shelf, sink);
+    assert!(rt; sink.written() == output.as_bytes(), "{output}");
+    assert!(rt; ended == status, "{output}");
+    Ok(())
+}
+
 /// Runs the session, and compares what it writes and how it ends.
+fn expect_bytes(
+    rt: &impl Abort,
+    alloc: Global,
+    session: &[u8],
+    output: &str,
+    status: Status,
+) -> Result<(), Fail> {
+    let mut shelf = MemoryShelf::new(alloc);
+    shelf.add("s", session)?;
+    let mut sink = MemorySink::new(alloc, 65_536)?;
+    expect_over(rt, alloc, &mut shelf, &mut sink, output, status)
+}
+
 fn expect(
     rt: &impl Abort,
     alloc: Global,
@@ -12,14 +48,7 @@ fn expect(
     output: &str,
     status: Status,
 ) -> Result<(), Fail> {
-    let mut shelf = MemoryShelf::new(alloc);
-    shelf.add("s", session.as_bytes())?;
-    let mut sink = MemorySink::new(alloc, 65_536)?;
-    let words = [String::from_str(alloc, "s")?];
-    let ended = run(alloc, words.as_slice(), &mut shelf, &mut sink);
-    assert!(rt; sink.written() == output.as_bytes(), "{session}");
-    assert!(rt; ended == status, "{session}");
-    Ok(())
+    expect_bytes(rt, alloc, session.as_bytes(), output, status)
 }
 
 /// Runs a session that isn't there with these words.
@@ -34,15 +63,11 @@ fn status_of(rt: &impl Abort, alloc: Global, words: &[String]) -> Result<Status,
 const HELLO: &str =
     "load one\n<a>Hello world</a>\n.\nquery collection()//a[. contains text \"hello\"]\n";
 
+const HELLO_OUTPUT: &str = "ok\n= 1\ndoc(\"one\")/a[1]\n";
+
 #[test]
 fn a_loaded_document_answers_a_query(rt: HostRuntime) -> Result<(), Fail> {
-    expect(
-        &rt,
-        rt.alloc(),
-        HELLO,
-        "ok\n= 1\ndoc(\"one\")/a[1]\n",
-        Status::Done,
-    )?;
+    expect(&rt, rt.alloc(), HELLO, HELLO_OUTPUT, Status::Done)?;
     expect(&rt, rt.alloc(), "", "", Status::Done)
 }
 
@@ -58,78 +83,75 @@ fn a_name_is_taken_once(rt: HostRuntime) -> Result<(), Fail> {
 }
 
 #[test]
-fn what_is_not_there_yet_is_refused(rt: HostRuntime) -> Result<(), Fail> {
+fn a_document_is_taken_out(rt: HostRuntime) -> Result<(), Fail> {
     expect(
         &rt,
         rt.alloc(),
         "load one\n<a b=\"1\">x</a>\n.\ndrop one\n",
-        "! 14 not yet\n! 14 not yet\n",
+        "ok\nok\n",
+        Status::Done,
+    )?;
+    expect(
+        &rt,
+        rt.alloc(),
+        "load x\n<a>w</a>\n.\nload y\n<a>w</a>\n.\nload z\n<a>w</a>\n.\ndrop y\nquery collection()//a[. contains text \"w\"]\ndrop y\nload y\n<a>w</a>\n.\nquery collection()//a[. contains text \"w\"]\n",
+        "ok\nok\nok\nok\n= 2\ndoc(\"x\")/a[1]\ndoc(\"z\")/a[1]\n! 4 no such name: y\nok\n= 3\ndoc(\"x\")/a[1]\ndoc(\"z\")/a[1]\ndoc(\"y\")/a[1]\n",
         Status::SomeRefused,
     )?;
     expect(
         &rt,
         rt.alloc(),
-        "load a/b\n<a></a>\n.\n",
-        "! 14 not yet\n",
-        Status::SomeRefused,
-    )?;
-    expect(
-        &rt,
-        rt.alloc(),
-        "load a b\n<a></a>\n.\n",
-        "! 14 not yet\n",
-        Status::SomeRefused,
-    )?;
-    expect(
-        &rt,
-        rt.alloc(),
-        "load c\n<a></a>\n",
-        "! 14 not yet\n",
-        Status::SomeRefused,
-    )?;
-    expect(
-        &rt,
-        rt.alloc(),
-        "query collection()//a\n",
-        "! 14 not yet\n",
-        Status::SomeRefused,
-    )?;
-    expect(
-        &rt,
-        rt.alloc(),
-        "query collection()//a[. contains text \"a b\"]\n",
-        "! 14 not yet\n",
-        Status::SomeRefused,
-    )?;
-    expect(
-        &rt,
-        rt.alloc(),
-        "query collection()//a[.  contains text \"a\"]\n",
-        "! 14 not yet\n",
+        "drop y",
+        "! 4 no such name: y\n",
         Status::SomeRefused,
     )
 }
 
 #[test]
-fn only_plain_blocks_are_documents(rt: HostRuntime) -> Result<(), Fail> {
-    for block in [
-        "",
-        "<a>",
-        "<a></b>",
-        "<a></a><a></a>",
-        "<a></a> ",
-        " <a></a>",
-        "<></>",
-        "<a/>",
-        "<a>&lt;</a>",
-        "<a1></a1>",
-        "<a>x</a>y",
-        "<a><b></a></b>",
-        "</a>",
-        "<a></a",
-        "x",
+fn bad_lines_are_refused_first(rt: HostRuntime) -> Result<(), Fail> {
+    expect(
+        &rt,
+        rt.alloc(),
+        "frobnicate\nload a b\nx\n.\nmark a/b\nload c",
+        "! 1 bad command at line 1\n! 1 bad command at line 2\n! 2 bad name at line 5\n! 1 bad command at line 6\n",
+        Status::SomeRefused,
+    )?;
+    // a block is taken whatever else stands in its line
+    expect(
+        &rt,
+        rt.alloc(),
+        "stop /\nquery\n.\nstems x y\n.\nfrobnicate",
+        "! 2 bad name at line 1\n! 1 bad command at line 4\n! 1 bad command at line 6\n",
+        Status::SomeRefused,
+    )
+}
+
+#[test]
+fn what_is_not_there_yet_is_refused(rt: HostRuntime) -> Result<(), Fail> {
+    for command in [
+        "insert last //a\n<b/>\n.",
+        "replace //a\n<b/>\n.",
+        "delete //a",
+        "stop s\nthe\n.",
+        "stems\n.",
+        "thesaurus t\n.",
+        "query at m //a",
+        "print collection()//a",
+        "mark m",
+        "unmark m",
+        "explain \"a\"",
+        "stats",
+        "query collection()//a",
+        "query collection()//[. contains text \"a\"]",
+        "query collection()//a1[. contains text \"a\"]",
+        "query collection()//a[. contains text \"a b\"]",
+        "query collection()//a[. contains text \"\"]",
+        "query collection()//a[. contains text \"-\"]",
+        "query collection()//a[. contains text \"a\"\"]",
+        "query collection()//a[.  contains text \"a\"]",
+        "query collection()/a[. contains text \"a\"]",
     ] {
-        let session = format!(in rt.alloc(); "load x\n{block}\n.\n")?;
+        let session = format!(in rt.alloc(); "{command}\n")?;
         expect(
             &rt,
             rt.alloc(),
@@ -138,42 +160,93 @@ fn only_plain_blocks_are_documents(rt: HostRuntime) -> Result<(), Fail> {
             Status::SomeRefused,
         )?;
     }
-    for block in [
-        "<a></a>",
-        "<a> \n</a>",
-        "<a><b></b><b>x</b>y</a>",
-        "<Ab>0 9zZ</Ab>",
-    ] {
-        let session = format!(in rt.alloc(); "load x\n{block}\n.\n")?;
-        expect(&rt, rt.alloc(), session.as_str(), "ok\n", Status::Done)?;
+    Ok(())
+}
+
+#[test]
+fn blocks_that_are_no_documents_are_refused_with_the_place(rt: HostRuntime) -> Result<(), Fail> {
+    let blocks: [(&[u8], &str); 7] = [
+        (b"<a><b>x</b>\n", "syntax at 11"),
+        (b"<a></b>\n", "syntax at 5"),
+        (b"<a x=\"1\" x=\"2\"/>\n", "syntax at 10"),
+        (b"<a><![CDATA[x]]></a>\n", "syntax at 5"),
+        (b"<!DOCTYPE a><a/>\n", "syntax at 2"),
+        (b"<a>\xFF</a>\n", "not utf-8 at 3"),
+        (b"", "syntax at 0"),
+    ];
+    for (block, fault) in blocks {
+        let mut session = Vec::from_slice(rt.alloc(), b"load x\n")?;
+        session.extend_from_slice(block)?;
+        session.extend_from_slice(b".\n")?;
+        let output = format!(in rt.alloc(); "! 6 document: {fault}\n")?;
+        expect_bytes(
+            &rt,
+            rt.alloc(),
+            session.as_slice(),
+            output.as_str(),
+            Status::SomeRefused,
+        )?;
     }
     Ok(())
 }
 
-/// This many times the one text, and then as many times the other.
-fn repeated(alloc: Global, first: &str, second: &str, count: usize) -> Result<String, AllocError> {
-    let mut text = String::new(alloc);
+/// The text this many times.
+fn push_times(text: &mut String, part: &str, count: usize) -> Result<(), AllocError> {
     for _ in 0..count {
-        text.push_str(first)?;
+        text.push_str(part)?;
     }
-    for _ in 0..count {
-        text.push_str(second)?;
-    }
-    Ok(text)
+    Ok(())
 }
 
 #[test]
 fn elements_stand_in_200_levels_at_most(rt: HostRuntime) -> Result<(), Fail> {
-    let deep = repeated(rt.alloc(), "<a>", "</a>", 200)?;
-    let session = format!(in rt.alloc(); "load x\n{deep}\n.\n")?;
-    expect(&rt, rt.alloc(), session.as_str(), "ok\n", Status::Done)?;
-    let deeper = repeated(rt.alloc(), "<a>", "</a>", 201)?;
-    let session = format!(in rt.alloc(); "load x\n{deeper}\n.\n")?;
+    let mut session = String::from_str(rt.alloc(), "load x\n")?;
+    for levels in [201, 200] {
+        push_times(&mut session, "<a>", levels)?;
+        push_times(&mut session, "</a>", levels)?;
+        session.push_str("\n.\nload x\n")?;
+    }
+    session.push_str("<a/>\n.\n")?;
     expect(
         &rt,
         rt.alloc(),
         session.as_str(),
-        "! 14 not yet\n",
+        "! 6 document: depth at 600\nok\n! 3 name taken: x\n",
+        Status::SomeRefused,
+    )
+}
+
+#[test]
+fn a_document_has_a_million_tokens_at_most(rt: HostRuntime) -> Result<(), Fail> {
+    let mut session = String::from_str(rt.alloc(), "load x\n<a>")?;
+    push_times(&mut session, "x ", 1_000_001)?;
+    session.push_str("</a>\n.\nload x\n<a>")?;
+    push_times(&mut session, "x ", 1_000_000)?;
+    session.push_str("</a>\n.\nquery collection()//a[. contains text \"x\"]\n")?;
+    expect(
+        &rt,
+        rt.alloc(),
+        session.as_str(),
+        "! 6 document: tokens\nok\n= 1\ndoc(\"x\")/a[1]\n",
+        Status::SomeRefused,
+    )
+}
+
+#[test]
+fn a_collection_has_4096_documents_at_most(rt: HostRuntime) -> Result<(), Fail> {
+    let mut session = String::new(rt.alloc());
+    let mut output = String::new(rt.alloc());
+    for number in 0..4096 {
+        session.push_str(format!(in rt.alloc(); "load d{number}\n<a/>\n.\n")?.as_str())?;
+        output.push_str("ok\n")?;
+    }
+    session.push_str("load e\n<a>\n.\nload d7\n<a/>\n.\ndrop d7\nload e\n<a/>\n.\n")?;
+    output.push_str("! 5 full at 4096 documents\n! 3 name taken: d7\nok\nok\n")?;
+    expect(
+        &rt,
+        rt.alloc(),
+        session.as_str(),
+        output.as_str(),
         Status::SomeRefused,
     )
 }
@@ -189,6 +262,48 @@ fn each_element_has_its_place_among_those_of_its_name(rt: HostRuntime) -> Result
     )
 }
 
+/// Loads the text as the element `a`, asks for the word in quotes, and compares how many elements have it.
+fn expect_word(
+    rt: &impl Abort,
+    alloc: Global,
+    text: &str,
+    quoted: &str,
+    found: bool,
+) -> Result<(), Fail> {
+    let session = format!(in alloc;
+        "load x\n<a>{text}</a>\n.\nquery collection()//a[. contains text \"{quoted}\"]\n"
+    )?;
+    let output = if found {
+        "ok\n= 1\ndoc(\"x\")/a[1]\n"
+    } else {
+        "ok\n= 0\n"
+    };
+    expect(rt, alloc, session.as_str(), output, Status::Done)
+}
+
+#[test]
+fn words_are_compared_by_their_keys(rt: HostRuntime) -> Result<(), Fail> {
+    for (text, quoted, found) in [
+        ("can't 3.14", "can't", true),
+        ("can't 3.14", "3.14", true),
+        ("can't 3.14", "14", false),
+        ("CAFE\u{301}", "caf\u{E9}", true),
+        ("CAFE\u{301}", "cafe", true),
+        ("Stra\u{DF}e", "STRASSE", true),
+        ("stra", "strasse", false),
+        ("Hello", "(hello!)", true),
+        ("Hello", "Hell", false),
+        ("Hell", "Hello", false),
+        ("foo<b/>bar", "foobar", false),
+        ("foo<b>bar</b>", "BAR", true),
+        ("x <!-- y -->z", "y", false),
+        ("&#120;", "x", true),
+    ] {
+        expect_word(&rt, rt.alloc(), text, quoted, found)?;
+    }
+    Ok(())
+}
+
 #[test]
 fn lines_and_blocks_are_divided_as_they_are_written(rt: HostRuntime) -> Result<(), Fail> {
     // a byte order mark, comments, blanks, carriage returns, and a last line that nothing ends
@@ -196,23 +311,22 @@ fn lines_and_blocks_are_divided_as_they_are_written(rt: HostRuntime) -> Result<(
         &rt,
         rt.alloc(),
         "\u{FEFF}# no command\r\n\n \t load\tone \r\n<a>\r\n.\r\n load two\n<a>x\n..\n</a>\n.\nquery  collection()//a[. contains text \"x\"]",
-        "! 14 not yet\n! 14 not yet\n= 0\n",
+        "! 6 document: syntax at 4\nok\n= 1\ndoc(\"two\")/a[1]\n",
         Status::SomeRefused,
     )?;
     expect(
         &rt,
         rt.alloc(),
         "load one\n.<a>x\n\n</a>\n.\r\nquery collection()//a[. contains text \"X\"]",
-        "ok\n= 1\ndoc(\"one\")/a[1]\n",
+        HELLO_OUTPUT,
         Status::Done,
     )?;
-    // a block is taken whatever else stands in its line
     expect(
         &rt,
         rt.alloc(),
-        "stop /\nquery\n.\nstems x y\n.\nfrobnicate",
-        "! 14 not yet\n! 14 not yet\n! 14 not yet\n",
-        Status::SomeRefused,
+        "load one\r\n<a>\r\nHello\r\n</a>\r\n.\r\nquery collection()//a[. contains text \"hello\"]\r\n",
+        HELLO_OUTPUT,
+        Status::Done,
     )
 }
 
@@ -243,44 +357,90 @@ fn what_was_written_before_a_write_fault_stays(rt: HostRuntime) -> Result<(), Fa
     shelf.add("s", HELLO.as_bytes())?;
     let mut sink = MemorySink::new(alloc, 65_536)?;
     sink.fail_after(7);
-    let words = [String::from_str(alloc, "s")?];
-    let status = run(alloc, words.as_slice(), &mut shelf, &mut sink);
-    assert!(rt; status == Status::WriteFault);
-    assert!(rt; sink.written() == b"ok\n= 1\n".as_slice());
-    Ok(())
+    expect_over(
+        &rt,
+        alloc,
+        &mut shelf,
+        &mut sink,
+        "ok\n= 1\n",
+        Status::WriteFault,
+    )
 }
 
 #[test]
-fn a_fault_in_a_later_piece_is_a_read_fault(rt: HostRuntime) -> Result<(), Fail> {
+fn commands_that_were_whole_before_a_read_fault_are_answered(rt: HostRuntime) -> Result<(), Fail> {
     let alloc = rt.alloc();
-    let mut shelf = MemoryShelf::new(alloc);
-    shelf.add("s", HELLO.as_bytes())?;
-    shelf.fail_call(2);
-    let mut sink = MemorySink::new(alloc, 65_536)?;
-    let words = [String::from_str(alloc, "s")?];
-    let status = run(alloc, words.as_slice(), &mut shelf, &mut sink);
-    assert!(rt; status == Status::ReadFault);
-    assert!(rt; sink.written().is_empty());
+    for (session, output) in [
+        (HELLO, HELLO_OUTPUT),
+        ("drop y\ndrop z", "! 4 no such name: y\n"),
+    ] {
+        let mut shelf = MemoryShelf::new(alloc);
+        shelf.add("s", session.as_bytes())?;
+        shelf.fail_call(2);
+        let mut sink = MemorySink::new(alloc, 65_536)?;
+        expect_over(&rt, alloc, &mut shelf, &mut sink, output, Status::ReadFault)?;
+    }
     Ok(())
 }
 
-fn line_feeds(alloc: Global, count: usize) -> Result<Vec<u8>, AllocError> {
-    vec![in alloc; b'\n'; count]
+/// Runs the front, line feeds, and the back, so that there are that many bytes, and compares what is written and how it ends.
+fn expect_filled(
+    rt: &impl Abort,
+    alloc: Global,
+    front: &str,
+    back: &str,
+    count: usize,
+    output: &str,
+    status: Status,
+) -> Result<(), Fail>
+    requires { count < 2 ^ 62 }
+{
+    let mut session = vec![in alloc; b'\n'; count]?;
+    if front.len() + back.len() <= session.len() {
+        session[..front.len()].copy_from_slice(front.as_bytes());
+        session[count - back.len()..].copy_from_slice(back.as_bytes());
+    }
+    expect_bytes(rt, alloc, session.as_slice(), output, status)
 }
 
 #[test]
 fn a_session_has_67108864_bytes_at_most(rt: HostRuntime) -> Result<(), Fail> {
     let alloc = rt.alloc();
-    let words = [String::from_str(alloc, "s")?];
-    for (count, wanted) in [(67_108_864, Status::Done), (67_108_865, Status::TooLong)] {
-        let mut shelf = MemoryShelf::new(alloc);
-        shelf.add("s", line_feeds(alloc, count)?.as_slice())?;
-        let mut sink = MemorySink::new(alloc, 16)?;
-        let status = run(alloc, words.as_slice(), &mut shelf, &mut sink);
-        assert!(rt; status == wanted);
-        assert!(rt; sink.written().is_empty());
-    }
-    Ok(())
+    expect_filled(&rt, alloc, "", "", 67_108_864, "", Status::Done)?;
+    expect_filled(&rt, alloc, "", "", 67_108_865, "", Status::TooLong)
+}
+
+#[test]
+fn a_session_that_is_too_long_is_answered_so_far(rt: HostRuntime) -> Result<(), Fail> {
+    let alloc = rt.alloc();
+    expect_filled(
+        &rt,
+        alloc,
+        HELLO,
+        "",
+        67_108_865,
+        HELLO_OUTPUT,
+        Status::TooLong,
+    )?;
+    // a command that ends with the last byte that is read is whole, one that nothing ends isn't
+    expect_filled(
+        &rt,
+        alloc,
+        "drop x\n",
+        "drop y\n",
+        67_108_865,
+        "! 4 no such name: x\n! 4 no such name: y\n",
+        Status::TooLong,
+    )?;
+    expect_filled(
+        &rt,
+        alloc,
+        "drop x\n",
+        "drop yy",
+        67_108_866,
+        "! 4 no such name: x\n",
+        Status::TooLong,
+    )
 }
 
 #[test]

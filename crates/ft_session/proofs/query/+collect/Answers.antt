@@ -13,7 +13,7 @@ use Rattle.ft_session.proofs.query.+collect.Goals as goal
 pub returns-in-Text-clause-found : goal.returns-in-Text-clause-found
 returns-in-Text-clause-found t c = λ before counted.
     let above = map step c.args.place.now.items in
-    let q = asked c.args.query in
+    let q = asked c.args.query.now in
     let document = c.args.document.now in
     let none : placed above before (node c.args.tree.now) ≡ [] = ap (λ tree. placed above before (node tree)) c.in-Text.is ∙ placed_text above before c.in-Text.text in
     sym (ap (λ ps. c.args.found.now ++ asked_lines q document ps) none ∙ append-nil c.args.found.now)
@@ -34,7 +34,7 @@ returns-after-loop-kid-clause-counts t c = λ before counted other.
 
 pub returns-after-loop-kid-clause-found : goal.returns-after-loop-kid-clause-found
 returns-after-loop-kid-clause-found t c = λ before counted.
-    let q = asked c.args.query in
+    let q = asked c.args.query.now in
     let document = c.args.document.now in
     let above = map step c.args.place.now.items in
     let name = c.in-Elem.name in

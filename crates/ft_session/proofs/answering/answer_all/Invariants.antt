@@ -1,0 +1,16 @@
+-- The replies so far are written, and those to what is left are the rest.
+use Rattle.std.proofs.Common.{◌≡◌, ◌||◌, drop}
+use Rattle.std.specs.List.{list_any}
+use Rattle.session_text.specs.Replies.{is_refusal}
+use Rattle.ft_session.specs.Output.{texts_of}
+use Rattle.ft_session.specs.Step.{replies, state_after}
+use Rattle.ft_session.proofs.AnswerLemmas.{WrittenSoFar}
+use Rattle.ft_session.proofs.answering.answer_all.Given as goal
+
+abbrev pub invariant-loop-command : goal.invariant-loop-command
+invariant-loop-command g l = record {
+  state : state_after l.session (drop l.command-index l.commands) ≡ state_after l.fn.session l.commands;
+  written : WrittenSoFar (g.K.Sink.written l.fn.sink) (g.K.Sink.written l.sink) (texts_of (replies l.session (drop l.command-index l.commands))) (texts_of (replies l.fn.session l.commands));
+  refused : (l.refused || list_any is_refusal (replies l.session (drop l.command-index l.commands))) ≡ list_any is_refusal (replies l.fn.session l.commands);
+  faults : g.K.Sink.faults l.sink ≡ g.K.Sink.faults l.fn.sink;
+}

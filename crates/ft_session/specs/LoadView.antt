@@ -1,0 +1,10 @@
+-- What was read of a block, as the document or the refusal that it means.
+use Rattle.std.specs.Prelude.{Result, Ok, Err}
+use Rattle.plain_tree.specs.Document.{Node}
+use Rattle.session_text.specs.declared.reply.Refusal.{Refusal}
+use Rattle.ft_session.specs.declared.loading.Outcome.{Outcome}
+use Rattle.ft_session.specs.declared.loading.Outcome.TheVariants as outcomes
+
+abbrev pub outcome : Outcome → Result Node Refusal
+outcome (outcomes.Document root) = Ok root
+outcome (outcomes.Refused why) = Err why

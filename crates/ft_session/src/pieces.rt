@@ -1,0 +1,194 @@
+ghost use Rattle.std.specs.Prelude.{◌≡◌, ◌++◌, ◌+◌, ◌^◌, ◌<◌, ◌≤◌, [], List, ℕ, length, string_bytes, take, IfOk, IfSome, IsErrOf, IsSome, OnErr, OnOk};
+ghost use Rattle.std.specs.List.{list_any};
+ghost use Rattle.ft_io.specs.Shelf.{bytes_of, told_bytes};
+ghost use Rattle.session_text.specs.Reading.{commands_left};
+ghost use Rattle.session_text.specs.Replies.{is_refusal};
+ghost use Rattle.ft_session.specs.Output.{has_refusal, output, output_of_whole, texts_of};
+ghost use Rattle.ft_session.specs.Pieces.{Answered};
+ghost use Rattle.ft_session.specs.Run.{TookFront, with_text};
+ghost use Rattle.ft_session.specs.Step.{replies};
+
+use crate::answering::{AnswerError, answer, answer_all};
+use crate::reading::{MOST, buffer, read_piece};
+use crate::session::Session;
+use ft_base::{MAX_PIECE_BYTES, Memory, Steps};
+use ft_io::{Shelf, Sink};
+use session_text::Lines_;
+use std::alloc::{AllocError, Global};
+use std::sync::ledger::{Blank, Ledger};
+
+/// Why a session was not answered to its end.
+#[derive(Clone, Copy, Debug, PartialEq, Eq)]
+pub(crate) enum Stopped {
+    ReadFault,
+    WriteFault,
+    TooLong,
+    Memory,
+}
+
+impl From<AnswerError> for Stopped {
+    ghost use Rattle.ft_session.specs.Pieces.{stopped_by};
+
+    ghost from_gives = { λ error stopped. stopped ≡ stopped_by error };
+
+    fn from(error: AnswerError) -> Stopped {
+        match error {
+            AnswerError::Fault => Stopped::WriteFault,
+            AnswerError::Memory => Stopped::Memory,
+        }
+    }
+}
+
+impl From<Memory> for Stopped {
+    ghost use Rattle.ft_session.specs.declared.pieces.Stopped.TheVariants as stops;
+
+    ghost from_gives = { λ _ stopped. stopped ≡ stops.Memory };
+
+    fn from(_memory: Memory) -> Stopped {
+        Stopped::Memory
+    }
+}
+
+impl From<AllocError> for Stopped {
+    ghost use Rattle.ft_session.specs.declared.pieces.Stopped.TheVariants as stops;
+
+    ghost from_gives = { λ _ stopped. stopped ≡ stops.Memory };
+
+    fn from(_error: AllocError) -> Stopped {
+        Stopped::Memory
+    }
+}
+
+/// A session that is being answered: the reader of its bytes, and what it holds.
+#[derive(Drop)]
+struct Answering {
+    alloc: Global,
+    lines: Lines_,
+    session: Session,
+}
+
+/// Takes the next piece of the session and answers the commands that became whole with it. It says whether a reply is a
+/// refusal.
+fn answer_piece<K: Sink, L: Ledger, M: Ledger>(
+    answering: &mut Answering,
+    piece: &[u8],
+    sink: &mut K,
+    moves: &mut Steps<M>,
+    rows: &mut Steps<L>,
+) -> Result<bool, AnswerError>
+    requires countable { K.faults sink.old + 1 < 2 ^ 64 }
+    requires room { answering.old.lines.bytes + length piece.now < 2 ^ 63 }
+    ensures answered { IfOk result (λ refused.
+        Answered answering.old.lines answering.new.lines answering.old.session answering.new.session piece.now refused (K.written sink.old) (K.written sink.new)) }
+    ensures front { OnErr result ((more : List ℕ) → TookFront (K.written sink.old) (K.written sink.new)
+        (texts_of (replies answering.old.session (commands_left answering.old.lines (piece.now ++ more))))) }
+    ensures bytes { answering.new.lines.bytes ≡ answering.old.lines.bytes + length piece.now }
+    ensures faults { OnOk result (K.faults sink.new ≡ K.faults sink.old) }
+    ensures cause { IsErrOf result AnswerError.Fault → K.faults sink.old < K.faults sink.new }
+{
+    let given = answering.lines.feed(piece)?;
+    answer_all(
+        answering.alloc,
+        &mut answering.session,
+        given.as_slice(),
+        sink,
+        moves,
+        rows,
+    )
+}
+
+/// Takes the session's end and answers the command that an unfinished line or block is then. It says whether a reply is a
+/// refusal.
+fn answer_end<K: Sink, L: Ledger, M: Ledger>(
+    answering: &mut Answering,
+    sink: &mut K,
+    moves: &mut Steps<M>,
+    rows: &mut Steps<L>,
+) -> Result<bool, AnswerError>
+    requires { K.faults sink.old + 1 < 2 ^ 64 }
+    ensures refused { IfOk result (λ refused. refused ≡ list_any is_refusal (replies answering.old.session (commands_left answering.old.lines []))) }
+    ensures written { OnOk result (K.written sink.new
+        ≡ with_text (K.written sink.old) (texts_of (replies answering.old.session (commands_left answering.old.lines [])))) }
+    ensures front { OnErr result (TookFront (K.written sink.old) (K.written sink.new)
+        (texts_of (replies answering.old.session (commands_left answering.old.lines [])))) }
+    ensures faults { OnOk result (K.faults sink.new ≡ K.faults sink.old) }
+    ensures cause { IsErrOf result AnswerError.Fault → K.faults sink.old < K.faults sink.new }
+{
+    match answering.lines.end()? {
+        Some(command) => answer(
+            answering.alloc,
+            &mut answering.session,
+            &command,
+            sink,
+            moves,
+            rows,
+        ),
+        None => Ok(false),
+    }
+}
+
+/// Reads a session's file piece by piece, until its end comes or one byte more than a session may have was read, and answers
+/// each command before the next piece is read. It says whether a reply is a refusal.
+pub(crate) fn answer_file<S: Shelf, K: Sink, L: Ledger, M: Ledger>(
+    alloc: Global,
+    name: &String,
+    shelf: &mut S,
+    sink: &mut K,
+    moves: Blank,
+    rows: Blank,
+) -> Result<bool, Stopped>
+    requires fresh { S.reached shelf.old (string_bytes name.now) ≡ 0 }
+    requires shelf_countable { S.faults shelf.old (string_bytes name.now) + 1 < 2 ^ 64 }
+    requires sink_countable { K.faults sink.old + 1 < 2 ^ 64 }
+    requires moves_name { moves.name ≡ M.name }
+    requires moves_parts { moves.parts ≡ M.parts }
+    requires moves_whole { 0 < moves.parts }
+    requires rows_name { rows.name ≡ L.name }
+    requires rows_parts { rows.parts ≡ L.parts }
+    requires rows_whole { 0 < rows.parts }
+
+    // where all was answered
+    ensures present { OnOk result (IfSome (S.files shelf.old) (λ told. IsSome (bytes_of told (string_bytes name.now)))) }
+    ensures whole { OnOk result (IfSome (told_bytes (S.files shelf.old) (string_bytes name.now)) (λ session. S.reached shelf.new (string_bytes name.now) ≡ length session)) }
+    ensures written { OnOk result (IfSome (told_bytes (S.files shelf.old) (string_bytes name.now)) (λ session.
+        K.written sink.new ≡ with_text (K.written sink.old) (output session))) }
+    ensures refused { IfOk result (λ refused. IfSome (told_bytes (S.files shelf.old) (string_bytes name.now)) (λ session. refused ≡ has_refusal session)) }
+    ensures below { OnOk result (S.reached shelf.new (string_bytes name.now) ≤ 67108864) }
+
+    // whatever came
+    ensures front { IfSome (told_bytes (S.files shelf.old) (string_bytes name.now)) (λ session. TookFront (K.written sink.old) (K.written sink.new) (output session)) }
+
+    // where it stopped
+    ensures read_fault { IsErrOf result Stopped.ReadFault → S.faults shelf.old (string_bytes name.now) < S.faults shelf.new (string_bytes name.now) }
+    ensures read_fault_early { IsErrOf result Stopped.ReadFault → S.reached shelf.new (string_bytes name.now) < 67108865 }
+    ensures read_fault_writes { IsErrOf result Stopped.ReadFault → IfSome (told_bytes (S.files shelf.old) (string_bytes name.now)) (λ session.
+        K.written sink.new ≡ with_text (K.written sink.old) (output_of_whole (take (S.reached shelf.new (string_bytes name.now)) session))) }
+    ensures write_fault { IsErrOf result Stopped.WriteFault → K.faults sink.old < K.faults sink.new }
+    ensures too_long { IsErrOf result Stopped.TooLong → (S.reached shelf.new (string_bytes name.now) ≡ 67108865) × (K.faults sink.new ≡ K.faults sink.old) }
+    ensures too_long_writes { IsErrOf result Stopped.TooLong → IfSome (told_bytes (S.files shelf.old) (string_bytes name.now)) (λ session.
+        K.written sink.new ≡ with_text (K.written sink.old) (output_of_whole (take (S.reached shelf.new (string_bytes name.now)) session))) }
+    ensures longer { IsErrOf result Stopped.TooLong → IfSome (told_bytes (S.files shelf.old) (string_bytes name.now)) (λ session. 67108865 ≤ length session) }
+{
+    let mut answering = Answering {
+        alloc,
+        lines: Lines_::new(alloc),
+        session: Session::new(alloc)?,
+    };
+    let mut moves = Steps::<M>::new(moves);
+    let mut rows = Steps::<L>::new(rows);
+    let mut piece = buffer(alloc, MAX_PIECE_BYTES)?;
+    let mut taken = 0;
+    let mut refused = false;
+    while taken < MOST {
+        let Ok(count) = read_piece(name, shelf, taken, &mut piece) else {
+            return Err(Stopped::ReadFault);
+        };
+        if count == 0 {
+            refused |= answer_end(&mut answering, sink, &mut moves, &mut rows)?;
+            return Ok(refused);
+        }
+        refused |= answer_piece(&mut answering, &piece[..count], sink, &mut moves, &mut rows)?;
+        taken += count as u64;
+    }
+    Err(Stopped::TooLong)
+}
