@@ -1,4 +1,4 @@
-use crate::symbol::Symbol;
+use query_grammar::Symbol;
 use ft_base::Line;
 
 /// A symbol at the front of a text, and the number of its characters.

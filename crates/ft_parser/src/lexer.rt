@@ -6,7 +6,7 @@ ghost use Rattle.ft_parser.specs.Symbols.{Stays_within, Steps_to, bytes_of_first
 use crate::characters::is_blank;
 use crate::front::front;
 use crate::lexeme::Turn;
-use crate::symbol::{Placed, Symbols};
+use query_grammar::{Placed, Symbols};
 use ft_base::{Items, Memory};
 use std::alloc::Global;
 

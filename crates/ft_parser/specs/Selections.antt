@@ -1,0 +1,18 @@
+-- The selection that a text spells, by computation.
+use Rattle.std.specs.Prelude.{ℕ, List, Option, Some, None, option_map}
+use Rattle.ft_base.specs.Selection.{Form}
+use Rattle.query_grammar.specs.declared.symbol.Symbols.{Symbols}
+use Rattle.query_grammar.specs.Tree.{Tree}
+use Rattle.query_grammar.specs.Machine.{read, finished}
+use Rattle.query_grammar.specs.Form.{form_of}
+use Rattle.ft_parser.specs.Symbols.{symbols_of}
+
+abbrev pub whole_tree : Option ℕ → Option Tree → Option Tree
+whole_tree None tree = tree
+whole_tree (Some place) tree = None
+
+abbrev pub tree_in : Symbols → Option Tree
+tree_in symbols = whole_tree symbols.bad (finished (read symbols.placed))
+
+abbrev pub selection_in : List ℕ → Option Form
+selection_in text = option_map form_of (tree_in (symbols_of text))

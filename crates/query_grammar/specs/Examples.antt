@@ -1,0 +1,2 @@
+-- Symbols for examples.
+use Rattle.std.specs.Prelude.{ℕ, List, Option}

@@ -1,0 +1,7 @@
+pub mod Shapes
+pub mod Keywords
+pub mod Tree
+pub mod Grammar
+pub mod Machine
+pub mod Form
+pub mod Examples
