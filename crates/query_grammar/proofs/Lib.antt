@@ -1,1 +1,10 @@
-
+pub mod Words
+pub mod Paths
+pub mod Parts
+pub mod Standing
+pub mod Moves
+pub mod OptionMoves
+pub mod Reached
+pub mod Runs
+pub mod Derived
+pub mod Laws

@@ -15,7 +15,7 @@ use Rattle.query_grammar.specs.declared.parsed.PlacedString.{PlacedString}
 use Rattle.query_grammar.specs.declared.parsed.PlacedOption.{PlacedOption}
 use Rattle.query_grammar.specs.Shapes as shapes
 use Rattle.query_grammar.specs.Shapes.{Shape, whole, nothing, word, text, mark, open_parenthesis, close_parenthesis, open_brace, close_brace, comma, or_else, and_then, run}
-use Rattle.query_grammar.specs.Keywords.{key, range_without_at, bound, side, filters, filters_without_at, times, plain_option, given}
+use Rattle.query_grammar.specs.Keywords.{key, range, range_without_at, bound, side, filters, filters_without_at, times, plain_option, given}
 use Rattle.query_grammar.specs.Grammar.{texts_of}
 use Rattle.query_grammar.specs.Tree.{Tree, or_of, and_of, mild_not, filtered, joined, Primary, phrases, inner, optioned, negated}
 
@@ -129,13 +129,18 @@ thesaurus_first outer left n x options at =
     (mark open_parenthesis (key (codes "at") (text (λ q s. whole (record { outer = outer; left = left; stage = thesaurus_in n x options at [] s None })) nothing))
     nothing)
 
+-- an option with a list
+abbrev pub listed_next : List Frame → Left → Option ℕ → Primary → List PlacedOption → ℕ → Shape State
+listed_next outer left n x options at =
+    word (codes "thesaurus") (λ p. thesaurus_first outer left n x options at)
+    (word (codes "stop") (λ p. key (codes "words") (term_next outer left n x options at [] false))
+    nothing)
+
 -- an option
 abbrev pub using_next : List Frame → Left → Option ℕ → Primary → List PlacedOption → ℕ → Shape State
 using_next outer left n x options at =
     or_else (and_then (plain_option at) (λ o. whole (record { outer = outer; left = left; stage = given_options n x (options ++ o ∷ []) })))
-    (word (codes "thesaurus") (λ p. thesaurus_first outer left n x options at)
-    (word (codes "stop") (λ p. key (codes "words") (term_next outer left n x options at [] false))
-    nothing))
+    (listed_next outer left n x options at)
 
 -- what may stand behind whole options, but for filters
 abbrev pub unfiltered_next : List Frame → Left → Option ℕ → Primary → List PlacedOption → Shape State
@@ -179,14 +184,13 @@ abbrev pub relationship_next : (List ℕ → State) → Option (List ℕ) → Sh
 relationship_next stands None rest = word (codes "relationship") (λ p. text (λ q s. whole (stands s)) nothing) rest
 relationship_next stands (Some relationship) rest = rest
 
--- Behind a thesaurus `at` begins levels or a filter.
-abbrev pub thesaurus_next : List Frame → Left → Option ℕ → Primary → List PlacedOption → ℕ → List ℕ → Option (List ℕ) → Shape State
-thesaurus_next outer left n x options at s r =
-    relationship_next (λ t. record { outer = outer; left = left; stage = thesaurus n x options at s (Some t) }) r
-    (word (codes "at") (λ p. or_else (and_then bound (levels_end with_levels)) (and_then side (λ f. whole (filtered_state outer selection f))))
+-- Behind a thesaurus and its relationship `at` begins levels or a filter.
+abbrev pub thesaurus_rest : List Frame → Left → Option ℕ → Primary → List PlacedOption → ℕ → List ℕ → Option (List ℕ) → Shape State
+thesaurus_rest outer left n x options at s r =
+    word (codes "at") (λ p. or_else (and_then bound (levels_end with_levels)) (and_then side (λ f. whole (filtered_state outer selection f))))
     (or_else (and_then range_without_at (levels_end with_levels))
     (or_else (and_then filters_without_at (λ f. whole (filtered_state outer selection f)))
-    (unfiltered_next outer left n x (ended None)))))
+    (unfiltered_next outer left n x (ended None))))
   where
     ended : Option Range → List PlacedOption
     ended l = options ++ thesaurus_option at (thesaurus_use s r l ∷ []) ∷ []
@@ -197,6 +201,9 @@ thesaurus_next outer left n x options at s r =
     selection : Tree
     selection = selection_with left (operand_of n x (ended None))
 
+abbrev pub thesaurus_next : List Frame → Left → Option ℕ → Primary → List PlacedOption → ℕ → List ℕ → Option (List ℕ) → Shape State
+thesaurus_next outer left n x options at s r = relationship_next (λ t. record { outer = outer; left = left; stage = thesaurus n x options at s (Some t) }) r (thesaurus_rest outer left n x options at s r)
+
 -- in the parentheses of a thesaurus option
 abbrev pub thesauri_next : List Frame → Left → Option ℕ → Primary → List PlacedOption → ℕ → List ThesaurusUse → Shape State
 thesauri_next outer left n x options at uses =
@@ -204,14 +211,13 @@ thesauri_next outer left n x options at uses =
     (mark close_parenthesis (whole (record { outer = outer; left = left; stage = given_options n x (options ++ thesaurus_option at uses ∷ []) }))
     nothing)
 
+abbrev pub thesaurus_in_rest : List Frame → Left → Option ℕ → Primary → List PlacedOption → ℕ → List ThesaurusUse → List ℕ → Option (List ℕ) → Shape State
+thesaurus_in_rest outer left n x options at uses s r =
+    or_else (and_then range (levels_end (λ l. record { outer = outer; left = left; stage = thesauri_in n x options at (uses ++ thesaurus_use s r l ∷ []) })))
+    (thesauri_next outer left n x options at (uses ++ thesaurus_use s r None ∷ []))
+
 abbrev pub thesaurus_in_next : List Frame → Left → Option ℕ → Primary → List PlacedOption → ℕ → List ThesaurusUse → List ℕ → Option (List ℕ) → Shape State
-thesaurus_in_next outer left n x options at uses s r =
-    relationship_next (λ t. record { outer = outer; left = left; stage = thesaurus_in n x options at uses s (Some t) }) r
-    (or_else (and_then shapes_of_levels (levels_end (λ l. record { outer = outer; left = left; stage = thesauri_in n x options at (uses ++ thesaurus_use s r l ∷ []) })))
-    (thesauri_next outer left n x options at (uses ++ thesaurus_use s r None ∷ [])))
-  where
-    shapes_of_levels : Shape Range
-    shapes_of_levels = or_else range_without_at (word (codes "at") (λ p. bound) nothing)
+thesaurus_in_next outer left n x options at uses s r = relationship_next (λ t. record { outer = outer; left = left; stage = thesaurus_in n x options at uses s (Some t) }) r (thesaurus_in_rest outer left n x options at uses s r)
 
 abbrev pub next_at : List Frame → Left → Stage → Shape State
 next_at outer left (wanted n) = wanted_next outer left n

@@ -48,11 +48,11 @@ is_mark close_brace S.CloseBrace = true
 is_mark comma S.Comma = true
 is_mark other symbol = false
 
-abbrev number_leads : {A : Type 0} → (ℕ → Shape A) → Option (Shape A) → Option ℕ → Option (Shape A)
+abbrev pub number_leads : {A : Type 0} → (ℕ → Shape A) → Option (Shape A) → Option ℕ → Option (Shape A)
 number_leads to otherwise None = otherwise
 number_leads to otherwise (Some n) = Some (to n)
 
-abbrev text_leads : {A : Type 0} → (List ℕ → Shape A) → Option (Shape A) → Option (List ℕ) → Option (Shape A)
+abbrev pub text_leads : {A : Type 0} → (List ℕ → Shape A) → Option (Shape A) → Option (List ℕ) → Option (Shape A)
 text_leads to otherwise None = otherwise
 text_leads to otherwise (Some string) = Some (to string)
 

@@ -1,8 +1,11 @@
 //! What a full-text query is as symbols: the grammar of selections, and what begins one.
 #![tactic(auto)]
 
+
 mod parsed;
+mod selection_laws;
 mod symbol;
 
+pub use selection_laws::one_reading;
 pub use parsed::{MatchOption, Parsed, ParsedWords, PlacedOption, PlacedString, PlacedTimes};
 pub use symbol::{Placed, Symbol, Symbols};

@@ -1,0 +1,2 @@
+-- a
+use Rattle.query_grammar.proofs.Paths.{along}
