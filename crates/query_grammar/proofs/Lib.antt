@@ -5,6 +5,8 @@ pub mod Standing
 pub mod Moves
 pub mod OptionMoves
 pub mod Reached
-pub mod Runs
-pub mod Derived
+pub mod Walks
+pub mod PartRuns
+pub mod OptionWalks
+pub mod SelectionWalks
 pub mod Laws

@@ -109,18 +109,28 @@ abbrev pub filtered_next : List Frame → Tree → Shape State
 filtered_next outer x = or_else (and_then filters (λ f. whole (filtered_state outer x f))) (close_next outer x)
 
 -- what may stand behind an operand that stands to the right of these
-abbrev pub joint_next : List Frame → Left → Tree → Shape State
-joint_next outer left x =
+abbrev pub joint_words : List Frame → Left → Tree → Shape State
+joint_words outer left x =
     word (codes "ftor") (λ at. whole (record { outer = outer; left = record { ors = ors_with left x; ands = []; mild = None }; stage = wanted None }))
     (word (codes "ftand") (λ at. whole (record { outer = outer; left = record { ors = left.ors; ands = ands_with left x; mild = None }; stage = wanted None }))
     (word (codes "not") (λ at. key (codes "in") (whole (record { outer = outer; left = record { ors = left.ors; ands = left.ands; mild = Some (mild_with left.mild x) }; stage = wanted None })))
-    (close_next outer (selection_with left x))))
+    nothing))
+
+abbrev pub joint_next : List Frame → Left → Tree → Shape State
+joint_next outer left x = or_else (joint_words outer left x) (close_next outer (selection_with left x))
 
 -- a term of a stop word option
 abbrev pub term_next : List Frame → Left → Option ℕ → Primary → List PlacedOption → ℕ → List StopTerm → Bool → Shape State
 term_next outer left n x options at terms except =
     word (codes "at") (λ p. text (λ q s. whole (record { outer = outer; left = left; stage = stop_terms n x options at (terms ++ record { except = except; source = At s } ∷ []) })) nothing)
     (mark open_parenthesis (text (λ q s. whole (record { outer = outer; left = left; stage = stop_strings n x options at terms except (record { at = q; text = s } ∷ []) })) nothing)
+    nothing)
+
+-- a further term
+abbrev pub term_words : List Frame → Left → Option ℕ → Primary → List PlacedOption → ℕ → List StopTerm → Shape State
+term_words outer left n x options at terms =
+    word (codes "union") (λ p. term_next outer left n x options at terms false)
+    (word (codes "except") (λ p. term_next outer left n x options at terms true)
     nothing)
 
 abbrev pub thesaurus_first : List Frame → Left → Option ℕ → Primary → List PlacedOption → ℕ → Shape State
@@ -143,9 +153,11 @@ using_next outer left n x options at =
     (listed_next outer left n x options at)
 
 -- what may stand behind whole options, but for filters
+abbrev pub using_word : List Frame → Left → Option ℕ → Primary → List PlacedOption → Shape State
+using_word outer left n x options = word (codes "using") (λ at. using_next outer left n x options at) nothing
+
 abbrev pub unfiltered_next : List Frame → Left → Option ℕ → Primary → List PlacedOption → Shape State
-unfiltered_next outer left n x options =
-    word (codes "using") (λ at. using_next outer left n x options at) (joint_next outer left (operand_of n x options))
+unfiltered_next outer left n x options = or_else (using_word outer left n x options) (joint_next outer left (operand_of n x options))
 
 abbrev pub options_next : List Frame → Left → Option ℕ → Primary → List PlacedOption → Shape State
 options_next outer left n x options =
@@ -156,12 +168,16 @@ moded_next outer left n strings mode =
     or_else (and_then times (λ t. whole (record { outer = outer; left = left; stage = given_options n (phrases strings mode (Some t)) [] })))
     (options_next outer left n (phrases strings mode None) [])
 
-abbrev pub valued_next : List Frame → Left → Option ℕ → List PlacedString → Shape State
-valued_next outer left n strings =
+abbrev pub mode_words : List Frame → Left → Option ℕ → List PlacedString → Shape State
+mode_words outer left n strings =
     word (codes "any") (λ at. whole (record { outer = outer; left = left; stage = any_of n strings }))
     (word (codes "all") (λ at. whole (record { outer = outer; left = left; stage = all_of n strings }))
     (word (codes "phrase") (λ at. whole (record { outer = outer; left = left; stage = moded n strings M.Phrase }))
-    (moded_next outer left n strings M.Any)))
+    nothing))
+
+-- the second word of a mode
+abbrev pub mode_word : List ℕ → Mode → List Frame → Left → Option ℕ → List PlacedString → Shape State
+mode_word second mode outer left n strings = word second (λ at. whole (record { outer = outer; left = left; stage = moded n strings mode })) nothing
 
 -- a further string
 abbrev pub string_next : (List PlacedString → State) → List PlacedString → Shape State → Shape State
@@ -180,26 +196,33 @@ thesaurus_use name relationship levels = record { name = name; relationship = re
 abbrev pub levels_end : (Option Range → State) → Range → Shape State
 levels_end stands r = key (codes "levels") (whole (stands (Some r)))
 
+abbrev pub relationship_word : (List ℕ → State) → Option (List ℕ) → Shape State
+relationship_word stands None = word (codes "relationship") (λ p. text (λ q s. whole (stands s)) nothing) nothing
+relationship_word stands (Some relationship) = nothing
+
 abbrev pub relationship_next : (List ℕ → State) → Option (List ℕ) → Shape State → Shape State
-relationship_next stands None rest = word (codes "relationship") (λ p. text (λ q s. whole (stands s)) nothing) rest
-relationship_next stands (Some relationship) rest = rest
+relationship_next stands r rest = or_else (relationship_word stands r) rest
 
 -- Behind a thesaurus and its relationship `at` begins levels or a filter.
+abbrev pub thesaurus_ended : List PlacedOption → ℕ → List ℕ → Option (List ℕ) → Option Range → List PlacedOption
+thesaurus_ended options at s r l = options ++ thesaurus_option at (thesaurus_use s r l ∷ []) ∷ []
+
+abbrev pub thesaurus_selection : Left → Option ℕ → Primary → List PlacedOption → ℕ → List ℕ → Option (List ℕ) → Tree
+thesaurus_selection left n x options at s r = selection_with left (operand_of n x (thesaurus_ended options at s r None))
+
+abbrev pub levels_words : List Frame → Left → Option ℕ → Primary → List PlacedOption → ℕ → List ℕ → Option (List ℕ) → Shape State
+levels_words outer left n x options at s r =
+    word (codes "at") (λ p. or_else (and_then bound (levels_end with_levels)) (and_then side (λ f. whole (filtered_state outer (thesaurus_selection left n x options at s r) f))))
+    (and_then range_without_at (levels_end with_levels))
+  where
+    with_levels : Option Range → State
+    with_levels l = record { outer = outer; left = left; stage = given_options n x (thesaurus_ended options at s r l) }
+
 abbrev pub thesaurus_rest : List Frame → Left → Option ℕ → Primary → List PlacedOption → ℕ → List ℕ → Option (List ℕ) → Shape State
 thesaurus_rest outer left n x options at s r =
-    word (codes "at") (λ p. or_else (and_then bound (levels_end with_levels)) (and_then side (λ f. whole (filtered_state outer selection f))))
-    (or_else (and_then range_without_at (levels_end with_levels))
-    (or_else (and_then filters_without_at (λ f. whole (filtered_state outer selection f)))
-    (unfiltered_next outer left n x (ended None))))
-  where
-    ended : Option Range → List PlacedOption
-    ended l = options ++ thesaurus_option at (thesaurus_use s r l ∷ []) ∷ []
-
-    with_levels : Option Range → State
-    with_levels l = record { outer = outer; left = left; stage = given_options n x (ended l) }
-
-    selection : Tree
-    selection = selection_with left (operand_of n x (ended None))
+    or_else (levels_words outer left n x options at s r)
+    (or_else (and_then filters_without_at (λ f. whole (filtered_state outer (thesaurus_selection left n x options at s r) f)))
+    (unfiltered_next outer left n x (thesaurus_ended options at s r None)))
 
 abbrev pub thesaurus_next : List Frame → Left → Option ℕ → Primary → List PlacedOption → ℕ → List ℕ → Option (List ℕ) → Shape State
 thesaurus_next outer left n x options at s r = relationship_next (λ t. record { outer = outer; left = left; stage = thesaurus n x options at s (Some t) }) r (thesaurus_rest outer left n x options at s r)
@@ -222,15 +245,12 @@ thesaurus_in_next outer left n x options at uses s r = relationship_next (λ t. 
 abbrev pub next_at : List Frame → Left → Stage → Shape State
 next_at outer left (wanted n) = wanted_next outer left n
 next_at outer left (in_braces n strings) = string_next (λ xs. record { outer = outer; left = left; stage = in_braces n xs }) strings (mark close_brace (whole (record { outer = outer; left = left; stage = valued n strings })) nothing)
-next_at outer left (valued n strings) = valued_next outer left n strings
-next_at outer left (any_of n strings) = word (codes "word") (λ at. whole (record { outer = outer; left = left; stage = moded n strings M.AnyWord })) (moded_next outer left n strings M.Any)
-next_at outer left (all_of n strings) = word (codes "words") (λ at. whole (record { outer = outer; left = left; stage = moded n strings M.AllWords })) (moded_next outer left n strings M.All)
+next_at outer left (valued n strings) = or_else (mode_words outer left n strings) (moded_next outer left n strings M.Any)
+next_at outer left (any_of n strings) = or_else (mode_word (codes "word") M.AnyWord outer left n strings) (moded_next outer left n strings M.Any)
+next_at outer left (all_of n strings) = or_else (mode_word (codes "words") M.AllWords outer left n strings) (moded_next outer left n strings M.All)
 next_at outer left (moded n strings mode) = moded_next outer left n strings mode
 next_at outer left (given_options n x options) = options_next outer left n x options
-next_at outer left (stop_terms n x options at terms) =
-    word (codes "union") (λ p. term_next outer left n x options at terms false)
-    (word (codes "except") (λ p. term_next outer left n x options at terms true)
-    (options_next outer left n x (options ++ stop_option at terms ∷ [])))
+next_at outer left (stop_terms n x options at terms) = or_else (term_words outer left n x options at terms) (options_next outer left n x (options ++ stop_option at terms ∷ []))
 next_at outer left (stop_strings n x options at terms except strings) =
     string_next (λ xs. record { outer = outer; left = left; stage = stop_strings n x options at terms except xs }) strings
     (mark close_parenthesis (whole (record { outer = outer; left = left; stage = stop_terms n x options at (terms ++ record { except = except; source = Written (texts_of strings) } ∷ []) })) nothing)

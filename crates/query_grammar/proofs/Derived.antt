@@ -1,2 +1,0 @@
--- a
-use Rattle.query_grammar.proofs.Paths.{along}
