@@ -9,4 +9,5 @@ pub mod Walks
 pub mod PartRuns
 pub mod OptionWalks
 pub mod SelectionWalks
+pub mod Ended
 pub mod Laws

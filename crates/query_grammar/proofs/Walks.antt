@@ -48,7 +48,7 @@ pub walks_same : {s t : State} {u w : List Placed} → Walks s u t → u ≡ w �
 walks_same {s = s} {t = t} x e = subst (λ z. Walks s z t) e x
 
 -- within a construct the machine only follows its shape
-run_on_of : (u : List Placed) (o : Option (Shape State)) (s : State) → run o u ≡ Some (whole s) → run_on o u ≡ Some (whole s)
+pub run_on_of : (u : List Placed) (o : Option (Shape State)) (s : State) → run o u ≡ Some (whole s) → run_on o u ≡ Some (whole s)
 run_on_of u None s e = e
 run_on_of [] (Some t) s e = e
 run_on_of (p ∷ u) (Some (whole a)) s e = cc

@@ -6,6 +6,6 @@ mod parsed;
 mod selection_laws;
 mod symbol;
 
-pub use selection_laws::one_reading;
+pub use selection_laws::{machine_reads, machine_stops, one_reading};
 pub use parsed::{MatchOption, Parsed, ParsedWords, PlacedOption, PlacedString, PlacedTimes};
 pub use symbol::{Placed, Symbol, Symbols};
