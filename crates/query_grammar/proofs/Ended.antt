@@ -102,8 +102,8 @@ joint_ends outer left x = ends_or_else (m.joint_words outer left x) (close_next 
 
 
 using_ends : (outer : List Frame) (left : Left) (n : Option ℕ) (x : Primary) (os : List PlacedOption) (at : ℕ) → Ends true (m.using_next outer left n x os at)
-using_ends outer left n x os at = ends_or_else (and_then (plain_option at) (λ o. whole (st outer left (m.given_options n x (os ++ o ∷ []))))) (m.listed_next outer left n x os at) ((λ p. ((λ p. tt), ((λ p. tt), tt))), ((λ p. tt), ((λ p. tt), ((λ p. ((λ p. tt), ((λ p. tt), tt))), ((λ p. tt), ((λ p. tt), ((λ p. ((λ p s. tt), tt)), ((λ p. ((λ p. tt), ((λ p. tt), ((λ p. tt), ((λ p. ((λ p. tt), tt)), tt))))), tt))))))))
-    ((λ p. ((λ q. ((λ r s. tt), tt)), ((((λ q. ((λ r s. tt), tt)), tt), tt)))), ((λ p. ((λ q. ((λ r. ((λ t s. tt), tt)), (((λ t s. tt), tt), tt))), tt)), tt))
+using_ends outer left n x os at = ends_or_else (m.listed_next outer left n x os at) (and_then (plain_option at) (λ o. whole (st outer left (m.given_options n x (os ++ o ∷ [])))))
+    ((λ p. ((λ q. ((λ r s. tt), tt)), ((((λ q. ((λ r s. tt), tt)), tt), tt)))), ((λ p. ((λ q. ((λ r. ((λ t s. tt), tt)), (((λ t s. tt), tt), tt))), tt)), tt)) ((λ p. ((λ p. tt), ((λ p. tt), tt))), ((λ p. tt), ((λ p. tt), ((λ p. ((λ p. tt), ((λ p. tt), tt))), ((λ p. tt), ((λ p. tt), ((λ p. ((λ p s. tt), tt)), ((λ p. ((λ p. tt), ((λ p. tt), ((λ p. tt), ((λ p. ((λ p. tt), tt)), tt))))), tt))))))))
 
 unfiltered_ends : (outer : List Frame) (left : Left) (n : Option ℕ) (x : Primary) (os : List PlacedOption) → Ends true (m.unfiltered_next outer left n x os)
 unfiltered_ends outer left n x os = ends_or_else (m.using_word outer left n x os) (m.joint_next outer left (operand_of n x os)) ((λ p. using_end p), tt) (joint_ends outer left (operand_of n x os))

@@ -31,6 +31,7 @@ use Rattle.query_grammar.proofs.OptionMoves.{base_words}
 use Rattle.query_grammar.proofs.Reached.{Stood, stood}
 use Rattle.query_grammar.proofs.Walks.{st, Walks, run_on_of, run_on-append}
 use Rattle.query_grammar.proofs.SelectionWalks.{Closes, CloseWalk, selection_walk}
+use Rattle.query_grammar.proofs.Readings.{reading-and_then}
 use Rattle.query_grammar.proofs.Ended.{Ends, End, end_of, step_ends, next_ends}
 
 -- whatever is spelled is read, as that selection

@@ -10,4 +10,6 @@ pub mod PartRuns
 pub mod OptionWalks
 pub mod SelectionWalks
 pub mod Ended
+pub mod Readings
+pub mod Views
 pub mod Laws

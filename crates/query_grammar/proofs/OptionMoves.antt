@@ -35,8 +35,8 @@ other_filters_then k rest P h = paths_or_else (and_then filters_without_at (λ x
 times_then : (k : PlacedTimes → State) (rest : Shape State) (P : List Placed → State → Type 0) → ((v : List Placed) (x : PlacedTimes) → Spelled times v x → P (v ++ []) (k x)) → Paths rest P → Paths (or_else (and_then times (λ x. whole (k x))) rest) P
 times_then k rest P h = paths_or_else (and_then times (λ x. whole (k x))) rest P (paths_then times (λ x. whole (k x)) P (times_each (λ v x. P (v ++ []) (k x)) h))
 
-options_then : (at : ℕ) (k : PlacedOption → State) (rest : Shape State) (P : List Placed → State → Type 0) → ((v : List Placed) (x : PlacedOption) → Spelled (plain_option at) v x → P (v ++ []) (k x)) → Paths rest P → Paths (or_else (and_then (plain_option at) (λ x. whole (k x))) rest) P
-options_then at k rest P h = paths_or_else (and_then (plain_option at) (λ x. whole (k x))) rest P (paths_then (plain_option at) (λ x. whole (k x)) P (plain_option_each at (λ v x. P (v ++ []) (k x)) h))
+options_then : (at : ℕ) (k : PlacedOption → State) (P : List Placed → State → Type 0) → ((v : List Placed) (x : PlacedOption) → Spelled (plain_option at) v x → P (v ++ []) (k x)) → Paths (and_then (plain_option at) (λ x. whole (k x))) P
+options_then at k P h = paths_then (plain_option at) (λ x. whole (k x)) P (plain_option_each at (λ v x. P (v ++ []) (k x)) h)
 
 -- an option
 pub option_leads : {u w v : List Placed} {outer : List Frame} {left : Left} {n : Option ℕ} {x : Primary} {os : List PlacedOption} {o : PlacedOption} → In u outer left w → Base w n x os → Given v o → Stands (u ++ v) (record { outer = outer; left = left; stage = m.given_options n x (os ++ o ∷ []) })
@@ -44,11 +44,12 @@ option_leads {w = w} {v = v} a b o = leads a v (w ++ v) (Under.given_options (ba
 
 using_moves : {u w : List Placed} {outer : List Frame} {left : Left} {n : Option ℕ} {x : Primary} {os : List PlacedOption} → In u outer left w → Base w n x os → (p : Spot) → Paths (m.using_next outer left n x os p.0) (λ v s. Stands (u ++ name p (codes "using") ∷ v) s)
 using_moves {u = u} {w = w} {outer = outer} {left = left} {n = n} {x = x} {os = os} a b p =
-    options_then p.0 (λ o. record { outer = outer; left = left; stage = m.given_options n x (os ++ o ∷ []) }) (m.listed_next outer left n x os p.0) (λ v s. Stands (u ++ name p (codes "using") ∷ v) s)
-    (λ v o h. stands_same (option_leads a b (g.Given.plain p h)) (ap (λ z. u ++ name p (codes "using") ∷ z) (sym (append-nil v))))
+    paths_or_else (m.listed_next outer left n x os p.0) (and_then (plain_option p.0) (λ o. whole (record { outer = outer; left = left; stage = m.given_options n x (os ++ o ∷ []) }))) (λ v s. Stands (u ++ name p (codes "using") ∷ v) s)
     ((λ q. ((λ r. ((λ t s. leads a (using_thesaurus p q (name r (codes "at") ∷ string t s ∷ [])) _ (Under.thesaurus b p q (g.Named.plain r t s)) refl), tt)),
         ((λ r. ((λ t. ((λ i s. leads a (using_thesaurus p q (at r S.OpenParenthesis ∷ name t (codes "at") ∷ string i s ∷ [])) _ (Under.thesaurus_in b p q r UsesBefore.none (g.Named.plain t i s)) refl), tt)), tt)), tt))),
     ((λ q. ((λ r. paths_map (m.term_next outer left n x os p.0 [] false) (Behind (u ++ using_stop p q r [])) (λ v s. Stands (u ++ using_stop p q r v) s) (λ v s h. stands_same h (append_assoc u (using_stop p q r []) v)) (term_moves p q r (grown a (using_stop p q r [])) b TermsBefore.none)), tt)), tt))
+    (options_then p.0 (λ o. record { outer = outer; left = left; stage = m.given_options n x (os ++ o ∷ []) }) (λ v s. Stands (u ++ name p (codes "using") ∷ v) s)
+        (λ v o h. stands_same (option_leads a b (g.Given.plain p h)) (ap (λ z. u ++ name p (codes "using") ∷ z) (sym (append-nil v)))))
 
 pub unfiltered_moves : {u w : List Placed} {outer : List Frame} {left : Left} {n : Option ℕ} {x : Primary} {os : List PlacedOption} → In u outer left w → Base w n x os → Paths (m.unfiltered_next outer left n x os) (Behind u)
 unfiltered_moves a b = ((λ p. using_moves a b p), joint_moves a (base_unary b))

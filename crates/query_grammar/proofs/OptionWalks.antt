@@ -204,7 +204,7 @@ terms_walk {outer = outer} {left = left} {n = n} {x = x} {os = os} {s = s} p q r
 -- an option
 pub given_walk : {outer : List Frame} {left : Left} {n : Option ℕ} {x : Primary} {os : List PlacedOption} {s : State} {u : List Placed} {o : PlacedOption} → Ready outer left n x os s → Given u o → OptionWalk outer left n x (os ++ o ∷ []) s u
 given_walk {outer = outer} {left = left} {n = n} {x = x} {os = os} ready (Given.plain {u = u} {o = o} p h) = record { there = st outer left (m.given_options n x (os ++ o ∷ []));
-  walks = walk ready.takes (name p (codes "using")) u (st outer left (m.given_options n x (os ++ o ∷ []))) (option_run p.0 (λ y. st outer left (m.given_options n x (os ++ y ∷ []))) (m.listed_next outer left n x os p.0) u o h);
+  walks = walk ready.takes (name p (codes "using")) u (st outer left (m.given_options n x (os ++ o ∷ []))) (option_run outer left n x os p.0 u o h);
   ready = given_ready outer left n x (os ++ o ∷ []) }
 given_walk ready (Given.thesaurus p q taken) = one_thesaurus p q ready taken
 given_walk {outer = outer} {left = left} {n = n} {x = x} {os = os} {s = s} ready (Given.thesauri {u = u} {xs = us} p q r uses t) = go (thesauri_walk p q r ready uses)

@@ -32,8 +32,8 @@ filters_run k rest v x h = along filters (λ v x. run (Some (or_else (and_then f
 pub times_run : (k : PlacedTimes → State) (rest : Shape State) (v : List Placed) (x : PlacedTimes) → Spelled times v x → run (Some (or_else (and_then times (λ f. whole (k f))) rest)) v ≡ Some (whole (k x))
 times_run k rest v x h = along times (λ v x. run (Some (or_else (and_then times (λ f. whole (k f))) rest)) v ≡ Some (whole (k x))) ((λ p. ((λ p. ((λ p n. ((λ p. refl), tt)), tt)), ((λ p. ((λ p n. ((λ p. ((λ p n. ((λ p. refl), tt)), tt)), tt)), tt)), ((λ p. ((λ p. ((λ p n. ((λ p. refl), tt)), tt)), ((λ p. ((λ p n. ((λ p. refl), tt)), tt)), tt))), tt)))), tt) v x h.runs
 
-pub option_run : (at : ℕ) (k : PlacedOption → State) (rest : Shape State) (v : List Placed) (x : PlacedOption) → Spelled (plain_option at) v x → run (Some (or_else (and_then (plain_option at) (λ f. whole (k f))) rest)) v ≡ Some (whole (k x))
-option_run at k rest v x h = along (plain_option at) (λ v x. run (Some (or_else (and_then (plain_option at) (λ f. whole (k f))) rest)) v ≡ Some (whole (k x))) ((λ p. ((λ p. refl), ((λ p. refl), tt))), ((λ p. refl), ((λ p. refl), ((λ p. ((λ p. refl), ((λ p. refl), tt))), ((λ p. refl), ((λ p. refl), ((λ p. ((λ p s. refl), tt)), ((λ p. ((λ p. refl), ((λ p. refl), ((λ p. refl), ((λ p. ((λ p. refl), tt)), tt))))), tt)))))))) v x h.runs
+pub option_run : (outer : List Frame) (left : Left) (n : Option ℕ) (y : Primary) (os : List PlacedOption) (at : ℕ) (v : List Placed) (x : PlacedOption) → Spelled (plain_option at) v x → run (Some (m.using_next outer left n y os at)) v ≡ Some (whole (st outer left (m.given_options n y (os ++ x ∷ []))))
+option_run outer left n y os at v x h = along (plain_option at) (λ v x. run (Some (m.using_next outer left n y os at)) v ≡ Some (whole (st outer left (m.given_options n y (os ++ x ∷ []))))) ((λ p. ((λ p. refl), ((λ p. refl), tt))), ((λ p. refl), ((λ p. refl), ((λ p. ((λ p. refl), ((λ p. refl), tt))), ((λ p. refl), ((λ p. refl), ((λ p. ((λ p s. refl), tt)), ((λ p. ((λ p. refl), ((λ p. refl), ((λ p. refl), ((λ p. ((λ p. refl), tt)), tt))))), tt)))))))) v x h.runs
 
 pub thesaurus_filters_run : (outer : List Frame) (left : Left) (n : Option ℕ) (y : Primary) (os : List PlacedOption) (at : ℕ) (s : List ℕ) (r : Option (List ℕ)) (v : List Placed) (x : Filter) → Spelled filters v x → run (Some (m.thesaurus_rest outer left n y os at s r)) v ≡ Some (whole (filtered_state outer (selection_with left (operand_of n y (os ++ thesaurus_option at (thesaurus_use s r None ∷ []) ∷ []))) x))
 thesaurus_filters_run outer left n y os at s r v x h = along filters (λ v x. run (Some (m.thesaurus_rest outer left n y os at s r)) v ≡ Some (whole (filtered_state outer (selection_with left (operand_of n y (os ++ thesaurus_option at (thesaurus_use s r None ∷ []) ∷ []))) x))) ((λ p. refl), ((λ p. ((λ p n. ((λ p. refl), ((λ p. refl), ((λ p. refl), tt)))), tt)), ((λ p. ((λ p. ((λ p n. ((λ p. refl), ((λ p. refl), ((λ p. refl), tt)))), tt)), ((λ p. ((λ p n. ((λ p. ((λ p n. ((λ p. refl), ((λ p. refl), ((λ p. refl), tt)))), tt)), tt)), tt)), ((λ p. ((λ p. ((λ p n. ((λ p. refl), ((λ p. refl), ((λ p. refl), tt)))), tt)), ((λ p. ((λ p n. ((λ p. refl), ((λ p. refl), ((λ p. refl), tt)))), tt)), tt))), tt)))), ((λ p. ((λ p. refl), ((λ p. refl), tt))), ((λ p. ((λ p. refl), ((λ p. refl), tt))), ((λ p. ((λ p. refl), tt)), ((λ p. ((λ p. refl), ((λ p. refl), tt))), tt))))))) v x h.runs

@@ -149,8 +149,8 @@ listed_next outer left n x options at =
 -- an option
 abbrev pub using_next : List Frame → Left → Option ℕ → Primary → List PlacedOption → ℕ → Shape State
 using_next outer left n x options at =
-    or_else (and_then (plain_option at) (λ o. whole (record { outer = outer; left = left; stage = given_options n x (options ++ o ∷ []) })))
-    (listed_next outer left n x options at)
+    or_else (listed_next outer left n x options at)
+    (and_then (plain_option at) (λ o. whole (record { outer = outer; left = left; stage = given_options n x (options ++ o ∷ []) })))
 
 -- what may stand behind whole options, but for filters
 abbrev pub using_word : List Frame → Left → Option ℕ → Primary → List PlacedOption → Shape State

@@ -1,0 +1,35 @@
+-- Selections for examples.
+use Rattle.std.specs.Prelude.{ℕ, zero, suc, ◌+◌, ◌*◌, List, [], ◌∷◌, Option, Some, None}
+use Rattle.ft_base.specs.declared.range.Range.TheVariants.{AtLeast}
+use Rattle.ft_base.specs.declared.words.Mode.{Mode}
+use Rattle.ft_base.specs.declared.words.Mode.TheVariants as M
+use Rattle.query_grammar.specs.Tree.{Tree, words}
+use Rattle.query_grammar.specs.declared.parsed.MatchOption.{MatchOption}
+use Rattle.query_grammar.specs.declared.parsed.PlacedOption.{PlacedOption}
+use Rattle.query_grammar.specs.declared.parsed.PlacedString.{PlacedString}
+use Rattle.query_grammar.specs.declared.parsed.PlacedTimes.{PlacedTimes}
+
+abbrev pub string : ℕ → List ℕ → PlacedString
+string at text = record { at = at; text = text }
+
+abbrev pub using_at : ℕ → MatchOption → PlacedOption
+using_at at option = record { at = at; option = option }
+
+-- one string with options
+abbrev pub quoted_with : ℕ → List ℕ → List PlacedOption → Tree
+quoted_with at text options = words (record { strings = string at text ∷ []; mode = M.Any; times = None; options = options })
+
+abbrev pub quoted : ℕ → List ℕ → Tree
+quoted at text = quoted_with at text []
+
+-- one string with `occurs` behind it
+abbrev pub counted : ℕ → List ℕ → ℕ → Tree
+counted at text times_at = words (record { strings = string at text ∷ []; mode = M.Any; times = Some record { at = times_at; range = AtLeast 1 }; options = [] })
+
+-- so many strings of one letter, each nine bytes behind the one before
+abbrev pub strings_from : ℕ → ℕ → List PlacedString
+strings_from at zero = []
+strings_from at (suc n) = string at (97 ∷ []) ∷ strings_from (at + 9) n
+
+abbrev pub value : Mode → List PlacedString → Tree
+value mode strings = words (record { strings = strings; mode = mode; times = None; options = [] })

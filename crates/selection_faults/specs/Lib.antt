@@ -1,0 +1,9 @@
+pub mod Least
+pub mod Excludes
+pub mod Options
+pub mod Strings
+pub mod Faults
+pub mod Kinds
+pub mod LeastPlaces
+pub mod Walk
+pub mod Examples

@@ -1,0 +1,17 @@
+//! What is wrong with a selection that was read, and the selection that it stands for.
+#![tactic(auto)]
+
+mod fault_examples;
+mod faults;
+mod given;
+mod least_places;
+mod options;
+mod placed_fault;
+mod selection;
+mod strings;
+#[cfg(test)]
+mod tests;
+
+pub use fault_examples::{excludes, options as option_groups, phrases, several, wildcards};
+pub use faults::first_fault;
+pub use selection::selection_of;

@@ -1,0 +1,8 @@
+use ft_base::QueryFault;
+
+/// A fault of a selection, with its place beside it.
+#[derive(Clone, Copy, Debug)]
+pub struct PlacedFault {
+    pub at: usize,
+    pub fault: QueryFault,
+}
