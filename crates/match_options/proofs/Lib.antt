@@ -1,3 +1,4 @@
 pub mod Reading
 pub mod GrammarLemmas
 pub mod PartLemmas
+pub mod WildLemmas

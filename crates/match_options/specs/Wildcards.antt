@@ -1,10 +1,11 @@
 -- What a pattern covers (XQuery and XPath Full Text 3.0, section 3.4.2: FTWildCardOption).
-use Rattle.std.specs.Prelude.{ℕ, suc, Bool, true, false, ◌&&◌, ◌==◌, nat_le, List, [], ◌∷◌, ◌++◌, map, length, drop, Option, Some, None}
+use Rattle.std.specs.Prelude.{ℕ, suc, Bool, true, false, ◌&&◌, ◌==◌, nat_le, List, [], ◌∷◌, ◌++◌, map, length, drop, Option, Some, None, option_map, chars}
 use Rattle.std.specs.List.{list_any, range_with_len}
 use Rattle.ft_base.specs.declared.options.Options.{Options}
 use Rattle.ft_base.specs.declared.options.Case.{Case}
 use Rattle.ft_base.specs.declared.options.Case.TheVariants.{Insensitive, Sensitive, Lower, Upper}
 use Rattle.text_forms.specs.Forms.{key_form, plain_case_form, plain_marks_form, exact_form}
+use Rattle.match_options.specs.Patterns.{atoms_of}
 use Rattle.match_options.specs.TokenTest.{is_on, case_of}
 use Rattle.match_options.specs.declared.atom.Atom.{Atom}
 use Rattle.match_options.specs.declared.atom.Atom.TheVariants.{Letter, Gap}
@@ -20,14 +21,15 @@ form_by Lower false characters = key_form characters
 form_by Upper true characters = plain_case_form characters
 form_by Upper false characters = key_form characters
 
-abbrev pub chosen_form : Options → List ℕ → List ℕ
-chosen_form options characters = form_by (case_of options.case) (is_on options.diacritics_sensitive) characters
-
 -- atoms whose runs of letters are put through a form, behind the letters of a run
 unfoldable pub formed : (List ℕ → List ℕ) → List ℕ → List Atom → List Atom
 formed form run [] = map Letter (form run)
 formed form run (Letter c ∷ rest) = formed form (run ++ c ∷ []) rest
 formed form run (Gap low high ∷ rest) = map Letter (form run) ++ Gap low high ∷ formed form [] rest
+
+-- the atoms of a pattern under options, unless it is badly formed
+abbrev pub pattern_of : Options → List ℕ → Option (List Atom)
+pattern_of options pattern = option_map (formed (form_by (case_of options.case) (is_on options.diacritics_sensitive)) []) (atoms_of (chars pattern))
 
 -- whether a gap may stand for so many characters
 abbrev pub fits_gap : ℕ → Option ℕ → ℕ → Bool

@@ -10,6 +10,7 @@ mod pattern;
 mod pattern_examples;
 mod pattern_laws;
 mod splitting;
+mod wild;
 mod word_forms;
 
 pub use comparing::{forms, same_token};
@@ -18,4 +19,5 @@ pub use pattern::{has_bad_pattern, is_pattern};
 pub use pattern_examples::{braces, literals, periods};
 pub use pattern_laws::pattern_law;
 pub use splitting::parts;
+pub use wild::{Wild, WildFault};
 pub use word_forms::Forms;

@@ -63,7 +63,7 @@ fn end_part(alloc: Global, parts: &mut Lines, part: &[char]) -> Result<(), Memor
     parts.push(text)
 }
 
-fn text_of(alloc: Global, letters: &[char]) -> Result<Line, Memory>
+pub(crate) fn text_of(alloc: Global, letters: &[char]) -> Result<Line, Memory>
     ensures { IfOk result (λ line. line ≡ encode_utf8_all letters.now) }
 {
     let mut text = String::new(alloc);
