@@ -6,8 +6,8 @@ ghost use Rattle.ft_parser.specs.Symbols as spec;
 
 use crate::characters::{is_digit, is_quote, is_slash};
 use crate::lexeme::{Lexeme, Quoted};
-use query_grammar::Symbol;
 use ft_base::{Line, Memory, is_name_char, is_name_start};
+use query_grammar::Symbol;
 use std::alloc::Global;
 
 /// The symbol that begins with the first character.

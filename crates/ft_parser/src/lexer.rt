@@ -6,8 +6,8 @@ ghost use Rattle.ft_parser.specs.Symbols.{Stays_within, Steps_to, bytes_of_first
 use crate::characters::is_blank;
 use crate::front::front;
 use crate::lexeme::Turn;
-use query_grammar::{Placed, Symbols};
 use ft_base::{Items, Memory};
+use query_grammar::{Placed, Symbols};
 use std::alloc::Global;
 
 /// The symbols of a text with their places, up to the first character that begins none. It reads the text once.

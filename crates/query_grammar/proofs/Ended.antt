@@ -100,7 +100,6 @@ close_ends (frame ∷ outer) x = (tt, tt)
 joint_ends : (outer : List Frame) (left : Left) (x : Tree) → Ends true (m.joint_next outer left x)
 joint_ends outer left x = ends_or_else (m.joint_words outer left x) (close_next outer (selection_with left x)) ((λ p. tt), ((λ p. tt), ((λ p. ((λ q. tt), tt)), tt))) (close_ends outer (selection_with left x))
 
-
 using_ends : (outer : List Frame) (left : Left) (n : Option ℕ) (x : Primary) (os : List PlacedOption) (at : ℕ) → Ends true (m.using_next outer left n x os at)
 using_ends outer left n x os at = ends_or_else (m.listed_next outer left n x os at) (and_then (plain_option at) (λ o. whole (st outer left (m.given_options n x (os ++ o ∷ [])))))
     ((λ p. ((λ q. ((λ r s. tt), tt)), ((((λ q. ((λ r s. tt), tt)), tt), tt)))), ((λ p. ((λ q. ((λ r. ((λ t s. tt), tt)), (((λ t s. tt), tt), tt))), tt)), tt)) ((λ p. ((λ p. tt), ((λ p. tt), tt))), ((λ p. tt), ((λ p. tt), ((λ p. ((λ p. tt), ((λ p. tt), tt))), ((λ p. tt), ((λ p. tt), ((λ p. ((λ p s. tt), tt)), ((λ p. ((λ p. tt), ((λ p. tt), ((λ p. tt), ((λ p. ((λ p. tt), tt)), tt))))), tt))))))))

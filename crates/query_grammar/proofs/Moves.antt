@@ -69,21 +69,32 @@ filter_leads_on {u = u} {v = v} x e y h = stands_same (filter_leads x e y h) (ap
 -- a closing parenthesis
 pub close_moves : {u i o : List Placed} {outer : List Frame} {x : Tree} → Outer o outer → u ≡ o ++ i → Selection i x → Paths (m.close_next outer x) (Behind u)
 close_moves Outer.none e y = tt
-close_moves {u = u} {i = i} (Outer.open_one {u = o} {v = l} {w = n} outer left negation p) e y =
-    ((λ q. record { outside = o; inside = l ++ (n ++ (at p S.OpenParenthesis ∷ i ++ at q S.CloseParenthesis ∷ []) ++ []);
-        spelled = ap (λ z. z ++ at q S.CloseParenthesis ∷ []) e ∙ closed o l n i (at p S.OpenParenthesis) (at q S.CloseParenthesis ∷ []); outer = outer;
-        within = Within.operand left (Under.given_options (Base.base negation (g.Operand.parentheses p y q) g.Options.none)) }), tt)
+close_moves {u = u} {i = i} (Outer.open_one {u = o} {v = l} {w = n} outer left negation p) e y = (
+  (λ q. record {
+    outside = o;
+    inside = l ++ (n ++ (at p S.OpenParenthesis ∷ i ++ at q S.CloseParenthesis ∷ []) ++ []);
+    spelled = ap (λ z. z ++ at q S.CloseParenthesis ∷ []) e ∙ closed o l n i (at p S.OpenParenthesis) (at q S.CloseParenthesis ∷ []);
+    outer = outer;
+    within = Within.operand left (Under.given_options (Base.base negation (g.Operand.parentheses p y q) g.Options.none));
+  }),
+  tt,
+)
   where
     closed : (o l n i : List Placed) (p : Placed) (q : List Placed) → o ++ l ++ n ++ p ∷ [] ++ i ++ q ≡ o ++ (l ++ (n ++ (p ∷ i ++ q) ++ []))
     closed o l n i p q = simp (append_assoc, append-nil)
 
 -- behind a whole operand
 pub joint_moves : {u w : List Placed} {outer : List Frame} {left : Left} {x : Tree} → In u outer left w → Unary w x → Paths (m.joint_next outer left x) (Behind u)
-joint_moves {u = u} {w = w} {outer = outer} a x =
-    ((λ p. began (name p (codes "ftor") ∷ []) (left_or a.lefts x p)),
-    ((λ p. began (name p (codes "ftand") ∷ []) (left_and a.lefts x p)),
-    ((λ p. ((λ q. began (name p (codes "not") ∷ name q (codes "in") ∷ []) (left_mild a.lefts x p q)), tt)),
-    close_moves a.opened a.spelled (left_selection a.lefts x))))
+joint_moves {u = u} {w = w} {outer = outer} a x = (
+  (λ p. began (name p (codes "ftor") ∷ []) (left_or a.lefts x p)),
+  (
+    (λ p. began (name p (codes "ftand") ∷ []) (left_and a.lefts x p)),
+    (
+      (λ p. ((λ q. began (name p (codes "not") ∷ name q (codes "in") ∷ []) (left_mild a.lefts x p q)), tt)),
+      close_moves a.opened a.spelled (left_selection a.lefts x),
+    ),
+  ),
+)
   where
     began : {left : Left} (v : List Placed) → Lefts (a.before ++ w ++ v) left → Stands (u ++ v) (record { outer = outer; left = left; stage = m.wanted None })
     began v l = record { outside = a.outside; inside = a.before ++ w ++ v ++ []; spelled = ap (λ z. z ++ v) a.spelled ∙ append_assoc a.outside (a.before ++ w) v ∙ ap (λ z. a.outside ++ z) (sym (append-nil (a.before ++ w ++ v))); outer = a.opened; within = Within.operand l (Under.wanted g.Negation.none) }
@@ -98,6 +109,7 @@ terms_with {v = v} (TermsBefore.some {u = u} ts p except) x = terms_same (g.Term
 
 pub term_moves : {u w v : List Placed} {outer : List Frame} {left : Left} {n : Option ℕ} {x : Primary} {os : List PlacedOption} {ts : List StopTerm} {except : Bool} (p q r : Spot) → In u outer left (w ++ using_stop p q r v) → Base w n x os → TermsBefore v ts except
     → Paths (m.term_next outer left n x os p.0 ts except) (Behind u)
-term_moves {w = w} {v = v} p q r a b before =
-    ((λ i. ((λ j s. leads a (name i (codes "at") ∷ string j s ∷ []) _ (Under.stop_terms b p q r (terms_with before (g.Source.list i j s))) (sym (append_assoc w (using_stop p q r v) (name i (codes "at") ∷ string j s ∷ [])))), tt)),
-    ((λ i. ((λ j s. leads a (at i S.OpenParenthesis ∷ string j s ∷ []) _ (Under.stop_strings b p q r before i (g.Strings.first j s)) (sym (append_assoc w (using_stop p q r v) (at i S.OpenParenthesis ∷ string j s ∷ [])))), tt)), tt))
+term_moves {w = w} {v = v} p q r a b before = (
+  (λ i. ((λ j s. leads a (name i (codes "at") ∷ string j s ∷ []) _ (Under.stop_terms b p q r (terms_with before (g.Source.list i j s))) (sym (append_assoc w (using_stop p q r v) (name i (codes "at") ∷ string j s ∷ [])))), tt)),
+  ((λ i. ((λ j s. leads a (at i S.OpenParenthesis ∷ string j s ∷ []) _ (Under.stop_strings b p q r before i (g.Strings.first j s)) (sym (append_assoc w (using_stop p q r v) (at i S.OpenParenthesis ∷ string j s ∷ [])))), tt)), tt),
+)

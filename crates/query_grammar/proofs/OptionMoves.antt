@@ -44,12 +44,15 @@ option_leads {w = w} {v = v} a b o = leads a v (w ++ v) (Under.given_options (ba
 
 using_moves : {u w : List Placed} {outer : List Frame} {left : Left} {n : Option ℕ} {x : Primary} {os : List PlacedOption} → In u outer left w → Base w n x os → (p : Spot) → Paths (m.using_next outer left n x os p.0) (λ v s. Stands (u ++ name p (codes "using") ∷ v) s)
 using_moves {u = u} {w = w} {outer = outer} {left = left} {n = n} {x = x} {os = os} a b p =
-    paths_or_else (m.listed_next outer left n x os p.0) (and_then (plain_option p.0) (λ o. whole (record { outer = outer; left = left; stage = m.given_options n x (os ++ o ∷ []) }))) (λ v s. Stands (u ++ name p (codes "using") ∷ v) s)
-    ((λ q. ((λ r. ((λ t s. leads a (using_thesaurus p q (name r (codes "at") ∷ string t s ∷ [])) _ (Under.thesaurus b p q (g.Named.plain r t s)) refl), tt)),
-        ((λ r. ((λ t. ((λ i s. leads a (using_thesaurus p q (at r S.OpenParenthesis ∷ name t (codes "at") ∷ string i s ∷ [])) _ (Under.thesaurus_in b p q r UsesBefore.none (g.Named.plain t i s)) refl), tt)), tt)), tt))),
-    ((λ q. ((λ r. paths_map (m.term_next outer left n x os p.0 [] false) (Behind (u ++ using_stop p q r [])) (λ v s. Stands (u ++ using_stop p q r v) s) (λ v s h. stands_same h (append_assoc u (using_stop p q r []) v)) (term_moves p q r (grown a (using_stop p q r [])) b TermsBefore.none)), tt)), tt))
+    paths_or_else (m.listed_next outer left n x os p.0) (and_then (plain_option p.0) (λ o. whole (record { outer = outer; left = left; stage = m.given_options n x (os ++ o ∷ []) }))) (λ v s. Stands (u ++ name p (codes "using") ∷ v) s) (
+      (λ q. (
+        (λ r. ((λ t s. leads a (using_thesaurus p q (name r (codes "at") ∷ string t s ∷ [])) _ (Under.thesaurus b p q (g.Named.plain r t s)) refl), tt)),
+        ((λ r. ((λ t. ((λ i s. leads a (using_thesaurus p q (at r S.OpenParenthesis ∷ name t (codes "at") ∷ string i s ∷ [])) _ (Under.thesaurus_in b p q r UsesBefore.none (g.Named.plain t i s)) refl), tt)), tt)), tt),
+      )),
+      ((λ q. ((λ r. paths_map (m.term_next outer left n x os p.0 [] false) (Behind (u ++ using_stop p q r [])) (λ v s. Stands (u ++ using_stop p q r v) s) (λ v s h. stands_same h (append_assoc u (using_stop p q r []) v)) (term_moves p q r (grown a (using_stop p q r [])) b TermsBefore.none)), tt)), tt),
+    )
     (options_then p.0 (λ o. record { outer = outer; left = left; stage = m.given_options n x (os ++ o ∷ []) }) (λ v s. Stands (u ++ name p (codes "using") ∷ v) s)
-        (λ v o h. stands_same (option_leads a b (g.Given.plain p h)) (ap (λ z. u ++ name p (codes "using") ∷ z) (sym (append-nil v)))))
+    (λ v o h. stands_same (option_leads a b (g.Given.plain p h)) (ap (λ z. u ++ name p (codes "using") ∷ z) (sym (append-nil v)))))
 
 pub unfiltered_moves : {u w : List Placed} {outer : List Frame} {left : Left} {n : Option ℕ} {x : Primary} {os : List PlacedOption} → In u outer left w → Base w n x os → Paths (m.unfiltered_next outer left n x os) (Behind u)
 unfiltered_moves a b = ((λ p. using_moves a b p), joint_moves a (base_unary b))
@@ -93,10 +96,17 @@ thesaurus_moves {u = u} {w = w} {v = v} {outer = outer} {left = left} {n = n} {x
     filter_next h = filter_leads a.opened a.spelled (left_selection a.lefts (base_unary ended)) h
 
     rest : Paths (m.thesaurus_rest outer left n x os p.0 s r) (Behind u)
-    rest = ((λ i. ((λ j. ((λ k n. ((λ m. levels_lead (record { runs = refl })), tt)), tt)), ((λ j. ((λ k n. ((λ m. levels_lead (record { runs = refl })), tt)), tt)), ((λ j. filter_next (record { runs = refl })), ((λ j. filter_next (record { runs = refl })), tt))))),
-        ((λ i. ((λ k n. ((λ m. levels_lead (record { runs = refl })), tt)), tt)), ((λ i. ((λ j low. ((λ k. ((λ h high. ((λ m. levels_lead (record { runs = refl })), tt)), tt)), tt)), tt)),
-        other_filters_then (filtered_state outer (selection_with left (operand_of n x (os ++ thesaurus_option p.0 (thesaurus_use s r None ∷ []) ∷ [])))) (m.unfiltered_next outer left n x (os ++ thesaurus_option p.0 (thesaurus_use s r None ∷ []) ∷ [])) (Behind u)
-            (λ z f h. stands_same (filter_next h) (ap (λ y. u ++ y) (sym (append-nil z)))) (unfiltered_moves a ended))))
+    rest = (
+      (λ i. ((λ j. ((λ k n. ((λ m. levels_lead (record { runs = refl })), tt)), tt)), ((λ j. ((λ k n. ((λ m. levels_lead (record { runs = refl })), tt)), tt)), ((λ j. filter_next (record { runs = refl })), ((λ j. filter_next (record { runs = refl })), tt))))),
+      (
+        (λ i. ((λ k n. ((λ m. levels_lead (record { runs = refl })), tt)), tt)),
+        (
+          (λ i. ((λ j low. ((λ k. ((λ h high. ((λ m. levels_lead (record { runs = refl })), tt)), tt)), tt)), tt)),
+          other_filters_then (filtered_state outer (selection_with left (operand_of n x (os ++ thesaurus_option p.0 (thesaurus_use s r None ∷ []) ∷ [])))) (m.unfiltered_next outer left n x (os ++ thesaurus_option p.0 (thesaurus_use s r None ∷ []) ∷ [])) (Behind u)
+              (λ z f h. stands_same (filter_next h) (ap (λ y. u ++ y) (sym (append-nil z)))) (unfiltered_moves a ended),
+        ),
+      ),
+    )
 
     with_relationship : (o : Option (List ℕ)) → Named v s o → Paths (m.thesaurus_rest outer left n x os p.0 s r) (Behind u)
         → Paths (m.relationship_next (λ t. record { outer = outer; left = left; stage = m.thesaurus n x os p.0 s (Some t) }) o (m.thesaurus_rest outer left n x os p.0 s r)) (Behind u)
@@ -113,9 +123,10 @@ uses_with {v = v} (UsesBefore.some {u = u} us p) x = thesauri_same (g.Thesauri.f
 
 pub thesauri_moves : {u w v : List Placed} {outer : List Frame} {left : Left} {n : Option ℕ} {x : Primary} {os : List PlacedOption} {us : List ThesaurusUse} (p q t : Spot) → In u outer left (w ++ using_thesaurus p q (at t S.OpenParenthesis ∷ v)) → Base w n x os → Thesauri v us
     → Paths (m.thesauri_next outer left n x os p.0 us) (Behind u)
-thesauri_moves {u = u} {w = w} {v = v} {outer = outer} {left = left} p q t a b us =
-    ((λ i. ((λ j. ((λ k s. leads a (at i S.Comma ∷ name j (codes "at") ∷ string k s ∷ []) _ (Under.thesaurus_in b p q t (UsesBefore.some us i) (g.Named.plain j k s)) (closer i (name j (codes "at") ∷ string k s ∷ []))), tt)), tt)),
-    ((λ i. leads a (at i S.CloseParenthesis ∷ []) _ (Under.given_options (base_option b (g.Given.thesauri p q t us i))) (sym (append_assoc w (using_thesaurus p q (at t S.OpenParenthesis ∷ v)) (at i S.CloseParenthesis ∷ [])))), tt))
+thesauri_moves {u = u} {w = w} {v = v} {outer = outer} {left = left} p q t a b us = (
+  (λ i. ((λ j. ((λ k s. leads a (at i S.Comma ∷ name j (codes "at") ∷ string k s ∷ []) _ (Under.thesaurus_in b p q t (UsesBefore.some us i) (g.Named.plain j k s)) (closer i (name j (codes "at") ∷ string k s ∷ []))), tt)), tt)),
+  ((λ i. leads a (at i S.CloseParenthesis ∷ []) _ (Under.given_options (base_option b (g.Given.thesauri p q t us i))) (sym (append_assoc w (using_thesaurus p q (at t S.OpenParenthesis ∷ v)) (at i S.CloseParenthesis ∷ [])))), tt),
+)
   where
     closer : (i : Spot) (z : List Placed) → w ++ using_thesaurus p q (at t S.OpenParenthesis ∷ (v ++ at i S.Comma ∷ []) ++ z) ≡ w ++ using_thesaurus p q (at t S.OpenParenthesis ∷ v) ++ at i S.Comma ∷ z
     closer i z = ap (λ y. w ++ using_thesaurus p q (at t S.OpenParenthesis ∷ y)) (append_assoc v (at i S.Comma ∷ []) z) ∙ sym (append_assoc w (using_thesaurus p q (at t S.OpenParenthesis ∷ v)) (at i S.Comma ∷ z))
@@ -131,8 +142,16 @@ thesaurus_in_moves {u = u} {w = w} {v = v} {y = y} {outer = outer} {left = left}
     levels_lead {z = z} h = leads a z _ (Under.thesauri_in b p q t (uses_with before (g.Thesaurus.some_levels named h))) (flat z)
 
     rest : Paths (m.thesaurus_in_rest outer left n x os p.0 us s r) (Behind u)
-    rest = ((λ i. ((λ k n. ((λ m. levels_lead (record { runs = refl })), tt)), tt)), ((λ i. ((λ j low. ((λ k. ((λ h high. ((λ m. levels_lead (record { runs = refl })), tt)), tt)), tt)), tt)), ((λ i. ((λ j. ((λ k n. ((λ m. levels_lead (record { runs = refl })), tt)), tt)), ((λ j. ((λ k n. ((λ m. levels_lead (record { runs = refl })), tt)), tt)), tt))),
-        thesauri_moves p q t a b (uses_with before (g.Thesaurus.all_levels named)))))
+    rest = (
+      (λ i. ((λ k n. ((λ m. levels_lead (record { runs = refl })), tt)), tt)),
+      (
+        (λ i. ((λ j low. ((λ k. ((λ h high. ((λ m. levels_lead (record { runs = refl })), tt)), tt)), tt)), tt)),
+        (
+          (λ i. ((λ j. ((λ k n. ((λ m. levels_lead (record { runs = refl })), tt)), tt)), ((λ j. ((λ k n. ((λ m. levels_lead (record { runs = refl })), tt)), tt)), tt))),
+          thesauri_moves p q t a b (uses_with before (g.Thesaurus.all_levels named)),
+        ),
+      ),
+    )
 
     with_relationship : (o : Option (List ℕ)) → Named y s o → Paths (m.thesaurus_in_rest outer left n x os p.0 us s r) (Behind u)
         → Paths (m.relationship_next (λ l. record { outer = outer; left = left; stage = m.thesaurus_in n x os p.0 us s (Some l) }) o (m.thesaurus_in_rest outer left n x os p.0 us s r)) (Behind u)

@@ -36,9 +36,11 @@ pub record Ready (outer : List Frame) (left : Left) (n : Option ℕ) (x : Primar
 pub options_ready : {outer : List Frame} {left : Left} {n : Option ℕ} {x : Primary} {os : List PlacedOption} {s : State} → Takes s (m.options_next outer left n x os) → s.outer ≡ outer → selection_at s.left s.stage ≡ Some (selection_with left (operand_of n x os)) → Ready outer left n x os s
 options_ready {outer = outer} {left = left} {n = n} {x = x} {os = os} takes same ends = record {
   takes = takes_past (and_then filters (λ f. whole (filtered_state outer selection f))) rest takes
-    ((λ p. close_word outer selection p (codes "ordered")), ((λ p. close_word outer selection p (codes "window")), ((λ p. close_word outer selection p (codes "distance")), ((λ p. close_word outer selection p (codes "same")), ((λ p. close_word outer selection p (codes "different")), ((λ p. close_word outer selection p (codes "entire")), ((λ p. close_word outer selection p (codes "at")), tt)))))));
+      ((λ p. close_word outer selection p (codes "ordered")), ((λ p. close_word outer selection p (codes "window")), ((λ p. close_word outer selection p (codes "distance")), ((λ p. close_word outer selection p (codes "same")), ((λ p. close_word outer selection p (codes "different")), ((λ p. close_word outer selection p (codes "entire")), ((λ p. close_word outer selection p (codes "at")), tt)))))));
   filter = λ u f h. walk_all takes u (filtered_state outer selection f) (λ e. cc) (filters_run (filtered_state outer selection) rest u f h);
-  outer_is = same; ends = ends }
+  outer_is = same;
+  ends = ends;
+}
   where
     selection : Tree
     selection = selection_with left (operand_of n x os)
@@ -73,10 +75,12 @@ thesaurus_takes outer left n x os at s (Some r) = takes_own (st outer left (m.th
 thesaurus_ready : (outer : List Frame) (left : Left) (n : Option ℕ) (x : Primary) (os : List PlacedOption) (at : ℕ) (s : List ℕ) (r : Option (List ℕ)) → Ready outer left n x (m.thesaurus_ended os at s r None) (st outer left (m.thesaurus n x os at s r))
 thesaurus_ready outer left n x os at s r = record {
   takes = takes_past (and_then filters_without_at (λ f. whole (filtered_state outer selection f))) rest
-    (takes_past (m.levels_words outer left n x os at s r) (or_else (and_then filters_without_at (λ f. whole (filtered_state outer selection f))) rest) (thesaurus_takes outer left n x os at s r) ((λ p. close_word outer selection p (codes "at")), ((λ p. close_word outer selection p (codes "exactly")), ((λ p. close_word outer selection p (codes "from")), tt))))
-    ((λ p. close_word outer selection p (codes "ordered")), ((λ p. close_word outer selection p (codes "window")), ((λ p. close_word outer selection p (codes "distance")), ((λ p. close_word outer selection p (codes "same")), ((λ p. close_word outer selection p (codes "different")), ((λ p. close_word outer selection p (codes "entire")), tt))))));
+      (takes_past (m.levels_words outer left n x os at s r) (or_else (and_then filters_without_at (λ f. whole (filtered_state outer selection f))) rest) (thesaurus_takes outer left n x os at s r) ((λ p. close_word outer selection p (codes "at")), ((λ p. close_word outer selection p (codes "exactly")), ((λ p. close_word outer selection p (codes "from")), tt))))
+      ((λ p. close_word outer selection p (codes "ordered")), ((λ p. close_word outer selection p (codes "window")), ((λ p. close_word outer selection p (codes "distance")), ((λ p. close_word outer selection p (codes "same")), ((λ p. close_word outer selection p (codes "different")), ((λ p. close_word outer selection p (codes "entire")), tt))))));
   filter = λ u f h. walk_all (thesaurus_takes outer left n x os at s r) u (filtered_state outer selection f) (λ e. cc) (thesaurus_filters_run outer left n x os at s r u f h);
-  outer_is = refl; ends = refl }
+  outer_is = refl;
+  ends = refl;
+}
   where
     selection : Tree
     selection = m.thesaurus_selection left n x os at s r
@@ -105,7 +109,8 @@ one_thesaurus {outer = outer} {left = left} {n = n} {x = x} {os = os} p q ready 
 one_thesaurus {outer = outer} {left = left} {n = n} {x = x} {os = os} p q ready (Thesaurus.some_levels {v = v} {s = t} {r = r} {range = l} named h) = record {
   there = st outer left (m.given_options n x (m.thesaurus_ended os p.0 t r (Some l)));
   walks = goes_on (named_walk p q ready named) (walk_all (thesaurus_takes outer left n x os p.0 t r) v _ (λ e. cc) (thesaurus_levels_run outer left n x os p.0 t r v l h));
-  ready = given_ready outer left n x (m.thesaurus_ended os p.0 t r (Some l)) }
+  ready = given_ready outer left n x (m.thesaurus_ended os p.0 t r (Some l));
+}
 
 -- thesauri in parentheses: behind one, where no more of it comes
 record UseWalk (outer : List Frame) (left : Left) (n : Option ℕ) (x : Primary) (os : List PlacedOption) (at : ℕ) (us : List ThesaurusUse) (s : State) (u : List Placed) : Type 0 where
@@ -131,12 +136,15 @@ use_in : {outer : List Frame} {left : Left} {n : Option ℕ} {x : Primary} {os :
     → {v : List Placed} {t : ThesaurusUse} → Thesaurus v t → UseWalk outer left n x os at (us ++ t ∷ []) s (pre ++ v)
 unfolding next
 use_in {outer = outer} {left = left} {n = n} {x = x} {os = os} {us = us} at pre entry (Thesaurus.all_levels {s = t} {r = r} named) = record {
-  there = st outer left (m.thesaurus_in n x os at us t r); walks = named_in at pre entry named;
-  takes = takes_past (and_then range (m.levels_end (λ l. st outer left (m.thesauri_in n x os at (us ++ thesaurus_use t r l ∷ []))))) (m.thesauri_next outer left n x os at (us ++ thesaurus_use t r None ∷ [])) (in_takes outer left n x os at us t r) ((λ p. refl), ((λ p. refl), ((λ p. refl), tt))) }
+  there = st outer left (m.thesaurus_in n x os at us t r);
+  walks = named_in at pre entry named;
+  takes = takes_past (and_then range (m.levels_end (λ l. st outer left (m.thesauri_in n x os at (us ++ thesaurus_use t r l ∷ []))))) (m.thesauri_next outer left n x os at (us ++ thesaurus_use t r None ∷ [])) (in_takes outer left n x os at us t r) ((λ p. refl), ((λ p. refl), ((λ p. refl), tt)));
+}
 use_in {outer = outer} {left = left} {n = n} {x = x} {os = os} {us = us} at pre entry (Thesaurus.some_levels {u = u} {v = v} {s = t} {r = r} {range = l} named h) = record {
   there = st outer left (m.thesauri_in n x os at (us ++ thesaurus_use t r (Some l) ∷ []));
   walks = walks_same (goes_on (named_in at pre entry named) (walk_all (in_takes outer left n x os at us t r) v _ (λ e. cc) (thesauri_levels_run outer left n x os at us t r v l h))) (append_assoc pre u v);
-  takes = takes_own (st outer left (m.thesauri_in n x os at (us ++ thesaurus_use t r (Some l) ∷ []))) (m.thesauri_next outer left n x os at (us ++ thesaurus_use t r (Some l) ∷ [])) refl }
+  takes = takes_own (st outer left (m.thesauri_in n x os at (us ++ thesaurus_use t r (Some l) ∷ []))) (m.thesauri_next outer left n x os at (us ++ thesaurus_use t r (Some l) ∷ [])) refl;
+}
 
 use_same : {outer : List Frame} {left : Left} {n : Option ℕ} {x : Primary} {os : List PlacedOption} {at : ℕ} {us : List ThesaurusUse} {s : State} {u w : List Placed} → UseWalk outer left n x os at us s u → u ≡ w → UseWalk outer left n x os at us s w
 use_same {outer = outer} {left = left} {n = n} {x = x} {os = os} {at = at} {us = us} {s = s} y e = subst (λ z. UseWalk outer left n x os at us s z) e y
@@ -170,7 +178,7 @@ unfolding next
 source_walk p pre listed written (Source.list i j y) = listed i j y
 source_walk {outer = outer} {left = left} {n = n} {x = x} {os = os} {ts = ts} {except = except} p pre listed written (Source.written {u = u} {xs = xs} i strings j) =
     walks_same (goes_on (strings_walk p (pre ++ at i S.OpenParenthesis ∷ []) (λ k y. walks_same (written i k y) (sym (append_assoc pre (at i S.OpenParenthesis ∷ []) (string k y ∷ [])))) strings)
-        (walk (takes_own (st outer left (m.stop_strings n x os p ts except xs)) (m.next_at outer left (m.stop_strings n x os p ts except xs)) refl) (at j S.CloseParenthesis) [] (st outer left (m.stop_terms n x os p (ts ++ record { except = except; source = Written (texts_of xs) } ∷ []))) refl))
+    (walk (takes_own (st outer left (m.stop_strings n x os p ts except xs)) (m.next_at outer left (m.stop_strings n x os p ts except xs)) refl) (at j S.CloseParenthesis) [] (st outer left (m.stop_terms n x os p (ts ++ record { except = except; source = Written (texts_of xs) } ∷ []))) refl))
     (flat pre (at i S.OpenParenthesis ∷ []) u (at j S.CloseParenthesis ∷ []))
   where
     flat : (a b c d : List Placed) → a ++ b ++ c ++ d ≡ a ++ (b ++ c ++ d)
@@ -203,16 +211,20 @@ terms_walk {outer = outer} {left = left} {n = n} {x = x} {os = os} {s = s} p q r
 
 -- an option
 pub given_walk : {outer : List Frame} {left : Left} {n : Option ℕ} {x : Primary} {os : List PlacedOption} {s : State} {u : List Placed} {o : PlacedOption} → Ready outer left n x os s → Given u o → OptionWalk outer left n x (os ++ o ∷ []) s u
-given_walk {outer = outer} {left = left} {n = n} {x = x} {os = os} ready (Given.plain {u = u} {o = o} p h) = record { there = st outer left (m.given_options n x (os ++ o ∷ []));
+given_walk {outer = outer} {left = left} {n = n} {x = x} {os = os} ready (Given.plain {u = u} {o = o} p h) = record {
+  there = st outer left (m.given_options n x (os ++ o ∷ []));
   walks = walk ready.takes (name p (codes "using")) u (st outer left (m.given_options n x (os ++ o ∷ []))) (option_run outer left n x os p.0 u o h);
-  ready = given_ready outer left n x (os ++ o ∷ []) }
+  ready = given_ready outer left n x (os ++ o ∷ []);
+}
 given_walk ready (Given.thesaurus p q taken) = one_thesaurus p q ready taken
 given_walk {outer = outer} {left = left} {n = n} {x = x} {os = os} {s = s} ready (Given.thesauri {u = u} {xs = us} p q r uses t) = go (thesauri_walk p q r ready uses)
   where
     go : UseWalk outer left n x os p.0 us s (name p (codes "using") ∷ name q (codes "thesaurus") ∷ at r S.OpenParenthesis ∷ u) → OptionWalk outer left n x (os ++ thesaurus_option p.0 us ∷ []) s (name p (codes "using") ∷ name q (codes "thesaurus") ∷ at r S.OpenParenthesis ∷ u ++ at t S.CloseParenthesis ∷ [])
-    go before = record { there = st outer left (m.given_options n x (os ++ thesaurus_option p.0 us ∷ []));
+    go before = record {
+      there = st outer left (m.given_options n x (os ++ thesaurus_option p.0 us ∷ []));
       walks = goes_on before.walks (walk before.takes (at t S.CloseParenthesis) [] (st outer left (m.given_options n x (os ++ thesaurus_option p.0 us ∷ []))) refl);
-      ready = given_ready outer left n x (os ++ thesaurus_option p.0 us ∷ []) }
+      ready = given_ready outer left n x (os ++ thesaurus_option p.0 us ∷ []);
+    }
 given_walk {outer = outer} {left = left} {n = n} {x = x} {os = os} ready (Given.stop_words {xs = ts} p q r terms) = record { there = st outer left (m.stop_terms n x os p.0 ts); walks = terms_walk p q r ready terms; ready = stops_ready outer left n x os p.0 ts }
 
 pub options_walk : {outer : List Frame} {left : Left} {n : Option ℕ} {x : Primary} {s : State} {u : List Placed} {os : List PlacedOption} → Ready outer left n x [] s → Options u os → OptionWalk outer left n x os s u

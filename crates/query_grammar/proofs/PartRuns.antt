@@ -43,4 +43,3 @@ thesaurus_levels_run outer left n y os at s r v x h = along levels (λ v x. run 
 
 pub thesauri_levels_run : (outer : List Frame) (left : Left) (n : Option ℕ) (y : Primary) (os : List PlacedOption) (at : ℕ) (us : List ThesaurusUse) (s : List ℕ) (r : Option (List ℕ)) (v : List Placed) (x : Range) → Spelled levels v x → run (Some (m.thesaurus_in_rest outer left n y os at us s r)) v ≡ Some (whole (st outer left (m.thesauri_in n y os at (us ++ thesaurus_use s r (Some x) ∷ []))))
 thesauri_levels_run outer left n y os at us s r v x h = along levels (λ v x. run (Some (m.thesaurus_in_rest outer left n y os at us s r)) v ≡ Some (whole (st outer left (m.thesauri_in n y os at (us ++ thesaurus_use s r (Some x) ∷ []))))) ((λ p. ((λ p n. ((λ p. refl), tt)), tt)), ((λ p. ((λ p n. ((λ p. ((λ p n. ((λ p. refl), tt)), tt)), tt)), tt)), ((λ p. ((λ p. ((λ p n. ((λ p. refl), tt)), tt)), ((λ p. ((λ p n. ((λ p. refl), tt)), tt)), tt))), tt))) v x h.runs
-

@@ -23,11 +23,22 @@ use Rattle.query_grammar.proofs.OptionMoves.{base_words, options_moves, moded_mo
 
 -- where an operand is wanted
 operand_moves : {u w : List Placed} {outer : List Frame} {left : Left} {n : Option ℕ} → In u outer left w → Negation w n → Paths (m.operand_next outer left n) (Behind u)
-operand_moves {u = u} {w = w} {outer = outer} {left = left} {n = n} a x =
-    ((λ p s. leads a (string p s ∷ []) _ (Under.valued x (g.Value.one p s)) refl),
-    ((λ p. ((λ q s. leads a (at p S.OpenBrace ∷ string q s ∷ []) _ (Under.in_braces x p (g.Strings.first q s)) refl), tt)),
-    ((λ p. record { outside = a.outside ++ a.before ++ w ++ at p S.OpenParenthesis ∷ []; inside = []; spelled = ap (λ z. z ++ at p S.OpenParenthesis ∷ []) a.spelled ∙ flat a.outside a.before w (at p S.OpenParenthesis ∷ []);
-        outer = Outer.open_one a.opened a.lefts x p; within = Within.operand nothing_left (Under.wanted g.Negation.none) }), tt)))
+operand_moves {u = u} {w = w} {outer = outer} {left = left} {n = n} a x = (
+  (λ p s. leads a (string p s ∷ []) _ (Under.valued x (g.Value.one p s)) refl),
+  (
+    (λ p. ((λ q s. leads a (at p S.OpenBrace ∷ string q s ∷ []) _ (Under.in_braces x p (g.Strings.first q s)) refl), tt)),
+    (
+      (λ p. record {
+        outside = a.outside ++ a.before ++ w ++ at p S.OpenParenthesis ∷ [];
+        inside = [];
+        spelled = ap (λ z. z ++ at p S.OpenParenthesis ∷ []) a.spelled ∙ flat a.outside a.before w (at p S.OpenParenthesis ∷ []);
+        outer = Outer.open_one a.opened a.lefts x p;
+        within = Within.operand nothing_left (Under.wanted g.Negation.none);
+      }),
+      tt,
+    ),
+  ),
+)
   where
     flat : (o l w p : List Placed) → o ++ (l ++ w) ++ p ≡ o ++ l ++ w ++ p ++ []
     flat o l w p = simp (append_assoc, append-nil)
@@ -49,26 +60,35 @@ further_term {u = u} {w = w} {v = v} {outer = outer} {left = left} {n = n} {x = 
 -- wherever the operand under way stands
 pub under_moves : {u w : List Placed} {outer : List Frame} {left : Left} {stage : Stage} → In u outer left w → Under w stage → Paths (next_at outer left stage) (Behind u)
 under_moves a (Under.wanted {n = n} x) = wanted_moves n a x
-under_moves a (Under.in_braces {u = i} {v = v} x p xs) =
-    ((λ q. ((λ r s. leads a (at q S.Comma ∷ string r s ∷ []) _ (Under.in_braces x p (g.Strings.further xs q r s)) (sym (append_assoc i (at p S.OpenBrace ∷ v) (at q S.Comma ∷ string r s ∷ [])))), tt)),
-    ((λ q. leads a (at q S.CloseBrace ∷ []) _ (Under.valued x (g.Value.several p xs q)) (sym (append_assoc i (at p S.OpenBrace ∷ v) (at q S.CloseBrace ∷ [])))), tt))
-under_moves a (Under.valued {u = i} {v = v} x xs) =
-    ((λ p. leads a (name p (codes "any") ∷ []) _ (Under.any_of x xs p) refl),
-    ((λ p. leads a (name p (codes "all") ∷ []) _ (Under.all_of x xs p) refl),
-    ((λ p. leads a (name p (codes "phrase") ∷ []) _ (Under.moded x xs (g.Moded.phrase p)) refl),
-    moded_moves (in_same a (sym (append-nil (i ++ v)))) x xs g.Moded.unwritten)))
-under_moves a (Under.any_of {u = i} {v = v} x xs p) =
-    ((λ q. leads a (name q (codes "word") ∷ []) _ (Under.moded x xs (g.Moded.any_word p q)) (sym (append_assoc (i ++ v) (name p (codes "any") ∷ []) (name q (codes "word") ∷ [])))),
-    moded_moves a x xs (g.Moded.any p))
-under_moves a (Under.all_of {u = i} {v = v} x xs p) =
-    ((λ q. leads a (name q (codes "words") ∷ []) _ (Under.moded x xs (g.Moded.all_words p q)) (sym (append_assoc (i ++ v) (name p (codes "all") ∷ []) (name q (codes "words") ∷ [])))),
-    moded_moves a x xs (g.Moded.all p))
+under_moves a (Under.in_braces {u = i} {v = v} x p xs) = (
+  (λ q. ((λ r s. leads a (at q S.Comma ∷ string r s ∷ []) _ (Under.in_braces x p (g.Strings.further xs q r s)) (sym (append_assoc i (at p S.OpenBrace ∷ v) (at q S.Comma ∷ string r s ∷ [])))), tt)),
+  ((λ q. leads a (at q S.CloseBrace ∷ []) _ (Under.valued x (g.Value.several p xs q)) (sym (append_assoc i (at p S.OpenBrace ∷ v) (at q S.CloseBrace ∷ [])))), tt),
+)
+under_moves a (Under.valued {u = i} {v = v} x xs) = (
+  (λ p. leads a (name p (codes "any") ∷ []) _ (Under.any_of x xs p) refl),
+  (
+    (λ p. leads a (name p (codes "all") ∷ []) _ (Under.all_of x xs p) refl),
+    (
+      (λ p. leads a (name p (codes "phrase") ∷ []) _ (Under.moded x xs (g.Moded.phrase p)) refl),
+      moded_moves (in_same a (sym (append-nil (i ++ v)))) x xs g.Moded.unwritten,
+    ),
+  ),
+)
+under_moves a (Under.any_of {u = i} {v = v} x xs p) = (
+  (λ q. leads a (name q (codes "word") ∷ []) _ (Under.moded x xs (g.Moded.any_word p q)) (sym (append_assoc (i ++ v) (name p (codes "any") ∷ []) (name q (codes "word") ∷ [])))),
+  moded_moves a x xs (g.Moded.any p),
+)
+under_moves a (Under.all_of {u = i} {v = v} x xs p) = (
+  (λ q. leads a (name q (codes "words") ∷ []) _ (Under.moded x xs (g.Moded.all_words p q)) (sym (append_assoc (i ++ v) (name p (codes "all") ∷ []) (name q (codes "words") ∷ [])))),
+  moded_moves a x xs (g.Moded.all p),
+)
 under_moves a (Under.moded x xs y) = moded_moves a x xs y
 under_moves a (Under.given_options b) = options_moves a b
 under_moves a (Under.stop_terms b p q r ts) = ((λ j. further_term p q r j false a b ts), ((λ j. further_term p q r j true a b ts), options_moves a (base_option b (g.Given.stop_words p q r ts))))
-under_moves a (Under.stop_strings {u = i} {v = v} {w = w} b p q r ts t xs) =
-    ((λ j. ((λ k s. leads a (at j S.Comma ∷ string k s ∷ []) _ (Under.stop_strings b p q r ts t (g.Strings.further xs j k s)) (flat i v w p q r t (at j S.Comma ∷ string k s ∷ []))), tt)),
-    ((λ j. leads a (at j S.CloseParenthesis ∷ []) _ (Under.stop_terms b p q r (terms_with ts (g.Source.written t xs j))) (flat i v w p q r t (at j S.CloseParenthesis ∷ []))), tt))
+under_moves a (Under.stop_strings {u = i} {v = v} {w = w} b p q r ts t xs) = (
+  (λ j. ((λ k s. leads a (at j S.Comma ∷ string k s ∷ []) _ (Under.stop_strings b p q r ts t (g.Strings.further xs j k s)) (flat i v w p q r t (at j S.Comma ∷ string k s ∷ []))), tt)),
+  ((λ j. leads a (at j S.CloseParenthesis ∷ []) _ (Under.stop_terms b p q r (terms_with ts (g.Source.written t xs j))) (flat i v w p q r t (at j S.CloseParenthesis ∷ []))), tt),
+)
   where
     flat : (i v w : List Placed) (p q r t : Spot) (z : List Placed) → i ++ using_stop p q r (v ++ at t S.OpenParenthesis ∷ (w ++ z)) ≡ i ++ using_stop p q r (v ++ at t S.OpenParenthesis ∷ w) ++ z
     flat i v w p q r t z = ap (λ y. i ++ using_stop p q r y) (sym (append_assoc v (at t S.OpenParenthesis ∷ w) z)) ∙ sym (append_assoc i (using_stop p q r (v ++ at t S.OpenParenthesis ∷ w)) z)
@@ -115,8 +135,14 @@ run_on-nil None = refl
 run_on-nil (Some t) = refl
 
 further : {u : List Placed} {t r : Shape State} (p : Placed) → Partly u t → step t p ≡ Some r → Stood (u ++ p ∷ []) r
-further {t = t} {r = r} p x e = settled r (record { state = x.state; front = x.front; part = x.part ++ p ∷ []; spelled = ap (λ z. z ++ p ∷ []) x.spelled ∙ append_assoc x.front x.part (p ∷ []); stands = x.stands;
-    runs = run-append (Some (next x.state)) x.part (p ∷ []) ∙ ap (λ o. run o (p ∷ [])) x.runs ∙ run_on-nil (step t p) ∙ e })
+further {t = t} {r = r} p x e = settled r (record {
+  state = x.state;
+  front = x.front;
+  part = x.part ++ p ∷ [];
+  spelled = ap (λ z. z ++ p ∷ []) x.spelled ∙ append_assoc x.front x.part (p ∷ []);
+  stands = x.stands;
+  runs = run-append (Some (next x.state)) x.part (p ∷ []) ∙ ap (λ o. run o (p ∷ [])) x.runs ∙ run_on-nil (step t p) ∙ e;
+})
 
 stood_further : (u : List Placed) (t r : Shape State) (p : Placed) → Stood u t → advance t p ≡ Some r → Stood (u ++ p ∷ []) r
 stood_further u (whole s) r p x e = settled r (record { state = s; front = u; part = p ∷ []; spelled = refl; stands = x; runs = run_on-nil (step (next s) p) ∙ e })

@@ -50,30 +50,60 @@ record ModeWalk (outer : List Frame) (left : Left) (n : Option ℕ) (xs : List P
 
 moded_walk : (outer : List Frame) (left : Left) (n : Option ℕ) (xs : List PlacedString) {mode : Mode} {u : List Placed} → Moded u mode → ModeWalk outer left n xs mode (st outer left (m.valued n xs)) u
 unfolding next
-moded_walk outer left n xs Moded.unwritten = record { there = st outer left (m.valued n xs); walks = stays (st outer left (m.valued n xs));
+moded_walk outer left n xs Moded.unwritten = record {
+  there = st outer left (m.valued n xs);
+  walks = stays (st outer left (m.valued n xs));
   takes = takes_past (m.mode_words outer left n xs) (m.moded_next outer left n xs M.Any) (takes_own (st outer left (m.valued n xs)) (m.next_at outer left (m.valued n xs)) refl) ((λ p. close_word outer _ p (codes "any")), ((λ p. close_word outer _ p (codes "all")), ((λ p. close_word outer _ p (codes "phrase")), tt)));
-  outer_is = refl; ends = refl }
-moded_walk outer left n xs (Moded.any p) = record { there = st outer left (m.any_of n xs); walks = walk (takes_own (st outer left (m.valued n xs)) (m.next_at outer left (m.valued n xs)) refl) (name p (codes "any")) [] (st outer left (m.any_of n xs)) refl;
+  outer_is = refl;
+  ends = refl;
+}
+moded_walk outer left n xs (Moded.any p) = record {
+  there = st outer left (m.any_of n xs);
+  walks = walk (takes_own (st outer left (m.valued n xs)) (m.next_at outer left (m.valued n xs)) refl) (name p (codes "any")) [] (st outer left (m.any_of n xs)) refl;
   takes = takes_past (m.mode_word (codes "word") M.AnyWord outer left n xs) (m.moded_next outer left n xs M.Any) (takes_own (st outer left (m.any_of n xs)) (m.next_at outer left (m.any_of n xs)) refl) ((λ p. close_word outer _ p (codes "word")), tt);
-  outer_is = refl; ends = refl }
-moded_walk outer left n xs (Moded.any_word p q) = record { there = st outer left (m.moded n xs M.AnyWord);
+  outer_is = refl;
+  ends = refl;
+}
+moded_walk outer left n xs (Moded.any_word p q) = record {
+  there = st outer left (m.moded n xs M.AnyWord);
   walks = goes_on (walk (takes_own (st outer left (m.valued n xs)) (m.next_at outer left (m.valued n xs)) refl) (name p (codes "any")) [] (st outer left (m.any_of n xs)) refl) (walk (takes_own (st outer left (m.any_of n xs)) (m.next_at outer left (m.any_of n xs)) refl) (name q (codes "word")) [] (st outer left (m.moded n xs M.AnyWord)) refl);
-  takes = takes_own (st outer left (m.moded n xs M.AnyWord)) (m.moded_next outer left n xs M.AnyWord) refl; outer_is = refl; ends = refl }
-moded_walk outer left n xs (Moded.all p) = record { there = st outer left (m.all_of n xs); walks = walk (takes_own (st outer left (m.valued n xs)) (m.next_at outer left (m.valued n xs)) refl) (name p (codes "all")) [] (st outer left (m.all_of n xs)) refl;
+  takes = takes_own (st outer left (m.moded n xs M.AnyWord)) (m.moded_next outer left n xs M.AnyWord) refl;
+  outer_is = refl;
+  ends = refl;
+}
+moded_walk outer left n xs (Moded.all p) = record {
+  there = st outer left (m.all_of n xs);
+  walks = walk (takes_own (st outer left (m.valued n xs)) (m.next_at outer left (m.valued n xs)) refl) (name p (codes "all")) [] (st outer left (m.all_of n xs)) refl;
   takes = takes_past (m.mode_word (codes "words") M.AllWords outer left n xs) (m.moded_next outer left n xs M.All) (takes_own (st outer left (m.all_of n xs)) (m.next_at outer left (m.all_of n xs)) refl) ((λ p. close_word outer _ p (codes "words")), tt);
-  outer_is = refl; ends = refl }
-moded_walk outer left n xs (Moded.all_words p q) = record { there = st outer left (m.moded n xs M.AllWords);
+  outer_is = refl;
+  ends = refl;
+}
+moded_walk outer left n xs (Moded.all_words p q) = record {
+  there = st outer left (m.moded n xs M.AllWords);
   walks = goes_on (walk (takes_own (st outer left (m.valued n xs)) (m.next_at outer left (m.valued n xs)) refl) (name p (codes "all")) [] (st outer left (m.all_of n xs)) refl) (walk (takes_own (st outer left (m.all_of n xs)) (m.next_at outer left (m.all_of n xs)) refl) (name q (codes "words")) [] (st outer left (m.moded n xs M.AllWords)) refl);
-  takes = takes_own (st outer left (m.moded n xs M.AllWords)) (m.moded_next outer left n xs M.AllWords) refl; outer_is = refl; ends = refl }
-moded_walk outer left n xs (Moded.phrase p) = record { there = st outer left (m.moded n xs M.Phrase); walks = walk (takes_own (st outer left (m.valued n xs)) (m.next_at outer left (m.valued n xs)) refl) (name p (codes "phrase")) [] (st outer left (m.moded n xs M.Phrase)) refl;
-  takes = takes_own (st outer left (m.moded n xs M.Phrase)) (m.moded_next outer left n xs M.Phrase) refl; outer_is = refl; ends = refl }
+  takes = takes_own (st outer left (m.moded n xs M.AllWords)) (m.moded_next outer left n xs M.AllWords) refl;
+  outer_is = refl;
+  ends = refl;
+}
+moded_walk outer left n xs (Moded.phrase p) = record {
+  there = st outer left (m.moded n xs M.Phrase);
+  walks = walk (takes_own (st outer left (m.valued n xs)) (m.next_at outer left (m.valued n xs)) refl) (name p (codes "phrase")) [] (st outer left (m.moded n xs M.Phrase)) refl;
+  takes = takes_own (st outer left (m.moded n xs M.Phrase)) (m.moded_next outer left n xs M.Phrase) refl;
+  outer_is = refl;
+  ends = refl;
+}
 
 timed_walk : {outer : List Frame} {left : Left} {n : Option ℕ} {xs : List PlacedString} {mode : Mode} {s : State} {u v : List Placed} {t : Option PlacedTimes} → ModeWalk outer left n xs mode s u → Timed v t → OptionWalk outer left n (phrases xs mode t) [] s (u ++ v)
-timed_walk {outer = outer} {left = left} {n = n} {xs = xs} {mode = mode} {u = u} before Timed.always = record { there = before.there; walks = walks_same before.walks (sym (append-nil u));
-  ready = options_ready (takes_past (and_then times (λ t. whole (st outer left (m.given_options n (phrases xs mode (Some t)) [])))) (m.options_next outer left n (phrases xs mode None) []) before.takes ((λ p. close_word outer _ p (codes "occurs")), tt)) before.outer_is before.ends }
-timed_walk {outer = outer} {left = left} {n = n} {xs = xs} {mode = mode} before (Timed.some {u = v} {t = t} h) = record { there = st outer left (m.given_options n (phrases xs mode (Some t)) []);
+timed_walk {outer = outer} {left = left} {n = n} {xs = xs} {mode = mode} {u = u} before Timed.always = record {
+  there = before.there;
+  walks = walks_same before.walks (sym (append-nil u));
+  ready = options_ready (takes_past (and_then times (λ t. whole (st outer left (m.given_options n (phrases xs mode (Some t)) [])))) (m.options_next outer left n (phrases xs mode None) []) before.takes ((λ p. close_word outer _ p (codes "occurs")), tt)) before.outer_is before.ends;
+}
+timed_walk {outer = outer} {left = left} {n = n} {xs = xs} {mode = mode} before (Timed.some {u = v} {t = t} h) = record {
+  there = st outer left (m.given_options n (phrases xs mode (Some t)) []);
   walks = goes_on before.walks (walk_all before.takes v _ (λ e. cc) (times_run (λ t. st outer left (m.given_options n (phrases xs mode (Some t)) [])) (m.options_next outer left n (phrases xs mode None) []) v t h));
-  ready = given_ready outer left n (phrases xs mode (Some t)) [] }
+  ready = given_ready outer left n (phrases xs mode (Some t)) [];
+}
 
 -- behind a whole operand, and behind a whole selection
 record Joins (outer : List Frame) (left : Left) (x : Tree) (s : State) : Type 0 where
@@ -94,7 +124,10 @@ ready_joins {outer = outer} {left = left} {n = n} {x = x} {os = os} r = record {
 joins_closes : {outer : List Frame} {left : Left} {x : Tree} {s : State} → Joins outer left x s → Closes outer (selection_with left x) s
 joins_closes {outer = outer} {left = left} {x = x} j = record {
   takes = takes_past (m.joint_words outer left x) (close_next outer (selection_with left x)) j.takes ((λ p. close_word outer _ p (codes "ftor")), ((λ p. close_word outer _ p (codes "ftand")), ((λ p. close_word outer _ p (codes "not")), tt)));
-  filter = j.filter; outer_is = j.outer_is; ends = j.ends }
+  filter = j.filter;
+  outer_is = j.outer_is;
+  ends = j.ends;
+}
 
 record JoinWalk (outer : List Frame) (left : Left) (x : Tree) (s : State) (u : List Placed) : Type 0 where
   there : State
@@ -137,19 +170,34 @@ negation_walk outer left (Negation.some p) = walk (takes_own (st outer left (m.w
 filtered_closes : (outer : List Frame) (x : Tree) → Closes outer x (st outer nothing_left_of (m.with_filter x))
 unfolding next
 filtered_closes outer x = record {
-  takes = takes_past (and_then filters (λ f. whole (filtered_state outer x f))) (close_next outer x) own ((λ p. close_word outer x p (codes "ordered")), ((λ p. close_word outer x p (codes "window")), ((λ p. close_word outer x p (codes "distance")), ((λ p. close_word outer x p (codes "same")),
-    ((λ p. close_word outer x p (codes "different")), ((λ p. close_word outer x p (codes "entire")), ((λ p. close_word outer x p (codes "at")), tt)))))));
+  takes = takes_past (and_then filters (λ f. whole (filtered_state outer x f))) (close_next outer x) own (
+    (λ p. close_word outer x p (codes "ordered")),
+    (
+      (λ p. close_word outer x p (codes "window")),
+      (
+        (λ p. close_word outer x p (codes "distance")),
+        (
+          (λ p. close_word outer x p (codes "same")),
+          ((λ p. close_word outer x p (codes "different")), ((λ p. close_word outer x p (codes "entire")), ((λ p. close_word outer x p (codes "at")), tt))),
+        ),
+      ),
+    ),
+  );
   filter = λ u f h. walk_all own u (filtered_state outer x f) (λ e. cc) (filters_run (filtered_state outer x) (close_next outer x) u f h);
-  outer_is = refl; ends = refl }
+  outer_is = refl;
+  ends = refl;
+}
   where
     own : Takes (st outer nothing_left_of (m.with_filter x)) (m.filtered_next outer x)
     own = takes_own (st outer nothing_left_of (m.with_filter x)) (m.filtered_next outer x) refl
 
 closed : {outer : List Frame} {left : Left} {n : Option ℕ} {x : Tree} {u : List Placed} (p q : Spot) → CloseWalk (record { left = left; negation = n } ∷ outer) x (st (record { left = left; negation = n } ∷ outer) nothing_left_of (m.wanted None)) u
     → OptionWalk outer left n (inner x) [] (st outer left (m.wanted n)) (at p S.OpenParenthesis ∷ u ++ at q S.CloseParenthesis ∷ [])
-closed {outer = outer} {left = left} {n = n} {x = x} p q inside = record { there = st outer left (m.given_options n (inner x) []);
+closed {outer = outer} {left = left} {n = n} {x = x} p q inside = record {
+  there = st outer left (m.given_options n (inner x) []);
   walks = goes_on (goes_on (opened_walk outer left n p) inside.walks) (walk inside.closes.takes (at q S.CloseParenthesis) [] (st outer left (m.given_options n (inner x) [])) refl);
-  ready = given_ready outer left n (inner x) [] }
+  ready = given_ready outer left n (inner x) [];
+}
 
 unary_joins : {outer : List Frame} {left : Left} {n : Option ℕ} {x : Primary} {os : List PlacedOption} {u v w : List Placed} → Negation u n → OptionWalk outer left n x [] (st outer left (m.wanted n)) v → Options w os → JoinWalk outer left (operand_of n x os) (st outer left (m.wanted None)) (u ++ v ++ w)
 unary_joins {outer = outer} {left = left} {n = n} {x = x} {os = os} {u = u} {v = v} {w = w} negation operand options = go (options_walk operand.ready options)
@@ -160,23 +208,35 @@ unary_joins {outer = outer} {left = left} {n = n} {x = x} {os = os} {u = u} {v =
 mild_joins : {outer : List Frame} {ors ands : List Tree} {x y : Tree} {s : State} {u v : List Placed} (p q : Spot) → JoinWalk outer (record { ors = ors; ands = ands; mild = None }) x s u
     → JoinWalk outer (record { ors = ors; ands = ands; mild = Some x }) y (st outer (record { ors = ors; ands = ands; mild = Some x }) (m.wanted None)) v
     → JoinWalk outer (record { ors = ors; ands = ands; mild = None }) (tree.mild_not x y) s (u ++ name p (codes "not") ∷ name q (codes "in") ∷ v)
-mild_joins {outer = outer} {ors = ors} {ands = ands} {x = x} {u = u} {v = v} p q before more = record { there = more.there;
+mild_joins {outer = outer} {ors = ors} {ands = ands} {x = x} {u = u} {v = v} p q before more = record {
+  there = more.there;
   walks = goes_on before.walks (goes_on (walk before.joins.takes (name p (codes "not")) (name q (codes "in") ∷ []) (st outer (record { ors = ors; ands = ands; mild = Some x }) (m.wanted None)) refl) more.walks);
-  joins = record { takes = more.joins.takes; filter = more.joins.filter; outer_is = more.joins.outer_is; ends = more.joins.ends } }
+  joins = record { takes = more.joins.takes; filter = more.joins.filter; outer_is = more.joins.outer_is; ends = more.joins.ends };
+}
 
 and_joins : {outer : List Frame} {ors xs : List Tree} {y : Tree} {s : State} {u v : List Placed} (p : Spot) (before : AndWalk outer ors xs s u) → JoinWalk outer (record { ors = ors; ands = before.first ++ before.last ∷ []; mild = None }) y (st outer (record { ors = ors; ands = before.first ++ before.last ∷ []; mild = None }) (m.wanted None)) v
     → AndWalk outer ors (xs ++ y ∷ []) s (u ++ name p (codes "ftand") ∷ v)
-and_joins {outer = outer} {ors = ors} {y = y} p before more = record { there = more.there;
+and_joins {outer = outer} {ors = ors} {y = y} p before more = record {
+  there = more.there;
   walks = goes_on before.walks (goes_on (walk before.joins.takes (name p (codes "ftand")) [] (st outer (record { ors = ors; ands = before.first ++ before.last ∷ []; mild = None }) (m.wanted None)) refl) more.walks);
-  first = before.first ++ before.last ∷ []; last = y; all = ap (λ z. z ++ y ∷ []) before.all; joins = more.joins }
+  first = before.first ++ before.last ∷ [];
+  last = y;
+  all = ap (λ z. z ++ y ∷ []) before.all;
+  joins = more.joins;
+}
 
 or_joins : {outer : List Frame} {xs ys : List Tree} {s : State} {u v : List Placed} (p : Spot) (before : OrWalk outer xs s u)
     → AndWalk outer (before.ors ++ joined and_of (before.first ++ before.last ∷ []) ∷ []) ys (st outer (record { ors = before.ors ++ joined and_of (before.first ++ before.last ∷ []) ∷ []; ands = []; mild = None }) (m.wanted None)) v
     → OrWalk outer (xs ++ joined and_of ys ∷ []) s (u ++ name p (codes "ftor") ∷ v)
-or_joins {outer = outer} {xs = xs} p before more = record { there = more.there;
+or_joins {outer = outer} {xs = xs} p before more = record {
+  there = more.there;
   walks = goes_on before.walks (goes_on (walk before.joins.takes (name p (codes "ftor")) [] (st outer (record { ors = before.ors ++ joined and_of (before.first ++ before.last ∷ []) ∷ []; ands = []; mild = None }) (m.wanted None)) refl) more.walks);
-  ors = before.ors ++ joined and_of (before.first ++ before.last ∷ []) ∷ []; first = more.first; last = more.last;
-  all = ap (λ z. z ++ joined and_of (more.first ++ more.last ∷ []) ∷ []) before.all ∙ ap (λ z. xs ++ joined and_of z ∷ []) more.all; joins = more.joins }
+  ors = before.ors ++ joined and_of (before.first ++ before.last ∷ []) ∷ [];
+  first = more.first;
+  last = more.last;
+  all = ap (λ z. z ++ joined and_of (more.first ++ more.last ∷ []) ∷ []) before.all ∙ ap (λ z. xs ++ joined and_of z ∷ []) more.all;
+  joins = more.joins;
+}
 
 or_closes : {outer : List Frame} {xs : List Tree} {s : State} {u : List Placed} → OrWalk outer xs s u → CloseWalk outer (joined tree.or_of xs) s u
 or_closes {outer = outer} a = record { there = a.there; walks = a.walks; closes = subst (λ z. Closes outer (joined tree.or_of z) a.there) a.all (joins_closes a.joins) }
