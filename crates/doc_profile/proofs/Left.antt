@@ -24,7 +24,7 @@ pub record Left (rest : List ℕ) (s : State) (b : Bool) (at nodes : ℕ) (all :
 pub left_all : (text : List ℕ) (s : State) (from : ℕ) → IsUtf8 text → begun s ≡ 0 → Left text s false from 0 (walk (chars text) s false from)
 left_all text s from u n = record { left = chars text; spelled = encodes-chars text u; same = refl; counted = sym n }
 
-walk-further : (c : ℕ) (cs : List ℕ) (s t : State) (b : Bool) (at : ℕ) → passes s b c at ≡ None → taken s b c ≡ Some t → walk (c ∷ cs) s b at ≡ walk cs t (c == 13) (at + length (encode_utf8 c))
+pub walk-further : (c : ℕ) (cs : List ℕ) (s t : State) (b : Bool) (at : ℕ) → passes s b c at ≡ None → taken s b c ≡ Some t → walk (c ∷ cs) s b at ≡ walk cs t (c == 13) (at + length (encode_utf8 c))
 unfolding walk
 walk-further c cs s t b at p r =
     ap (λ o. or_fault o (taken s b c) at (λ z. walk cs z (c == 13) (at + length (encode_utf8 c)))) p

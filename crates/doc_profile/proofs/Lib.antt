@@ -2,6 +2,7 @@ pub mod Readers
 pub mod Walked
 pub mod Readings
 pub mod Left
+pub mod PlainRuns
 pub mod BytesRead
 pub mod Answered
 pub mod Printing

@@ -6,6 +6,7 @@ mod end_tags;
 mod fault;
 mod law;
 mod phase;
+mod plain;
 mod print;
 mod read;
 mod reader;

@@ -13,6 +13,7 @@ ghost use Rattle.doc_profile.specs.Readings.{Faults, document_of, fragment_of, p
 ghost use Rattle.doc_profile.specs.View.{Goes, Walks, kind_of, nodes_of, state_of};
 
 use crate::fault::DocFault;
+use crate::plain::{pass_plain, split_first};
 use crate::reader::Reader;
 use ft_base::{Items, MAX_DEPTH, MAX_NODES, Memory};
 use plain_tree::{Kids, PlainDoc, Tree};
@@ -52,16 +53,18 @@ fn read_text(reader: &mut Reader, text: &str, from: usize) -> Result<(), DocFaul
 {
     let mut behind_return = false;
     let mut nodes = 0;
-    let mut walk = text.char_indices();
-    while let Some((at, c)) = walk.next() {
-        nodes = match count(reader, nodes, from + at, behind_return, c) {
+    let mut rest = text;
+    while let Some((c, behind)) = split_first(rest) {
+        let at = from + (text.len() - rest.len());
+        nodes = match count(reader, nodes, at, behind_return, c) {
             Ok(more) => more,
             Err(fault) => return Err(fault),
         };
         if !take(reader, behind_return, c)? {
-            return Err(DocFault::Syntax { at: from + at });
+            return Err(DocFault::Syntax { at });
         }
         behind_return = c == '\r';
+        rest = pass_plain(reader, behind_return, behind)?;
     }
     Ok(())
 }

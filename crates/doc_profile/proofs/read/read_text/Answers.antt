@@ -1,55 +1,54 @@
 -- A character that is refused, one that is taken, and the end.
-use Rattle.std.proofs.Common.{◌≡◌, ◌+◌, ◌^◌, length, Some, None, Err, List, ℕ, sym, ◌∙◌, ap, subst, arith}
-use Rattle.std.specs.Prelude.{false}
+use Rattle.std.proofs.Common.{rules, ◌≡◌, ◌+◌, ◌-◌, length, Some, None, Err, List, ℕ, refl, sym, ◌∙◌, ap, subst, arith}
+use Rattle.std.proofs.lemmas.List.{length-append}
+use Rattle.std.proofs.lemmas.Str.{length-encode, len_utf8_bounds}
+use Rattle.std.specs.Prelude.{false, encode_utf8}
 use Rattle.std.specs.Str.{chars}
-use Rattle.std.specs.Str.Iter.{char_indices_rest, char_indices_offset}
 use Rattle.doc_profile.specs.Readings.{passes, taken, walk}
 use Rattle.doc_profile.specs.View.{kind_of, state_of}
-use Rattle.doc_profile.specs.declared.fault.DocFault.TheVariants as faults
-use Rattle.doc_profile.proofs.Left.{Left, left_all, left_counted, left_further, left_refused, left_stopped, left_nothing, stepped_false, stepped_true, room_further, begun_none, faults_by}
+use Rattle.doc_profile.proofs.Left.{Left, left_all, left_counted, left_further, left_refused, left_stopped, left_nothing, stepped_false, stepped_true, begun_none, faults_by}
+use Rattle.doc_profile.proofs.PlainRuns.{left_passed, passed_length}
 use Rattle.doc_profile.proofs.read.read_text.Goals as goal
 
-pub loop-at-init : goal.loop-at-init
-loop-at-init c =
-    let h = c.char_indices-walk.ensures in
-    let all = walk (chars c.args.text.now) (state_of c.args.reader.now) false c.args.from in
+pub loop-c-init : goal.loop-c-init
+loop-c-init c =
     let whole = left_all c.args.text.now (state_of c.args.reader.now) c.args.from c.utf8.text (begun_none (kind_of c.args.reader.now.fragment) (state_of c.args.reader.now) c.requires.start) in
     record {
-      can_go_on = omega (arith, h.offset, ap (λ (z : List ℕ). length z) h.rest, c.requires.fits);
-      is_finite = tt;
-      left = subst (λ (z : List ℕ). Left z (state_of c.args.reader.now) false (c.args.from + char_indices_offset c.char_indices-walk.result) 0 all) (sym h.rest)
-          (subst (λ (n : ℕ). Left c.args.text.now (state_of c.args.reader.now) false n 0 all) (omega (arith, h.offset)) whole);
+      text = search rules;
+      within = omega arith;
+      left = subst (λ (n : ℕ). Left c.args.text.now (state_of c.args.reader.now) false n 0 (walk (chars c.args.text.now) (state_of c.args.reader.now) false c.args.from)) (omega arith) whole;
     }
 
 pub count-requires : goal.count-requires
-count-requires c = left_counted c.in-Some.c c.loop-at.invariant.left
+count-requires c = left_counted c.in-Some.c c.loop-c.invariant.left
 
 pub returns-in-Err : goal.returns-in-Err
 returns-in-Err c =
-    let h = c.in-Some.ensures.steps in
     let all = walk (chars c.args.text.now) (state_of c.args.reader.now) false c.args.from in
-    faults_by all c.in-Err.fault (λ _. left_stopped c.in-Some.c (char_indices_rest c.next.new.self) c.in-Err.fault c.loop-at.invariant.left h.1
-    (subst (λ (n : ℕ). passes (state_of c.loop-at.reader) c.loop-at.behind_return c.in-Some.c (c.args.from + n) ≡ Some c.in-Err.fault) h.0 c.in-Err.ensures.err))
+    faults_by all c.in-Err.fault (λ _. left_stopped c.in-Some.c c.in-Some.behind.now c.in-Err.fault c.loop-c.invariant.left c.in-Some.ensures.some c.in-Err.ensures.err)
 
 pub returns-then-not-branch : goal.returns-then-not-branch
 returns-then-not-branch c =
-    let h = c.in-Some.ensures.steps in
-    let refused = stepped_false c.in_ok-take.field-0 (taken (state_of c.loop-at.reader) c.loop-at.behind_return c.in-Some.c) (state_of c.take.new.reader) c.in_ok-take.ensures c.if-not-branch.true in
-    left_refused c.in-Some.c (char_indices_rest c.next.new.self) c.loop-at.invariant.left h.1
-    (subst (λ (n : ℕ). passes (state_of c.loop-at.reader) c.loop-at.behind_return c.in-Some.c (c.args.from + n) ≡ None) h.0 c.in-Ok.ensures.ok) refused
-    ∙ ap (λ (n : ℕ). Err (faults.Syntax (c.args.from + n))) (sym h.0)
+    let refused = stepped_false c.in_ok-take.field-0 (taken (state_of c.loop-c.reader) c.loop-c.behind_return c.in-Some.c) (state_of c.take.new.reader) c.in_ok-take.ensures c.if-not-branch.true in
+    left_refused c.in-Some.c c.in-Some.behind.now c.loop-c.invariant.left c.in-Some.ensures.some c.in-Ok.ensures.ok refused
 
-pub loop-at-preserved : goal.loop-at-preserved
-loop-at-preserved c =
-    let h = c.in-Some.ensures.steps in
+pub loop-c-smaller : goal.loop-c-smaller
+loop-c-smaller c = omega (arith, ap (λ (z : List ℕ). length z) c.in-Some.ensures.some, length-append (encode_utf8 c.in-Some.c) c.in-Some.behind.now, length-encode c.in-Some.c, (len_utf8_bounds c.in-Some.c).0, passed_length _ _ _ _ _ c.in_ok-rest.ensures)
+
+pub loop-c-preserved : goal.loop-c-preserved
+loop-c-preserved c =
+    let some = c.in-Some.ensures.some in
+    let at = c.args.from + (length c.args.text.now - length c.loop-c.rest.now) in
+    let further = left_further c.in-Some.c c.in-Some.behind.now (state_of c.take.new.reader) c.in-Ok.more (at + length (encode_utf8 c.in-Some.c)) c.loop-c.invariant.left some c.in-Ok.ensures.ok
+    (stepped_true c.in_ok-take.field-0 (taken (state_of c.loop-c.reader) c.loop-c.behind_return c.in-Some.c) (state_of c.take.new.reader) c.in_ok-take.ensures c.if-not-branch.false) c.in-Ok.ensures.count refl in
+    let shorter = passed_length _ _ _ _ _ c.in_ok-rest.ensures in
+    let longer = ap (λ (z : List ℕ). length z) some ∙ length-append (encode_utf8 c.in-Some.c) c.in-Some.behind.now in
     record {
-      can_go_on = room_further (char_indices_rest c.loop-at.walk) (char_indices_rest c.next.new.self) (char_indices_offset c.loop-at.walk) (char_indices_offset c.next.new.self) c.in-Some.c (2 ^ 64) c.loop-at.invariant.can_go_on h.1 h.2;
-      is_finite = tt;
-      left = left_further c.in-Some.c (char_indices_rest c.next.new.self) (state_of c.take.new.reader) c.in-Ok.more (c.args.from + char_indices_offset c.next.new.self) c.loop-at.invariant.left h.1
-          (subst (λ (n : ℕ). passes (state_of c.loop-at.reader) c.loop-at.behind_return c.in-Some.c (c.args.from + n) ≡ None) h.0 c.in-Ok.ensures.ok)
-          (stepped_true c.in_ok-take.field-0 (taken (state_of c.loop-at.reader) c.loop-at.behind_return c.in-Some.c) (state_of c.take.new.reader) c.in_ok-take.ensures c.if-not-branch.false)
-          c.in-Ok.ensures.count (omega (arith, h.2));
+      text = search rules;
+      within = omega (arith, shorter, longer, c.loop-c.invariant.within);
+      left = left_passed c.in-Some.behind.now c.in_ok-rest.rest.now (state_of c.take.new.reader) (state_of c.pass_plain.new.reader) _ (at + length (encode_utf8 c.in-Some.c)) (c.args.from + (length c.args.text.now - length c.in_ok-rest.rest.now)) c.in-Ok.more _ further c.in_ok-rest.ensures
+          (omega (arith, shorter, longer, c.loop-c.invariant.within));
     }
 
 pub returns : goal.returns
-returns c = left_nothing c.loop-at.invariant.left c.in_default.ensures.steps.0
+returns c = left_nothing c.loop-c.invariant.left c.in_default.ensures.none
