@@ -1,0 +1,9 @@
+pub mod BuildingLemmas
+pub mod LeavesLemmas
+pub mod LinksLemmas
+pub mod PlacesLemmas
+pub mod ReadingLemmas
+pub mod RowLemmas
+pub mod ShiftLemmas
+pub mod SlotsLemmas
+pub mod TreeCounts

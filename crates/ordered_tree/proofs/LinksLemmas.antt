@@ -1,0 +1,65 @@
+-- Each link of a node names a node of the document.
+use Rattle.std.proofs.Common.{List, [], map, refl, ap, ◌∙◌, arith}
+use Rattle.std.specs.List.{All, Contains}
+use Rattle.std.specs.Option.{IfSome}
+use Rattle.std.proofs.lemmas.List.{get_or-map, length-map}
+use Rattle.std.proofs.lemmas.List.Elements.{All-nil, All-cons, All-head, All-tail, All-append, All-weaker, All-contains_itself}
+use Rattle.ordered_tree.specs.Numbered.{Numbered, element_at, text_at, Children, no_children, child_then, reference, children, first_of}
+use Rattle.ordered_tree.specs.Stands.{Stand, round_root, round_first, round_next, stands, child_stands, stands_in, references}
+use Rattle.ordered_tree.specs.declared.around.Around.{Around}
+use Rattle.ordered_tree.specs.declared.node_ref.NodeRef.{NodeRef}
+use Rattle.ordered_tree.proofs.SlotsLemmas.{All-left, All-right}
+
+-- an element of a list is there after a map
+pub Contains-map : (f : Stand → NodeRef) (xs : List Stand) (s : Stand) → Contains xs s → Contains (map f xs) (f s)
+Contains-map f xs s (k, more, is) =
+    (k, (let e = length-map xs f in omega arith), get_or-map f xs k s (f s) more ∙ ap f is)
+
+module _ (root : Numbered) where
+  abbrev There : NodeRef → Type 0
+  There r = Contains (references root) r
+
+  abbrev IsThere : Stand → Type 0
+  IsThere s = There (reference s.node)
+
+  pub record Linked (s : Stand) : Type 0 where
+    pub parent : IfSome s.around.parent There
+    pub next : IfSome s.around.next There
+    pub first : IfSome (first_of (children s.node)) There
+
+  first-there : (ns : Children) (a : Around) → All IsThere (child_stands a ns) → IfSome (first_of ns) There
+  unfolding stands child_stands
+  first-there no_children a h = tt
+  first-there (child_then (element_at r name attrs kids) ns) a h = All-head IsThere _ _ h
+  first-there (child_then (text_at r bytes) ns) a h = All-head IsThere _ _ h
+
+  mutual
+    unfolding stands child_stands
+
+    linked : (n : Numbered) (a : Around) → IfSome a.parent There → IfSome a.next There → All IsThere (stands a n) → All Linked (stands a n)
+    linked (element_at r name attrs kids) a parent next h =
+        let below : All IsThere (child_stands (round_first a.before r) kids) = All-tail IsThere _ _ h in
+        All-cons Linked _ _ (record { parent = parent; next = next; first = first-there kids (round_first a.before r) below })
+        (linked-children kids (round_first a.before r) (All-head IsThere _ _ h) below)
+    linked (text_at r bytes) a parent next h = All-cons Linked _ [] (record { parent = parent; next = next; first = tt }) (All-nil Linked)
+
+    linked-children : (ns : Children) (a : Around) → IfSome a.parent There → All IsThere (child_stands a ns) → All Linked (child_stands a ns)
+    linked-children no_children a parent h = All-nil Linked
+    linked-children (child_then n ns) a parent h =
+        let mine : All IsThere (stands (record a { next = first_of ns }) n) = All-left IsThere (stands (record a { next = first_of ns }) n) (child_stands (round_next a n) ns) h in
+        let rest : All IsThere (child_stands (round_next a n) ns) = All-right IsThere (stands (record a { next = first_of ns }) n) (child_stands (round_next a n) ns) h in
+        All-append Linked (stands (record a { next = first_of ns }) n) (child_stands (round_next a n) ns)
+        (linked n (record a { next = first_of ns }) parent (first-there ns (round_next a n) rest) mine)
+        (linked-children ns (round_next a n) parent rest)
+
+  all-there : All IsThere (stands_in root)
+  all-there = All-weaker (Contains (stands_in root)) IsThere (λ s c. Contains-map (λ x. reference x.node) (stands_in root) s c) (stands_in root) (All-contains_itself (stands_in root))
+
+  pub all-linked : All Linked (stands_in root)
+  all-linked = linked root round_root tt tt all-there
+
+-- the root is there
+pub root-there : (root : Numbered) → Contains (references root) (reference root)
+unfolding stands
+root-there (element_at r name attrs kids) = (0, omega arith, refl)
+root-there (text_at r bytes) = (0, omega arith, refl)

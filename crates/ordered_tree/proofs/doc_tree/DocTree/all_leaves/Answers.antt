@@ -1,0 +1,17 @@
+use Rattle.std.proofs.Common.{◌++◌, None, ap, ◌∙◌}
+use Rattle.ordered_tree.specs.Leaves.{leaves, leaves_behind, texts}
+use Rattle.ordered_tree.specs.Slots.{root_of, node_at, root_ref}
+use Rattle.ordered_tree.proofs.RowLemmas.{root-row, fits}
+use Rattle.ordered_tree.proofs.doc_tree.DocTree.all_leaves.Goals as goal
+
+pub add_leaves-requires : goal.add_leaves-requires
+add_leaves-requires c =
+    let slots = c.self.inside.slots.items in
+    root-row slots c.self.inside.free c.self.invariant.stored (fits slots c.self.inside.free (root_of slots) c.self.invariant.stored)
+
+pub returns : goal.returns
+unfolding root_of
+returns c =
+    c.in_ok-add_leaves.ensures.leaves
+    ∙ ap (λ l. l ++ leaves_behind None (texts (node_at c.self.inside.slots.items root_ref))) c.new-leaves.ensures
+    ∙ ap (λ v. leaves v.root) c.self.view_is

@@ -1,0 +1,120 @@
+use Rattle.std.proofs.Common.{◌≡◌, ℕ, ◌+◌, [], ◌∷◌, ◌++◌, Some, length, sym, ap, ap₂, ◌∙◌, subst, arith, append_assoc, append-nil, OnOk, IfOk}
+use Rattle.doc_grammar.specs.Limits.{node_count, nodes_count}
+use Rattle.tokenizer.specs.Words.{words}
+use Rattle.ordered_tree.specs.Leaves.{texts, texts_of, leaf_of, leaves_behind, last_leaf}
+use Rattle.ordered_tree.specs.Numbered.{plain, plain_children, children, no_children, child_then}
+use Rattle.ordered_tree.specs.Slots.{IsRow, held, row, node_at}
+use Rattle.ordered_tree.specs.declared.slot.Held.TheVariants.{Element, Text}
+use Rattle.ordered_tree.proofs.LeavesLemmas.{leaves_behind-append, last_leaf-append, leaves_behind-nil, last_leaf-nil, texts-element, texts-text}
+use Rattle.ordered_tree.proofs.RowLemmas.{Step, step, node_at-is, count-element}
+use Rattle.ordered_tree.proofs.SlotsLemmas.{some_node, from_link-none}
+use Rattle.ordered_tree.proofs.leaves.+leaves.Goals as goal
+
+-- ---- add_all_leaves
+
+pub add_all_leaves-index-requires : goal.add_all_leaves-index-requires
+add_all_leaves-index-requires t c =
+    let slots = c.args.slots.now.items in
+    let st : Step slots c.in-Some.here = step slots c.in-Some.here (subst (IsRow slots) c.in-Some.is c.loop-link.invariant.left) in
+    omega (arith, st.here)
+
+pub add_all_leaves-loop-link-smaller : goal.add_all_leaves-loop-link-smaller
+add_all_leaves-loop-link-smaller t c =
+    let slots = c.args.slots.now.items in
+    let st : Step slots c.in-Some.here = step slots c.in-Some.here (subst (IsRow slots) c.in-Some.is c.loop-link.invariant.left) in
+    let next : c.index.result.now.around.next ≡ _ = ap (λ s. s.around.next) c.index.ensures ∙ st.next-is c.index.result.now in
+    let less : nodes_count (plain_children (row slots c.index.result.now.around.next)) ≡ nodes_count (plain_children st.ns) = ap (λ ns. nodes_count (plain_children ns)) (ap (row slots) next ∙ st.rest-is) in
+    let here : nodes_count (plain_children (row slots c.loop-link.link)) ≡ node_count (plain st.n) + nodes_count (plain_children st.ns) = ap (λ ns. nodes_count (plain_children ns)) (ap (row slots) c.in-Some.is ∙ st.row-is) in
+    omega (arith, less, here, some_node st.n)
+
+pub add_all_leaves-loop-link-preserved : goal.add_all_leaves-loop-link-preserved
+add_all_leaves-loop-link-preserved t c =
+    let slots = c.args.slots.now.items in
+    let st : Step slots c.in-Some.here = step slots c.in-Some.here (subst (IsRow slots) c.in-Some.is c.loop-link.invariant.left) in
+    let next : c.index.result.now.around.next ≡ _ = ap (λ s. s.around.next) c.index.ensures ∙ st.next-is c.index.result.now in
+    let rest : row slots c.index.result.now.around.next ≡ st.ns = ap (row slots) next ∙ st.rest-is in
+    let all : row slots c.loop-link.link ≡ child_then st.n st.ns = ap (row slots) c.in-Some.is ∙ st.row-is in
+    let before = c.loop-link.before in
+    let one : texts (node_at slots c.in-Some.here) ≡ texts st.n = ap texts (node_at-is slots c.in-Some.here st) in
+    let last : c.in_ok-before.before ≡ last_leaf before (texts st.n) = c.in_ok-before.ensures.last ∙ ap (last_leaf before) one in
+    record {
+      left = subst (IsRow slots) (sym next) st.rest;
+      done = ap₂ (λ l ns. l ++ leaves_behind c.in_ok-before.before (texts_of ns)) (c.in_ok-before.ensures.leaves ∙ ap (λ ts. c.loop-link.leaves ++ leaves_behind before ts) one) rest
+          ∙ ap (λ b. (c.loop-link.leaves ++ leaves_behind before (texts st.n)) ++ leaves_behind b (texts_of st.ns)) last
+          ∙ append_assoc c.loop-link.leaves (leaves_behind before (texts st.n)) _
+          ∙ ap (λ l. c.loop-link.leaves ++ l) (sym (leaves_behind-append (texts st.n) (texts_of st.ns) before))
+          ∙ ap (λ ns. c.loop-link.leaves ++ leaves_behind before (texts_of ns)) (sym all)
+          ∙ c.loop-link.invariant.done;
+      last = ap₂ (λ b ns. last_leaf b (texts_of ns)) last rest
+          ∙ sym (last_leaf-append (texts st.n) (texts_of st.ns) before)
+          ∙ ap (λ ns. last_leaf before (texts_of ns)) (sym all)
+          ∙ c.loop-link.invariant.last;
+      fewer = omega (arith, c.loop-link.invariant.fewer, ap (λ ns. nodes_count (plain_children ns)) rest, ap (λ ns. nodes_count (plain_children ns)) all);
+    }
+
+pub add_all_leaves-returns-clause-leaves : goal.add_all_leaves-returns-clause-leaves
+add_all_leaves-returns-clause-leaves t c =
+    let slots = c.args.slots.now.items in
+    let none : row slots c.loop-link.link ≡ no_children = ap (row slots) c.in_default.is ∙ from_link-none slots (length slots) in
+    sym (append-nil c.loop-link.leaves) ∙ ap (λ l. c.loop-link.leaves ++ l) (sym (leaves_behind-nil c.loop-link.before))
+    ∙ ap (λ ns. c.loop-link.leaves ++ leaves_behind c.loop-link.before (texts_of ns)) (sym none) ∙ c.loop-link.invariant.done
+
+pub add_all_leaves-returns-clause-last : goal.add_all_leaves-returns-clause-last
+add_all_leaves-returns-clause-last t c =
+    let slots = c.args.slots.now.items in
+    let none : row slots c.loop-link.link ≡ no_children = ap (row slots) c.in_default.is ∙ from_link-none slots (length slots) in
+    sym (last_leaf-nil c.loop-link.before) ∙ ap (λ ns. last_leaf c.loop-link.before (texts_of ns)) (sym none) ∙ c.loop-link.invariant.last
+
+-- ---- add_leaves
+
+pub add_leaves-index-slot-requires : goal.add_leaves-index-slot-requires
+add_leaves-index-slot-requires t c =
+    let st : Step c.args.slots.now.items c.args.here = step c.args.slots.now.items c.args.here c.requires in
+    omega (arith, st.here)
+
+pub add_leaves-add_all_leaves-requires : goal.add_leaves-add_all_leaves-requires
+add_leaves-add_all_leaves-requires t c =
+    let slots = c.args.slots.now.items in
+    let s = c.index-slot.result.now in
+    let st : Step slots c.args.here = step slots c.args.here c.requires in
+    let is : held st.n ≡ Element c.in-Element.name c.in-Element.attrs = sym (ap (λ s. s.held) c.index-slot.ensures ∙ st.held-is s) ∙ c.in-Element.is in
+    let first : s.first_child ≡ _ = ap (λ s. s.first_child) c.index-slot.ensures ∙ st.first-is s in
+    let inner : nodes_count (plain_children (row slots s.first_child)) ≡ nodes_count (plain_children (children st.n)) = ap (λ ns. nodes_count (plain_children ns)) (ap (row slots) first ∙ st.inner-is) in
+    let here : nodes_count (plain_children (row slots (Some c.args.here))) ≡ node_count (plain st.n) + nodes_count (plain_children st.ns) = ap (λ ns. nodes_count (plain_children ns)) st.row-is in
+    (omega (arith, c.decreases, inner, here, count-element st.n c.in-Element.name c.in-Element.attrs is), subst (IsRow slots) (sym first) st.inner)
+
+text-is : (t : ℕ) (c : goal.add_leaves-In_ok-push_leaf-in-Text t) → texts (node_at c.args.slots.now.items c.args.here) ≡ (c.args.here, c.in-Text.text) ∷ []
+text-is t c =
+    let slots = c.args.slots.now.items in
+    let s = c.index-slot.result.now in
+    let st : Step slots c.args.here = step slots c.args.here c.requires in
+    let is : held st.n ≡ Text c.in-Text.text = sym (ap (λ s. s.held) c.index-slot.ensures ∙ st.held-is s) ∙ c.in-Text.is in
+    ap texts (node_at-is slots c.args.here st) ∙ texts-text st.n c.in-Text.text is ∙ ap (λ r. (r, c.in-Text.text) ∷ []) st.refers
+
+pub add_leaves-returns-in_ok-push_leaf-in-Text-clause-leaves : goal.add_leaves-returns-in_ok-push_leaf-in-Text-clause-leaves
+unfolding leaves_behind
+add_leaves-returns-in_ok-push_leaf-in-Text-clause-leaves t c =
+    c.in_ok-push_leaf-in-Text.ensures
+    ∙ ap (λ b. c.args.leaves.now ++ record { leaf = leaf_of c.args.here; after = c.args.last; words = words b } ∷ []) c.as_str.ensures
+    ∙ ap (λ ts. c.args.leaves.now ++ leaves_behind c.args.last ts) (sym (text-is t c))
+
+pub add_leaves-returns-in_ok-push_leaf-in-Text-clause-last : goal.add_leaves-returns-in_ok-push_leaf-in-Text-clause-last
+unfolding last_leaf
+add_leaves-returns-in_ok-push_leaf-in-Text-clause-last t c = ap (last_leaf c.args.last) (sym (text-is t c))
+
+element-is : (t : ℕ) (c : goal.add_leaves-After-add_all_leaves t) → texts_of (row c.args.slots.now.items c.index-slot.result.now.first_child) ≡ texts (node_at c.args.slots.now.items c.args.here)
+element-is t c =
+    let slots = c.args.slots.now.items in
+    let s = c.index-slot.result.now in
+    let st : Step slots c.args.here = step slots c.args.here c.requires in
+    let is : held st.n ≡ Element c.in-Element.name c.in-Element.attrs = sym (ap (λ s. s.held) c.index-slot.ensures ∙ st.held-is s) ∙ c.in-Element.is in
+    let first : s.first_child ≡ _ = ap (λ s. s.first_child) c.index-slot.ensures ∙ st.first-is s in
+    ap texts_of (ap (row slots) first ∙ st.inner-is) ∙ sym (texts-element st.n c.in-Element.name c.in-Element.attrs is) ∙ sym (ap texts (node_at-is slots c.args.here st))
+
+pub add_leaves-returns-in-Element-clause-leaves : goal.add_leaves-returns-in-Element-clause-leaves
+add_leaves-returns-in-Element-clause-leaves t c =
+    subst (λ ts. OnOk c.add_all_leaves.result (c.add_all_leaves.new.leaves ≡ c.args.leaves.now ++ leaves_behind c.args.last ts)) (element-is t c) c.add_all_leaves.ensures.leaves
+
+pub add_leaves-returns-in-Element-clause-last : goal.add_leaves-returns-in-Element-clause-last
+add_leaves-returns-in-Element-clause-last t c =
+    subst (λ ts. IfOk c.add_all_leaves.result (λ new. new ≡ last_leaf c.args.last ts)) (element-is t c) c.add_all_leaves.ensures.last

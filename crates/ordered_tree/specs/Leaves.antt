@@ -1,0 +1,32 @@
+-- The leaves of a document: one for each text, in document order, with the text's words.
+use Rattle.std.specs.Prelude.{List, ℕ, [], ◌∷◌, ◌++◌, Option, Some, None}
+use Rattle.tokenizer.specs.Words.{words}
+use Rattle.ordered_tree.specs.Numbered.{Numbered, element_at, text_at, Children, no_children, child_then}
+use Rattle.ordered_tree.specs.declared.leaf.LeafId.{LeafId}
+use Rattle.ordered_tree.specs.declared.leaf.LeafWords.{LeafWords}
+use Rattle.ordered_tree.specs.declared.node_ref.NodeRef.{NodeRef}
+
+abbrev mutual
+  pub texts : Numbered → List (NodeRef × List ℕ)
+  texts (element_at r name attrs kids) = texts_of kids
+  texts (text_at r bytes) = (r, bytes) ∷ []
+
+  pub texts_of : Children → List (NodeRef × List ℕ)
+  texts_of no_children = []
+  texts_of (child_then n ns) = texts n ++ texts_of ns
+
+-- the leaf of a text has the number of the text's reference
+abbrev pub leaf_of : NodeRef → LeafId
+leaf_of r = record { 0 = r.0 }
+
+-- the leaves of texts that stand behind a leaf, each directly behind the one before
+unfoldable pub leaves_behind : Option LeafId → List (NodeRef × List ℕ) → List LeafWords
+leaves_behind before [] = []
+leaves_behind before ((r, bytes) ∷ rest) = record { leaf = leaf_of r; after = before; words = words bytes } ∷ leaves_behind (Some (leaf_of r)) rest
+
+unfoldable pub last_leaf : Option LeafId → List (NodeRef × List ℕ) → Option LeafId
+last_leaf before [] = before
+last_leaf before ((r, bytes) ∷ rest) = last_leaf (Some (leaf_of r)) rest
+
+abbrev pub leaves : Numbered → List LeafWords
+leaves root = leaves_behind None (texts root)

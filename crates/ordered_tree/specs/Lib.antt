@@ -1,0 +1,10 @@
+pub mod Climbing
+pub mod Counts
+pub mod Leaves
+pub mod Numbered
+pub mod Numbering
+pub mod Part
+pub mod Places
+pub mod Slots
+pub mod Stands
+pub mod Stored

@@ -1,0 +1,153 @@
+use crate::around::Around;
+use crate::building::add_tree;
+use crate::climbing::add_place;
+use crate::copying::copy_slots;
+use crate::leaves::add_leaves;
+use crate::plain::tree_of;
+use crate::slot::Slot;
+use crate::{Leaves, NodeRef, Place};
+use ft_base::Memory;
+use plain_tree::PlainDoc;
+use std::alloc::Global;
+use std::marker::Model;
+
+/// A document in one vector of slots: each node has a reference, which is the number of its slot.
+#[derive(Debug, Drop)]
+pub struct DocTree {
+    alloc: Global,
+    slots: Vec<Slot>,
+    free: Option<NodeRef>,
+    nodes: usize,
+    depth: usize,
+}
+
+impl Model for DocTree {
+    ghost use Rattle.std.specs.Prelude.{length};
+    ghost use Rattle.ordered_tree.specs.Stored.{Stored, stored_code};
+
+    ghost Value = { Stored };
+
+    ghost coded = { stored_code };
+
+    ghost use Rattle.ordered_tree.specs.Slots.{IsCounted, root_of};
+
+    ghost view = { λ tree. record { root = root_of tree.slots.items; slots = length tree.slots.items } };
+
+    ghost invariant = { λ tree. IsCounted tree.slots.items tree.free tree.nodes tree.depth };
+}
+
+impl DocTree {
+    ghost use Rattle.std.specs.Prelude.{◌≡◌, ◌≢◌, ◌+◌, ◌<◌, ◌^◌, length, AllPairs, Contains, IfOk, IfSome, Some};
+    ghost use Rattle.doc_grammar.specs.Limits.{node_count};
+    ghost use Rattle.ordered_tree.specs.Counts.{element_depth};
+    ghost use Rattle.ordered_tree.specs.Leaves.{leaves};
+    ghost use Rattle.ordered_tree.specs.Numbered.{plain, reference};
+    ghost use Rattle.ordered_tree.specs.Numbering.{numbered};
+    ghost use Rattle.ordered_tree.specs.Places.{at_place};
+    ghost use Rattle.ordered_tree.specs.Slots.{slot};
+    ghost use Rattle.ordered_tree.specs.Stands.{OnNode, references};
+    ghost use Rattle.tokenizer.specs.Tokens.{tokens};
+
+    /// The document, with references in document order, from 0.
+    pub fn from_doc(alloc: Global, doc: &PlainDoc) -> Result<DocTree, Memory>
+        requires few_nodes { node_count doc.now < 2 ^ 31 }
+        requires few_words { length (tokens doc.now) < 2 ^ 31 }
+        ensures { IfOk result (λ tree. tree ≡ record { root = numbered 0 doc.now; slots = node_count doc.now }) }
+    {
+        let root = doc.root();
+        let mut slots = Vec::new(alloc);
+        let added = add_tree(alloc, &mut slots, root, Around::root(), true)?;
+        let nodes = slots.len();
+        Ok(DocTree {
+            alloc,
+            slots,
+            free: None,
+            nodes,
+            depth: added.levels,
+        })
+    }
+
+    /// The document without references.
+    pub fn to_doc(&self) -> Result<PlainDoc, Memory>
+        ensures { IfOk result (λ doc. doc ≡ plain self.now.root) }
+    {
+        let tree = tree_of(self.alloc, &self.slots, NodeRef(0))?;
+        Ok(PlainDoc::from_tree(tree))
+    }
+
+    /// A tree of the same document, with the same references.
+    pub fn copy(&self) -> Result<DocTree, Memory>
+        ensures { IfOk result (λ copy. copy ≡ self.now) }
+    {
+        let slots = copy_slots(self.alloc, &self.slots)?;
+        Ok(DocTree {
+            alloc: self.alloc,
+            slots,
+            free: self.free,
+            nodes: self.nodes,
+            depth: self.depth,
+        })
+    }
+
+    /// The leaves: one for each text, in document order, with the text's words.
+    pub fn all_leaves(&self) -> Result<Leaves, Memory>
+        ensures { IfOk result (λ all. all ≡ leaves self.now.root) }
+    {
+        let mut leaves = Leaves::new(self.alloc);
+        add_leaves(self.alloc, &self.slots, NodeRef(0), None, &mut leaves)?;
+        Ok(leaves)
+    }
+
+    /// The place of a node: the child numbers, counted from 1, that lead to it from the root.
+    pub fn place_of(&self, node: NodeRef) -> Result<Place, Memory>
+        requires { Contains (references self.now.root) node }
+        ensures { IfOk result (λ place. OnNode self.now.root node (λ s. at_place place self.now.root ≡ Some s.node)) }
+    {
+        let mut place = Place::new(self.alloc);
+        add_place(&self.slots, node, self.depth, &mut place)?;
+        Ok(place)
+    }
+
+    /// The root, which is an element. No two nodes have one reference.
+    pub fn root(&self) -> NodeRef
+        ensures root { result ≡ reference self.now.root }
+        ensures there { Contains (references self.now.root) result }
+        ensures apart { AllPairs (λ a b. a ≢ b) (references self.now.root) }
+    {
+        let _slots = &self.slots;
+        NodeRef(0)
+    }
+
+    /// The slot of a node.
+    pub(crate) fn slot(&self, node: NodeRef) -> &Slot
+        requires { Contains (references self.now.root) node }
+        ensures stands { OnNode self.now.root node (λ s. result.now ≡ slot s) }
+        ensures few { result.now.around.before + result.now.words < 2 ^ 31 }
+        ensures parent { IfSome result.now.around.parent (Contains (references self.now.root)) }
+        ensures next { IfSome result.now.around.next (Contains (references self.now.root)) }
+        ensures first { IfSome result.now.first_child (Contains (references self.now.root)) }
+    {
+        &self.slots[node.0 as usize]
+    }
+
+    /// How many nodes there are.
+    pub fn node_count(&self) -> usize
+        ensures { result ≡ node_count (plain self.now.root) }
+    {
+        self.nodes
+    }
+
+    /// How many elements stand in one another, at most.
+    pub fn depth(&self) -> usize
+        ensures { result ≡ element_depth (plain self.now.root) }
+    {
+        self.depth
+    }
+
+    /// How many slots there are, used and free.
+    pub fn slot_count(&self) -> usize
+        ensures { result ≡ self.now.slots }
+    {
+        self.slots.len()
+    }
+}

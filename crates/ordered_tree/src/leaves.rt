@@ -1,0 +1,86 @@
+ghost use Rattle.std.specs.Prelude.{◌≡◌, ◌++◌, ◌∷◌, [], Some, IfOk, OnOk};
+ghost use Rattle.tokenizer.specs.Words.{words};
+ghost use Rattle.ordered_tree.specs.Leaves.{texts, texts_of, leaf_of, leaves_behind, last_leaf};
+ghost use Rattle.ordered_tree.specs.Slots.{IsRow, row, node_at};
+
+use crate::leaf::{LeafId, LeafWords};
+use crate::slot::{Held, Slot};
+use crate::{Leaves, NodeRef};
+use ft_base::{Line, Lines, Memory};
+use std::alloc::Global;
+use tokenizer::words_of;
+
+/// Puts the leaves of a node to the end, and gives the last one.
+#[cycle(leaves)]
+pub(crate) fn add_leaves(
+    alloc: Global,
+    slots: &Vec<Slot>,
+    here: NodeRef,
+    last: Option<LeafId>,
+    leaves: &mut Leaves,
+) -> Result<Option<LeafId>, Memory>
+    requires { IsRow slots.now.items (Some here) }
+    ensures leaves { OnOk result (leaves.new ≡ leaves.old ++ leaves_behind last (texts (node_at slots.now.items here))) }
+    ensures last { IfOk result (λ new. new ≡ last_leaf last (texts (node_at slots.now.items here))) }
+{
+    let slot = &slots[here.0 as usize];
+    match &slot.held {
+        Held::Text { text } => {
+            let leaf = LeafId(here.0);
+            push_leaf(alloc, leaf, last, text.as_str(), leaves)?;
+            Ok(Some(leaf))
+        }
+        Held::Element { .. } => add_all_leaves(alloc, slots, slot.first_child, last, leaves),
+        // No node's slot is free.
+        Held::Free => Err(Memory),
+    }
+}
+
+/// Puts the leaves of the nodes from a link on to the end, and gives the last one.
+#[cycle(leaves)]
+fn add_all_leaves(
+    alloc: Global,
+    slots: &Vec<Slot>,
+    first: Option<NodeRef>,
+    last: Option<LeafId>,
+    leaves: &mut Leaves,
+) -> Result<Option<LeafId>, Memory>
+    requires { IsRow slots.now.items first }
+    ensures leaves { OnOk result (leaves.new ≡ leaves.old ++ leaves_behind last (texts_of (row slots.now.items first))) }
+    ensures last { IfOk result (λ new. new ≡ last_leaf last (texts_of (row slots.now.items first))) }
+{
+    let mut before = last;
+    let mut link = first;
+    while let Some(here) = link {
+        before = add_leaves(alloc, slots, here, before, leaves)?;
+        link = slots[here.0 as usize].around.next;
+    }
+    Ok(before)
+}
+
+/// Puts the leaf of a text to the end.
+fn push_leaf(
+    alloc: Global,
+    leaf: LeafId,
+    after: Option<LeafId>,
+    text: &str,
+    leaves: &mut Leaves,
+) -> Result<(), Memory>
+    ensures { OnOk result (leaves.new ≡ leaves.old ++ record { leaf = leaf; after = after; words = words text.now } ∷ []) }
+{
+    let words = words_as_lines(alloc, text)?;
+    leaves.push(LeafWords { leaf, after, words })?;
+    Ok(())
+}
+
+/// The words of a text.
+fn words_as_lines(alloc: Global, text: &str) -> Result<Lines, Memory>
+    ensures { IfOk result (λ lines. lines ≡ words text.now) }
+{
+    let pieces = words_of(alloc, text)?;
+    let mut lines = Lines::new(alloc);
+    for piece in pieces.as_slice() {
+        lines.push(Line::read(alloc, &text[piece.from..piece.to])?)?;
+    }
+    Ok(lines)
+}

@@ -1,0 +1,33 @@
+//! Documents in one vector of slots linked by number: each node has a reference, a span of words, and a leaf where it is a text.
+#![tactic(auto)]
+
+mod around;
+mod attrs;
+mod building;
+mod climbing;
+mod copying;
+mod doc_tree;
+mod laws;
+mod leaf;
+mod leaves;
+mod node_ref;
+mod plain;
+mod reading;
+mod slot;
+#[cfg(test)]
+mod tests;
+
+pub use doc_tree::DocTree;
+use ft_base::Items;
+pub use laws::shift_law;
+pub use leaf::{LeafId, LeafWords};
+pub use node_ref::NodeRef;
+
+/// A list of leaves.
+pub type LeafIds = Items<LeafId>;
+
+/// A list of leaves with their words.
+pub type Leaves = Items<LeafWords>;
+
+/// Child numbers, counted from 1, read from the root down.
+pub type Place = Items<u32>;

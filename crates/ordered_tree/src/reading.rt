@@ -1,0 +1,87 @@
+ghost use Rattle.std.specs.Prelude.{◌≡◌, Contains, IfSome, IsTrue, Some, option_map};
+ghost use Rattle.ordered_tree.specs.Numbered.{plain, is_element, name_of, attrs_of, attribute, children, first_of};
+ghost use Rattle.ordered_tree.specs.Part.{part};
+ghost use Rattle.ordered_tree.specs.Stands.{OnNode, references, span};
+ghost use Rattle.tokenizer.specs.Tokens.{tokens};
+
+use crate::attrs::find_attr;
+use crate::slot::Held;
+use crate::{DocTree, NodeRef};
+use ft_base::Span;
+
+impl DocTree {
+    /// Whether the node is an element; else it is a text.
+    pub fn is_element(&self, node: NodeRef) -> bool
+        requires { Contains (references self.now.root) node }
+        ensures { OnNode self.now.root node (λ s. result ≡ is_element s.node) }
+    {
+        match &self.slot(node).held {
+            Held::Element { .. } => true,
+            Held::Text { .. } | Held::Free => false,
+        }
+    }
+
+    /// The name of an element.
+    pub fn name(&self, node: NodeRef) -> &str
+        requires there { Contains (references self.now.root) node }
+        requires element { OnNode self.now.root node (λ s. IsTrue (is_element s.node)) }
+        ensures { OnNode self.now.root node (λ s. name_of s.node ≡ Some result.now) }
+    {
+        match &self.slot(node).held {
+            Held::Element { name, .. } => name.as_str(),
+            Held::Text { .. } | Held::Free => "",
+        }
+    }
+
+    /// The value of a node's attribute of this name; a text has no attributes.
+    pub fn attr(&self, node: NodeRef, name: &str) -> Option<&str>
+        requires { Contains (references self.now.root) node }
+        ensures { OnNode self.now.root node (λ s. option_map (λ value. value.now) result ≡ attribute name.now (attrs_of s.node)) }
+    {
+        match &self.slot(node).held {
+            Held::Element { attrs, .. } => find_attr(attrs, name),
+            Held::Text { .. } | Held::Free => None,
+        }
+    }
+
+    /// The first child of a node; a text has none.
+    pub fn first_child(&self, node: NodeRef) -> Option<NodeRef>
+        requires { Contains (references self.now.root) node }
+        ensures first { OnNode self.now.root node (λ s. result ≡ first_of (children s.node)) }
+        ensures there { IfSome result (Contains (references self.now.root)) }
+    {
+        self.slot(node).first_child
+    }
+
+    /// The sibling behind a node.
+    pub fn next(&self, node: NodeRef) -> Option<NodeRef>
+        requires { Contains (references self.now.root) node }
+        ensures next { OnNode self.now.root node (λ s. result ≡ s.around.next) }
+        ensures there { IfSome result (Contains (references self.now.root)) }
+    {
+        self.slot(node).around.next
+    }
+
+    /// The element of which a node is a child; the root has none.
+    pub fn parent(&self, node: NodeRef) -> Option<NodeRef>
+        requires { Contains (references self.now.root) node }
+        ensures parent { OnNode self.now.root node (λ s. result ≡ s.around.parent) }
+        ensures there { IfSome result (Contains (references self.now.root)) }
+    {
+        self.slot(node).around.parent
+    }
+
+    /// The positions of the node's words in the document, counted from 1.
+    pub fn span_of(&self, node: NodeRef) -> Span
+        requires { Contains (references self.now.root) node }
+        ensures positions { OnNode self.now.root node (λ s. result ≡ span s) }
+        ensures tokens { OnNode self.now.root node (λ s. part (tokens (plain self.now.root)) result ≡ tokens (plain s.node)) }
+    {
+        let slot = self.slot(node);
+        let from = slot.around.before + 1;
+        Span {
+            from,
+            to: from + slot.words,
+        }
+    }
+}

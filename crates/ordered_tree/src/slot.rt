@@ -1,0 +1,24 @@
+use crate::NodeRef;
+use crate::around::Around;
+use ft_base::Line;
+use plain_tree::Attrs;
+
+/// What a slot holds.
+#[derive(Debug, Drop)]
+pub(crate) enum Held {
+    Element { name: Line, attrs: Attrs },
+    Text { text: Line },
+    /// Nothing: the slot is on the list of free ones.
+    Free,
+}
+
+/// A slot for a node. A free slot has only the next free one.
+#[derive(Debug, Drop)]
+pub(crate) struct Slot {
+    pub(crate) held: Held,
+    pub(crate) around: Around,
+    pub(crate) first_child: Option<NodeRef>,
+    pub(crate) last_child: Option<NodeRef>,
+    /// How many words the node has.
+    pub(crate) words: u32,
+}
