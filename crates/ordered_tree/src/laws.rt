@@ -1,11 +1,22 @@
-ghost use Rattle.std.specs.Prelude.{◌≡◌, All};
-ghost use Rattle.ordered_tree.specs.Numbered.{Numbered, plain};
+ghost use Rattle.std.specs.Prelude.{◌≡◌, ◌≢◌, All, AllPairs, Contains};
+ghost use Rattle.ordered_tree.specs.Numbered.{Numbered, plain, reference};
 ghost use Rattle.ordered_tree.specs.Part.{part};
-ghost use Rattle.ordered_tree.specs.Stands.{stands_in, span};
+ghost use Rattle.ordered_tree.specs.Stands.{Stand, stands, stands_in, references, span};
 ghost use Rattle.tokenizer.specs.Tokens.{tokens};
 
 /// The tokens of a node by itself are the document's tokens at the places of the node's span, with sentences and paragraphs
 /// counted from 1 again.
 pub fn shift_law()
     ensures { (root : Numbered) → All (λ s. part (tokens (plain root)) (span s) ≡ tokens (plain s.node)) (stands_in root) }
+{}
+
+/// A reference names one node, where no two nodes have the same.
+pub fn one_node_law()
+    ensures { (root : Numbered) → AllPairs (λ a b. a ≢ b) (references root) → (s t : Stand)
+        → Contains (stands_in root) s → Contains (stands_in root) t → reference s.node ≡ reference t.node → s ≡ t }
+{}
+
+/// What is below a node of a document is in the document, with the same around it.
+pub fn below_law()
+    ensures { (root : Numbered) → All (λ s. All (Contains (stands_in root)) (stands s.around s.node)) (stands_in root) }
 {}

@@ -19,7 +19,7 @@ mod tests;
 
 pub use doc_tree::DocTree;
 use ft_base::Items;
-pub use laws::shift_law;
+pub use laws::{below_law, one_node_law, shift_law};
 pub use leaf::{LeafId, LeafWords};
 pub use node_ref::NodeRef;
 
