@@ -4,3 +4,4 @@ pub mod Places
 pub mod QuotedStrings
 pub mod Runs
 pub mod Turns
+pub mod Frames

@@ -1,11 +1,18 @@
 //! Reading selections of full-text queries.
 #![tactic(auto)]
 
+mod building;
 mod characters;
 mod front;
+mod heads;
 mod lexeme;
 mod lexer;
+mod operand_turns;
+mod parts;
+mod plain_option;
 mod selection_examples;
+mod state;
+mod stop_turns;
 mod symbol_examples;
 mod symbol_laws;
 #[cfg(test)]

@@ -28,9 +28,10 @@ use Rattle.query_grammar.specs.Shapes.{is_mark, number_leads, text_leads, number
 use Rattle.query_grammar.proofs.Words.{pointwise_refl, is_mark_self, symbol_of}
 use Rattle.query_grammar.proofs.Walks.{st, Walks, stays, goes_on, walk, takes_own, run_on_of, run_on-append}
 
--- every branch of a shape comes to an end; the Bool says whether the shape may have no branch
+-- Every branch of a shape comes to an end. The Bool says whether the shape is what is left of a choice, which may have no branch but is no end.
 abbrev pub Ends : {A : Type 0} → Bool → Shape A → Type 0
-Ends b (whole a) = Unit {0}
+Ends true (whole a) = ⊥
+Ends false (whole a) = Unit {0}
 Ends true nothing = Unit {0}
 Ends false nothing = ⊥
 Ends b (word key to rest) = ((p : ℕ) → Ends false (to p)) × Ends true rest
@@ -39,20 +40,12 @@ Ends b (text to rest) = ((p : ℕ) (s : List ℕ) → Ends false (to p s)) × En
 Ends b (mark m to rest) = Ends false to × Ends true rest
 
 ends_or_else : {A : Type 0} (t r : Shape A) → Ends true t → Ends true r → Ends true (or_else t r)
-ends_or_else (whole a) r h k = tt
+ends_or_else (whole a) r h k = absurd h
 ends_or_else nothing r h k = k
 ends_or_else (word key to rest) r h k = (h.0, ends_or_else rest r h.1 k)
 ends_or_else (number to rest) r h k = (h.0, ends_or_else rest r h.1 k)
 ends_or_else (text to rest) r h k = (h.0, ends_or_else rest r h.1 k)
 ends_or_else (mark m to rest) r h k = (h.0, ends_or_else rest r h.1 k)
-
-weaker : {A : Type 0} (b : Bool) (t : Shape A) → Ends b t → Ends true t
-weaker b (whole a) h = tt
-weaker b nothing h = tt
-weaker b (word key to rest) h = h
-weaker b (number to rest) h = h
-weaker b (text to rest) h = h
-weaker b (mark m to rest) h = h
 
 -- some path to the end
 pub record End {A : Type 0} (t : Shape A) : Type 0 where

@@ -31,7 +31,7 @@ use Rattle.query_grammar.proofs.OptionMoves.{base_words}
 use Rattle.query_grammar.proofs.Reached.{Stood, stood}
 use Rattle.query_grammar.proofs.Walks.{st, Walks, run_on_of, run_on-append}
 use Rattle.query_grammar.proofs.SelectionWalks.{Closes, CloseWalk, selection_walk}
-use Rattle.query_grammar.proofs.Readings.{reading-and_then}
+use Rattle.query_grammar.proofs.Readings.{reading-and_then, outcome}
 use Rattle.query_grammar.proofs.Ended.{Ends, End, end_of, step_ends, next_ends}
 
 -- whatever is spelled is read, as that selection
@@ -161,7 +161,7 @@ reached_ends : (u : List Placed) (t r : Shape State) → Ends false t → run_on
 reached_ends [] t r h e = let same : t ≡ r = cc in subst (Ends false) same h
 reached_ends (p ∷ u) t r h e = by_shape (advance t p) u r (λ q k f. reached_ends u q r (advance_ends t q p h k) f) e
 
-read-append : (u v : List Placed) → read (u ++ v) ≡ run_on (read u) v
+pub read-append : (u v : List Placed) → read (u ++ v) ≡ run_on (read u) v
 read-append u v = run_on-append (Some (whole start)) u v
 
 -- what the machine has read begins a selection

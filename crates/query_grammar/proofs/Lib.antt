@@ -12,4 +12,5 @@ pub mod SelectionWalks
 pub mod Ended
 pub mod Readings
 pub mod Views
+pub mod Steps
 pub mod Laws

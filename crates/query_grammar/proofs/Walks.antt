@@ -48,15 +48,18 @@ pub walks_same : {s t : State} {u w : List Placed} → Walks s u t → u ≡ w �
 walks_same {s = s} {t = t} x e = subst (λ z. Walks s z t) e x
 
 -- within a construct the machine only follows its shape
+pub run_on_any : (u : List Placed) (o : Option (Shape State)) (r : Shape State) → run o u ≡ Some r → run_on o u ≡ Some r
+run_on_any u None r e = e
+run_on_any [] (Some t) r e = e
+run_on_any (p ∷ u) (Some (whole a)) r e = cc
+run_on_any (p ∷ u) (Some nothing) r e = cc
+run_on_any (p ∷ u) (Some (word key to rest)) r e = run_on_any u (step (word key to rest) p) r e
+run_on_any (p ∷ u) (Some (number to rest)) r e = run_on_any u (step (number to rest) p) r e
+run_on_any (p ∷ u) (Some (text to rest)) r e = run_on_any u (step (text to rest) p) r e
+run_on_any (p ∷ u) (Some (mark m to rest)) r e = run_on_any u (step (mark m to rest) p) r e
+
 pub run_on_of : (u : List Placed) (o : Option (Shape State)) (s : State) → run o u ≡ Some (whole s) → run_on o u ≡ Some (whole s)
-run_on_of u None s e = e
-run_on_of [] (Some t) s e = e
-run_on_of (p ∷ u) (Some (whole a)) s e = cc
-run_on_of (p ∷ u) (Some nothing) s e = cc
-run_on_of (p ∷ u) (Some (word key to rest)) s e = run_on_of u (step (word key to rest) p) s e
-run_on_of (p ∷ u) (Some (number to rest)) s e = run_on_of u (step (number to rest) p) s e
-run_on_of (p ∷ u) (Some (text to rest)) s e = run_on_of u (step (text to rest) p) s e
-run_on_of (p ∷ u) (Some (mark m to rest)) s e = run_on_of u (step (mark m to rest) p) s e
+run_on_of u o s e = run_on_any u o (whole s) e
 
 -- what stands next leads so from a state
 pub record Takes (s : State) (shape : Shape State) : Type 0 where

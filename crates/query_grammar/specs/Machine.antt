@@ -85,13 +85,19 @@ to a at = whole a
 abbrev pub operand_of : Option ℕ → Primary → List PlacedOption → Tree
 operand_of n x options = negated n (optioned x options)
 
+-- inside one more parenthesis
+abbrev pub opened : List Frame → Left → Option ℕ → State
+opened outer left n = record { outer = record { left = left; negation = n } ∷ outer; left = nothing_left_of; stage = wanted None }
+
+abbrev pub first_in_braces : List Frame → Left → Option ℕ → Shape State
+first_in_braces outer left n = text (λ at s. whole (record { outer = outer; left = left; stage = in_braces n (record { at = at; text = s } ∷ []) })) nothing
+
+abbrev pub enclosed_next : List Frame → Left → Option ℕ → Shape State
+enclosed_next outer left n = mark open_brace (first_in_braces outer left n) (mark open_parenthesis (whole (opened outer left n)) nothing)
+
 -- what may stand where an operand is wanted
 abbrev pub operand_next : List Frame → Left → Option ℕ → Shape State
-operand_next outer left n =
-    text (λ at s. whole (record { outer = outer; left = left; stage = valued n (record { at = at; text = s } ∷ []) }))
-    (mark open_brace (text (λ at s. whole (record { outer = outer; left = left; stage = in_braces n (record { at = at; text = s } ∷ []) })) nothing)
-    (mark open_parenthesis (whole (record { outer = record { left = left; negation = n } ∷ outer; left = nothing_left_of; stage = wanted None }))
-    nothing))
+operand_next outer left n = text (λ at s. whole (record { outer = outer; left = left; stage = valued n (record { at = at; text = s } ∷ []) })) (enclosed_next outer left n)
 
 abbrev pub wanted_next : List Frame → Left → Option ℕ → Shape State
 wanted_next outer left None = word (codes "ftnot") (λ at. whole (record { outer = outer; left = left; stage = wanted (Some at) })) (operand_next outer left None)
@@ -120,10 +126,16 @@ abbrev pub joint_next : List Frame → Left → Tree → Shape State
 joint_next outer left x = or_else (joint_words outer left x) (close_next outer (selection_with left x))
 
 -- a term of a stop word option
+abbrev pub listed_term : List Frame → Left → Option ℕ → Primary → List PlacedOption → ℕ → List StopTerm → Bool → Shape State
+listed_term outer left n x options at terms except = text (λ q s. whole (record { outer = outer; left = left; stage = stop_terms n x options at (terms ++ record { except = except; source = At s } ∷ []) })) nothing
+
+abbrev pub written_term : List Frame → Left → Option ℕ → Primary → List PlacedOption → ℕ → List StopTerm → Bool → Shape State
+written_term outer left n x options at terms except = text (λ q s. whole (record { outer = outer; left = left; stage = stop_strings n x options at terms except (record { at = q; text = s } ∷ []) })) nothing
+
 abbrev pub term_next : List Frame → Left → Option ℕ → Primary → List PlacedOption → ℕ → List StopTerm → Bool → Shape State
 term_next outer left n x options at terms except =
-    word (codes "at") (λ p. text (λ q s. whole (record { outer = outer; left = left; stage = stop_terms n x options at (terms ++ record { except = except; source = At s } ∷ []) })) nothing)
-    (mark open_parenthesis (text (λ q s. whole (record { outer = outer; left = left; stage = stop_strings n x options at terms except (record { at = q; text = s } ∷ []) })) nothing)
+    word (codes "at") (λ p. listed_term outer left n x options at terms except)
+    (mark open_parenthesis (written_term outer left n x options at terms except)
     nothing)
 
 -- a further term
@@ -133,10 +145,17 @@ term_words outer left n x options at terms =
     (word (codes "except") (λ p. term_next outer left n x options at terms true)
     nothing)
 
+-- the name of a thesaurus, outside parentheses and inside
+abbrev pub thesaurus_name : List Frame → Left → Option ℕ → Primary → List PlacedOption → ℕ → Shape State
+thesaurus_name outer left n x options at = text (λ q s. whole (record { outer = outer; left = left; stage = thesaurus n x options at s None })) nothing
+
+abbrev pub thesaurus_name_in : List Frame → Left → Option ℕ → Primary → List PlacedOption → ℕ → List ThesaurusUse → Shape State
+thesaurus_name_in outer left n x options at uses = text (λ q s. whole (record { outer = outer; left = left; stage = thesaurus_in n x options at uses s None })) nothing
+
 abbrev pub thesaurus_first : List Frame → Left → Option ℕ → Primary → List PlacedOption → ℕ → Shape State
 thesaurus_first outer left n x options at =
-    word (codes "at") (λ p. text (λ q s. whole (record { outer = outer; left = left; stage = thesaurus n x options at s None })) nothing)
-    (mark open_parenthesis (key (codes "at") (text (λ q s. whole (record { outer = outer; left = left; stage = thesaurus_in n x options at [] s None })) nothing))
+    word (codes "at") (λ p. thesaurus_name outer left n x options at)
+    (mark open_parenthesis (key (codes "at") (thesaurus_name_in outer left n x options at []))
     nothing)
 
 -- an option with a list
@@ -180,8 +199,11 @@ abbrev pub mode_word : List ℕ → Mode → List Frame → Left → Option ℕ 
 mode_word second mode outer left n strings = word second (λ at. whole (record { outer = outer; left = left; stage = moded n strings mode })) nothing
 
 -- a further string
+abbrev pub further_string : (List PlacedString → State) → List PlacedString → Shape State
+further_string stands strings = text (λ at s. whole (stands (strings ++ record { at = at; text = s } ∷ []))) nothing
+
 abbrev pub string_next : (List PlacedString → State) → List PlacedString → Shape State → Shape State
-string_next stands strings end = mark comma (text (λ at s. whole (stands (strings ++ record { at = at; text = s } ∷ []))) nothing) end
+string_next stands strings end = mark comma (further_string stands strings) end
 
 abbrev pub stop_option : ℕ → List StopTerm → PlacedOption
 stop_option at terms = given at (O.StopWords (Sets terms))
@@ -196,8 +218,11 @@ thesaurus_use name relationship levels = record { name = name; relationship = re
 abbrev pub levels_end : (Option Range → State) → Range → Shape State
 levels_end stands r = key (codes "levels") (whole (stands (Some r)))
 
+abbrev pub relationship_name : (List ℕ → State) → Shape State
+relationship_name stands = text (λ q s. whole (stands s)) nothing
+
 abbrev pub relationship_word : (List ℕ → State) → Option (List ℕ) → Shape State
-relationship_word stands None = word (codes "relationship") (λ p. text (λ q s. whole (stands s)) nothing) nothing
+relationship_word stands None = word (codes "relationship") (λ p. relationship_name stands) nothing
 relationship_word stands (Some relationship) = nothing
 
 abbrev pub relationship_next : (List ℕ → State) → Option (List ℕ) → Shape State → Shape State
@@ -230,7 +255,7 @@ thesaurus_next outer left n x options at s r = relationship_next (λ t. record {
 -- in the parentheses of a thesaurus option
 abbrev pub thesauri_next : List Frame → Left → Option ℕ → Primary → List PlacedOption → ℕ → List ThesaurusUse → Shape State
 thesauri_next outer left n x options at uses =
-    mark comma (key (codes "at") (text (λ q s. whole (record { outer = outer; left = left; stage = thesaurus_in n x options at uses s None })) nothing))
+    mark comma (key (codes "at") (thesaurus_name_in outer left n x options at uses))
     (mark close_parenthesis (whole (record { outer = outer; left = left; stage = given_options n x (options ++ thesaurus_option at uses ∷ []) }))
     nothing)
 

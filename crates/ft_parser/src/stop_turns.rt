@@ -1,0 +1,158 @@
+//! Steps of the reader inside stop word options.
+
+ghost use Rattle.std.specs.Prelude.{◌≡◌, [], ◌∷◌, ◌++◌, IfOk};
+ghost use Rattle.ft_base.specs.declared.options.StopSource.TheVariants as Source;
+ghost use Rattle.ft_parser.specs.State.{Answers, frames_of, left_of, primary_of, state_of};
+ghost use Rattle.ft_parser.specs.Turns.{stands};
+ghost use Rattle.query_grammar.specs.Grammar.{texts_of};
+ghost use Rattle.query_grammar.specs.Machine as m;
+ghost use Rattle.query_grammar.specs.Reading.{reading};
+
+use crate::heads::{closes_parenthesis, is_comma, is_word, opens_parenthesis, place_at, text_at};
+use crate::operand_turns::one_string;
+use crate::state::{Frame, Halt, Left, Stage, State, Stops};
+use ft_base::{Items, Line, Memory, StopSource, StopTerm, StopTerms};
+use query_grammar::{Placed, PlacedString};
+use std::alloc::Global;
+
+fn with_term(terms: StopTerms, except: bool, source: StopSource) -> Result<StopTerms, Memory>
+    ensures { IfOk result (λ more. more ≡ terms ++ record { except = except; source = source } ∷ []) }
+{
+    let mut more = terms;
+    more.push(StopTerm { except, source })?;
+    Ok(more)
+}
+
+/// A term, where one is wanted.
+pub(crate) fn term(
+    alloc: Global,
+    symbols: &[Placed],
+    next: usize,
+    outer: Vec<Frame>,
+    left: Left,
+    stops: Stops,
+    except: bool,
+) -> Result<(State, usize), Halt>
+    ensures { Answers state_of result (reading (m.term_next (frames_of outer.items) (left_of left) stops.operand.negation (primary_of stops.operand.primary) stops.operand.options stops.at stops.terms except) symbols.now next) }
+{
+    if is_word(symbols, next, "at") {
+        listed(alloc, symbols, next + 1, outer, left, stops, except)
+    } else if opens_parenthesis(symbols, next) {
+        written(alloc, symbols, next + 1, outer, left, stops, except)
+    } else {
+        Err(Halt::Stuck(next))
+    }
+}
+
+fn listed(
+    alloc: Global,
+    symbols: &[Placed],
+    next: usize,
+    outer: Vec<Frame>,
+    left: Left,
+    stops: Stops,
+    except: bool,
+) -> Result<(State, usize), Halt>
+    ensures { Answers state_of result (reading (m.listed_term (frames_of outer.items) (left_of left) stops.operand.negation (primary_of stops.operand.primary) stops.operand.options stops.at stops.terms except) symbols.now next) }
+{
+    match text_at(alloc, symbols, next)? {
+        None => Err(Halt::Stuck(next)),
+        Some(name) => {
+            let Stops { operand, at, terms } = stops;
+            let terms = with_term(terms, except, StopSource::At(name))?;
+            let stage = Stage::StopTerms(Stops { operand, at, terms });
+            Ok((State { outer, left, stage }, next + 1))
+        }
+    }
+}
+
+fn written(
+    alloc: Global,
+    symbols: &[Placed],
+    next: usize,
+    outer: Vec<Frame>,
+    left: Left,
+    stops: Stops,
+    except: bool,
+) -> Result<(State, usize), Halt>
+    ensures { Answers state_of result (reading (m.written_term (frames_of outer.items) (left_of left) stops.operand.negation (primary_of stops.operand.primary) stops.operand.options stops.at stops.terms except) symbols.now next) }
+{
+    match text_at(alloc, symbols, next)? {
+        None => Err(Halt::Stuck(next)),
+        Some(text) => {
+            let at = place_at(symbols, next);
+            let strings = one_string(alloc, PlacedString { at, text })?;
+            let stage = Stage::StopStrings(stops, except, strings);
+            Ok((State { outer, left, stage }, next + 1))
+        }
+    }
+}
+
+fn texts(alloc: Global, strings: &Items<PlacedString>) -> Result<Items<Line>, Memory>
+    ensures { IfOk result (λ texts. texts ≡ texts_of strings.now) }
+{
+    let mut texts = Items::new(alloc);
+    for string in strings.as_slice() {
+        texts.push(Line::read(alloc, string.text.as_str())?)?;
+    }
+    Ok(texts)
+}
+
+/// Behind a string of a term.
+pub(crate) fn stop_strings(
+    alloc: Global,
+    symbols: &[Placed],
+    next: usize,
+    outer: Vec<Frame>,
+    left: Left,
+    stops: Stops,
+    except: bool,
+    strings: Items<PlacedString>,
+) -> Result<(State, usize), Halt>
+    ensures { Answers state_of result (reading (m.next_at (frames_of outer.items) (left_of left) (m.stop_strings stops.operand.negation (primary_of stops.operand.primary) stops.operand.options stops.at stops.terms except strings)) symbols.now next) }
+{
+    if is_comma(symbols, next) {
+        more_strings(
+            alloc,
+            symbols,
+            next + 1,
+            outer,
+            left,
+            stops,
+            except,
+            strings,
+        )
+    } else if closes_parenthesis(symbols, next) {
+        let Stops { operand, at, terms } = stops;
+        let source = StopSource::Written(texts(alloc, &strings)?);
+        let terms = with_term(terms, except, source)?;
+        let stage = Stage::StopTerms(Stops { operand, at, terms });
+        Ok((State { outer, left, stage }, next + 1))
+    } else {
+        Err(Halt::Stuck(next))
+    }
+}
+
+fn more_strings(
+    alloc: Global,
+    symbols: &[Placed],
+    next: usize,
+    outer: Vec<Frame>,
+    left: Left,
+    stops: Stops,
+    except: bool,
+    strings: Items<PlacedString>,
+) -> Result<(State, usize), Halt>
+    ensures { Answers state_of result (reading (m.further_string (λ xs. stands (frames_of outer.items) (left_of left) (m.stop_strings stops.operand.negation (primary_of stops.operand.primary) stops.operand.options stops.at stops.terms except xs)) strings) symbols.now next) }
+{
+    match text_at(alloc, symbols, next)? {
+        None => Err(Halt::Stuck(next)),
+        Some(text) => {
+            let at = place_at(symbols, next);
+            let mut more = strings;
+            more.push(PlacedString { at, text })?;
+            let stage = Stage::StopStrings(stops, except, more);
+            Ok((State { outer, left, stage }, next + 1))
+        }
+    }
+}
