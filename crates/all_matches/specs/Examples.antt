@@ -5,9 +5,8 @@ use Rattle.ft_base.specs.declared.token.Token.{Token}
 use Rattle.ft_base.specs.declared.range.Range.{Range}
 use Rattle.ft_base.specs.declared.words.Mode.{Mode}
 use Rattle.ft_base.specs.declared.words.Mode.TheVariants.{Any}
-use Rattle.ft_base.specs.Selection.{Form, words, or_of, and_of, none, more}
+use Rattle.ft_base.specs.Selection.{no_options, Form, words, or_of, and_of, none, more}
 use Rattle.all_matches.specs.Variants.{Item, any_word, word, pattern, Lexicon}
-use Rattle.all_matches.specs.Meaning.{no_options}
 
 abbrev pub has_bytes : List ℕ → Bool
 has_bytes [] = false

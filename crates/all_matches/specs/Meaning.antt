@@ -8,17 +8,13 @@ use Rattle.ft_base.specs.declared.options.Options.{Options}
 use Rattle.ft_base.specs.declared.words.Words.{Words}
 use Rattle.ft_base.specs.declared.words.Mode.{Mode}
 use Rattle.ft_base.specs.declared.words.Mode.TheVariants.{Any, AnyWord, All, AllWords, Phrase}
-use Rattle.ft_base.specs.Selection.{Form, Forms, words, or_of, and_of, mild_not, not_of, filtered, with_options, none, more}
+use Rattle.ft_base.specs.Selection.{no_options, Form, Forms, words, or_of, and_of, mild_not, not_of, filtered, with_options, none, more}
 use Rattle.all_matches.specs.Variants.{Item, Lexicon}
 use Rattle.all_matches.specs.Hits.{phrase_matches}
 use Rattle.all_matches.specs.Boolean.{ft_or_of, ft_and_of, ft_not, satisfied}
 use Rattle.all_matches.specs.MildNot.{ft_mild_not}
 use Rattle.all_matches.specs.Filters.{ft_filtered}
 use Rattle.all_matches.specs.Times.{occurring}
-
--- no option is written, so that the default of each group holds
-abbrev pub no_options : Options
-no_options = record { case = None; diacritics_sensitive = None; stemming = None; thesaurus = None; stop_words = None; language = None; wildcards = None }
 
 -- the options that hold inside: of each group the one that stands further in
 abbrev pub inside : Options → Options → Options

@@ -8,7 +8,8 @@ ghost use Rattle.ft_base.specs.declared.options.StopChoice.TheVariants as S;
 ghost use Rattle.ft_base.specs.declared.options.StopSource.TheVariants as W;
 ghost use Rattle.ft_base.specs.Selection.{with_options};
 ghost use Rattle.all_matches.specs.Examples.{plain, text, value, quoted};
-ghost use Rattle.all_matches.specs.Meaning.{sat, no_options};
+ghost use Rattle.ft_base.specs.Selection.{no_options};
+ghost use Rattle.all_matches.specs.Meaning.{sat};
 
 /// `{"a b", "c"} all` and `all words`.
 pub fn modes()

@@ -1,3 +1,4 @@
 pub mod WalkLemmas
 pub mod PlacesLemmas
 pub mod CharacterLemmas
+pub mod LetterLemmas

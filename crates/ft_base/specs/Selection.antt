@@ -1,7 +1,12 @@
 -- Selections as plain data, without the pointers that the type `Selection` holds.
+use Rattle.std.specs.Prelude.{None}
 use Rattle.ft_base.specs.declared.words.Words.{Words}
 use Rattle.ft_base.specs.declared.options.Options.{Options}
 use Rattle.ft_base.specs.declared.filter.Filter.{Filter}
+
+-- no option at all
+abbrev pub no_options : Options
+no_options = record { case = None; diacritics_sensitive = None; stemming = None; thesaurus = None; stop_words = None; language = None; wildcards = None }
 
 mutual
   -- a selection (XQuery and XPath Full Text 3.0, section 3)

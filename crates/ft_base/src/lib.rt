@@ -8,6 +8,7 @@ mod fault;
 mod filter;
 mod hit;
 mod items;
+mod letters;
 mod limits;
 mod line;
 mod memory;
@@ -26,6 +27,7 @@ pub use fault::{ListFault, QueryFault};
 pub use filter::Filter;
 pub use hit::{Hit, Match};
 pub use items::Items;
+pub use letters::{begins_with, digit_run, is_digit, letters_of, number_of, text_of};
 pub use limits::{
     MAX_DEPTH, MAX_DOCUMENTS, MAX_NODES, MAX_PIECE_BYTES, MAX_SESSION_BYTES, MAX_TOKENS,
 };

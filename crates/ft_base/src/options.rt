@@ -1,3 +1,6 @@
+ghost use Rattle.std.specs.Prelude.{◌≡◌};
+ghost use Rattle.ft_base.specs.Selection.{no_options};
+
 use crate::{Items, Line, Lines, Range};
 
 /// A case option (the standard's FTCaseOption).
@@ -23,6 +26,23 @@ pub struct Options {
     pub stop_words: Option<StopChoice>,
     pub language: Option<Line>,
     pub wildcards: Option<bool>,
+}
+
+impl Options {
+    /// No option at all.
+    pub fn none() -> Options
+        ensures { result ≡ no_options }
+    {
+        Options {
+            case: None,
+            diacritics_sensitive: None,
+            stemming: None,
+            thesaurus: None,
+            stop_words: None,
+            language: None,
+            wildcards: None,
+        }
+    }
 }
 
 /// A stop word option (the standard's FTStopWordOption).

@@ -9,7 +9,8 @@ use Rattle.ft_parser.specs.declared.lexeme.Quoted.{Quoted}
 use Rattle.query_grammar.specs.declared.symbol.Symbol.{Symbol}
 use Rattle.query_grammar.specs.declared.symbol.Symbol.TheVariants.{Text}
 use Rattle.query_grammar.specs.declared.symbol.Symbols.{Symbols}
-use Rattle.ft_parser.specs.Symbols.{run_of, is_digit, is_quote, is_slash, is_blank, begins_with, goes_on_as_name, number_at, name_at, quoted_at, string_at, slash_at, mark_of, mark_at, front_mark, front_string, front_number, front, before, bytes_of_first, with_further, symbols_within}
+use Rattle.ft_base.specs.Letters.{is_digit, begins_with}
+use Rattle.ft_parser.specs.Symbols.{run_of, is_quote, is_slash, is_blank, goes_on_as_name, number_at, name_at, quoted_at, string_at, slash_at, mark_of, mark_at, front_mark, front_string, front_number, front, before, bytes_of_first, with_further, symbols_within}
 
 abbrev HasLetter : Option Lexeme → Type 0
 HasLetter found = IfSome found (λ lexeme. 1 ≤ lexeme.size)

@@ -2,7 +2,8 @@
 use Rattle.std.proofs.Common.{◌≡◌, ℕ, ◌<◌, List, ◌∷◌, length, get_or, drop, ap, sym, ◌∙◌, true, false, cond}
 use Rattle.std.proofs.lemmas.List.{drop_more}
 use Rattle.ft_base.specs.Characters.{is_name_start}
-use Rattle.ft_parser.specs.Symbols.{is_digit, is_quote, is_slash, name_at, number_at, string_at, slash_at, mark_at, front_mark, front_string, front_number, front}
+use Rattle.ft_base.specs.Letters.{is_digit}
+use Rattle.ft_parser.specs.Symbols.{is_quote, is_slash, name_at, number_at, string_at, slash_at, mark_at, front_mark, front_string, front_number, front}
 
 module _ (letters : List ℕ) (c : ℕ) (h : 0 < length letters) (is : c ≡ get_or letters 0 c) where
   pub parts : letters ≡ c ∷ drop 1 letters

@@ -5,15 +5,8 @@ use Rattle.std.proofs.lemmas.List.{take_more, take-append-drop}
 use Rattle.std.proofs.Math.Seq.{take-add}
 use Rattle.std.proofs.lemmas.Str.{encodes-append, length-encode, length-le-encodes}
 use Rattle.std.specs.Char.{len_utf8}
+use Rattle.ft_base.proofs.LetterLemmas.{encodes_more}
 use Rattle.ft_parser.specs.Symbols.{bytes_of_first}
-
--- the bytes of one more character
-pub encodes_more : (letters : List ℕ) (i c : ℕ) → i < length letters → c ≡ get_or letters i c → encode_utf8_all (take (i + 1) letters) ≡ encode_utf8_all (take i letters) ++ encode_utf8 c
-encodes_more letters i c h is =
-    ap encode_utf8_all (take_more letters i c h)
-    ∙ encodes-append (take i letters) (get_or letters i c ∷ [])
-    ∙ ap (λ d. encode_utf8_all (take i letters) ++ encode_utf8_all (d ∷ [])) (sym is)
-    ∙ ap (λ bs. encode_utf8_all (take i letters) ++ bs) (append-nil (encode_utf8 c))
 
 -- the bytes of two parts one behind the other, of a part and of all
 pub bytes_of_first-add : (m n : ℕ) (letters : List ℕ) → bytes_of_first (m + n) letters ≡ bytes_of_first m letters + bytes_of_first n (drop m letters)

@@ -3,7 +3,8 @@ use Rattle.std.proofs.Common.{◌≡◌, ℕ, ◌+◌, ◌<◌, List, [], ◌∷
 use Rattle.std.specs.Prelude.{option_map, encode_utf8}
 use Rattle.std.proofs.lemmas.List.{drop_more}
 use Rattle.ft_parser.specs.declared.lexeme.Quoted.{Quoted}
-use Rattle.ft_parser.specs.Symbols.{with_letter, quoted_at, begins_with}
+use Rattle.ft_base.specs.Letters.{begins_with}
+use Rattle.ft_parser.specs.Symbols.{with_letter, quoted_at}
 
 -- what was read, before what is left
 abbrev pub behind_read : List ℕ → ℕ → Option Quoted → Option Quoted

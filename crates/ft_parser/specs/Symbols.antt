@@ -2,6 +2,7 @@
 use Rattle.std.specs.Prelude.{◌≡◌, ◌≤◌, ℕ, zero, suc, ◌+◌, ◌*◌, ◌-◌, min, Bool, false, ◌&&◌, ◌||◌, ◌==◌, nat_le, if◌then◌else◌, List, [], ◌∷◌, ◌++◌, length, take, drop, fold, Option, Some, None, option_map, encode_utf8, encode_utf8_all, chars}
 use Rattle.std.specs.List.{prefix_len}
 use Rattle.ft_base.specs.Characters.{is_name_start, is_name_char}
+use Rattle.ft_base.specs.Letters.{is_digit, number_of, begins_with}
 use Rattle.ft_parser.specs.declared.lexeme.Turn.{Turn}
 use Rattle.ft_parser.specs.declared.lexeme.Turn.TheVariants.{Passed, Bad}
 use Rattle.ft_parser.specs.declared.lexeme.Lexeme.{Lexeme}
@@ -14,13 +15,6 @@ use Rattle.query_grammar.specs.declared.symbol.Symbols.{Symbols}
 -- how many characters at the front pass a test
 abbrev pub run_of : (ℕ → Bool) → List ℕ → ℕ
 run_of test letters = prefix_len test letters
-
-abbrev pub is_digit : ℕ → Bool
-is_digit c = nat_le 48 c && nat_le c 57
-
--- the number that digits stand for; past a million it is a million and one
-abbrev pub number_of : List ℕ → ℕ
-number_of digits = fold (λ n d. min (n * 10 + (d - 48)) 1000001) 0 digits
 
 abbrev pub goes_on_as_name : List ℕ → Bool
 goes_on_as_name [] = false
@@ -47,10 +41,6 @@ quoted_at quote (c ∷ d ∷ rest) =
 
 abbrev pub string_at : ℕ → List ℕ → Option Lexeme
 string_at quote behind = option_map (λ quoted. record { symbol = Text quoted.text; size = quoted.size + 1 }) (quoted_at quote behind)
-
-abbrev pub begins_with : ℕ → List ℕ → Bool
-begins_with first [] = false
-begins_with first (c ∷ rest) = c == first
 
 -- the marks of one character
 abbrev pub mark_of : ℕ → Option Symbol

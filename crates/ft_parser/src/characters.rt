@@ -3,12 +3,6 @@
 ghost use Rattle.std.specs.Prelude.{◌≡◌};
 ghost use Rattle.ft_parser.specs.Symbols as spec;
 
-pub(crate) fn is_digit(c: char) -> bool
-    ensures { result ≡ spec.is_digit c }
-{
-    '0' <= c && c <= '9'
-}
-
 /// Whether the character may stand between symbols.
 pub(crate) fn is_blank(c: char) -> bool
     ensures { result ≡ spec.is_blank c }

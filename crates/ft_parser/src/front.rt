@@ -4,9 +4,11 @@ ghost use Rattle.std.specs.Prelude.{◌≡◌, ◌∷◌, ◌≤◌, ◌<◌, If
 ghost use Rattle.ft_base.specs.Characters as names;
 ghost use Rattle.ft_parser.specs.Symbols as spec;
 
-use crate::characters::{is_digit, is_quote, is_slash};
+use crate::characters::{is_quote, is_slash};
 use crate::lexeme::{Lexeme, Quoted};
-use ft_base::{Line, Memory, is_name_char, is_name_start};
+use ft_base::{
+    Line, Memory, begins_with, digit_run, is_digit, is_name_char, is_name_start, number_of, text_of,
+};
 use query_grammar::Symbol;
 use std::alloc::Global;
 
@@ -56,30 +58,6 @@ fn name_run(letters: &[char]) -> usize
     size
 }
 
-fn digit_run(letters: &[char]) -> usize
-    ensures value { result ≡ spec.run_of spec.is_digit letters.now }
-    ensures within { result ≤ length letters.now }
-{
-    let mut size = 0;
-    for letter in letters {
-        if !is_digit(*letter) {
-            return size;
-        }
-        size += 1;
-    }
-    size
-}
-
-fn text_of(alloc: Global, letters: &[char]) -> Result<Line, Memory>
-    ensures { IfOk result (λ line. line ≡ encode_utf8_all letters.now) }
-{
-    let mut text = String::new(alloc);
-    for letter in letters {
-        text.push(*letter)?;
-    }
-    Ok(Line::from_string(text))
-}
-
 fn number(letters: &[char]) -> Option<Lexeme>
     ensures value { result ≡ spec.number_at letters.now }
     ensures within { IfSome result (λ l. l.size ≤ length letters.now) }
@@ -101,16 +79,6 @@ fn goes_on_as_name(letters: &[char]) -> bool
         None => false,
         Some(c) => is_name_char(*c),
     }
-}
-
-fn number_of(digits: &[char]) -> u32
-    ensures { result ≡ spec.number_of digits.now }
-{
-    let mut number: u32 = 0;
-    for digit in digits {
-        number = (number * 10 + (*digit as u32).saturating_sub(48)).min(1_000_001);
-    }
-    number
 }
 
 fn slash(letters: &[char]) -> Lexeme
@@ -189,13 +157,4 @@ fn quoted(alloc: Global, letters: &[char], quote: char) -> Result<Option<Quoted>
         }
     }
     Ok(None)
-}
-
-fn begins_with(letters: &[char], quote: char) -> bool
-    ensures { result ≡ spec.begins_with quote letters.now }
-{
-    match letters.first() {
-        None => false,
-        Some(c) => *c == quote,
-    }
 }

@@ -1,12 +1,12 @@
 //! The symbols of a text.
 
-ghost use Rattle.std.specs.Prelude.{◌≡◌, ◌≤◌, ◌<◌, IfOk, chars, encode_utf8_all, length};
+ghost use Rattle.std.specs.Prelude.{◌≡◌, ◌≤◌, ◌<◌, IfOk, encode_utf8_all, length};
 ghost use Rattle.ft_parser.specs.Symbols.{Stays_within, Steps_to, bytes_of_first, symbols_of, symbols_within};
 
 use crate::characters::is_blank;
 use crate::front::front;
 use crate::lexeme::Turn;
-use ft_base::{Items, Memory};
+use ft_base::{Items, Memory, letters_of};
 use query_grammar::{Placed, Symbols};
 use std::alloc::Global;
 
@@ -16,12 +16,6 @@ pub fn symbols(alloc: Global, text: &str) -> Result<Symbols, Memory>
 {
     let letters = letters_of(alloc, text)?;
     all_symbols(alloc, &letters, text.len())
-}
-
-fn letters_of(alloc: Global, text: &str) -> Result<Vec<char>, Memory>
-    ensures { IfOk result (λ letters. letters.items ≡ chars text.now) }
-{
-    Ok(text.chars().collect(alloc)?)
 }
 
 /// The symbols of characters that have so many bytes together.

@@ -1,13 +1,9 @@
 -- Selections for examples.
 use Rattle.std.specs.Prelude.{ℕ, List, [], ◌∷◌, Option, None}
-use Rattle.ft_base.specs.declared.options.Options.{Options}
 use Rattle.ft_base.specs.declared.range.Range.{Range}
 use Rattle.ft_base.specs.declared.words.Mode.{Mode}
 use Rattle.ft_base.specs.declared.words.Mode.TheVariants.{Any}
-use Rattle.ft_base.specs.Selection.{Form, words, or_of, and_of, none, more}
-
-abbrev pub no_options : Options
-no_options = record { case = None; diacritics_sensitive = None; stemming = None; thesaurus = None; stop_words = None; language = None; wildcards = None }
+use Rattle.ft_base.specs.Selection.{no_options, Form, words, or_of, and_of, none, more}
 
 -- strings with a mode and a range of times
 abbrev pub value : List (List ℕ) → Mode → Option Range → Form

@@ -11,7 +11,8 @@ ghost use Rattle.ft_base.specs.declared.range.Range.TheVariants as R;
 ghost use Rattle.ft_base.specs.declared.unit.TextUnit.TheVariants as U;
 ghost use Rattle.ft_base.specs.declared.words.Mode.TheVariants as M;
 ghost use Rattle.ft_base.specs.Selection.{words, or_of, and_of, mild_not, not_of, filtered, with_options, none, more};
-ghost use Rattle.ft_syntax.specs.Examples.{value, quoted, two_or, two_and, no_options};
+ghost use Rattle.ft_base.specs.Selection.{no_options};
+ghost use Rattle.ft_syntax.specs.Examples.{value, quoted, two_or, two_and};
 ghost use Rattle.ft_syntax.specs.Symbols.{printed};
 
 /// Values, modes and ranges of times.

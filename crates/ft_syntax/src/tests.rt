@@ -3,18 +3,6 @@ use ft_base::{Case, Line, Memory, Options};
 use std::alloc::Global;
 use std::test::Fail;
 
-fn no_options() -> Options {
-    Options {
-        case: None,
-        diacritics_sensitive: None,
-        stemming: None,
-        thesaurus: None,
-        stop_words: None,
-        language: None,
-        wildcards: None,
-    }
-}
-
 fn quoted(alloc: Global, text: &str) -> Result<Selection, Memory> {
     let mut values = Items::new(alloc);
     values.push(Line::read(alloc, text)?)?;
@@ -22,7 +10,7 @@ fn quoted(alloc: Global, text: &str) -> Result<Selection, Memory> {
         values,
         mode: Mode::Any,
         times: None,
-        options: no_options(),
+        options: Options::none(),
     }))
 }
 
@@ -38,7 +26,7 @@ fn two(alloc: Global, first: &str, second: &str) -> Result<Selections, Memory> {
 }
 
 fn in_lower_case(alloc: Global) -> Result<Options, Memory> {
-    let mut options = no_options();
+    let mut options = Options::none();
     options.case = Some(Case::Lower);
     options.language = Some(Line::read(alloc, "en")?);
     Ok(options)

@@ -9,7 +9,8 @@ use Rattle.match_options.specs.declared.atom.Atom.{Atom}
 use Rattle.match_options.specs.declared.atom.Atom.TheVariants.{Letter, Gap}
 use Rattle.match_options.specs.declared.atom.SizedAtom.{SizedAtom}
 use Rattle.match_options.specs.declared.atom.Number.{Number}
-use Rattle.match_options.specs.Patterns.{is_period, is_backslash, is_digit, number_of, begins_with, sized, number_before, upper_bound, bounds, braces_at, period_before, backslash_before, front_atom, atoms_behind, atoms_of}
+use Rattle.ft_base.specs.Letters.{is_digit, number_of, begins_with}
+use Rattle.match_options.specs.Patterns.{is_period, is_backslash, sized, number_before, upper_bound, bounds, braces_at, period_before, backslash_before, front_atom, atoms_behind, atoms_of}
 use Rattle.match_options.specs.Grammar.{IsNumber, goes_on_with_period, Spells, letter, escaped, one, at_most_one, any_number, at_least_one, from_to, Pattern, last, before}
 use Rattle.match_options.proofs.Reading.{passed, atoms_front, atoms_bad}
 

@@ -12,12 +12,6 @@ use Rattle.match_options.specs.PartsLeft.{ended, parts_left}
 
 -- ---- text of characters
 
--- the bytes of one character more
-pub encodes_more : (letters : List ℕ) (i c : ℕ) → i < length letters → c ≡ get_or letters i c → encode_utf8_all (take (i + 1) letters) ≡ encode_utf8_all (take i letters) ++ encode_utf8 c
-encodes_more letters i c h is =
-    ap encode_utf8_all (take_more letters i c h ∙ ap (λ d. take i letters ++ d ∷ []) (sym is))
-    ∙ encodes-append (take i letters) (c ∷ []) ∙ ap (λ bs. encode_utf8_all (take i letters) ++ bs) (append-nil (encode_utf8 c))
-
 -- ---- parts
 
 -- characters put before the first of some lists

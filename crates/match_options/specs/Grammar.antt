@@ -3,7 +3,8 @@ use Rattle.std.specs.Prelude.{◌≡◌, ℕ, Bool, true, false, ◌||◌, ◌==
 use Rattle.std.specs.List.{list_all}
 use Rattle.match_options.specs.declared.atom.Atom.{Atom}
 use Rattle.match_options.specs.declared.atom.Atom.TheVariants.{Letter, Gap}
-use Rattle.match_options.specs.Patterns.{is_period, is_backslash, is_digit, number_of}
+use Rattle.ft_base.specs.Letters.{is_digit, number_of}
+use Rattle.match_options.specs.Patterns.{is_period, is_backslash}
 
 -- digits, at least one
 pub record IsNumber (digits : List ℕ) : Type 0 where

@@ -4,6 +4,7 @@ use Rattle.std.specs.Prelude.{ℕ, zero, suc, ◌+◌, ◌*◌, ◌-◌, min, Bo
 use Rattle.std.specs.List.{list_any, prefix_len, slice_split}
 use Rattle.std.specs.Option.{is_none}
 use Rattle.std.specs.Char.{is_whitespace}
+use Rattle.ft_base.specs.Letters.{is_digit, number_of, begins_with}
 use Rattle.match_options.specs.declared.atom.Atom.{Atom}
 use Rattle.match_options.specs.declared.atom.Atom.TheVariants.{Letter, Gap}
 use Rattle.match_options.specs.declared.atom.SizedAtom.{SizedAtom}
@@ -28,17 +29,6 @@ abbrev pub is_pattern : List ℕ → Bool
 is_pattern part = list_any (λ c. is_period c || is_backslash c) part
 
 -- Atoms are read from the characters of a part.
-
-abbrev pub is_digit : ℕ → Bool
-is_digit c = nat_le 48 c && nat_le c 57
-
--- the number that digits stand for; past a million it is a million and one
-abbrev pub number_of : List ℕ → ℕ
-number_of digits = fold (λ n d. min (n * 10 + (d - 48)) 1000001) 0 digits
-
-abbrev pub begins_with : ℕ → List ℕ → Bool
-begins_with first [] = false
-begins_with first (c ∷ rest) = c == first
 
 abbrev pub sized : Atom → ℕ → Option SizedAtom
 sized atom size = Some record { atom = atom; size = size }

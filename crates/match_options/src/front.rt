@@ -1,10 +1,10 @@
 //! The atom at the front of characters.
 
 ghost use Rattle.std.specs.Prelude.{◌≡◌, ◌+◌, ◌≤◌, ◌<◌, IfSome, length};
-ghost use Rattle.std.specs.List.{prefix_len};
 ghost use Rattle.match_options.specs.Patterns as spec;
 
 use crate::atom::{Atom, Number, SizedAtom};
+use ft_base::{begins_with, digit_run, number_of};
 
 /// The atom that begins with the character, where one does.
 pub(crate) fn front_atom(first: char, behind: &[char]) -> Option<SizedAtom>
@@ -86,44 +86,4 @@ fn number_before(letters: &[char], closing: char) -> Option<Number>
         value: number_of(&letters[..digits]),
         size: digits + 1,
     })
-}
-
-fn digit_run(letters: &[char]) -> usize
-    ensures value { result ≡ prefix_len spec.is_digit letters.now }
-    ensures within { result ≤ length letters.now }
-{
-    let mut size = 0;
-    for letter in letters {
-        if !is_digit(*letter) {
-            return size;
-        }
-        size += 1;
-    }
-    size
-}
-
-fn is_digit(c: char) -> bool
-    ensures { result ≡ spec.is_digit c }
-{
-    '0' <= c && c <= '9'
-}
-
-/// The number that digits stand for; past a million it is a million and one.
-fn number_of(digits: &[char]) -> u32
-    ensures { result ≡ spec.number_of digits.now }
-{
-    let mut number: u32 = 0;
-    for digit in digits {
-        number = (number * 10 + (*digit as u32).saturating_sub(48)).min(1_000_001);
-    }
-    number
-}
-
-fn begins_with(letters: &[char], first: char) -> bool
-    ensures { result ≡ spec.begins_with first letters.now }
-{
-    match letters.first() {
-        None => false,
-        Some(c) => *c == first,
-    }
 }

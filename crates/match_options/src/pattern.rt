@@ -5,8 +5,8 @@ ghost use Rattle.match_options.specs.Patterns as spec;
 
 use crate::atom::{Atom, SizedAtom};
 use crate::front::front_atom;
-use crate::splitting::{letters_of, parts};
-use ft_base::Memory;
+use crate::splitting::parts;
+use ft_base::{Memory, letters_of};
 use std::alloc::Global;
 
 /// Whether the string holds a badly formed pattern, where wildcards are on for it.

@@ -4,7 +4,8 @@
 ghost use Rattle.std.specs.Prelude.{◌≡◌, true, false, [], ◌∷◌, codes, Some, None};
 ghost use Rattle.match_options.specs.declared.atom.Atom.TheVariants.{Letter};
 ghost use Rattle.match_options.specs.Examples.{from_to, at_least};
-ghost use Rattle.match_options.specs.Patterns.{atoms_of, is_pattern, number_of};
+ghost use Rattle.ft_base.specs.Letters.{number_of};
+ghost use Rattle.match_options.specs.Patterns.{atoms_of, is_pattern};
 
 /// The five forms that begin with a period; the longest one is taken.
 pub fn periods()

@@ -4,7 +4,7 @@ ghost use Rattle.std.specs.Prelude.{◌≡◌, ◌++◌, ◌∷◌, List, ℕ, [
 ghost use Rattle.match_options.specs.Patterns as spec;
 ghost use Rattle.match_options.specs.PartsLeft.{ended, parts_left};
 
-use ft_base::{Items, Line, Lines, Memory};
+use ft_base::{Items, Lines, Memory, letters_of, text_of};
 use std::alloc::Global;
 
 /// The parts of the string between the characters of Unicode's White_Space.
@@ -13,12 +13,6 @@ pub fn parts(alloc: Global, string: &str) -> Result<Lines, Memory>
 {
     let letters = letters_of(alloc, string)?;
     split(alloc, &letters)
-}
-
-pub(crate) fn letters_of(alloc: Global, text: &str) -> Result<Vec<char>, Memory>
-    ensures { IfOk result (λ letters. letters.items ≡ chars text.now) }
-{
-    Ok(text.chars().collect(alloc)?)
 }
 
 fn split(alloc: Global, letters: &[char]) -> Result<Lines, Memory>
@@ -61,14 +55,4 @@ fn end_part(alloc: Global, parts: &mut Lines, part: &[char]) -> Result<(), Memor
     }
     let text = text_of(alloc, part)?;
     parts.push(text)
-}
-
-pub(crate) fn text_of(alloc: Global, letters: &[char]) -> Result<Line, Memory>
-    ensures { IfOk result (λ line. line ≡ encode_utf8_all letters.now) }
-{
-    let mut text = String::new(alloc);
-    for letter in letters {
-        text.push(*letter)?;
-    }
-    Ok(Line::from_string(text))
 }

@@ -8,8 +8,7 @@ ghost use Rattle.match_options.specs.Wildcards as spec;
 use crate::atom::Atom;
 use crate::comparing::{case_of, is_on};
 use crate::pattern::pattern_atoms;
-use crate::splitting::{letters_of, text_of};
-use ft_base::{Case, Line, Memory, Options};
+use ft_base::{Case, Line, Memory, Options, letters_of, text_of};
 use std::alloc::{AllocFailed, Global};
 use text_forms::{exact, key, plain_case, plain_marks};
 

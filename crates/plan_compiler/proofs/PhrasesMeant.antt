@@ -14,7 +14,8 @@ use Rattle.text_forms.specs.Forms.{key_of}
 use Rattle.tokenizer.specs.Words.{words}
 use Rattle.all_matches.specs.Variants.{Item, any_word, word, pattern, without_stop_word}
 use Rattle.all_matches.specs.Hits.{passes_item, Interval, intervals}
-use Rattle.all_matches.specs.Meaning.{no_options, is_empty, singly, phrases_by}
+use Rattle.ft_base.specs.Selection.{no_options}
+use Rattle.all_matches.specs.Meaning.{is_empty, singly, phrases_by}
 use Rattle.all_matches.specs.Counting.{begins_as, places, product, joined_count, hit_count, value_count}
 use Rattle.all_matches.proofs.Counting.{phrase_places}
 use Rattle.match_options.specs.Items.{items_of}

@@ -11,7 +11,8 @@ use Rattle.ft_syntax.specs.View.{form, forms_of}
 use Rattle.ft_syntax.specs.declared.selection.Selection.{Selection}
 use Rattle.ft_syntax.specs.declared.selection.Selection as S
 use Rattle.ft_syntax.proofs.Views.{form-Or, form-And}
-use Rattle.all_matches.specs.Meaning.{no_options, inside, sat_under}
+use Rattle.ft_base.specs.Selection.{no_options}
+use Rattle.all_matches.specs.Meaning.{inside, sat_under}
 use Rattle.all_matches.specs.Compositional.{some_form, each_form_passes, enough, occurrences}
 use Rattle.all_matches.proofs.Compositional.{sat-or_of, sat-and_of, sat-not_of, sat-with_options, sat-words}
 use Rattle.all_matches.proofs.Counting.{value_occurrences}

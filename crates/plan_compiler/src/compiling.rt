@@ -3,7 +3,8 @@
 ghost use Rattle.std.specs.Prelude.{◌≡◌, IfOk, IsTrue, List, map};
 ghost use Rattle.ft_base.specs.declared.token.Token.{Token};
 ghost use Rattle.ft_syntax.specs.View.{form, forms_of};
-ghost use Rattle.all_matches.specs.Meaning.{no_options, sat_under};
+ghost use Rattle.ft_base.specs.Selection.{no_options};
+ghost use Rattle.all_matches.specs.Meaning.{sat_under};
 ghost use Rattle.plan_compiler.specs.Decided.{all_decided, is_decided};
 ghost use Rattle.plan_compiler.specs.Lexicon.{lexicon};
 ghost use Rattle.plan_compiler.specs.NodeMeant.{keys_of, truth};

@@ -21,18 +21,6 @@ fn tokens(alloc: Global, text: &str) -> Result<Vec<Token>, Memory> {
     Ok(tokens)
 }
 
-fn no_options() -> Options {
-    Options {
-        case: None,
-        diacritics_sensitive: None,
-        stemming: None,
-        thesaurus: None,
-        stop_words: None,
-        language: None,
-        wildcards: None,
-    }
-}
-
 fn words(
     alloc: Global,
     strings: &[&str],
@@ -47,7 +35,7 @@ fn words(
         values,
         mode,
         times,
-        options: no_options(),
+        options: Options::none(),
     }))
 }
 

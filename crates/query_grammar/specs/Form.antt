@@ -2,7 +2,7 @@
 use Rattle.std.specs.Prelude.{ℕ, Bool, List, [], ◌∷◌, map, Option, Some, None, option_map}
 use Rattle.ft_base.specs.declared.options.Options.{Options}
 use Rattle.ft_base.specs.Selection as form
-use Rattle.ft_base.specs.Selection.{Form, Forms}
+use Rattle.ft_base.specs.Selection.{no_options, Form, Forms}
 use Rattle.query_grammar.specs.declared.parsed.MatchOption.{MatchOption}
 use Rattle.query_grammar.specs.declared.parsed.MatchOption.TheVariants as O
 use Rattle.query_grammar.specs.declared.parsed.PlacedOption.{PlacedOption}
@@ -10,9 +10,6 @@ use Rattle.query_grammar.specs.declared.parsed.PlacedTimes.{PlacedTimes}
 use Rattle.query_grammar.specs.Grammar.{texts_of}
 use Rattle.query_grammar.specs.Tree as tree
 use Rattle.query_grammar.specs.Tree.{Tree, Trees}
-
-abbrev pub no_options : Options
-no_options = record { case = None; diacritics_sensitive = None; stemming = None; thesaurus = None; stop_words = None; language = None; wildcards = None }
 
 abbrev pub with_option : Options → MatchOption → Options
 with_option options (O.Case case) = record options { case = Some case }

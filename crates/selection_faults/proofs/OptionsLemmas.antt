@@ -3,7 +3,8 @@ use Rattle.std.proofs.Common.{◌≡◌, ℕ, ◌+◌, ◌<◌, Bool, List, [], 
 use Rattle.std.proofs.lemmas.List.{take_more}
 use Rattle.std.specs.Option.{unwrap_or}
 use Rattle.ft_base.specs.declared.options.Options.{Options}
-use Rattle.query_grammar.specs.Form.{options_from, options_of, no_options, with_option}
+use Rattle.ft_base.specs.Selection.{no_options}
+use Rattle.query_grammar.specs.Form.{options_from, options_of, with_option}
 use Rattle.query_grammar.specs.declared.parsed.MatchOption.{MatchOption}
 use Rattle.query_grammar.specs.declared.parsed.MatchOption.TheVariants as O
 use Rattle.query_grammar.specs.declared.parsed.PlacedOption.{PlacedOption}

@@ -22,25 +22,11 @@ pub(crate) fn texts_of(alloc: Global, strings: Items<PlacedString>) -> Result<Li
 pub(crate) fn options_of(given: Items<PlacedOption>) -> Options
     ensures { result ≡ spec.options_of given }
 {
-    let mut options = no_options();
+    let mut options = Options::none();
     for placed in given.into_vec() {
         options = with_option(options, placed.option);
     }
     options
-}
-
-fn no_options() -> Options
-    ensures { result ≡ spec.no_options }
-{
-    Options {
-        case: None,
-        diacritics_sensitive: None,
-        stemming: None,
-        thesaurus: None,
-        stop_words: None,
-        language: None,
-        wildcards: None,
-    }
 }
 
 fn with_option(options: Options, option: MatchOption) -> Options

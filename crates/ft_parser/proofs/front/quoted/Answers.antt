@@ -2,7 +2,8 @@
 use Rattle.std.proofs.Common.{◌≡◌, ◌+◌, ◌<◌, length, drop, string_bytes, Some, sym, ap, ◌∙◌, arith, append-nil, true, false, eq-eqb}
 use Rattle.std.proofs.lemmas.Bool.{ne_eqb}
 use Rattle.std.proofs.lemmas.List.{take_rest}
-use Rattle.ft_parser.specs.Symbols.{quoted_at, begins_with}
+use Rattle.ft_base.specs.Letters.{begins_with}
+use Rattle.ft_parser.specs.Symbols.{quoted_at}
 use Rattle.ft_parser.proofs.QuotedStrings.{letter_read, quote_read, closed, some_letter, over_two}
 use Rattle.ft_parser.proofs.front.quoted.Goals as goal
 

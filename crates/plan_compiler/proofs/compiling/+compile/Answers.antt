@@ -4,7 +4,8 @@ use Rattle.std.proofs.lemmas.Bool.{and_parts}
 use Rattle.ft_base.specs.declared.token.Token.{Token}
 use Rattle.ft_syntax.specs.View.{form, forms_of}
 use Rattle.ft_syntax.specs.declared.selection.Selection.{Selection, the_lemmas}
-use Rattle.all_matches.specs.Meaning.{no_options, sat_under}
+use Rattle.ft_base.specs.Selection.{no_options}
+use Rattle.all_matches.specs.Meaning.{sat_under}
 use Rattle.plan_compiler.specs.Lexicon.{lexicon}
 use Rattle.plan_compiler.specs.Decided.{has_no_options, is_decided, all_decided}
 use Rattle.plan_compiler.specs.NodeMeant.{truth, keys_of}

@@ -2,7 +2,8 @@
 use Rattle.std.proofs.Common.{◌≡◌, List, map, take}
 use Rattle.ft_base.specs.declared.token.Token.{Token}
 use Rattle.ft_syntax.specs.View.{form}
-use Rattle.all_matches.specs.Meaning.{no_options, sat_under}
+use Rattle.ft_base.specs.Selection.{no_options}
+use Rattle.all_matches.specs.Meaning.{sat_under}
 use Rattle.plan_compiler.specs.Lexicon.{lexicon}
 use Rattle.plan_compiler.specs.NodeMeant.{keys_of, truth}
 use Rattle.plan_compiler.proofs.compiling.+compile.Given as goal

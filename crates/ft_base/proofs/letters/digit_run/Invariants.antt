@@ -1,8 +1,8 @@
--- The characters so far are digits, and the run is they and what is left of it.
+-- The characters so far pass, and the run is they and what is left of it.
 use Rattle.std.proofs.Common.{◌≡◌, ◌+◌, drop}
 use Rattle.std.specs.List.{prefix_len}
-use Rattle.match_options.specs.Patterns.{is_digit}
-use Rattle.match_options.proofs.front.digit_run.Given as goal
+use Rattle.ft_base.specs.Letters.{is_digit}
+use Rattle.ft_base.proofs.letters.digit_run.Given as goal
 
 abbrev pub invariant-loop-letter : goal.invariant-loop-letter
 invariant-loop-letter l = record {

@@ -1,7 +1,7 @@
 -- The first letters were added.
 use Rattle.std.proofs.Common.{◌≡◌, take, string_bytes}
 use Rattle.std.specs.Prelude.{encode_utf8_all}
-use Rattle.match_options.proofs.splitting.text_of.Given as goal
+use Rattle.ft_base.proofs.letters.text_of.Given as goal
 
 abbrev pub invariant-loop-letter : goal.invariant-loop-letter
 invariant-loop-letter l = string_bytes l.text ≡ encode_utf8_all (take l.letter-index l.letters)

@@ -1,8 +1,8 @@
 -- One more letter was added.
 use Rattle.std.proofs.Common.{◌++◌, sym, ap, ◌∙◌, arith}
 use Rattle.std.specs.Prelude.{encode_utf8}
-use Rattle.match_options.proofs.PartLemmas.{encodes_more}
-use Rattle.match_options.proofs.splitting.text_of.Goals as goal
+use Rattle.ft_base.proofs.LetterLemmas.{encodes_more}
+use Rattle.ft_base.proofs.letters.text_of.Goals as goal
 
 pub loop-letter-preserved : goal.loop-letter-preserved
 loop-letter-preserved c =

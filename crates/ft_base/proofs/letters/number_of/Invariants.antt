@@ -1,7 +1,7 @@
 -- The number of the first digits.
 use Rattle.std.proofs.Common.{◌≡◌, ◌≤◌, take}
-use Rattle.match_options.specs.Patterns.{number_of}
-use Rattle.match_options.proofs.front.number_of.Given as goal
+use Rattle.ft_base.specs.Letters.{number_of}
+use Rattle.ft_base.proofs.letters.number_of.Given as goal
 
 abbrev pub invariant-loop-digit : goal.invariant-loop-digit
 invariant-loop-digit l = record {

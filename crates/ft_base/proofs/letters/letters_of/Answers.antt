@@ -1,7 +1,7 @@
 -- What `chars` gives are the characters of the text.
 use Rattle.std.proofs.Common.{rules}
 use Rattle.std.proofs.lemmas.Str.{chars_from_encodes}
-use Rattle.match_options.proofs.splitting.letters_of.Goals as goal
+use Rattle.ft_base.proofs.letters.letters_of.Goals as goal
 
 pub returns : goal.returns
 returns c = search (rules, chars_from_encodes)
