@@ -1,7 +1,6 @@
 -- The open parentheses, the innermost first.
-use Rattle.std.proofs.Common.{◌≡◌, List, [], ◌∷◌, ◌++◌, map, reverse, refl, ap}
+use Rattle.std.proofs.Common.{◌≡◌, List, [], ◌∷◌, ◌++◌, map, ap}
 use Rattle.std.proofs.lemmas.List.{reverse-append}
-use Rattle.query_grammar.specs.Machine as m
 use Rattle.ft_parser.specs.State.{frame_of, frames_of}
 use Rattle.ft_parser.specs.declared.state.Frame.{Frame}
 

@@ -5,3 +5,12 @@ pub mod QuotedStrings
 pub mod Runs
 pub mod Turns
 pub mod Frames
+pub mod TurnLaws
+pub mod FilterLaws
+pub mod ScanLaws
+pub mod SelectedLaws
+pub mod SelectedExact
+pub mod FilterShapes
+pub mod FilterStates
+pub mod FilterStages
+pub mod FilterRuns

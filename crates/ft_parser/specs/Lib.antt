@@ -4,3 +4,9 @@ pub mod Selections
 pub mod Parts
 pub mod State
 pub mod Turns
+pub mod Limits
+pub mod Answer
+pub mod Scan
+pub mod FilterLimit
+pub mod Selected
+pub mod FilterPlaces

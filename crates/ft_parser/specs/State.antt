@@ -1,5 +1,5 @@
 -- Where the reader stands, as the machine has it.
-use Rattle.std.specs.Prelude.{◌≡◌, ℕ, List, [], ◌∷◌, map, reverse, Option, Some, None, option_map, Result, Ok, Err}
+use Rattle.std.specs.Prelude.{◌≡◌, ℕ, List, map, reverse, option_map, Result, Ok, Err}
 use Rattle.query_grammar.specs.View.{tree}
 use Rattle.query_grammar.specs.Tree as t
 use Rattle.query_grammar.specs.Machine as m

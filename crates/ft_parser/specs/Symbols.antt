@@ -1,5 +1,5 @@
 -- The symbols of a query: names, numbers, strings and marks, with spaces and tabs between.
-use Rattle.std.specs.Prelude.{◌≡◌, ◌≤◌, ℕ, zero, suc, ◌+◌, ◌*◌, ◌-◌, min, Bool, false, ◌&&◌, ◌||◌, ◌==◌, nat_le, if◌then◌else◌, List, [], ◌∷◌, ◌++◌, length, take, drop, fold, Option, Some, None, option_map, encode_utf8, encode_utf8_all, chars}
+use Rattle.std.specs.Prelude.{◌≡◌, ◌≤◌, ℕ, zero, suc, ◌+◌, Bool, false, ◌||◌, ◌==◌, if◌then◌else◌, List, [], ◌∷◌, ◌++◌, length, take, drop, Option, Some, None, option_map, encode_utf8, encode_utf8_all, chars}
 use Rattle.std.specs.List.{prefix_len}
 use Rattle.ft_base.specs.Characters.{is_name_start, is_name_char}
 use Rattle.ft_base.specs.Letters.{is_digit, number_of, begins_with}

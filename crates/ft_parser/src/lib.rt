@@ -3,23 +3,37 @@
 
 mod building;
 mod characters;
+mod filter_depth;
+mod finishing;
 mod front;
 mod heads;
 mod lexeme;
 mod lexer;
+mod limits;
 mod operand_turns;
+mod option_turns;
 mod parts;
 mod plain_option;
+mod read;
+mod scan;
 mod selection_examples;
+mod selection_laws;
+#[cfg(test)]
+mod selection_tests;
 mod state;
 mod stop_turns;
 mod symbol_examples;
 mod symbol_laws;
 #[cfg(test)]
 mod tests;
+mod thesaurus_turns;
+mod turn;
+mod value_turns;
 
 pub use lexer::symbols;
 pub use query_grammar::{Placed, Symbol, Symbols};
+pub use read::read_selection;
 pub use selection_examples::{levels, words_and_filters};
+pub use selection_laws::{filters_law, reading_law};
 pub use symbol_examples::{marks, names_and_numbers, strings};
 pub use symbol_laws::bound_law;

@@ -27,7 +27,8 @@ pub(crate) fn one_string(alloc: Global, string: PlacedString) -> Result<Items<Pl
     Ok(strings)
 }
 
-fn nothing_left_of(alloc: Global) -> Left
+/// Where nothing stands to the left.
+pub(crate) fn nothing_left_of(alloc: Global) -> Left
     ensures { left_of result ≡ m.nothing_left_of }
 {
     Left {

@@ -4,5 +4,5 @@ pub mod ProgressLemmas
 pub mod QueryLemmas
 pub mod ReadLemmas
 pub mod SessionLemmas
-pub mod TreeLemmas
+pub mod TokenCounts
 pub mod WrittenLemmas

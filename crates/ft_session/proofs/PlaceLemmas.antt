@@ -74,4 +74,13 @@ names_text bytes = ap names (node_text bytes)
 pub names_element : (name : List ℕ) (attributes : List Attr) (children : List Tree) → names (node (Elem name attributes children)) ≡ name ∷ []
 names_element name attributes children = ap names (node_elem name attributes children)
 
+-- the root alone is looked at
+pub root_text : (bytes : List ℕ) → take 1 (placed [] [] (node (Text bytes))) ≡ []
+root_text bytes = ap (take 1) (placed_text [] [] bytes)
+
+pub root_element : (name : List ℕ) (attributes : List Attr) (children : List Tree) → take 1 (placed [] [] (node (Elem name attributes children))) ≡ placed_at (step_by name 1 ∷ []) (node (Elem name attributes children)) ∷ []
+root_element name attributes children =
+    let as_node = node_elem name attributes children in
+    ap (λ n. take 1 (placed [] [] n)) as_node ∙ ap (λ n. placed_at (step_by name 1 ∷ []) n ∷ []) (sym as_node)
+
 pub ruleset place_steps = (node_elem, node_text, placed_text, names_text, names_element)

@@ -14,10 +14,12 @@ use Rattle.session_text.specs.declared.reply.Reply.{Reply}
 use Rattle.session_text.specs.declared.reply.Reply.TheVariants.{Refused, Done}
 use Rattle.tokenizer.specs.Tokens.{tokens}
 use Rattle.doc_profile.specs.Readings.{Faults, document_of}
-use Rattle.ft_session.specs.Step.{State, added, dropped, has_name, loadable, loaded, max_documents, max_tokens, to_document, with_few_tokens, without}
+use Rattle.ft_session.specs.declared.loaded.Loaded.{Loaded}
+use Rattle.ft_session.specs.Limits.{max_documents, max_tokens}
+use Rattle.ft_session.specs.Step.{State, added, dropped, has_name, loadable, loaded, to_document, with_few_tokens, without}
 
 -- a name is taken where a look-up finds it
-pub has_name-lookup : (name : List ℕ) (entries : List (List ℕ × Node)) → has_name name (map to_document entries) ≡ is_some (lookup (bytes_eq name) entries)
+pub has_name-lookup : (name : List ℕ) (entries : List (List ℕ × Loaded)) → has_name name (map to_document entries) ≡ is_some (lookup (bytes_eq name) entries)
 has_name-lookup name [] = refl
 has_name-lookup name (e ∷ es) =
     elim (bytes_eq name e.0) as (λ t. (t || has_name name (map to_document es)) ≡ is_some (cond t (Some e.1) (lookup (bytes_eq name) es)))
@@ -35,7 +37,7 @@ pub dropped-test : (documents : State) (name : List ℕ) (there : Bool) → has_
 dropped-test documents name there has = ap (λ t. cond t (without name documents, Done) (documents, Refused (NoSuchName name))) has
 
 -- the entries without the first of the name
-pub without-removed : (name : List ℕ) (entries : List (List ℕ × Node)) → map to_document (remove_entry (bytes_eq name) entries) ≡ without name (map to_document entries)
+pub without-removed : (name : List ℕ) (entries : List (List ℕ × Loaded)) → map to_document (remove_entry (bytes_eq name) entries) ≡ without name (map to_document entries)
 without-removed name [] = refl
 without-removed name (e ∷ es) =
     elim (bytes_eq name e.0) as (λ t. map to_document (cond t es (e ∷ remove_entry (bytes_eq name) es)) ≡ cond t (map to_document es) (to_document e ∷ without name (map to_document es)))

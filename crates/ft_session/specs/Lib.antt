@@ -1,4 +1,6 @@
 pub mod Status
+pub mod Limits
+pub mod Paths
 pub mod Query
 pub mod QueryView
 pub mod Step

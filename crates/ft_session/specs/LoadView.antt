@@ -6,5 +6,5 @@ use Rattle.ft_session.specs.declared.loading.Outcome.{Outcome}
 use Rattle.ft_session.specs.declared.loading.Outcome.TheVariants as outcomes
 
 abbrev pub outcome : Outcome → Result Node Refusal
-outcome (outcomes.Document root) = Ok root
+outcome (outcomes.Document loaded) = Ok loaded.document
 outcome (outcomes.Refused why) = Err why

@@ -4,13 +4,23 @@ use Rattle.std.specs.Str.{bytes_eq}
 use Rattle.std.specs.HashMap.{HashMap, get_by_text}
 use Rattle.ft_session.specs.declared.query.AskedElements.{AskedElements}
 use Rattle.ft_session.specs.declared.query.PlaceStep.{PlaceStep}
-use Rattle.ft_session.specs.Query.{Asked, Step}
+use Rattle.ft_session.specs.declared.paths.WrittenQuery.{WrittenQuery}
+use Rattle.ft_session.specs.declared.paths.Guess.{Guess}
+use Rattle.ft_session.specs.Paths.{Written, written_as}
+use Rattle.plan_compiler.specs.PlanMeant.{plan_form}
+use Rattle.ft_session.specs.Query.{Asked, asked_by, Step}
 
 abbrev pub asked : AskedElements → Asked
-asked q = record { name = q.name.now; key = q.key }
+asked q = asked_by q.deep q.name.now (plan_form q.plan)
 
 abbrev pub step : PlaceStep → Step
 step s = record { name = s.name.now; number = s.number }
+
+abbrev pub written : WrittenQuery → Written
+written q = written_as q.deep q.name.now q.selection.now
+
+abbrev pub guessed : Guess → Written
+guessed g = written_as g.deep g.name.now g.selection.now
 
 -- the count of a name, 0 for a name that was not counted
 abbrev pub count_of : {Y S : Type 0} → HashMap (String Y) ℕ S → List ℕ → ℕ

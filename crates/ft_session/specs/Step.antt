@@ -3,6 +3,10 @@ use Rattle.std.specs.Prelude.{ℕ, Bool, nat_le, nat_lt, if◌then◌else◌, Li
 use Rattle.std.specs.List.{list_any, flat_map}
 use Rattle.std.specs.Coded.{Coded, code_by, coded×, coded_list, coded_ℕ}
 use Rattle.std.specs.Str.{bytes_eq}
+use Rattle.ft_base.specs.Selection.{Form}
+use Rattle.ft_base.specs.declared.fault.QueryFault.{QueryFault}
+use Rattle.ft_parser.specs.Answer.{selection_read}
+use Rattle.plan_compiler.specs.Decided.{is_decided}
 use Rattle.doc_profile.specs.declared.fault.DocFault.{DocFault}
 use Rattle.doc_profile.specs.Readings.{document_of}
 use Rattle.plain_tree.specs.Document.{Node}
@@ -15,7 +19,10 @@ use Rattle.session_text.specs.declared.reply.Refusal.TheVariants as refusal
 use Rattle.session_text.specs.declared.reply.Reply.{Reply}
 use Rattle.session_text.specs.declared.reply.Reply.TheVariants.{Done, Nodes, Refused}
 use Rattle.tokenizer.specs.Tokens.{tokens}
-use Rattle.ft_session.specs.Query.{Asked, query_of_path, lines_of_document}
+use Rattle.ft_session.specs.declared.loaded.Loaded.{Loaded}
+use Rattle.ft_session.specs.Limits.{max_tokens, max_documents}
+use Rattle.ft_session.specs.Paths.{Written, behind, query_front, query_of_path}
+use Rattle.ft_session.specs.Query.{Asked, asked_by, lines_of_document}
 
 -- a document under its name
 pub record Document : Type 0 where
@@ -26,9 +33,9 @@ abbrev pub document_code : Coded (List Document)
 document_code =
     coded_list (code_by (List ℕ × Node) (coded× (coded_list coded_ℕ) node_code) (λ d. (d.name, d.root)) (λ p. record { name = p.0; root = p.1 }) (λ _. refl))
 
--- a document and its name, as one
-abbrev pub to_document : List ℕ × Node → Document
-to_document e = record { name = e.0; root = e.1 }
+-- a document that was loaded and its name, as one
+abbrev pub to_document : List ℕ × Loaded → Document
+to_document e = record { name = e.0; root = e.1.document }
 
 -- the documents in the order in which they were loaded
 abbrev pub State : Type 0
@@ -39,13 +46,6 @@ opening = []
 
 abbrev pub has_name : List ℕ → State → Bool
 has_name name documents = list_any (λ d. bytes_eq name d.name) documents
-
--- the most tokens that a document may have, and the most documents at once
-abbrev pub max_tokens : ℕ
-max_tokens = 1_000_000
-
-abbrev pub max_documents : ℕ
-max_documents = 4096
 
 -- a document that was read, unless it has too many tokens
 abbrev pub with_few_tokens : Result Node DocFault → Result Node Refusal
@@ -79,9 +79,21 @@ dropped documents name =
     if has_name name documents then (without name documents, Done) else (documents, Refused (refusal.NoSuchName name))
 
 -- the lines of the elements that are asked for, documents in order
-abbrev pub answer : State → Option Asked → Reply
+abbrev pub lines_asked : State → Asked → List (List ℕ)
+lines_asked documents q = flat_map (λ d. lines_of_document q d.name d.root) documents
+
+-- the reply to a selection that was read. Selections with options, filters or `not in` aren't carried out yet
+abbrev pub answer_form : State → Written → Form → Reply
+answer_form documents w form = if is_decided form then Nodes (lines_asked documents (asked_by w.deep w.name form)) else Refused refusal.NotYet
+
+abbrev pub answer_read : State → Written → Result Form QueryFault → Reply
+answer_read documents w (Err fault) = Refused (refusal.Query (behind (length (query_front w.deep w.name)) fault))
+answer_read documents w (Ok form) = answer_form documents w form
+
+-- the reply to a query. Other paths aren't carried out yet
+abbrev pub answer : State → Option Written → Reply
 answer documents None = Refused refusal.NotYet
-answer documents (Some q) = Nodes (flat_map (λ d. lines_of_document q d.name d.root) documents)
+answer documents (Some w) = answer_read documents w (selection_read w.selection)
 
 -- the state that a command leaves, and its reply
 unfoldable pub step : State → Command → State × Reply

@@ -3,16 +3,19 @@
 #![tactic(auto)]
 
 mod answering;
+mod loaded;
 mod loading;
+mod paths;
 mod pieces;
 mod query;
+#[cfg(test)]
+mod query_tests;
 mod reading;
 mod running;
 mod session;
 mod status;
 #[cfg(test)]
 mod tests;
-mod words;
 mod writing;
 
 pub use running::run;

@@ -2,9 +2,9 @@ ghost use Rattle.std.specs.Prelude.{◌≡◌, ◌≢◌, IfOk, OnOk};
 ghost use Rattle.ft_session.specs.Step.{loadable};
 ghost use Rattle.ft_session.specs.LoadView.{outcome};
 
+use crate::loaded::Loaded;
 use doc_profile::{DocFault, read_doc};
 use ft_base::Memory;
-use plain_tree::PlainDoc;
 use session_text::Refusal;
 use std::alloc::Global;
 use tokenizer::{TokenFault, tokens_of};
@@ -12,7 +12,7 @@ use tokenizer::{TokenFault, tokens_of};
 /// What a block is: a document that can be loaded, or why none can.
 #[derive(Drop)]
 pub(crate) enum Outcome {
-    Document(PlainDoc),
+    Document(Loaded),
     Refused(Refusal),
 }
 
@@ -36,7 +36,7 @@ pub(crate) fn read_document(alloc: Global, block: &[u8]) -> Result<Outcome, Memo
         Err(fault) => return Ok(Outcome::Refused(refuse(fault)?)),
     };
     match tokens_of(alloc, &document) {
-        Ok(_) => Ok(Outcome::Document(document)),
+        Ok(_) => Ok(Outcome::Document(Loaded { document })),
         Err(TokenFault::Tokens) => Ok(Outcome::Refused(Refusal::TooManyTokens)),
         Err(TokenFault::Memory) => Err(Memory),
     }

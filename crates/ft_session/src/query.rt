@@ -1,26 +1,29 @@
-ghost use Rattle.std.specs.Prelude.{◌≡◌, ◌≤◌, ◌++◌, ◌∷◌, ◌+◌, ◌==◌, [], drop, length, map, IfOk, OnOk, if◌then◌else◌, ℕ, List};
-ghost use Rattle.std.specs.Option.{option_map};
-ghost use Rattle.std.specs.List.{before_first, list_all, position_or_len};
-ghost use Rattle.std.specs.Char.{is_ascii_alphabetic};
+//! The elements that a query selects, and the lines that name them.
+
+ghost use Rattle.std.specs.Prelude.{◌≡◌, ◌≤◌, ◌++◌, ◌∷◌, ◌+◌, [], length, map, take, IfOk, OnOk, if◌then◌else◌, ℕ, List};
 ghost use Rattle.std.specs.Str.{bytes_eq};
 ghost use Rattle.plain_tree.specs.View.{node};
-ghost use Rattle.tokenizer.specs.Words.{words};
-ghost use Rattle.ft_session.specs.Query.{asked_by, asked_lines, asks, is_named_well, lines_of_document, names, place_line, placed, placed_at, query_of_path, query_text, written_as};
+ghost use Rattle.tokenizer.specs.Tokens.{tokens};
+ghost use Rattle.all_matches.specs.Meaning.{sat};
+ghost use Rattle.plan_compiler.specs.Lexicon.{lexicon};
+ghost use Rattle.plan_compiler.specs.PlanMeant.{plan_form};
+ghost use Rattle.ft_session.specs.Limits.{max_tokens};
+ghost use Rattle.ft_session.specs.Query.{asked_lines, asks, lines_of_document, names, place_line, placed, placed_at};
 ghost use Rattle.ft_session.specs.QueryView.{asked, count_of, step, IsCountOf};
 
-use crate::words::tree_has_key;
 use ft_base::{Line, Lines, Memory};
 use plain_tree::Tree;
+use plan_compiler::Plan;
 use std::alloc::Global;
 use std::collections::HashMap;
-use text_forms::key;
-use tokenizer::words_of;
+use tokenizer::{TokenFault, tokens_of_tree};
 
-/// The elements of a name that have a word of a key.
+/// The elements of a name whose text satisfies a selection, at any depth or among the roots alone.
 #[derive(Drop)]
 pub(crate) struct AskedElements<'a> {
-    name: &'a [u8],
-    key: Line,
+    pub(crate) deep: bool,
+    pub(crate) name: &'a str,
+    pub(crate) plan: Plan,
 }
 
 /// A step from a parent to a child.
@@ -28,92 +31,6 @@ pub(crate) struct AskedElements<'a> {
 struct PlaceStep<'a> {
     name: &'a str,
     number: u64,
-}
-
-/// The query that a path is, or nothing where it isn't one.
-pub(crate) fn read_query_path<'a>(
-    alloc: Global,
-    path: &'a [u8],
-) -> Result<Option<AskedElements<'a>>, Memory>
-    ensures { IfOk result (λ query. option_map asked query ≡ query_of_path path.now) }
-{
-    let name = before(b'[', behind(path, 14));
-    let quoted = before(b'"', behind(path, 32 + name.len()));
-    if !names_element(name) {
-        return Ok(None);
-    }
-    if path != spell(alloc, name, quoted)?.as_slice() {
-        return Ok(None);
-    }
-    match std::str::from_utf8(quoted) {
-        Ok(text) => ask(alloc, name, text),
-        Err(_) => Ok(None),
-    }
-}
-
-/// The query for the elements of the name that have the one word of the text, or nothing where the text hasn't one word.
-fn ask<'a>(alloc: Global, name: &'a [u8], text: &str) -> Result<Option<AskedElements<'a>>, Memory>
-    ensures { IfOk result (λ query. option_map asked query ≡ asked_by name.now (words text.now)) }
-{
-    let pieces = words_of(alloc, text)?;
-    if pieces.len() != 1 {
-        return Ok(None);
-    }
-    let word = &text[pieces[0].from..pieces[0].to];
-    let key = key(alloc, word)?;
-    Ok(Some(AskedElements { name, key }))
-}
-
-/// What stands behind the first bytes.
-fn behind(bytes: &[u8], count: usize) -> &[u8]
-    ensures { result.now ≡ drop count bytes.now }
-{
-    &bytes[count.min(bytes.len())..]
-}
-
-/// Where the byte first stands, or the length.
-fn position_of(byte: u8, bytes: &[u8]) -> usize
-    ensures within { result ≤ length bytes.now }
-    ensures first { result ≡ position_or_len (λ other. other == byte) bytes.now }
-{
-    let mut at = 0;
-    while at < bytes.len() && bytes[at] != byte {
-        at += 1;
-    }
-    at
-}
-
-/// What stands before the first such byte.
-fn before(byte: u8, bytes: &[u8]) -> &[u8]
-    ensures { result.now ≡ before_first (λ other. other == byte) bytes.now }
-{
-    &bytes[..position_of(byte, bytes)]
-}
-
-/// Whether the name has letters alone and isn't empty.
-fn names_element(name: &[u8]) -> bool
-    ensures { result ≡ is_named_well name.now }
-{
-    !name.is_empty() && has_only_letters(name)
-}
-
-fn has_only_letters(bytes: &[u8]) -> bool
-    ensures { result ≡ list_all is_ascii_alphabetic bytes.now }
-{
-    bytes.iter().all(|byte| byte.is_ascii_alphabetic())
-}
-
-/// How a query of that name and that quoted text is written.
-fn spell(alloc: Global, name: &[u8], quoted: &[u8]) -> Result<Vec<u8>, Memory>
-    ensures { IfOk result (λ text. text.items ≡ query_text (written_as name.now quoted.now)) }
-{
-    let mut text = Vec::new(alloc);
-    text.extend_from_slice(b"collection()//")?;
-    text.extend_from_slice(name)?;
-    text.extend_from_slice(b"[. contains text \"")?;
-    text.extend_from_slice(quoted)?;
-    text.extend_from_slice(b"\"]")?;
-    Ok(text)
 }
 
 /// How many children of each name there were.
@@ -134,18 +51,31 @@ fn count_name(alloc: Global, counts: &mut NameCounts, name: &str) -> Result<u64,
     Ok(number)
 }
 
-/// Whether the node is an element of the asked name that has a word of the key.
+/// Whether the tokens of the tree satisfy the plan's selection.
+fn satisfies(alloc: Global, plan: &Plan, tree: &Tree) -> Result<bool, Memory>
+    requires { length (tokens (node tree.now)) ≤ max_tokens }
+    ensures { IfOk result (λ is. is ≡ sat lexicon (plan_form plan.now) (tokens (node tree.now))) }
+{
+    match tokens_of_tree(alloc, tree) {
+        Ok(tokens) => plan.check(&tokens),
+        Err(TokenFault::Tokens) => unreachable!(),
+        Err(TokenFault::Memory) => Err(Memory),
+    }
+}
+
+/// Whether the node is an element of the asked name whose tokens satisfy the asked selection.
 #[tactic(auto, using(plain_tree::proofs::Views::views))]
 fn is_asked(alloc: Global, query: &AskedElements<'_>, tree: &Tree) -> Result<bool, Memory>
+    requires { length (tokens (node tree.now)) ≤ max_tokens }
     ensures { IfOk result (λ is. is ≡ asks (asked query.now) (node tree.now)) }
 {
     match tree {
         Tree::Text { .. } => Ok(false),
         Tree::Elem { name, .. } => {
-            if query.name != name.as_str().as_bytes() {
+            if query.name != name.as_str() {
                 return Ok(false);
             }
-            tree_has_key(alloc, tree, query.key.as_str())
+            satisfies(alloc, &query.plan, tree)
         }
     }
 }
@@ -172,6 +102,7 @@ fn push_if_asked(
     place: &[PlaceStep<'_>],
     found: &mut Lines,
 ) -> Result<(), Memory>
+    requires { length (tokens (node tree.now)) ≤ max_tokens }
     ensures { OnOk result (found.new ≡ found.old ++ asked_lines (asked query.now) document.now (placed_at (map step place.now) (node tree.now) ∷ [])) }
 {
     if is_asked(alloc, query, tree)? {
@@ -192,6 +123,7 @@ fn collect<'a>(
     place: &mut Vec<PlaceStep<'a>>,
     found: &mut Lines,
 ) -> Result<(), Memory>
+    requires { length (tokens (node tree.now)) ≤ max_tokens }
     ensures found { OnOk result ((before : List (List ℕ)) → IsCountOf counts.old before →
         found.new ≡ found.old ++ asked_lines (asked query.now) document.now (placed (map step place.old.items) before (node tree.now))) }
     ensures counts { OnOk result ((before : List (List ℕ)) → IsCountOf counts.old before → IsCountOf counts.new (before ++ names (node tree.now))) }
@@ -216,6 +148,29 @@ fn collect<'a>(
     }
 }
 
+/// Puts the line of the root behind those found so far, where it is asked for.
+fn collect_root(
+    alloc: Global,
+    query: &AskedElements<'_>,
+    document: &str,
+    root: &Tree,
+    found: &mut Lines,
+) -> Result<(), Memory>
+    requires { length (tokens (node root.now)) ≤ max_tokens }
+    ensures { OnOk result (found.new ≡ found.old ++ asked_lines (asked query.now) document.now (take 1 (placed [] [] (node root.now)))) }
+{
+    match root {
+        Tree::Text { .. } => Ok(()),
+        Tree::Elem { name, .. } => {
+            let place = [PlaceStep {
+                name: name.as_str(),
+                number: 1,
+            }];
+            push_if_asked(alloc, query, document, root, &place, found)
+        }
+    }
+}
+
 /// Puts the lines of a document's elements that are asked for behind those found so far.
 pub(crate) fn collect_lines(
     alloc: Global,
@@ -224,8 +179,12 @@ pub(crate) fn collect_lines(
     root: &Tree,
     found: &mut Lines,
 ) -> Result<(), Memory>
+    requires { length (tokens (node root.now)) ≤ max_tokens }
     ensures { OnOk result (found.new ≡ found.old ++ lines_of_document (asked query.now) document.now (node root.now)) }
 {
+    if !query.deep {
+        return collect_root(alloc, query, document, root, found);
+    }
     let mut counts = NameCounts::new(alloc);
     let mut place = Vec::new(alloc);
     collect(alloc, query, document, root, &mut counts, &mut place, found)

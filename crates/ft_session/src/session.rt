@@ -1,14 +1,19 @@
 ghost use Rattle.std.specs.Prelude.{◌≡◌, [], map, IfOk, OnErr};
-ghost use Rattle.std.specs.List.{flat_map};
-ghost use Rattle.ft_session.specs.Query.{lines_of_document, query_of_path};
-ghost use Rattle.ft_session.specs.QueryView.{asked};
-ghost use Rattle.ft_session.specs.Step.{answer, dropped, loadable, loaded, step, to_document};
+ghost use Rattle.ft_parser.specs.Answer.{selection_read};
+ghost use Rattle.ft_syntax.specs.View.{form};
+ghost use Rattle.ft_session.specs.Paths.{query_of_path};
+ghost use Rattle.ft_session.specs.QueryView.{asked, written};
+ghost use Rattle.ft_session.specs.Step.{answer, answer_form, answer_read, dropped, lines_asked, loadable, loaded, step, to_document};
 
+use crate::loaded::Loaded;
 use crate::loading::{Outcome, read_document};
-use crate::query::{AskedElements, collect_lines, read_query_path};
+use crate::paths::{WrittenQuery, fault_behind, front_len, read_query_path};
+use crate::query::{AskedElements, collect_lines};
 use ft_base::{Line, Lines, MAX_DOCUMENTS, Memory, Steps};
+use ft_parser::read_selection;
+use ft_syntax::Selection;
 use indexmap::IndexMap;
-use plain_tree::PlainDoc;
+use plan_compiler::{CompileFault, Lists, Plan, is_decided};
 use session_text::{Command, FullOf, Refusal, Reply};
 use std::alloc::Global;
 use std::marker::Model;
@@ -18,7 +23,7 @@ use std::sync::ledger::Ledger;
 #[derive(Drop)]
 pub struct Session {
     alloc: Global,
-    documents: IndexMap<Line, PlainDoc>,
+    documents: IndexMap<Line, Loaded>,
 }
 
 impl Model for Session {
@@ -85,14 +90,48 @@ impl Session {
         drop_document(self.alloc, &mut self.documents, name)
     }
 
-    /// The lines of the elements that the path selects.
+    /// The answer to a query with that path.
     fn query(&self, path: &str) -> Result<Reply, Memory>
         ensures { IfOk result (λ reply. reply ≡ answer self.now (query_of_path path.now)) }
     {
         match read_query_path(self.alloc, path.as_bytes())? {
             None => Ok(Reply::Refused(Refusal::NotYet)),
-            Some(query) => Ok(Reply::Nodes(collect_all(self.alloc, &query, &self.documents)?)),
+            Some(query) => self.select(&query),
         }
+    }
+
+    /// The lines of the elements that the query selects, or the fault of its selection.
+    fn select(&self, query: &WrittenQuery<'_>) -> Result<Reply, Memory>
+        ensures { IfOk result (λ reply. reply ≡ answer_read self.now (written query.now) (selection_read query.now.selection.now)) }
+    {
+        match read_selection(self.alloc, query.selection) {
+            Ok(selection) => self.select_by(query, &selection),
+            Err(fault) => {
+                let front = front_len(query.deep, query.name.as_bytes());
+                let fault = fault_behind(front, fault)?;
+                Ok(Reply::Refused(Refusal::Query(fault)))
+            }
+        }
+    }
+
+    /// The lines of the elements whose text satisfies the selection. Selections with options, filters or `not in` aren't carried out yet.
+    fn select_by(&self, query: &WrittenQuery<'_>, selection: &Selection) -> Result<Reply, Memory>
+        ensures { IfOk result (λ reply. reply ≡ answer_form self.now (written query.now) (form selection.now)) }
+    {
+        if !is_decided(selection) {
+            return Ok(Reply::Refused(Refusal::NotYet));
+        }
+        let plan = match Plan::compile(self.alloc, selection, &Lists::new(self.alloc)) {
+            Ok(plan) => plan,
+            Err(CompileFault::NoSuchList { .. }) => unreachable!(),
+            Err(CompileFault::Memory) => return Err(Memory),
+        };
+        let asked = AskedElements {
+            deep: query.deep,
+            name: query.name,
+            plan,
+        };
+        Ok(Reply::Nodes(collect_all(self.alloc, &asked, &self.documents)?))
     }
 }
 
@@ -100,7 +139,7 @@ impl Session {
 /// may be, or the block is none that can be loaded.
 fn load_document(
     alloc: Global,
-    documents: &mut IndexMap<Line, PlainDoc>,
+    documents: &mut IndexMap<Line, Loaded>,
     name: &Line,
     block: &[u8],
 ) -> Result<Reply, Memory>
@@ -128,7 +167,7 @@ fn load_document(
 /// Takes the document of the name out, unless there is none.
 fn drop_document(
     alloc: Global,
-    documents: &mut IndexMap<Line, PlainDoc>,
+    documents: &mut IndexMap<Line, Loaded>,
     name: &Line,
 ) -> Result<Reply, Memory>
     ensures answer { IfOk result (λ reply.
@@ -146,13 +185,19 @@ fn drop_document(
 fn collect_all(
     alloc: Global,
     query: &AskedElements<'_>,
-    documents: &IndexMap<Line, PlainDoc>,
+    documents: &IndexMap<Line, Loaded>,
 ) -> Result<Lines, Memory>
-    ensures { IfOk result (λ found. found ≡ flat_map (λ d. lines_of_document (asked query.now) d.name d.root) (map to_document documents.now.entries)) }
+    ensures { IfOk result (λ found. found ≡ lines_asked (map to_document documents.now.entries) (asked query.now)) }
 {
     let mut found = Lines::new(alloc);
     for (name, document) in documents.iter() {
-        collect_lines(alloc, query, name.as_str(), document.root(), &mut found)?;
+        collect_lines(
+            alloc,
+            query,
+            name.as_str(),
+            document.document.root(),
+            &mut found,
+        )?;
     }
     Ok(found)
 }

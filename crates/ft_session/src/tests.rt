@@ -41,7 +41,7 @@ fn expect_bytes(
     expect_over(rt, alloc, &mut shelf, &mut sink, output, status)
 }
 
-fn expect(
+pub(crate) fn expect(
     rt: &impl Abort,
     alloc: Global,
     session: &str,
@@ -143,13 +143,11 @@ fn what_is_not_there_yet_is_refused(rt: HostRuntime) -> Result<(), Fail> {
         "stats",
         "query collection()//a",
         "query collection()//[. contains text \"a\"]",
-        "query collection()//a1[. contains text \"a\"]",
-        "query collection()//a[. contains text \"a b\"]",
-        "query collection()//a[. contains text \"\"]",
-        "query collection()//a[. contains text \"-\"]",
-        "query collection()//a[. contains text \"a\"\"]",
         "query collection()//a[.  contains text \"a\"]",
-        "query collection()/a[. contains text \"a\"]",
+        "query collection()//1a[. contains text \"a\"]",
+        "query collection()///a[. contains text \"a\"]",
+        "query doc(\"x\")//a[. contains text \"a\"]",
+        "query collection()//a[. contains text \"a\"] ]x",
     ] {
         let session = format!(in rt.alloc(); "{command}\n")?;
         expect(
@@ -191,7 +189,7 @@ fn blocks_that_are_no_documents_are_refused_with_the_place(rt: HostRuntime) -> R
 }
 
 /// The text this many times.
-fn push_times(text: &mut String, part: &str, count: usize) -> Result<(), AllocError> {
+pub(crate) fn push_times(text: &mut String, part: &str, count: usize) -> Result<(), AllocError> {
     for _ in 0..count {
         text.push_str(part)?;
     }
@@ -249,59 +247,6 @@ fn a_collection_has_4096_documents_at_most(rt: HostRuntime) -> Result<(), Fail> 
         output.as_str(),
         Status::SomeRefused,
     )
-}
-
-#[test]
-fn each_element_has_its_place_among_those_of_its_name(rt: HostRuntime) -> Result<(), Fail> {
-    expect(
-        &rt,
-        rt.alloc(),
-        "load m\n<d><p>x</p><q>y</q><p>y<p>Y z</p></p></d>\n.\nload n\n<p>y</p>\n.\nquery collection()//p[. contains text \"y\"]\nquery collection()//d[. contains text \"yy\"]\n",
-        "ok\nok\n= 3\ndoc(\"m\")/d[1]/p[2]\ndoc(\"m\")/d[1]/p[2]/p[1]\ndoc(\"n\")/p[1]\n= 0\n",
-        Status::Done,
-    )
-}
-
-/// Loads the text as the element `a`, asks for the word in quotes, and compares how many elements have it.
-fn expect_word(
-    rt: &impl Abort,
-    alloc: Global,
-    text: &str,
-    quoted: &str,
-    found: bool,
-) -> Result<(), Fail> {
-    let session = format!(in alloc;
-        "load x\n<a>{text}</a>\n.\nquery collection()//a[. contains text \"{quoted}\"]\n"
-    )?;
-    let output = if found {
-        "ok\n= 1\ndoc(\"x\")/a[1]\n"
-    } else {
-        "ok\n= 0\n"
-    };
-    expect(rt, alloc, session.as_str(), output, Status::Done)
-}
-
-#[test]
-fn words_are_compared_by_their_keys(rt: HostRuntime) -> Result<(), Fail> {
-    for (text, quoted, found) in [
-        ("can't 3.14", "can't", true),
-        ("can't 3.14", "3.14", true),
-        ("can't 3.14", "14", false),
-        ("CAFE\u{301}", "caf\u{E9}", true),
-        ("CAFE\u{301}", "cafe", true),
-        ("Stra\u{DF}e", "STRASSE", true),
-        ("stra", "strasse", false),
-        ("Hello", "(hello!)", true),
-        ("Hello", "Hell", false),
-        ("Hell", "Hello", false),
-        ("foo<b/>bar", "foobar", false),
-        ("foo<b>bar</b>", "BAR", true),
-        ("x <!-- y -->z", "y", false),
-        ("&#120;", "x", true),
-    ] {
-        expect_word(&rt, rt.alloc(), text, quoted, found)?;
-    }
-    Ok(())
 }
 
 #[test]

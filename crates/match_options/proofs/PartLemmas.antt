@@ -1,12 +1,9 @@
 -- The parts of a text, one character after the other.
-use Rattle.std.proofs.Common.{◌≡◌, refl, sym, ap, ◌∙◌, ℕ, ◌+◌, ◌<◌, true, false, List, [], ◌∷◌, ◌++◌, map, filter, length, get_or, take, append_assoc, append-nil, arith, inl, inr, encode_utf8_all, chars}
-use Rattle.std.specs.Prelude.{encode_utf8}
+use Rattle.std.proofs.Common.{◌≡◌, refl, sym, ap, ◌∙◌, ℕ, ◌<◌, true, false, List, [], ◌∷◌, ◌++◌, map, filter, length, append_assoc, append-nil, arith, inl, inr, encode_utf8_all, chars}
 use Rattle.std.specs.List.{slice_split, onto_first}
 use Rattle.std.specs.Char.{is_whitespace}
 use Rattle.std.proofs.lemmas.Bool.{cond-true, cond-false, cases_Bool}
-use Rattle.std.proofs.lemmas.List.{take_more}
 use Rattle.std.proofs.lemmas.List.Splits.{slice_split-cons_yes, slice_split-cons_no, length-slice_split}
-use Rattle.std.proofs.lemmas.Str.{encodes-append}
 use Rattle.match_options.specs.Patterns.{is_not_empty, parts}
 use Rattle.match_options.specs.PartsLeft.{ended, parts_left}
 

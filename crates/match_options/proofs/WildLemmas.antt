@@ -1,13 +1,12 @@
 -- The atoms of a pattern with its runs of letters in a form, one atom after the other.
-use Rattle.std.proofs.Common.{◌≡◌, refl, sym, ap, ◌∙◌, ℕ, List, [], ◌∷◌, ◌++◌, map, append_assoc, IsUtf8, chars, encode_utf8_all, Vec, Global}
+use Rattle.std.proofs.Common.{Bool, ◌≡◌, refl, sym, ap, ◌∙◌, ℕ, List, [], ◌∷◌, ◌++◌, map, append_assoc, IsUtf8, chars, encode_utf8_all, Vec, Global}
 use Rattle.std.proofs.lemmas.Str.{chars_from_encodes}
 use Rattle.match_options.specs.declared.atom.Atom.{Atom}
 use Rattle.match_options.specs.declared.atom.Atom.TheVariants.{Letter, Gap}
 use Rattle.std.specs.Prelude.{Option, Some, None, option_map}
-use Rattle.ft_base.specs.declared.options.Options.{Options}
+use Rattle.ft_base.specs.declared.options.Case.{Case}
 use Rattle.match_options.specs.Patterns.{atoms_of}
-use Rattle.match_options.specs.TokenTest.{is_on, case_of}
-use Rattle.match_options.specs.Wildcards.{formed, form_by, pattern_of}
+use Rattle.match_options.specs.Wildcards.{formed, form_by, pattern_in}
 
 module _ (form : List ℕ → List ℕ) where
   -- a letter belongs to the run
@@ -36,11 +35,10 @@ module _ (form : List ℕ → List ℕ) where
       got ∙ sym (chars_from_encodes (form (chars text)) read utf8_read (sym formed_text)) ∙ ap form (sym (chars_from_encodes run text utf8 (sym spelled)))
 
 -- the atoms of a pattern in their form, and a badly formed pattern
-pub pattern_formed : (options : Options) (pattern : List ℕ) (read : Option (Vec Atom Global)) (atoms : Vec Atom Global) → read ≡ Some atoms → option_map (λ (v : Vec Atom Global). v.items) read ≡ atoms_of (chars pattern)
-    → (found : List Atom) → found ≡ formed (form_by (case_of options.case) (is_on options.diacritics_sensitive)) [] atoms.items → Some found ≡ pattern_of options pattern
-pattern_formed options pattern read atoms some told found is =
-    ap Some is ∙ ap (option_map (formed (form_by (case_of options.case) (is_on options.diacritics_sensitive)) [])) (ap (option_map (λ (v : Vec Atom Global). v.items)) (sym some) ∙ told)
+module _ (case : Case) (marks : Bool) (pattern : List ℕ) (read : Option (Vec Atom Global)) (told : option_map (λ (v : Vec Atom Global). v.items) read ≡ atoms_of (chars pattern)) where
+  pub pattern_formed : (atoms : Vec Atom Global) → read ≡ Some atoms → (found : List Atom) → found ≡ formed (form_by case marks) [] atoms.items → Some found ≡ pattern_in case marks pattern
+  pattern_formed atoms some found is =
+      ap Some is ∙ ap (option_map (formed (form_by case marks) [])) (ap (option_map (λ (v : Vec Atom Global). v.items)) (sym some) ∙ told)
 
-pub pattern_bad : (options : Options) (pattern : List ℕ) (read : Option (Vec Atom Global)) → read ≡ None → option_map (λ (v : Vec Atom Global). v.items) read ≡ atoms_of (chars pattern) → pattern_of options pattern ≡ None
-pattern_bad options pattern read none told =
-    ap (option_map (formed (form_by (case_of options.case) (is_on options.diacritics_sensitive)) [])) (sym told ∙ ap (option_map (λ (v : Vec Atom Global). v.items)) none)
+  pub pattern_bad : read ≡ None → None ≡ pattern_in case marks pattern
+  pattern_bad none = ap (option_map (formed (form_by case marks) [])) (sym (ap (option_map (λ (v : Vec Atom Global). v.items)) none) ∙ told)

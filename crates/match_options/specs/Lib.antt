@@ -5,4 +5,6 @@ pub mod Items
 pub mod WordForms
 pub mod TokenTest
 pub mod Wildcards
+pub mod Row
+pub mod WordTests
 pub mod Examples

@@ -28,8 +28,11 @@ formed form run (Letter c ∷ rest) = formed form (run ++ c ∷ []) rest
 formed form run (Gap low high ∷ rest) = map Letter (form run) ++ Gap low high ∷ formed form [] rest
 
 -- the atoms of a pattern under options, unless it is badly formed
+abbrev pub pattern_in : Case → Bool → List ℕ → Option (List Atom)
+pattern_in case diacritics_sensitive pattern = option_map (formed (form_by case diacritics_sensitive) []) (atoms_of (chars pattern))
+
 abbrev pub pattern_of : Options → List ℕ → Option (List Atom)
-pattern_of options pattern = option_map (formed (form_by (case_of options.case) (is_on options.diacritics_sensitive)) []) (atoms_of (chars pattern))
+pattern_of options pattern = pattern_in (case_of options.case) (is_on options.diacritics_sensitive) pattern
 
 -- whether a gap may stand for so many characters
 abbrev pub fits_gap : ℕ → Option ℕ → ℕ → Bool

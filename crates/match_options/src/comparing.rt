@@ -3,7 +3,9 @@
 ghost use Rattle.std.specs.Prelude.{◌≡◌, IfOk};
 ghost use Rattle.match_options.specs.TokenTest as spec;
 ghost use Rattle.match_options.specs.WordForms.{forms_of};
+ghost use Rattle.match_options.specs.WordTests.{same_word};
 
+use crate::form_choice::FormChoice;
 use crate::word_forms::Forms;
 use ft_base::{Case, Memory, Options};
 use std::alloc::Global;
@@ -27,10 +29,16 @@ pub fn forms(alloc: Global, word: &str) -> Result<Forms, Memory>
 pub fn same_token(options: &Options, query: &Forms, text: &Forms) -> bool
     ensures { result ≡ spec.same_token options.now query.now text.now }
 {
-    let case = case_of(options);
+    same_word(FormChoice::of(options), query, text)
+}
+
+/// The same under the options that choose the form.
+pub(crate) fn same_word(choice: FormChoice, query: &Forms, text: &Forms) -> bool
+    ensures { result ≡ same_word choice query.now text.now }
+{
     query.key == text.key
-        && same_form(case, is_on(options.diacritics_sensitive), query, text)
-        && has_case(case, text)
+        && same_form(choice.case, choice.diacritics_sensitive, query, text)
+        && has_case(choice.case, text)
 }
 
 pub(crate) fn is_on(option: Option<bool>) -> bool
@@ -50,7 +58,7 @@ pub(crate) fn case_of(options: &Options) -> Case
 }
 
 /// What `lowercase` and `uppercase` ask of the word of the text.
-fn has_case(case: Case, text: &Forms) -> bool
+pub(crate) fn has_case(case: Case, text: &Forms) -> bool
     ensures { result ≡ spec.has_case case text.now }
 {
     match case {
@@ -62,7 +70,7 @@ fn has_case(case: Case, text: &Forms) -> bool
 }
 
 /// What case and diacritics ask beside equal keys.
-fn same_form(case: Case, diacritics_sensitive: bool, query: &Forms, text: &Forms) -> bool
+pub(crate) fn same_form(case: Case, diacritics_sensitive: bool, query: &Forms, text: &Forms) -> bool
     ensures { result ≡ spec.same_form case diacritics_sensitive query.now text.now }
 {
     match (case, diacritics_sensitive) {

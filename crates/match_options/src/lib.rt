@@ -4,16 +4,24 @@
 
 mod atom;
 mod comparing;
+mod covering;
+mod form_choice;
 mod front;
 mod item;
 mod pattern;
 mod pattern_examples;
 mod pattern_laws;
+mod row;
 mod splitting;
+#[cfg(test)]
+mod tests;
+mod trying;
 mod wild;
 mod word_forms;
+mod word_test;
 
 pub use comparing::{forms, same_token};
+pub use form_choice::FormChoice;
 pub use item::{QueryItem, items_of};
 pub use pattern::{has_bad_pattern, is_pattern};
 pub use pattern_examples::{braces, literals, periods};
@@ -21,3 +29,4 @@ pub use pattern_laws::pattern_law;
 pub use splitting::parts;
 pub use wild::{Wild, WildFault};
 pub use word_forms::Forms;
+pub use word_test::{WordTest, forms_as};

@@ -1,12 +1,13 @@
 //! Patterns with wildcards, ready to be compared with words.
 
-ghost use Rattle.std.specs.Prelude.{◌≡◌, ◌++◌, ◌∷◌, [], ℕ, List, Err, Some, None, IfOk, OnOk, map, chars, encode_utf8_all};
+ghost use Rattle.std.specs.Prelude.{◌≡◌, ◌++◌, ◌∷◌, [], ℕ, List, Err, Some, None, IfOk, OnOk, map, option_map, chars, encode_utf8_all};
 ghost use Rattle.match_options.specs.declared.atom.Atom as the;
 ghost use Rattle.match_options.specs.declared.atom.Atom.TheVariants.{Letter};
 ghost use Rattle.match_options.specs.Wildcards as spec;
 
 use crate::atom::Atom;
 use crate::comparing::{case_of, is_on};
+use crate::covering::covers;
 use crate::pattern::pattern_atoms;
 use ft_base::{Case, Line, Memory, Options, letters_of, text_of};
 use std::alloc::{AllocFailed, Global};
@@ -15,6 +16,7 @@ use text_forms::{exact, key, plain_case, plain_marks};
 /// A pattern, its literals in the form that the options choose.
 #[derive(Debug, Drop)]
 pub struct Wild {
+    alloc: Global,
     atoms: Vec<Atom>,
 }
 
@@ -43,14 +45,38 @@ impl Wild {
         ensures read { IfOk result (λ wild. Some wild.atoms.items ≡ spec.pattern_of options.now pattern.now) }
         ensures bad { result ≡ Err WildFault.BadWildcard → spec.pattern_of options.now pattern.now ≡ None }
     {
-        let atoms = match pattern_atoms(alloc, pattern)? {
-            Some(atoms) => atoms,
-            None => return Err(WildFault::BadWildcard),
-        };
         let case = case_of(options);
         let marks = is_on(options.diacritics_sensitive);
-        let atoms = formed(alloc, case, marks, &atoms)?;
-        Ok(Wild { atoms })
+        match Wild::read_in(alloc, pattern, case, marks)? {
+            Some(wild) => Ok(wild),
+            None => Err(WildFault::BadWildcard),
+        }
+    }
+
+    /// The pattern in the form that case and diacritics choose, unless it is badly formed.
+    pub(crate) fn read_in(
+        alloc: Global,
+        pattern: &str,
+        case: Case,
+        marks: bool,
+    ) -> Result<Option<Wild>, Memory>
+        ensures { IfOk result (λ wild. option_map (λ w. w.atoms.items) wild ≡ spec.pattern_in case marks pattern.now) }
+    {
+        match pattern_atoms(alloc, pattern)? {
+            None => Ok(None),
+            Some(atoms) => {
+                let atoms = formed(alloc, case, marks, &atoms)?;
+                Ok(Some(Wild { alloc, atoms }))
+            }
+        }
+    }
+
+    /// Whether the pattern covers a word, given in the form that the options choose. It always answers, in as many steps at most as the
+    /// pattern has atoms times the word has characters.
+    pub fn accepts(&self, form: &str) -> bool
+        ensures { result ≡ spec.covers self.now.atoms.items (chars form.now) }
+    {
+        covers(self.alloc, self.atoms.as_slice(), form)
     }
 }
 

@@ -2,5 +2,6 @@ pub mod Capped
 pub mod Places
 pub mod NodeViews
 pub mod DecidedLemmas
+pub mod ItemsMeant
 pub mod PhrasesMeant
 pub mod SelectionsMeant

@@ -1,5 +1,9 @@
 pub mod Lexicon
 pub mod Decided
+pub mod Stops
+pub mod ChosenMeant
+pub mod ReadingMeant
 pub mod WordsMeant
+pub mod CompiledMeant
 pub mod NodeMeant
 pub mod PlanMeant

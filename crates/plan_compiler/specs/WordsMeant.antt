@@ -1,6 +1,5 @@
--- What the compiled words of a selection say of the words of a text, given as keys.
-use Rattle.std.specs.Prelude.{ℕ, Bool, true, false, ◌&&◌, List, [], ◌∷◌, map, flat_map, sum, bytes_eq}
-use Rattle.ft_base.specs.declared.words.Words.{Words}
+-- What the compiled words of a selection say of the words of a text, given in their forms.
+use Rattle.std.specs.Prelude.{ℕ, Bool, true, false, if◌then◌else◌, List, [], ◌∷◌, map, flat_map, sum}
 use Rattle.ft_base.specs.declared.words.Mode.{Mode}
 use Rattle.ft_base.specs.declared.words.Mode.TheVariants.{Any, AnyWord, All, AllWords, Phrase}
 use Rattle.text_forms.specs.Forms.{key_of}
@@ -8,12 +7,17 @@ use Rattle.all_matches.specs.Variants.{Item, any_word, word, pattern}
 use Rattle.all_matches.specs.Counting.{places, product}
 use Rattle.all_matches.specs.Compositional.{enough}
 use Rattle.match_options.specs.Items.{items_of}
+use Rattle.match_options.specs.WordTests.{item_passes, passes}
+use Rattle.match_options.specs.declared.word_forms.Forms.{Forms}
+use Rattle.match_options.specs.declared.word_test.WordTest.{WordTest}
+use Rattle.plan_compiler.specs.Stops.{is_stop_key}
+use Rattle.plan_compiler.specs.declared.reading.Reading.{Reading}
 use Rattle.plan_compiler.specs.declared.words_plan.WordsPlan.{WordsPlan}
 
 -- at how many words of a text a phrase begins; a phrase without words at none
-abbrev pub phrase_places : List (List ℕ) → List (List ℕ) → ℕ
+abbrev pub phrase_places : List WordTest → List Forms → ℕ
 phrase_places [] words = 0
-phrase_places (key ∷ rest) words = places bytes_eq (key ∷ rest) words
+phrase_places (test ∷ rest) words = places passes (test ∷ rest) words
 
 -- one hit of each phrase, or of one of them
 abbrev pub joined : Bool → List ℕ → ℕ
@@ -21,20 +25,24 @@ joined true counts = product counts
 joined false counts = sum counts
 
 -- how often the words occur
-abbrev pub words_count : WordsPlan → List (List ℕ) → ℕ
+abbrev pub words_count : WordsPlan → List Forms → ℕ
 words_count plan words = joined plan.all (map (λ phrase. phrase_places phrase words) plan.phrases)
 
-abbrev pub words_truth : WordsPlan → List (List ℕ) → Bool
+abbrev pub words_truth : WordsPlan → List Forms → Bool
 words_truth plan words = enough plan.times (words_count plan words)
 
--- the key of a word of the query
-abbrev pub item_key : Item → List ℕ
-item_key any_word = []
-item_key (word w) = key_of w
-item_key (pattern p) = key_of p
+-- a stop word stands for any word
+abbrev pub read_item : Reading → Item → Item
+read_item reading any_word = any_word
+read_item reading (word w) = if is_stop_key reading.stops (key_of w) then any_word else word w
+read_item reading (pattern p) = pattern p
 
-abbrev pub string_keys : List ℕ → List (List ℕ)
-string_keys text = map item_key (items_of false text)
+-- what a word has to be for an item
+abbrev pub item_test : Reading → Item → Forms → Bool
+item_test reading item = item_passes reading.choice (read_item reading item)
+
+abbrev pub string_tests : Reading → List ℕ → List (Forms → Bool)
+string_tests reading text = map (item_test reading) (items_of reading.wildcards text)
 
 abbrev pub asks_all : Mode → Bool
 asks_all Any = false
@@ -47,22 +55,17 @@ abbrev pub is_not_empty : {X : Type 0} → List X → Bool
 is_not_empty [] = false
 is_not_empty (x ∷ xs) = true
 
--- each key as a phrase of its own
-abbrev pub alone : List (List ℕ) → List (List (List ℕ))
-alone keys = map (λ key. key ∷ []) keys
+-- each test as a phrase of its own
+abbrev pub alone : {X : Type 0} → List X → List (List X)
+alone tests = map (λ test. test ∷ []) tests
 
--- the keys of the phrases that a mode makes of strings
-abbrev pub phrases_keys : Mode → List (List ℕ) → List (List (List ℕ))
-phrases_keys Any strings = map string_keys strings
-phrases_keys AnyWord strings = flat_map (λ string. alone (string_keys string)) strings
-phrases_keys All strings = map string_keys strings
-phrases_keys AllWords strings = flat_map (λ string. alone (string_keys string)) strings
-phrases_keys Phrase strings = flat_map string_keys strings ∷ []
+-- the tests of the phrases that a mode makes of strings
+abbrev pub phrases_tests : Reading → Mode → List (List ℕ) → List (List (Forms → Bool))
+phrases_tests reading Any strings = map (string_tests reading) strings
+phrases_tests reading AnyWord strings = flat_map (λ string. alone (string_tests reading string)) strings
+phrases_tests reading All strings = map (string_tests reading) strings
+phrases_tests reading AllWords strings = flat_map (λ string. alone (string_tests reading string)) strings
+phrases_tests reading Phrase strings = flat_map (string_tests reading) strings ∷ []
 
--- compiled words; where there is no phrase, none can be found
-abbrev pub plan_of : Words → WordsPlan
-plan_of value = record {
-  phrases = phrases_keys value.mode value.values;
-  all = asks_all value.mode && is_not_empty (phrases_keys value.mode value.values);
-  times = value.times;
-}
+abbrev pub tests_of : List (List WordTest) → List (List (Forms → Bool))
+tests_of phrases = map (map passes) phrases

@@ -1,20 +1,28 @@
 //! The words of a selection, compiled.
 
 ghost use Rattle.std.specs.Prelude.{◌≡◌, ◌++◌, ◌∷◌, [], IfOk, OnOk, map, flat_map};
-ghost use Rattle.match_options.specs.Items.{item};
+ghost use Rattle.match_options.specs.WordTests.{passes};
+ghost use Rattle.plan_compiler.specs.ChosenMeant.{options_of};
+ghost use Rattle.plan_compiler.specs.CompiledMeant.{IsCompiled};
 ghost use Rattle.plan_compiler.specs.WordsMeant as spec;
 
+use crate::chosen::Chosen;
+use crate::reading::{Reading, item_test, reading_of};
 use crate::words_plan::WordsPlan;
-use ft_base::{Items, Line, Lines, Memory, Mode, Words};
-use match_options::{QueryItem, items_of};
+use ft_base::{Items, Lines, Memory, Mode, Words};
+use match_options::{WordTest, items_of};
 use std::alloc::Global;
-use text_forms::key;
 
-/// The compiled form of words without options.
-pub(crate) fn compile_words(alloc: Global, words: &Words) -> Result<WordsPlan, Memory>
-    ensures { IfOk result (λ plan. plan ≡ spec.plan_of words.now) }
+/// The compiled form of words, under the options that hold for them.
+pub(crate) fn compile_words(
+    alloc: Global,
+    words: &Words,
+    chosen: &Chosen<'_>,
+) -> Result<WordsPlan, Memory>
+    ensures { IfOk result (λ plan. IsCompiled plan (options_of chosen.now) words.now) }
 {
-    let phrases = phrase_keys(alloc, words.mode, &words.values)?;
+    let reading = reading_of(alloc, chosen)?;
+    let phrases = phrase_tests(alloc, &reading, words.mode, &words.values)?;
     let all = asks_all(words.mode) && !phrases.is_empty();
     Ok(WordsPlan {
         phrases,
@@ -33,82 +41,100 @@ fn asks_all(mode: Mode) -> bool
     }
 }
 
-/// The keys of the phrases that the mode makes of the strings.
-fn phrase_keys(alloc: Global, mode: Mode, strings: &Lines) -> Result<Items<Items<Line>>, Memory>
-    ensures { IfOk result (λ keys. keys ≡ spec.phrases_keys mode strings.now) }
+/// The tests of the phrases that the mode makes of the strings.
+fn phrase_tests(
+    alloc: Global,
+    reading: &Reading,
+    mode: Mode,
+    strings: &Lines,
+) -> Result<Items<Items<WordTest>>, Memory>
+    ensures { IfOk result (λ phrases. spec.tests_of phrases ≡ spec.phrases_tests reading.now mode strings.now) }
 {
     match mode {
-        Mode::Any => each_string(alloc, strings),
-        Mode::All => each_string(alloc, strings),
-        Mode::AnyWord => each_word(alloc, strings),
-        Mode::AllWords => each_word(alloc, strings),
-        Mode::Phrase => one_phrase(alloc, strings),
+        Mode::Any => each_string(alloc, reading, strings),
+        Mode::All => each_string(alloc, reading, strings),
+        Mode::AnyWord => each_word(alloc, reading, strings),
+        Mode::AllWords => each_word(alloc, reading, strings),
+        Mode::Phrase => one_phrase(alloc, reading, strings),
     }
 }
 
-fn each_string(alloc: Global, strings: &Lines) -> Result<Items<Items<Line>>, Memory>
-    ensures { IfOk result (λ keys. keys ≡ map spec.string_keys strings.now) }
+fn each_string(
+    alloc: Global,
+    reading: &Reading,
+    strings: &Lines,
+) -> Result<Items<Items<WordTest>>, Memory>
+    ensures { IfOk result (λ phrases. spec.tests_of phrases ≡ map (spec.string_tests reading.now) strings.now) }
 {
     let mut phrases = Items::new(alloc);
     for string in strings.as_slice() {
         let mut phrase = Items::new(alloc);
-        push_keys(alloc, &mut phrase, string.as_str())?;
+        push_tests(alloc, reading, &mut phrase, string.as_str())?;
         phrases.push(phrase)?;
     }
     Ok(phrases)
 }
 
-fn one_phrase(alloc: Global, strings: &Lines) -> Result<Items<Items<Line>>, Memory>
-    ensures { IfOk result (λ keys. keys ≡ flat_map spec.string_keys strings.now ∷ []) }
+fn one_phrase(
+    alloc: Global,
+    reading: &Reading,
+    strings: &Lines,
+) -> Result<Items<Items<WordTest>>, Memory>
+    ensures { IfOk result (λ phrases. spec.tests_of phrases ≡ flat_map (spec.string_tests reading.now) strings.now ∷ []) }
 {
     let mut phrase = Items::new(alloc);
     for string in strings.as_slice() {
-        push_keys(alloc, &mut phrase, string.as_str())?;
+        push_tests(alloc, reading, &mut phrase, string.as_str())?;
     }
     let mut phrases = Items::new(alloc);
     phrases.push(phrase)?;
     Ok(phrases)
 }
 
-fn each_word(alloc: Global, strings: &Lines) -> Result<Items<Items<Line>>, Memory>
-    ensures { IfOk result (λ keys. keys ≡ flat_map (λ string. spec.alone (spec.string_keys string)) strings.now) }
+fn each_word(
+    alloc: Global,
+    reading: &Reading,
+    strings: &Lines,
+) -> Result<Items<Items<WordTest>>, Memory>
+    ensures { IfOk result (λ phrases. spec.tests_of phrases ≡ flat_map (λ string. spec.alone (spec.string_tests reading.now string)) strings.now) }
 {
     let mut phrases = Items::new(alloc);
     for string in strings.as_slice() {
-        push_words(alloc, &mut phrases, string.as_str())?;
+        push_words(alloc, reading, &mut phrases, string.as_str())?;
     }
     Ok(phrases)
 }
 
-/// Puts the key of each word of the string to the end.
-fn push_keys(alloc: Global, keys: &mut Items<Line>, string: &str) -> Result<(), Memory>
-    ensures { OnOk result (keys.new ≡ keys.old ++ spec.string_keys string.now) }
+/// Puts the test of each item of the string to the end.
+fn push_tests(
+    alloc: Global,
+    reading: &Reading,
+    tests: &mut Items<WordTest>,
+    string: &str,
+) -> Result<(), Memory>
+    ensures { OnOk result (map passes tests.new ≡ map passes tests.old ++ spec.string_tests reading.now string.now) }
 {
-    let items = items_of(alloc, false, string)?;
+    let items = items_of(alloc, reading.wildcards, string)?;
     for item in items.as_slice() {
-        keys.push(item_key(alloc, item)?)?;
+        tests.push(item_test(alloc, reading, item)?)?;
     }
     Ok(())
 }
 
-/// Puts each word of the string, as a phrase of its own, to the end.
-fn push_words(alloc: Global, phrases: &mut Items<Items<Line>>, string: &str) -> Result<(), Memory>
-    ensures { OnOk result (phrases.new ≡ phrases.old ++ spec.alone (spec.string_keys string.now)) }
+/// Puts each item of the string, as a phrase of its own, to the end.
+fn push_words(
+    alloc: Global,
+    reading: &Reading,
+    phrases: &mut Items<Items<WordTest>>,
+    string: &str,
+) -> Result<(), Memory>
+    ensures { OnOk result (spec.tests_of phrases.new ≡ spec.tests_of phrases.old ++ spec.alone (spec.string_tests reading.now string.now)) }
 {
-    let items = items_of(alloc, false, string)?;
+    let items = items_of(alloc, reading.wildcards, string)?;
     for item in items.as_slice() {
         let mut phrase = Items::new(alloc);
-        phrase.push(item_key(alloc, item)?)?;
+        phrase.push(item_test(alloc, reading, item)?)?;
         phrases.push(phrase)?;
     }
     Ok(())
-}
-
-fn item_key(alloc: Global, query: &QueryItem) -> Result<Line, Memory>
-    ensures { IfOk result (λ key. key ≡ spec.item_key (item query.now)) }
-{
-    match query {
-        QueryItem::Word(word) => key(alloc, word.as_str()),
-        QueryItem::Pattern(pattern) => key(alloc, pattern.as_str()),
-    }
 }

@@ -1,16 +1,18 @@
 //! How often words occur in a text.
 
-ghost use Rattle.std.specs.Prelude.{◌≡◌, ◌-◌, ◌^◌, ◌≤◌, ℕ, List, min, map, sum, length, bytes_eq};
+ghost use Rattle.std.specs.Prelude.{◌≡◌, ◌-◌, ◌^◌, ◌≤◌, ℕ, List, min, map, sum, length};
 ghost use Rattle.all_matches.specs.Counting.{begins_as, product};
 ghost use Rattle.all_matches.specs.Compositional.{enough};
 ghost use Rattle.all_matches.specs.Times.{number_in_range};
+ghost use Rattle.match_options.specs.WordTests.{passes};
 ghost use Rattle.plan_compiler.specs.WordsMeant.{phrase_places, words_count};
 
 use crate::words_plan::WordsPlan;
-use ft_base::{Items, Line, Range};
+use ft_base::{Items, Range};
+use match_options::{Forms, WordTest};
 
 /// How often the words occur; a number past 2^64 - 1 is given as 2^64 - 1.
-pub(crate) fn count(plan: &WordsPlan, words: &[Line]) -> u64
+pub(crate) fn count(plan: &WordsPlan, words: &[Forms]) -> u64
     ensures { result ≡ min (words_count plan.now words.now) (2 ^ 64 - 1) }
 {
     if plan.all {
@@ -20,7 +22,7 @@ pub(crate) fn count(plan: &WordsPlan, words: &[Line]) -> u64
     }
 }
 
-fn sum_of_places(phrases: &[Items<Line>], words: &[Line]) -> u64
+fn sum_of_places(phrases: &[Items<WordTest>], words: &[Forms]) -> u64
     ensures { result ≡ min (sum (map (λ phrase. phrase_places phrase words.now) phrases.now)) (2 ^ 64 - 1) }
 {
     let mut total: u64 = 0;
@@ -30,7 +32,7 @@ fn sum_of_places(phrases: &[Items<Line>], words: &[Line]) -> u64
     total
 }
 
-fn product_of_places(phrases: &[Items<Line>], words: &[Line]) -> u64
+fn product_of_places(phrases: &[Items<WordTest>], words: &[Forms]) -> u64
     ensures { result ≡ min (product (map (λ phrase. phrase_places phrase words.now) phrases.now)) (2 ^ 64 - 1) }
 {
     let mut total: u64 = 1;
@@ -41,7 +43,7 @@ fn product_of_places(phrases: &[Items<Line>], words: &[Line]) -> u64
 }
 
 /// At how many words of the text the phrase begins.
-fn places(phrase: &[Line], words: &[Line]) -> usize
+fn places(phrase: &[WordTest], words: &[Forms]) -> usize
     ensures { result ≡ phrase_places phrase.now words.now }
 {
     if phrase.is_empty() {
@@ -57,14 +59,14 @@ fn places(phrase: &[Line], words: &[Line]) -> usize
 }
 
 /// Whether the text begins with the words of the phrase.
-fn begins_as(phrase: &[Line], words: &[Line]) -> bool
-    ensures { result ≡ begins_as bytes_eq phrase.now words.now }
+fn begins_as(phrase: &[WordTest], words: &[Forms]) -> bool
+    ensures { result ≡ begins_as passes phrase.now words.now }
 {
     if phrase.len() > words.len() {
         return false;
     }
     for index in 0..phrase.len() {
-        if phrase[index] != words[index] {
+        if !phrase[index].passes(&words[index]) {
             return false;
         }
     }

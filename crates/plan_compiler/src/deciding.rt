@@ -6,11 +6,12 @@ ghost use Rattle.plan_compiler.specs.NodeMeant.{truth};
 
 use crate::counting::{count, is_enough};
 use crate::node::Node;
-use ft_base::{Items, Line};
+use ft_base::Items;
+use match_options::Forms;
 
-/// Whether the words of a text, given as keys, satisfy the selection.
+/// Whether the words of a text, given in their forms, satisfy the selection.
 #[cycle(decide)]
-pub(crate) fn holds(node: &Node, words: &[Line]) -> bool
+pub(crate) fn holds(node: &Node, words: &[Forms]) -> bool
     ensures { result ≡ truth node.now words.now }
 {
     match node {
@@ -22,7 +23,7 @@ pub(crate) fn holds(node: &Node, words: &[Line]) -> bool
 }
 
 #[cycle(decide)]
-fn some_holds(parts: &Items<Node>, words: &[Line]) -> bool
+fn some_holds(parts: &Items<Node>, words: &[Forms]) -> bool
     ensures { result ≡ list_any (λ part. truth part words.now) parts.now }
 {
     for part in parts.as_slice() {
@@ -34,7 +35,7 @@ fn some_holds(parts: &Items<Node>, words: &[Line]) -> bool
 }
 
 #[cycle(decide)]
-fn all_hold(parts: &Items<Node>, words: &[Line]) -> bool
+fn all_hold(parts: &Items<Node>, words: &[Forms]) -> bool
     ensures { result ≡ list_all (λ part. truth part words.now) parts.now }
 {
     for part in parts.as_slice() {

@@ -3,6 +3,7 @@
 //! A plan decides a selection by truth values and counts, and makes no AllMatches.
 #![tactic(auto)]
 
+mod chosen;
 mod compiling;
 mod compiling_words;
 mod counting;
@@ -12,6 +13,8 @@ mod fault;
 mod lists;
 mod node;
 mod plan;
+mod reading;
+mod stops;
 #[cfg(test)]
 mod tests;
 mod words_plan;

@@ -6,31 +6,35 @@ ghost use Rattle.ft_syntax.specs.View.{form};
 ghost use Rattle.all_matches.specs.Meaning.{sat};
 ghost use Rattle.plan_compiler.specs.Decided.{is_decided};
 ghost use Rattle.plan_compiler.specs.Lexicon.{lexicon};
-ghost use Rattle.plan_compiler.specs.NodeMeant.{keys_of, truth};
+ghost use Rattle.plan_compiler.specs.NodeMeant.{forms_of_tokens, truth};
 
+use crate::chosen::none_chosen;
 use crate::compiling::compile;
+use crate::decided::is_served;
 use crate::deciding::holds;
 use crate::fault::CompileFault;
 use crate::lists::Lists;
 use crate::node::Node;
-use ft_base::{Items, Line, Memory, Token};
+use ft_base::{Items, Memory, Token};
 use ft_syntax::{Selection, copy_selection};
+use match_options::{Forms, forms_as};
 use std::alloc::Global;
-use text_forms::key;
 
 /// A selection, compiled. It decides by truth values and counts, in time linear in the text for each phrase.
 #[derive(Drop)]
 pub struct Plan {
     alloc: Global,
     selection: Selection,
+    /// Whether it looks at all forms of the words of a text, or at their keys alone.
+    all_forms: bool,
     root: Node,
-    ghost sound: { (tokens : List Token) → truth root (keys_of tokens) ≡ sat lexicon (form selection) tokens },
+    ghost sound: { (tokens : List Token) → truth root (forms_of_tokens all_forms tokens) ≡ sat lexicon (form selection) tokens },
 }
 
 impl Plan {
     ghost use Rattle.plan_compiler.specs.PlanMeant.{plan_form};
 
-    /// The plan of a selection. Selections with options, filters or `not in` aren't compiled yet.
+    /// The plan of a selection. Selections with filters, `not in`, stemming, a thesaurus or stop lists aren't compiled yet.
     pub fn compile(
         alloc: Global,
         selection: &Selection,
@@ -41,11 +45,13 @@ impl Plan {
         ensures lists { (name : List ℕ) → result ≡ Err (CompileFault.NoSuchList name) → ⊥ }
     {
         let _lists = lists;
-        let root = compile(alloc, selection)?;
+        let all_forms = !is_served(false, selection);
+        let root = compile(alloc, all_forms, &none_chosen(), selection)?;
         let selection = copy_selection(alloc, selection)?;
         Ok(Plan {
             alloc,
             selection,
+            all_forms,
             root,
         })
     }
@@ -54,18 +60,18 @@ impl Plan {
     pub fn check(&self, tokens: &Vec<Token>) -> Result<bool, Memory>
         ensures { IfOk result (λ satisfied. satisfied ≡ sat lexicon (plan_form self.now) tokens.now.items) }
     {
-        let words = keys(self.alloc, tokens.as_slice())?;
+        let words = token_forms(self.alloc, self.all_forms, tokens.as_slice())?;
         Ok(holds(&self.root, words.as_slice()))
     }
 }
 
-/// The key of each token.
-fn keys(alloc: Global, tokens: &[Token]) -> Result<Items<Line>, Memory>
-    ensures { IfOk result (λ keys. keys ≡ keys_of tokens.now) }
+/// All forms of each token, or its key alone.
+fn token_forms(alloc: Global, all: bool, tokens: &[Token]) -> Result<Items<Forms>, Memory>
+    ensures { IfOk result (λ forms. forms ≡ forms_of_tokens all tokens.now) }
 {
-    let mut keys = Items::new(alloc);
+    let mut forms = Items::new(alloc);
     for token in tokens {
-        keys.push(key(alloc, token.word.as_str())?)?;
+        forms.push(forms_as(alloc, all, token.word.as_str())?)?;
     }
-    Ok(keys)
+    Ok(forms)
 }

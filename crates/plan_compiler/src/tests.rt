@@ -1,7 +1,9 @@
-//! Small texts and selections without options.
+//! Small texts and selections.
 
 use super::*;
-use ft_base::{Items, Line, Memory, Mode, Options, Range, Token, Words};
+use ft_base::{
+    Case, Items, Line, Memory, Mode, Options, Range, StopChoice, StopSource, StopTerm, Token, Words,
+};
 use ft_syntax::{Selection, Selections};
 use std::alloc::Global;
 use std::test::Fail;
@@ -136,5 +138,141 @@ fn times(rt: HostRuntime) -> Result<(), Fail> {
     assert!(rt; counted(alloc, "a", &["a", "a"], Range::Exactly(2))?);
     let pairs = words(alloc, &["a", "b"], Mode::All, Some(Range::Exactly(6)))?;
     assert_eq!(rt; satisfies(alloc, "a b a b b", pairs)?, Some(true));
+    Ok(())
+}
+
+fn with_options(
+    alloc: Global,
+    string: &str,
+    case: Option<Case>,
+    diacritics_sensitive: Option<bool>,
+    wildcards: Option<bool>,
+) -> Result<Selection, Memory> {
+    let mut values = Items::new(alloc);
+    values.push(Line::read(alloc, string)?)?;
+    let mut options = Options::none();
+    options.case = case;
+    options.diacritics_sensitive = diacritics_sensitive;
+    options.wildcards = wildcards;
+    Ok(Selection::Words(Words {
+        values,
+        mode: Mode::Any,
+        times: None,
+        options,
+    }))
+}
+
+#[test]
+fn case_and_diacritics(rt: HostRuntime) -> Result<(), Fail> {
+    let alloc = rt.alloc();
+    for (text, string, case, marks, expected) in [
+        ("THE CAF\u{c9}", "the cafe", None, None, true),
+        ("THE CAF\u{c9}", "the cafe", None, Some(true), false),
+        ("THE CAF\u{c9}", "the cafe", Some(Case::Upper), None, true),
+        ("THE CAF\u{c9}", "the cafe", Some(Case::Lower), None, false),
+        (
+            "THE CAF\u{c9}",
+            "THE CAFE",
+            Some(Case::Sensitive),
+            None,
+            true,
+        ),
+        (
+            "THE CAF\u{c9}",
+            "THE CAFE",
+            Some(Case::Sensitive),
+            Some(true),
+            false,
+        ),
+        ("the 7", "the 7", Some(Case::Lower), None, true),
+        (
+            "Stra\u{df}e",
+            "strasse",
+            Some(Case::Insensitive),
+            Some(false),
+            true,
+        ),
+    ] {
+        let selection = with_options(alloc, string, case, marks, None)?;
+        assert_eq!(rt; satisfies(alloc, text, selection)?, Some(expected));
+    }
+    Ok(())
+}
+
+#[test]
+fn wildcards(rt: HostRuntime) -> Result<(), Fail> {
+    let alloc = rt.alloc();
+    for (text, string, case, expected) in [
+        ("Stra\u{df}e", "stra..e", None, true),
+        ("Stra\u{df}e", "stra.e", None, false),
+        ("a Stra\u{df}e b", "a .* b", None, true),
+        ("a Stra\u{df}e b", "a.+ b", None, false),
+        ("TAT", "t.+t", Some(Case::Sensitive), false),
+        ("TAT", "t.+t", Some(Case::Upper), true),
+        ("Tat", "t.+t", Some(Case::Upper), false),
+        ("x", "x.{2,1}", None, false),
+    ] {
+        let selection = with_options(alloc, string, case, None, Some(true))?;
+        assert_eq!(rt; satisfies(alloc, text, selection)?, Some(expected));
+    }
+    let plain = with_options(alloc, "a .*", None, None, Some(false))?;
+    assert_eq!(rt; satisfies(alloc, "a", plain)?, Some(true));
+    Ok(())
+}
+
+fn term(alloc: Global, except: bool, strings: &[&str]) -> Result<StopTerm, Memory> {
+    let mut texts = Items::new(alloc);
+    for string in strings {
+        texts.push(Line::read(alloc, string)?)?;
+    }
+    Ok(StopTerm {
+        except,
+        source: StopSource::Written(texts),
+    })
+}
+
+fn stopped(alloc: Global, operand: Selection, terms: Items<StopTerm>) -> Result<Selection, Memory> {
+    let mut options = Options::none();
+    options.stop_words = Some(StopChoice::Sets(terms));
+    Ok(Selection::With(Box::new(alloc, operand)?, options))
+}
+
+#[test]
+fn written_stop_words(rt: HostRuntime) -> Result<(), Fail> {
+    let alloc = rt.alloc();
+    for (string, expected) in [
+        ("a the b", true),
+        ("a the", true),
+        ("a of b", true),
+        ("a an b", false),
+    ] {
+        let mut terms = Items::new(alloc);
+        terms.push(term(alloc, false, &["The", "of an"])?)?;
+        terms.push(term(alloc, true, &["AN"])?)?;
+        let selection = stopped(alloc, quoted(alloc, string)?, terms)?;
+        assert_eq!(rt; satisfies(alloc, "a x b", selection)?, Some(expected));
+    }
+    let mut terms = Items::new(alloc);
+    terms.push(term(alloc, false, &["the"])?)?;
+    let pair = Selection::And(both(alloc, quoted(alloc, "a")?, quoted(alloc, "the x")?)?);
+    let selection = stopped(alloc, pair, terms)?;
+    assert_eq!(rt; satisfies(alloc, "a x b", selection)?, Some(true));
+    Ok(())
+}
+
+#[test]
+fn the_inner_option_holds(rt: HostRuntime) -> Result<(), Fail> {
+    let alloc = rt.alloc();
+    for (outer, inner, expected) in [
+        (Some(Case::Sensitive), None, false),
+        (Some(Case::Sensitive), Some(Case::Insensitive), true),
+        (None, Some(Case::Sensitive), false),
+    ] {
+        let mut options = Options::none();
+        options.case = outer;
+        let operand = with_options(alloc, "word", inner, None, None)?;
+        let selection = Selection::With(Box::new(alloc, operand)?, options);
+        assert_eq!(rt; satisfies(alloc, "Word", selection)?, Some(expected));
+    }
     Ok(())
 }

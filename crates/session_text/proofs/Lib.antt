@@ -5,3 +5,4 @@ pub mod GivenLemmas
 pub mod PlaceLemmas
 pub mod ReadingLemmas
 pub mod WordLemmas
+pub mod HeldLemmas

@@ -1,5 +1,5 @@
 -- How far a session was read.
-use Rattle.std.specs.Prelude.{◌≡◌, ◌≤◌, ℕ, ◌+◌, Bool, true, false, ◌==◌, if◌then◌else◌, List, [], ◌∷◌, ◌++◌, length, not, Option, Some, None}
+use Rattle.std.specs.Prelude.{◌≡◌, ◌≤◌, ℕ, ◌+◌, ◌-◌, Bool, true, false, ◌==◌, if◌then◌else◌, List, [], ◌∷◌, ◌++◌, length, take, drop, not, Option, Some, None, option_map}
 use Rattle.std.specs.List.{list_all}
 use Rattle.session_text.specs.declared.command.Command.{Command}
 use Rattle.session_text.specs.declared.command.Command.TheVariants as command
@@ -14,11 +14,31 @@ pub record Opened : Type 0 where
   pub number : ℕ
   pub block : List ℕ
 
+-- the same with the bytes of the line that hasn't ended
+pub record OpenLines : Type 0 where
+  pub opened : Opened
+  pub rest : List ℕ
+
+-- the last bytes, as many as are held, are those of the line that hasn't ended
+abbrev pub open_lines : List ℕ → ℕ → ℕ → List ℕ → OpenLines
+open_lines line number held bytes = record {
+  opened = record { line = line; number = number; block = take (length bytes - held) bytes };
+  rest = drop (length bytes - held) bytes;
+}
+
 -- how many lines have ended, the bytes of the line that hasn't, and the command whose block is open
 pub record Place : Type 0 where
   pub lines : ℕ
   pub rest : List ℕ
   pub opened : Option Opened
+
+-- the line that hasn't ended is that of the open block, if there is one
+abbrev pub rest_of : List ℕ → Option OpenLines → List ℕ
+rest_of rest None = rest
+rest_of rest (Some o) = o.rest
+
+abbrev pub place_of : ℕ → List ℕ → Option OpenLines → Place
+place_of lines rest opened = record { lines = lines; rest = rest_of rest opened; opened = option_map (λ o. o.opened) opened }
 
 -- what a reader holds: its place, how many bytes it was fed, and whether memory ran out in it
 pub record Reading : Type 0 where
@@ -63,6 +83,10 @@ line_ended number None line =
 line_ended number (Some o) line =
     if closes_block line then (Some (command_of_block o.number o.line (without_last o.block)), None)
     else (None, Some (record o { block = o.block ++ unquoted line ++ 10 ∷ [] }))
+
+-- what is left behind a line's end: nothing of the next line was read
+abbrev pub between_lines : Option Command × Option Opened → Option Command × Option OpenLines
+between_lines ended = (ended.0, option_map (λ o. record { opened = o; rest = [] }) ended.1)
 
 -- the same for a place whose line ends with these bytes
 abbrev pub ended_at : Place → List ℕ → Option Command × Option Opened

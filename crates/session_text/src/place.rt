@@ -1,11 +1,11 @@
-ghost use Rattle.std.specs.Prelude.{◌≡◌, ◌+◌, ◌++◌, ◌≤◌, ◌<◌, ◌^◌, Bool, List, ℕ, [], true, length, Some, None, IfOk, OnOk};
+ghost use Rattle.std.specs.Prelude.{◌≡◌, ◌+◌, ◌++◌, ◌≤◌, ◌<◌, ◌^◌, ◌∷◌, Bool, List, ℕ, [], true, drop, length, take, Some, None, IfOk, OnOk};
 ghost use Rattle.std.specs.List.{list_all, position_or_len};
 ghost use Rattle.session_text.specs.Given.{block_lengths, is_readable};
-ghost use Rattle.std.specs.Option.{option_to_list};
+ghost use Rattle.std.specs.Option.{option_map, option_to_list};
 ghost use Rattle.text_lines.specs.Lines.{is_line_feed};
 ghost use Rattle.session_text.specs.Blocks.{without_last};
 ghost use Rattle.session_text.specs.Commands.{closes_block, unquoted};
-ghost use Rattle.session_text.specs.Reading.{at_start, behind_lines, commands_from, ended_at, held_length, is_unended, line_ended, open_at_end, place_behind};
+ghost use Rattle.session_text.specs.Reading.{at_start, behind_lines, between_lines, commands_from, ended_at, held_length, is_unended, line_ended, open_at_end, open_lines, place_behind};
 
 use crate::line::{is_word, skip_mark};
 use crate::parse::{opens_block, read_block, read_line};
@@ -15,23 +15,25 @@ use std::alloc::Global;
 use std::marker::Model;
 use text_lines::{drop_return, is_skipped, line_end};
 
-/// A command whose block is open: its line, and the block's lines so far, each with a line feed behind it.
+/// A command whose block is open: its line, and the block's lines so far, each with a line feed behind it. The bytes of the line that hasn't ended stand behind them.
 #[derive(Drop)]
 struct OpenBlock {
     line: Vec<u8>,
     number: u64,
     block: Vec<u8>,
+    /// How many bytes the line that hasn't ended has so far.
+    held: usize,
 }
 
 impl Model for OpenBlock {
-    ghost use Rattle.session_text.specs.Reading.{Opened};
+    ghost use Rattle.session_text.specs.Reading.{OpenLines, open_lines};
 
-    ghost Value = { Opened };
+    ghost Value = { OpenLines };
 
-    ghost view = { λ pending. record { line = pending.line.items; number = pending.number; block = pending.block.items } };
+    ghost view = { λ pending. open_lines pending.line.items pending.number pending.held pending.block.items };
 }
 
-/// How far a session was read: the lines that ended, the bytes of the line that hasn't, and the command whose block is open.
+/// How far a session was read: the lines that ended, the command whose block is open, and outside a block the bytes of the line that hasn't ended.
 #[derive(Drop)]
 pub(crate) struct Unfinished {
     lines: u64,
@@ -40,11 +42,11 @@ pub(crate) struct Unfinished {
 }
 
 impl Model for Unfinished {
-    ghost use Rattle.session_text.specs.Reading.{Place};
+    ghost use Rattle.session_text.specs.Reading.{Place, place_of};
 
     ghost Value = { Place };
 
-    ghost view = { λ place. record { lines = place.lines; rest = place.rest.items; opened = place.opened } };
+    ghost view = { λ place. place_of place.lines place.rest.items place.opened };
 }
 
 /// Whether the line ends a block.
@@ -81,30 +83,103 @@ fn close(mut block: Vec<u8>) -> Bytes
     Bytes::from_vec(block)
 }
 
-/// What a line says in an open block: the command, where it closes the block, and else the block with the line.
+impl OpenBlock {
+    /// The bytes of the line that hasn't ended.
+    fn rest(&self) -> &[u8]
+        ensures { result.now ≡ self.now.rest }
+    {
+        &self.block[self.block.len().saturating_sub(self.held)..]
+    }
+
+    /// Adds bytes to the line that hasn't ended.
+    fn hold(&mut self, bytes: &[u8]) -> Result<(), Memory>
+        ensures { OnOk result (self.new ≡ record self.old { rest = self.old.rest ++ bytes.now }) }
+    {
+        let Some(held) = self.held.checked_add(bytes.len()) else {
+            return Err(Memory);
+        };
+        self.block.extend_from_slice(bytes)?;
+        self.held = held;
+        Ok(())
+    }
+}
+
+/// Takes bytes out of the block.
+fn remove_bytes(block: &mut Vec<u8>, from: usize, to: usize)
+    requires ordered { from ≤ to }
+    requires within { to ≤ length block.old.items }
+    ensures { block.new.items ≡ take from block.old.items ++ drop to block.old.items }
+{
+    let end = block.len();
+    if from < to {
+        block.copy_within(to..end, from);
+        block.truncate(end - (to - from));
+    }
+}
+
+/// The block with a line feed behind the line that ended, which is the block's last.
+fn with_line(line: Vec<u8>, number: u64, mut block: Vec<u8>) -> Result<OpenBlock, Memory>
+    ensures { IfOk result (λ pending. pending ≡ open_lines line.items number 0 (block.items ++ 10 ∷ [])) }
+{
+    block.push(b'\n')?;
+    Ok(OpenBlock {
+        line,
+        number,
+        block,
+        held: 0,
+    })
+}
+
+/// What a line says in an open block that holds nothing of it: the command, where it closes the block, and else the block with the line.
 fn end_block_line(
     alloc: Global,
     pending: OpenBlock,
     line: &[u8],
 ) -> Result<(Option<Command>, Option<OpenBlock>), Memory>
-    ensures { IfOk result (λ ended. ended ≡ line_ended pending.number (Some pending) line.now) }
+    requires { pending.rest ≡ [] }
+    ensures { IfOk result (λ ended. ended ≡ between_lines (line_ended pending.opened.number (Some pending.opened) line.now)) }
 {
     let OpenBlock {
         line: head,
         number,
         mut block,
+        held: _,
     } = pending;
     if closes(line) {
         let command = read_block(alloc, number, &head, close(block))?;
         return Ok((Some(command), None));
     }
     block.extend_from_slice(unquote(line))?;
-    block.push(b'\n')?;
-    let pending = OpenBlock {
+    let pending = with_line(head, number, block)?;
+    Ok((None, Some(pending)))
+}
+
+/// The same for a line that stands at the end of the block.
+fn end_held_line(
+    alloc: Global,
+    lines: u64,
+    pending: OpenBlock,
+) -> Result<(Option<Command>, Option<OpenBlock>), Memory>
+    ensures { IfOk result (λ ended. ended ≡ between_lines (line_ended pending.opened.number (Some pending.opened) (behind_lines lines pending.rest))) }
+{
+    let line = skip_mark_at_start(lines, pending.rest());
+    let is_end = closes(line);
+    let kept = unquote(line).len();
+    let OpenBlock {
         line: head,
         number,
-        block,
-    };
+        mut block,
+        held,
+    } = pending;
+    let end = block.len();
+    let start = end.saturating_sub(held);
+    if is_end {
+        block.truncate(start);
+        let command = read_block(alloc, number, &head, close(block))?;
+        return Ok((Some(command), None));
+    }
+    remove_bytes(&mut block, start, end - kept);
+    let pending = with_line(head, number, block)?;
     Ok((None, Some(pending)))
 }
 
@@ -114,7 +189,7 @@ fn end_command_line(
     number: u64,
     line: &[u8],
 ) -> Result<(Option<Command>, Option<OpenBlock>), Memory>
-    ensures { IfOk result (λ ended. ended ≡ line_ended number None line.now) }
+    ensures { IfOk result (λ ended. ended ≡ between_lines (line_ended number None line.now)) }
 {
     if is_skipped(line) {
         return Ok((None, None));
@@ -124,25 +199,27 @@ fn end_command_line(
             line: Vec::from_slice(alloc, line)?,
             number,
             block: Vec::new(alloc),
+            held: 0,
         };
         return Ok((None, Some(pending)));
     }
     Ok((Some(read_line(alloc, number, line)?), None))
 }
 
-/// What a line that ended says.
-fn end_line(
+/// What a line says in an open block, whose last part it is.
+fn end_inside(
     alloc: Global,
-    number: u64,
-    opened: Option<OpenBlock>,
-    line: &[u8],
+    lines: u64,
+    mut pending: OpenBlock,
+    part: &[u8],
 ) -> Result<(Option<Command>, Option<OpenBlock>), Memory>
-    ensures { IfOk result (λ ended. ended ≡ line_ended number opened line.now) }
+    ensures { IfOk result (λ ended. ended ≡ between_lines (line_ended pending.opened.number (Some pending.opened) (behind_lines lines (pending.rest ++ part.now)))) }
 {
-    match opened {
-        Some(pending) => end_block_line(alloc, pending, line),
-        None => end_command_line(alloc, number, line),
+    if pending.rest().is_empty() {
+        return end_block_line(alloc, pending, skip_mark_at_start(lines, part));
     }
+    pending.hold(part)?;
+    end_held_line(alloc, lines, pending)
 }
 
 /// Adds the command, if there is one.
@@ -157,7 +234,7 @@ fn add(found: &mut Commands, command: Option<Command>) -> Result<(), Memory>
 
 /// The command that an open block is, where the session ends.
 fn left_open(opened: &Option<OpenBlock>) -> Option<Command>
-    ensures { option_to_list result ≡ open_at_end opened.now }
+    ensures { option_to_list result ≡ open_at_end (option_map (λ o. o.opened) opened.now) }
 {
     match opened {
         Some(pending) => Some(Command::BadCommand {
@@ -185,23 +262,67 @@ impl Unfinished {
         ensures command { IfOk result (λ command. command ≡ (ended_at self.old part.now).0) }
         ensures place { OnOk result (self.new ≡ place_behind self.old part.now) }
     {
-        let number = self.lines + 1;
-        let opened = self.opened.take();
-        let (command, opened) = if self.rest.is_empty() {
-            end_line(alloc, number, opened, skip_mark_at_start(self.lines, part))?
-        } else {
-            self.rest.extend_from_slice(part)?;
-            end_line(
-                alloc,
-                number,
-                opened,
-                skip_mark_at_start(self.lines, &self.rest),
-            )?
-        };
-        self.lines = number;
+        let lines = self.lines;
+        let (command, opened) = self.end_part(alloc, part)?;
+        self.lines = lines + 1;
         self.rest.clear();
         self.opened = opened;
         Ok(command)
+    }
+
+    /// What the line says, whose last part it is.
+    fn end_part(
+        &mut self,
+        alloc: Global,
+        part: &[u8],
+    ) -> Result<(Option<Command>, Option<OpenBlock>), Memory>
+        requires { self.old.lines + 1 < 2 ^ 64 }
+        ensures ended { IfOk result (λ ended. ended ≡ between_lines (ended_at self.old part.now)) }
+        ensures lines { self.new.lines ≡ self.old.lines }
+    {
+        match self.opened.take() {
+            None => self.end_outside(alloc, part),
+            Some(pending) => end_inside(alloc, self.lines, pending, part),
+        }
+    }
+
+    /// The same outside a block.
+    fn end_outside(
+        &mut self,
+        alloc: Global,
+        part: &[u8],
+    ) -> Result<(Option<Command>, Option<OpenBlock>), Memory>
+        requires room { self.old.lines + 1 < 2 ^ 64 }
+        requires outside { self.old.opened ≡ None }
+        ensures ended { IfOk result (λ ended. ended ≡ between_lines (ended_at self.old part.now)) }
+        ensures lines { self.new.lines ≡ self.old.lines }
+    {
+        let number = self.lines + 1;
+        if self.rest.is_empty() {
+            return end_command_line(alloc, number, skip_mark_at_start(self.lines, part));
+        }
+        self.rest.extend_from_slice(part)?;
+        end_command_line(alloc, number, skip_mark_at_start(self.lines, &self.rest))
+    }
+
+    /// The bytes of the line that hasn't ended.
+    fn held(&self) -> &[u8]
+        ensures { result.now ≡ self.now.rest }
+    {
+        match &self.opened {
+            Some(pending) => pending.rest(),
+            None => &self.rest,
+        }
+    }
+
+    /// Adds bytes to the line that hasn't ended.
+    fn hold(&mut self, bytes: &[u8]) -> Result<(), Memory>
+        ensures { OnOk result (self.new ≡ record self.old { rest = self.old.rest ++ bytes.now }) }
+    {
+        match &mut self.opened {
+            Some(pending) => pending.hold(bytes),
+            None => Ok(self.rest.extend_from_slice(bytes)?),
+        }
     }
 
     /// Takes the first line, which ends at that place, adds the command that is whole with it, and gives what stands behind it.
@@ -249,7 +370,7 @@ impl Unfinished {
             behind = self.take_line(alloc, behind, end, &mut found)?;
             end = line_end(behind);
         }
-        self.rest.extend_from_slice(behind)?;
+        self.hold(behind)?;
         Ok(found)
     }
 
@@ -262,7 +383,7 @@ impl Unfinished {
         ensures readable { IfOk result (λ last. list_all is_readable (option_to_list last) ≡ true) }
         ensures blocks { IfOk result (λ last. block_lengths (option_to_list last) ≤ held_length self.old) }
     {
-        if skip_mark_at_start(self.lines, &self.rest).is_empty() {
+        if skip_mark_at_start(self.lines, self.held()).is_empty() {
             return Ok(left_open(&self.opened));
         }
         if let Some(command) = self.end_rest(alloc, b"")? {

@@ -1,14 +1,28 @@
 -- An element's line stands before those of what is below it.
-use Rattle.std.proofs.Common.{◌≡◌, ◌∙◌, sym, ap, ◌+◌, [], ◌∷◌, ◌++◌, map, take, cond, append_assoc}
+use Rattle.std.proofs.Common.{◌≡◌, ◌≤◌, ◌∙◌, sym, ap, subst, rules, ◌+◌, [], ◌∷◌, ◌++◌, length, map, take, cond, append_assoc}
 use Rattle.std.specs.Prelude.{count_by}
 use Rattle.std.specs.Str.{bytes_eq}
 use Rattle.std.proofs.lemmas.List.{append-nil, drop_all, map_push}
 use Rattle.plain_tree.specs.View.{node}
+use Rattle.plain_tree.specs.declared.tree.Tree.{the_lemmas}
 use Rattle.plain_tree.specs.declared.tree.Tree.TheVariants.{Elem}
+use Rattle.tokenizer.specs.Tokens.{tokens}
+use Rattle.ft_session.specs.Limits.{max_tokens}
 use Rattle.ft_session.specs.Query.{asked_lines, names, placed, placed_at, step_to}
 use Rattle.ft_session.specs.QueryView.{asked, step, count_of}
 use Rattle.ft_session.proofs.PlaceLemmas.{count_more, lines_below, names_element, names_of, names_text, placed_element, placed_text, same_step, step_by}
+use Rattle.ft_session.proofs.TokenCounts.{few_below}
 use Rattle.ft_session.proofs.query.+collect.Goals as goal
+
+pub collect-requires : goal.collect-requires
+collect-requires t c =
+    let children = c.as_slice-kid-items.result.now in
+    let whole : node c.args.tree.now ≡ node (Elem c.in-Elem.name c.in-Elem.attrs children) =
+    ap node c.in-Elem.is ∙ ap (λ kids. node (Elem c.in-Elem.name c.in-Elem.attrs kids)) (sym c.as_slice-kid-items.ensures) in (
+      search (rules, the_lemmas),
+      few_below c.in-Elem.name c.in-Elem.attrs children c.loop-kid.kid-index c.kid-item.result max_tokens c.loop-kid-test.true c.kid-item.is
+          (subst (λ n. length (tokens n) ≤ max_tokens) whole c.requires.1.1),
+    )
 
 pub returns-in-Text-clause-found : goal.returns-in-Text-clause-found
 returns-in-Text-clause-found t c = λ before counted.

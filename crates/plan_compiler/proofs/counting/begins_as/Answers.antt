@@ -1,7 +1,7 @@
 -- A text has no phrase that is longer.
-use Rattle.std.specs.Prelude.{bytes_eq}
+use Rattle.match_options.specs.WordTests.{passes}
 use Rattle.plan_compiler.proofs.Places.{too_long}
 use Rattle.plan_compiler.proofs.counting.begins_as.Goals as goal
 
 pub returns-then-phrase-words : goal.returns-then-phrase-words
-returns-then-phrase-words c = too_long bytes_eq c.args.phrase.now c.args.words.now c.if-phrase-words.true
+returns-then-phrase-words c = too_long passes c.args.phrase.now c.args.words.now c.if-phrase-words.true

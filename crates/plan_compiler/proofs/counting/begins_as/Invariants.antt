@@ -1,8 +1,8 @@
 -- The words so far are those of the phrase.
 use Rattle.std.proofs.Common.{◌≡◌, drop}
-use Rattle.std.specs.Prelude.{bytes_eq}
+use Rattle.match_options.specs.WordTests.{passes}
 use Rattle.all_matches.specs.Counting.{begins_as}
 use Rattle.plan_compiler.proofs.counting.begins_as.Given as goal
 
 abbrev pub invariant-loop-index : goal.invariant-loop-index
-invariant-loop-index l = begins_as bytes_eq (drop l.index l.phrase) (drop l.index l.words) ≡ begins_as bytes_eq l.phrase l.words
+invariant-loop-index l = begins_as passes (drop l.index l.phrase) (drop l.index l.words) ≡ begins_as passes l.phrase l.words

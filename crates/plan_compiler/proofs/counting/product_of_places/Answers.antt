@@ -1,5 +1,6 @@
 -- One factor more.
-use Rattle.std.proofs.Common.{◌*◌, ◌-◌, ◌^◌, ◌∙◌, min, ap, List, ℕ}
+use Rattle.std.proofs.Common.{◌*◌, ◌-◌, ◌^◌, ◌∙◌, min, ap, List}
+use Rattle.match_options.specs.declared.word_test.WordTest.{WordTest}
 use Rattle.plan_compiler.specs.WordsMeant.{phrase_places}
 use Rattle.plan_compiler.proofs.Capped.{product_more}
 use Rattle.plan_compiler.proofs.counting.product_of_places.Goals as goal
@@ -7,5 +8,5 @@ use Rattle.plan_compiler.proofs.counting.product_of_places.Goals as goal
 pub loop-phrase-preserved : goal.loop-phrase-preserved
 loop-phrase-preserved c =
     c.saturating_mul-total.ensures
-    ∙ ap (λ n. min (c.loop-phrase.total * n) (2 ^ 64 - 1)) (c.places.ensures ∙ ap (λ (p : List (List ℕ)). phrase_places p c.args.words.now) c.as_slice.ensures)
-    ∙ product_more (λ (p : List (List ℕ)). phrase_places p c.args.words.now) c.args.phrases.now c.loop-phrase.phrase-index c.phrase-item.result c.loop-phrase.total c.loop-phrase-test.true c.phrase-item.is c.loop-phrase.invariant
+    ∙ ap (λ n. min (c.loop-phrase.total * n) (2 ^ 64 - 1)) (c.places.ensures ∙ ap (λ (p : List WordTest). phrase_places p c.args.words.now) c.as_slice.ensures)
+    ∙ product_more (λ (p : List WordTest). phrase_places p c.args.words.now) c.args.phrases.now c.loop-phrase.phrase-index c.phrase-item.result c.loop-phrase.total c.loop-phrase-test.true c.phrase-item.is c.loop-phrase.invariant

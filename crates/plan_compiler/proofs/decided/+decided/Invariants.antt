@@ -4,5 +4,5 @@ use Rattle.ft_syntax.specs.View.{form, forms_of}
 use Rattle.plan_compiler.specs.Decided as spec
 use Rattle.plan_compiler.proofs.decided.+decided.Given as goal
 
-abbrev pub invariant-all_decided-loop-part : goal.invariant-all_decided-loop-part
-invariant-all_decided-loop-part l = spec.all_decided (forms_of (map form (drop l.part-index l.part-items))) ≡ spec.all_decided (forms_of (map form l.fn.parts))
+abbrev pub invariant-all_served-loop-part : goal.invariant-all_served-loop-part
+invariant-all_served-loop-part l = spec.all_served l.all (forms_of (map form (drop l.part-index l.part-items))) ≡ spec.all_served l.all (forms_of (map form l.fn.parts))

@@ -11,8 +11,8 @@ returns-in-Some-clause-command c =
     let line = c.skip_mark_at_start.result.now in
     let is : line ≡ behind_lines place.lines place.rest =
     c.skip_mark_at_start.ensures
-    ∙ (ap (behind_lines c.self.inside.lines) c.deref.ensures.value
-    ∙ ap (λ (p : Place). behind_lines p.lines p.rest) c.self.view_is) in
+    ∙ (ap (behind_lines c.self.inside.lines) c.held.ensures
+    ∙ ap (λ n. behind_lines n place.rest) (ap (λ (p : Place). p.lines) c.self.view_is)) in
     ends_whole place line c.in-Some.command c.requires.unended is (sym c.is_empty.ensures ∙ c.if-is_empty.false) (sym c.in-Some.is ∙ c.in_ok-command.ensures.command)
 
 pub returns-in-Some-clause-readable : goal.returns-in-Some-clause-readable

@@ -1,0 +1,67 @@
+//! How many filters stand directly round one another in the selection under way.
+
+ghost use Rattle.std.specs.Prelude.{◌≡◌, Some, drop, nat_le};
+ghost use Rattle.ft_parser.specs.Limits as limits;
+ghost use Rattle.ft_parser.specs.Scan as spec;
+ghost use Rattle.ft_parser.specs.State.{left_of, primary_of, stage_of, state_of};
+ghost use Rattle.query_grammar.specs.Machine as m;
+ghost use Rattle.query_grammar.specs.View.{tree};
+
+use crate::parts::begins_filter;
+use crate::state::{Left, Operand, Primary, Stage, State};
+use query_grammar::{Parsed, Placed};
+
+/// How many filters may stand directly round one another.
+const MAX_FILTERS: usize = 64;
+
+/// Whether the symbol of that number begins a filter too many.
+pub(crate) fn begins_deep_filter(symbols: &[Placed], next: usize, state: &State) -> bool
+    ensures { result ≡ spec.begins_deep_filter (state_of state.now) (drop next symbols.now) }
+{
+    begins_filter(symbols, next) && has_all_filters(state)
+}
+
+/// Whether the selection under way has as many filters directly round one another as may stand so.
+fn has_all_filters(state: &State) -> bool
+    ensures { result ≡ limits.has_all_filters (m.selection_at (left_of state.now.left) (stage_of state.now.stage)) }
+{
+    match &state.stage {
+        Stage::Given(operand) => stands_first(&state.left) && operand_has_all(operand),
+        Stage::WithFilter(parsed) => has_filters(parsed, MAX_FILTERS),
+        _ => false,
+    }
+}
+
+/// Whether nothing stands to the left of an operand.
+fn stands_first(left: &Left) -> bool
+    ensures { result ≡ spec.stands_first (left_of left.now) }
+{
+    left.ors.is_empty() && left.ands.is_empty() && left.mild.is_none()
+}
+
+/// Whether an operand is a selection in parentheses alone and has them.
+fn operand_has_all(operand: &Operand) -> bool
+    ensures { result ≡ limits.has_all_filters (Some (m.operand_of operand.now.negation (primary_of operand.now.primary) operand.now.options)) }
+{
+    if operand.negation.is_some() || !operand.options.is_empty() {
+        return false;
+    }
+    match &operand.primary {
+        Primary::Phrases(_, _, _) => false,
+        Primary::Inner(parsed) => has_filters(parsed, MAX_FILTERS),
+    }
+}
+
+/// Whether so many filters stand directly round one another.
+#[tactic(auto, using(query_grammar::proofs::Views::tree_words, query_grammar::proofs::Views::tree_or, query_grammar::proofs::Views::tree_and, query_grammar::proofs::Views::tree_mild, query_grammar::proofs::Views::tree_not, query_grammar::proofs::Views::tree_filtered, query_grammar::proofs::Views::tree_with))]
+fn has_filters(parsed: &Parsed, count: usize) -> bool
+    ensures { result ≡ nat_le count (limits.filters_round (tree parsed.now)) }
+{
+    if count == 0 {
+        return true;
+    }
+    match parsed {
+        Parsed::Filtered(operand, _) => has_filters(operand, count - 1),
+        _ => false,
+    }
+}

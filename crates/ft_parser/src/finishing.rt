@@ -1,0 +1,68 @@
+//! Where symbols end.
+
+ghost use Rattle.std.specs.Prelude.{◌≡◌, [], IfOk, None, Some, option_map};
+ghost use Rattle.ft_parser.specs.State.{frames_of, left_of, stage_of};
+ghost use Rattle.query_grammar.specs.Machine as m;
+ghost use Rattle.query_grammar.specs.Tree as t;
+ghost use Rattle.query_grammar.specs.View.{tree};
+
+use crate::option_turns::{ended, with_stops};
+use crate::state::{Left, Operand, Primary, Stage, State};
+use crate::thesaurus_turns::with_one_use;
+use ft_base::{Items, Memory, Mode};
+use query_grammar::{Parsed, PlacedString};
+use std::alloc::Global;
+
+/// The selection, if it may end there.
+pub(crate) fn finish(alloc: Global, state: State) -> Result<Option<Parsed>, Memory>
+    ensures { IfOk result (λ o. option_map tree o ≡ m.finished_in (frames_of state.outer.items) (m.selection_at (left_of state.left) (stage_of state.stage))) }
+{
+    let State { outer, left, stage } = state;
+    if !outer.is_empty() {
+        return Ok(None);
+    }
+    selection_at(alloc, left, stage)
+}
+
+fn selection_at(alloc: Global, left: Left, stage: Stage) -> Result<Option<Parsed>, Memory>
+    ensures { IfOk result (λ o. option_map tree o ≡ m.selection_at (left_of left) (stage_of stage)) }
+{
+    match stage {
+        Stage::Wanted(_) => Ok(None),
+        Stage::InBraces(_, _) => Ok(None),
+        Stage::Valued(n, strings) => phrases(alloc, left, n, strings, Mode::Any),
+        Stage::AnyOf(n, strings) => phrases(alloc, left, n, strings, Mode::Any),
+        Stage::AllOf(n, strings) => phrases(alloc, left, n, strings, Mode::All),
+        Stage::Moded(n, strings, mode) => phrases(alloc, left, n, strings, mode),
+        Stage::Given(operand) => Ok(Some(ended(alloc, left, operand)?)),
+        Stage::StopTerms(stops) => {
+            let operand = with_stops(stops)?;
+            Ok(Some(ended(alloc, left, operand)?))
+        }
+        Stage::StopStrings(_, _, _) => Ok(None),
+        Stage::Thesaurus(last) => {
+            let operand = with_one_use(alloc, last, None)?;
+            Ok(Some(ended(alloc, left, operand)?))
+        }
+        Stage::ThesaurusIn(_, _) => Ok(None),
+        Stage::ThesauriIn(_, _, _) => Ok(None),
+        Stage::WithFilter(parsed) => Ok(Some(parsed)),
+    }
+}
+
+fn phrases(
+    alloc: Global,
+    left: Left,
+    negation: Option<usize>,
+    strings: Items<PlacedString>,
+    mode: Mode,
+) -> Result<Option<Parsed>, Memory>
+    ensures { IfOk result (λ o. option_map tree o ≡ Some (m.selection_with (left_of left) (m.operand_of negation (t.phrases strings mode None) []))) }
+{
+    let operand = Operand {
+        negation,
+        primary: Primary::Phrases(strings, mode, None),
+        options: Items::new(alloc),
+    };
+    Ok(Some(ended(alloc, left, operand)?))
+}

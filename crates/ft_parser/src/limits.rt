@@ -1,0 +1,64 @@
+//! The limits of numbers and of open parentheses.
+
+ghost use Rattle.std.specs.Prelude.{◌≡◌, ◌<◌, ◌^◌, [], IfSome, IfNone, drop, length, take};
+ghost use Rattle.ft_parser.specs.Limits as spec;
+
+use ft_base::QueryFault;
+use query_grammar::{Placed, Symbol};
+
+/// How many parentheses may be open at once.
+const MAX_OPEN: usize = 64;
+
+/// The greatest number.
+const MAX_NUMBER: u32 = 1_000_000;
+
+fn passes(depth: usize, symbol: &Symbol) -> bool
+    ensures { result ≡ spec.passes depth symbol.now }
+{
+    match symbol {
+        Symbol::Number(number) => *number > MAX_NUMBER,
+        Symbol::OpenParenthesis => depth >= MAX_OPEN,
+        _ => false,
+    }
+}
+
+fn open_behind(depth: usize, symbol: &Symbol) -> usize
+    requires { depth < 2 ^ 63 }
+    ensures { result ≡ spec.open_behind depth symbol.now }
+{
+    match symbol {
+        Symbol::OpenParenthesis => depth + 1,
+        Symbol::CloseParenthesis => depth.saturating_sub(1),
+        _ => depth,
+    }
+}
+
+/// The number of the first symbol that passes a limit. It reads the symbols once.
+pub(crate) fn limit_at(symbols: &[Placed]) -> Option<usize>
+    ensures within { IfSome result (λ n. n < length symbols.now) }
+    ensures before { IfSome result (λ n. spec.before_limit 0 symbols.now ≡ take n symbols.now) }
+    ensures from { IfSome result (λ n. spec.from_limit 0 symbols.now ≡ drop n symbols.now) }
+    ensures all { IfNone result (spec.before_limit 0 symbols.now ≡ symbols.now) }
+    ensures none { IfNone result (spec.from_limit 0 symbols.now ≡ []) }
+{
+    let mut depth = 0;
+    let mut number = 0;
+    for placed in symbols {
+        if passes(depth, &placed.symbol) {
+            return Some(number);
+        }
+        depth = open_behind(depth, &placed.symbol);
+        number += 1;
+    }
+    None
+}
+
+/// The fault of a symbol that passes a limit.
+pub(crate) fn limit_fault(placed: &Placed) -> QueryFault
+    ensures { result ≡ spec.limit_fault placed.now }
+{
+    match &placed.symbol {
+        Symbol::OpenParenthesis => QueryFault::Deep { at: placed.from },
+        _ => QueryFault::Number { at: placed.from },
+    }
+}

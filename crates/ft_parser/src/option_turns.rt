@@ -1,0 +1,339 @@
+//! Steps of the reader behind operands, at options and filters.
+
+ghost use Rattle.std.specs.Prelude.{◌≡◌, [], ◌∷◌, ◌++◌, IfOk, Ok, codes, false};
+ghost use Rattle.ft_parser.specs.State.{Answers, frames_of, left_of, primary_of, state_of};
+ghost use Rattle.ft_parser.specs.Turns as turns;
+ghost use Rattle.query_grammar.specs.Keywords as keywords;
+ghost use Rattle.query_grammar.specs.Machine as m;
+ghost use Rattle.query_grammar.specs.Reading.{further, reading};
+ghost use Rattle.query_grammar.specs.View.{tree};
+
+use crate::building::{filtered, operand_tree, selection_with};
+use crate::heads::{is_word, place_at};
+use crate::operand_turns::{close, joint, nothing_left_of};
+use crate::parts::{
+    begins_filter, begins_other_filter, bound, filter, other_filter, range_without_at, side,
+};
+use crate::plain_option::plain_option;
+use crate::state::{Frame, Halt, Left, Operand, Stage, State, Stops, Uses};
+use crate::stop_turns::term;
+use crate::thesaurus_turns::{levels_outside, related, thesaurus_first, with_one_use};
+use ft_base::{Filter, Items, Memory, Range, StopChoice};
+use query_grammar::{MatchOption, Parsed, Placed, PlacedOption};
+use std::alloc::Global;
+
+/// Behind a filter, which was read or not.
+fn behind_filter(
+    alloc: Global,
+    outer: Vec<Frame>,
+    selection: Parsed,
+    read: Result<(Filter, usize), usize>,
+) -> Result<(State, usize), Halt>
+    ensures { Answers state_of result (turns.filtered_turn (frames_of outer.items) (tree selection) read) }
+{
+    match read {
+        Err(stuck) => Err(Halt::Stuck(stuck)),
+        Ok((filter, end)) => {
+            let state = filtered_state(alloc, outer, selection, filter)?;
+            Ok((state, end))
+        }
+    }
+}
+
+fn filtered_state(
+    alloc: Global,
+    outer: Vec<Frame>,
+    selection: Parsed,
+    filter: Filter,
+) -> Result<State, Memory>
+    ensures { IfOk result (λ state. state_of state ≡ m.filtered_state (frames_of outer.items) (tree selection) filter) }
+{
+    let whole = filtered(alloc, selection, filter)?;
+    let left = nothing_left_of(alloc);
+    let stage = Stage::WithFilter(whole);
+    Ok(State { outer, left, stage })
+}
+
+/// Behind a whole selection with a filter.
+#[tactic(auto, unfolding(crate::specs::Turns::with_filter_turn))]
+pub(crate) fn with_filter(
+    alloc: Global,
+    symbols: &[Placed],
+    next: usize,
+    outer: Vec<Frame>,
+    selection: Parsed,
+) -> Result<(State, usize), Halt>
+    ensures { Answers state_of result (turns.with_filter_turn (frames_of outer.items) (tree selection) symbols.now next) }
+{
+    if begins_filter(symbols, next) {
+        behind_filter(alloc, outer, selection, filter(symbols, next))
+    } else {
+        close(alloc, symbols, next, outer, selection)
+    }
+}
+
+/// The whole selection that ends with an operand.
+pub(crate) fn ended(alloc: Global, left: Left, operand: Operand) -> Result<Parsed, Memory>
+    ensures { IfOk result (λ parsed. tree parsed ≡ m.selection_with (left_of left) (m.operand_of operand.negation (primary_of operand.primary) operand.options)) }
+{
+    let parsed = operand_tree(alloc, operand)?;
+    selection_with(alloc, left, parsed)
+}
+
+/// Behind whole options.
+#[tactic(auto, unfolding(crate::specs::Turns::options_turn))]
+pub(crate) fn given(
+    alloc: Global,
+    symbols: &[Placed],
+    next: usize,
+    outer: Vec<Frame>,
+    left: Left,
+    operand: Operand,
+) -> Result<(State, usize), Halt>
+    ensures { Answers state_of result (turns.options_turn (frames_of outer.items) (left_of left) operand.negation (primary_of operand.primary) operand.options symbols.now next) }
+{
+    if begins_filter(symbols, next) {
+        let selection = ended(alloc, left, operand)?;
+        behind_filter(alloc, outer, selection, filter(symbols, next))
+    } else {
+        unfiltered(alloc, symbols, next, outer, left, operand)
+    }
+}
+
+/// Behind whole options, but no filter.
+#[tactic(auto, unfolding(crate::specs::Turns::unfiltered_turn))]
+fn unfiltered(
+    alloc: Global,
+    symbols: &[Placed],
+    next: usize,
+    outer: Vec<Frame>,
+    left: Left,
+    operand: Operand,
+) -> Result<(State, usize), Halt>
+    ensures { Answers state_of result (turns.unfiltered_turn (frames_of outer.items) (left_of left) operand.negation (primary_of operand.primary) operand.options symbols.now next) }
+{
+    if is_word(symbols, next, "using") {
+        let at = place_at(symbols, next);
+        using(alloc, symbols, next + 1, outer, left, operand, at)
+    } else {
+        let parsed = operand_tree(alloc, operand)?;
+        joint(alloc, symbols, next, outer, left, parsed)
+    }
+}
+
+/// Behind the `using` at that place.
+#[tactic(auto, unfolding(crate::specs::Turns::using_turn))]
+fn using(
+    alloc: Global,
+    symbols: &[Placed],
+    next: usize,
+    outer: Vec<Frame>,
+    left: Left,
+    operand: Operand,
+    at: usize,
+) -> Result<(State, usize), Halt>
+    ensures { Answers state_of result (turns.using_turn (frames_of outer.items) (left_of left) operand.negation (primary_of operand.primary) operand.options at symbols.now next) }
+{
+    if is_word(symbols, next, "thesaurus") {
+        thesaurus_first(alloc, symbols, next + 1, outer, left, operand, at)
+    } else if is_word(symbols, next, "stop") {
+        stop_words(alloc, symbols, next + 1, outer, left, operand, at)
+    } else {
+        plain(alloc, symbols, next, outer, left, operand, at)
+    }
+}
+
+/// Stop words behind their `stop`.
+fn stop_words(
+    alloc: Global,
+    symbols: &[Placed],
+    next: usize,
+    outer: Vec<Frame>,
+    left: Left,
+    operand: Operand,
+    at: usize,
+) -> Result<(State, usize), Halt>
+    ensures { Answers state_of result (reading (keywords.key (codes "words") (m.term_next (frames_of outer.items) (left_of left) operand.negation (primary_of operand.primary) operand.options at [] false)) symbols.now next) }
+{
+    if is_word(symbols, next, "words") {
+        let terms = Items::new(alloc);
+        let stops = Stops { operand, at, terms };
+        term(alloc, symbols, next + 1, outer, left, stops, false)
+    } else {
+        Err(Halt::Stuck(next))
+    }
+}
+
+/// An option without a list.
+fn plain(
+    alloc: Global,
+    symbols: &[Placed],
+    next: usize,
+    outer: Vec<Frame>,
+    left: Left,
+    operand: Operand,
+    at: usize,
+) -> Result<(State, usize), Halt>
+    ensures { Answers state_of result (further (reading (keywords.plain_option at) symbols.now next) (λ o k. Ok (turns.stands (frames_of outer.items) (left_of left) (m.given_options operand.negation (primary_of operand.primary) (operand.options ++ o ∷ [])), k))) }
+{
+    match plain_option(alloc, symbols, next, at) {
+        Err(halt) => Err(halt),
+        Ok((option, end)) => {
+            let stage = Stage::Given(with_option(operand, option)?);
+            Ok((State { outer, left, stage }, end))
+        }
+    }
+}
+
+fn with_option(operand: Operand, option: PlacedOption) -> Result<Operand, Memory>
+    ensures { IfOk result (λ more. more ≡ record operand { options = operand.options ++ option ∷ [] }) }
+{
+    let Operand {
+        negation,
+        primary,
+        options,
+    } = operand;
+    let mut options = options;
+    options.push(option)?;
+    Ok(Operand {
+        negation,
+        primary,
+        options,
+    })
+}
+
+/// Behind stop words.
+#[tactic(auto, unfolding(crate::specs::Turns::stop_terms_turn))]
+pub(crate) fn stop_terms(
+    alloc: Global,
+    symbols: &[Placed],
+    next: usize,
+    outer: Vec<Frame>,
+    left: Left,
+    stops: Stops,
+) -> Result<(State, usize), Halt>
+    ensures { Answers state_of result (turns.stop_terms_turn (frames_of outer.items) (left_of left) stops.operand.negation (primary_of stops.operand.primary) stops.operand.options stops.at stops.terms symbols.now next) }
+{
+    if is_word(symbols, next, "union") {
+        term(alloc, symbols, next + 1, outer, left, stops, false)
+    } else if is_word(symbols, next, "except") {
+        term(alloc, symbols, next + 1, outer, left, stops, true)
+    } else {
+        let operand = with_stops(stops)?;
+        given(alloc, symbols, next, outer, left, operand)
+    }
+}
+
+/// The operand with a stop word option.
+pub(crate) fn with_stops(stops: Stops) -> Result<Operand, Memory>
+    ensures { IfOk result (λ more. more ≡ record stops.operand { options = stops.operand.options ++ m.stop_option stops.at stops.terms ∷ [] }) }
+{
+    let Stops { operand, at, terms } = stops;
+    let option = MatchOption::StopWords(StopChoice::Sets(terms));
+    with_option(operand, PlacedOption { at, option })
+}
+
+/// Behind a thesaurus outside parentheses.
+#[tactic(auto, unfolding(crate::specs::Turns::thesaurus_turn))]
+pub(crate) fn thesaurus(
+    alloc: Global,
+    symbols: &[Placed],
+    next: usize,
+    outer: Vec<Frame>,
+    left: Left,
+    last: Uses,
+) -> Result<(State, usize), Halt>
+    ensures { Answers state_of result (turns.thesaurus_turn (frames_of outer.items) (left_of left) last.operand.negation (primary_of last.operand.primary) last.operand.options last.at last.name last.relationship symbols.now next) }
+{
+    if last.relationship.is_none() && is_word(symbols, next, "relationship") {
+        related(alloc, symbols, next + 1, outer, left, last)
+    } else {
+        behind_name(alloc, symbols, next, outer, left, last)
+    }
+}
+
+#[tactic(auto, unfolding(crate::specs::Turns::thesaurus_rest_turn))]
+fn behind_name(
+    alloc: Global,
+    symbols: &[Placed],
+    next: usize,
+    outer: Vec<Frame>,
+    left: Left,
+    last: Uses,
+) -> Result<(State, usize), Halt>
+    ensures { Answers state_of result (turns.thesaurus_rest_turn (frames_of outer.items) (left_of left) last.operand.negation (primary_of last.operand.primary) last.operand.options last.at last.name last.relationship symbols.now next) }
+{
+    if is_word(symbols, next, "at") {
+        behind_at(alloc, symbols, next + 1, outer, left, last)
+    } else if is_word(symbols, next, "exactly") || is_word(symbols, next, "from") {
+        levels(
+            alloc,
+            symbols,
+            outer,
+            left,
+            last,
+            range_without_at(symbols, next),
+        )
+    } else {
+        behind_thesaurus(alloc, symbols, next, outer, left, last)
+    }
+}
+
+/// The rest of levels, whose range was read or not.
+fn levels(
+    alloc: Global,
+    symbols: &[Placed],
+    outer: Vec<Frame>,
+    left: Left,
+    last: Uses,
+    read: Result<(Range, usize), usize>,
+) -> Result<(State, usize), Halt>
+    ensures { Answers state_of result (turns.levels_turn (turns.with_levels (frames_of outer.items) (left_of left) last.operand.negation (primary_of last.operand.primary) last.operand.options last.at last.name last.relationship) symbols.now read) }
+{
+    match read {
+        Err(stuck) => Err(Halt::Stuck(stuck)),
+        Ok((range, end)) => levels_outside(alloc, symbols, end, outer, left, last, range),
+    }
+}
+
+/// Behind an `at`, which begins levels or a filter.
+#[tactic(auto, unfolding(crate::specs::Turns::behind_at_turn))]
+fn behind_at(
+    alloc: Global,
+    symbols: &[Placed],
+    next: usize,
+    outer: Vec<Frame>,
+    left: Left,
+    last: Uses,
+) -> Result<(State, usize), Halt>
+    ensures { Answers state_of result (turns.behind_at_turn (frames_of outer.items) (left_of left) last.operand.negation (primary_of last.operand.primary) last.operand.options last.at last.name last.relationship symbols.now next) }
+{
+    if is_word(symbols, next, "least") || is_word(symbols, next, "most") {
+        levels(alloc, symbols, outer, left, last, bound(symbols, next))
+    } else {
+        let operand = with_one_use(alloc, last, None)?;
+        let selection = ended(alloc, left, operand)?;
+        behind_filter(alloc, outer, selection, side(symbols, next))
+    }
+}
+
+/// Behind a thesaurus that has no levels, but not at an `at`.
+#[tactic(auto, unfolding(crate::specs::Turns::behind_thesaurus_turn))]
+fn behind_thesaurus(
+    alloc: Global,
+    symbols: &[Placed],
+    next: usize,
+    outer: Vec<Frame>,
+    left: Left,
+    last: Uses,
+) -> Result<(State, usize), Halt>
+    ensures { Answers state_of result (turns.behind_thesaurus_turn (frames_of outer.items) (left_of left) last.operand.negation (primary_of last.operand.primary) last.operand.options last.at last.name last.relationship symbols.now next) }
+{
+    let operand = with_one_use(alloc, last, None)?;
+    if begins_other_filter(symbols, next) {
+        let selection = ended(alloc, left, operand)?;
+        behind_filter(alloc, outer, selection, other_filter(symbols, next))
+    } else {
+        unfiltered(alloc, symbols, next, outer, left, operand)
+    }
+}

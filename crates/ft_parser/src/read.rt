@@ -1,0 +1,85 @@
+//! Reading whole selections.
+
+ghost use Rattle.std.specs.Prelude.{option_map};
+ghost use Rattle.ft_parser.specs.Answer as spec;
+ghost use Rattle.ft_parser.specs.Answer.{Answered, scanned, selection_read, symbols_read};
+ghost use Rattle.ft_syntax.specs.View.{form};
+ghost use Rattle.query_grammar.specs.View.{tree};
+ghost use Rattle.selection_faults.specs.Faults.{fault_of};
+
+use crate::lexer::symbols;
+use crate::limits::{limit_at, limit_fault};
+use crate::scan::{Scan, scan_symbols};
+use ft_base::QueryFault;
+use ft_syntax::Selection;
+use query_grammar::{Parsed, Placed, Symbols};
+use selection_faults::{first_fault, selection_of};
+use std::alloc::Global;
+
+/// Reads a text that is a selection.
+#[tactic(auto, unfolding(crate::specs::Answer::selection_read))]
+pub fn read_selection(alloc: Global, text: &str) -> Result<Selection, QueryFault>
+    ensures { Answered form (selection_read text.now) result }
+{
+    match symbols(alloc, text) {
+        Ok(found) => read_symbols(alloc, &found, text.len()),
+        Err(_) => Err(QueryFault::Memory),
+    }
+}
+
+/// Reads the symbols of a text of so many bytes.
+fn read_symbols(alloc: Global, found: &Symbols, size: usize) -> Result<Selection, QueryFault>
+    ensures { Answered form (symbols_read found.now size) result }
+{
+    let placed = found.placed.as_slice();
+    match limit_at(placed) {
+        None => ended(alloc, found.bad, size, parsed(alloc, placed)?),
+        Some(number) => {
+            parsed(alloc, &placed[..number])?;
+            Err(limit_fault(&placed[number]))
+        }
+    }
+}
+
+/// The selection that symbols are, if they are a whole one.
+fn parsed(alloc: Global, symbols: &[Placed]) -> Result<Option<Parsed>, QueryFault>
+    ensures { Answered (option_map tree) (scanned symbols.now) result }
+{
+    match scan_symbols(alloc, symbols) {
+        Ok(Scan::Whole(parsed)) => Ok(parsed),
+        Ok(Scan::Refused(fault)) => Err(fault),
+        Err(_) => Err(QueryFault::Memory),
+    }
+}
+
+/// Behind all symbols: a character that begins none, or the end of the text.
+fn ended(
+    alloc: Global,
+    bad: Option<usize>,
+    size: usize,
+    whole: Option<Parsed>,
+) -> Result<Selection, QueryFault>
+    ensures { Answered form (spec.ended bad size (option_map tree whole)) result }
+{
+    if let Some(at) = bad {
+        return Err(QueryFault::Syntax { at });
+    }
+    match whole {
+        None => Err(QueryFault::Syntax { at: size }),
+        Some(parsed) => faultless(alloc, parsed),
+    }
+}
+
+/// The selection, unless something is wrong with it.
+fn faultless(alloc: Global, parsed: Parsed) -> Result<Selection, QueryFault>
+    ensures { Answered form (spec.faultless (tree parsed) (fault_of (tree parsed))) result }
+{
+    match first_fault(alloc, &parsed) {
+        Err(_) => Err(QueryFault::Memory),
+        Ok(Some(fault)) => Err(fault),
+        Ok(None) => match selection_of(alloc, parsed) {
+            Ok(selection) => Ok(selection),
+            Err(_) => Err(QueryFault::Memory),
+        },
+    }
+}

@@ -1,0 +1,345 @@
+//! Steps of the reader inside thesaurus options.
+
+ghost use Rattle.std.specs.Prelude.{◌≡◌, [], ◌∷◌, ◌++◌, IfOk, None, Some, codes, drop};
+ghost use Rattle.ft_parser.specs.State.{Answers, frames_of, left_of, primary_of, state_of};
+ghost use Rattle.ft_parser.specs.Turns as turns;
+ghost use Rattle.ft_parser.specs.Parts.{before_word};
+ghost use Rattle.ft_parser.specs.Turns.{stands, thesaurus_in_turn, thesaurus_in_rest_turn, levels_turn, in_levels, with_levels};
+ghost use Rattle.query_grammar.specs.Keywords as keywords;
+ghost use Rattle.query_grammar.specs.Machine as m;
+ghost use Rattle.query_grammar.specs.Reading.{reading};
+
+use crate::heads::{closes_parenthesis, is_comma, is_word, opens_parenthesis, text_at};
+use crate::parts::range;
+use crate::state::{Frame, Halt, Left, Operand, Stage, State, Uses};
+use ft_base::{Items, Memory, Range, ThesaurusChoice, ThesaurusUse, ThesaurusUses};
+use query_grammar::{MatchOption, Placed, PlacedOption};
+use std::alloc::Global;
+
+/// The name of the first thesaurus, in parentheses or not.
+pub(crate) fn thesaurus_first(
+    alloc: Global,
+    symbols: &[Placed],
+    next: usize,
+    outer: Vec<Frame>,
+    left: Left,
+    operand: Operand,
+    at: usize,
+) -> Result<(State, usize), Halt>
+    ensures { Answers state_of result (reading (m.thesaurus_first (frames_of outer.items) (left_of left) operand.negation (primary_of operand.primary) operand.options at) symbols.now next) }
+{
+    if is_word(symbols, next, "at") {
+        name_outside(alloc, symbols, next + 1, outer, left, operand, at)
+    } else if opens_parenthesis(symbols, next) {
+        let uses = Items::new(alloc);
+        named_inside(alloc, symbols, next + 1, outer, left, operand, at, uses)
+    } else {
+        Err(Halt::Stuck(next))
+    }
+}
+
+fn name_outside(
+    alloc: Global,
+    symbols: &[Placed],
+    next: usize,
+    outer: Vec<Frame>,
+    left: Left,
+    operand: Operand,
+    at: usize,
+) -> Result<(State, usize), Halt>
+    ensures { Answers state_of result (reading (m.thesaurus_name (frames_of outer.items) (left_of left) operand.negation (primary_of operand.primary) operand.options at) symbols.now next) }
+{
+    match text_at(alloc, symbols, next)? {
+        None => Err(Halt::Stuck(next)),
+        Some(name) => {
+            let uses = Uses {
+                operand,
+                at,
+                name,
+                relationship: None,
+            };
+            let stage = Stage::Thesaurus(uses);
+            Ok((State { outer, left, stage }, next + 1))
+        }
+    }
+}
+
+/// `at` and the name of a thesaurus in parentheses.
+fn named_inside(
+    alloc: Global,
+    symbols: &[Placed],
+    next: usize,
+    outer: Vec<Frame>,
+    left: Left,
+    operand: Operand,
+    at: usize,
+    uses: ThesaurusUses,
+) -> Result<(State, usize), Halt>
+    ensures { Answers state_of result (reading (keywords.key (codes "at") (m.thesaurus_name_in (frames_of outer.items) (left_of left) operand.negation (primary_of operand.primary) operand.options at uses)) symbols.now next) }
+{
+    if is_word(symbols, next, "at") {
+        name_inside(alloc, symbols, next + 1, outer, left, operand, at, uses)
+    } else {
+        Err(Halt::Stuck(next))
+    }
+}
+
+fn name_inside(
+    alloc: Global,
+    symbols: &[Placed],
+    next: usize,
+    outer: Vec<Frame>,
+    left: Left,
+    operand: Operand,
+    at: usize,
+    uses: ThesaurusUses,
+) -> Result<(State, usize), Halt>
+    ensures { Answers state_of result (reading (m.thesaurus_name_in (frames_of outer.items) (left_of left) operand.negation (primary_of operand.primary) operand.options at uses) symbols.now next) }
+{
+    match text_at(alloc, symbols, next)? {
+        None => Err(Halt::Stuck(next)),
+        Some(name) => {
+            let last = Uses {
+                operand,
+                at,
+                name,
+                relationship: None,
+            };
+            let stage = Stage::ThesaurusIn(last, uses);
+            Ok((State { outer, left, stage }, next + 1))
+        }
+    }
+}
+
+/// Behind whole thesauri in parentheses.
+pub(crate) fn thesauri_in(
+    alloc: Global,
+    symbols: &[Placed],
+    next: usize,
+    outer: Vec<Frame>,
+    left: Left,
+    operand: Operand,
+    at: usize,
+    uses: ThesaurusUses,
+) -> Result<(State, usize), Halt>
+    ensures { Answers state_of result (reading (m.thesauri_next (frames_of outer.items) (left_of left) operand.negation (primary_of operand.primary) operand.options at uses) symbols.now next) }
+{
+    if is_comma(symbols, next) {
+        named_inside(alloc, symbols, next + 1, outer, left, operand, at, uses)
+    } else if closes_parenthesis(symbols, next) {
+        let operand = with_uses(operand, at, uses)?;
+        let stage = Stage::Given(operand);
+        Ok((State { outer, left, stage }, next + 1))
+    } else {
+        Err(Halt::Stuck(next))
+    }
+}
+
+/// The operand with a thesaurus option.
+pub(crate) fn with_uses(operand: Operand, at: usize, uses: ThesaurusUses) -> Result<Operand, Memory>
+    ensures { IfOk result (λ more. more ≡ record operand { options = operand.options ++ m.thesaurus_option at uses ∷ [] }) }
+{
+    let Operand {
+        negation,
+        primary,
+        options,
+    } = operand;
+    let mut options = options;
+    let option = MatchOption::Thesaurus(ThesaurusChoice::Uses(uses));
+    options.push(PlacedOption { at, option })?;
+    Ok(Operand {
+        negation,
+        primary,
+        options,
+    })
+}
+
+/// Behind the name of a thesaurus in parentheses.
+#[tactic(auto, unfolding(crate::specs::Turns::thesaurus_in_turn))]
+pub(crate) fn thesaurus_in(
+    alloc: Global,
+    symbols: &[Placed],
+    next: usize,
+    outer: Vec<Frame>,
+    left: Left,
+    last: Uses,
+    uses: ThesaurusUses,
+) -> Result<(State, usize), Halt>
+    ensures { Answers state_of result (thesaurus_in_turn (frames_of outer.items) (left_of left) last.operand.negation (primary_of last.operand.primary) last.operand.options last.at uses last.name last.relationship symbols.now next) }
+{
+    if last.relationship.is_none() && is_word(symbols, next, "relationship") {
+        related_in(alloc, symbols, next + 1, outer, left, last, uses)
+    } else {
+        behind_name_in(alloc, symbols, next, outer, left, last, uses)
+    }
+}
+
+fn related_in(
+    alloc: Global,
+    symbols: &[Placed],
+    next: usize,
+    outer: Vec<Frame>,
+    left: Left,
+    last: Uses,
+    uses: ThesaurusUses,
+) -> Result<(State, usize), Halt>
+    ensures { Answers state_of result (reading (m.relationship_name (λ r. stands (frames_of outer.items) (left_of left) (m.thesaurus_in last.operand.negation (primary_of last.operand.primary) last.operand.options last.at uses last.name (Some r)))) symbols.now next) }
+{
+    match text_at(alloc, symbols, next)? {
+        None => Err(Halt::Stuck(next)),
+        Some(text) => {
+            let last = Uses {
+                operand: last.operand,
+                at: last.at,
+                name: last.name,
+                relationship: Some(text),
+            };
+            let stage = Stage::ThesaurusIn(last, uses);
+            Ok((State { outer, left, stage }, next + 1))
+        }
+    }
+}
+
+#[tactic(auto, unfolding(crate::specs::Turns::thesaurus_in_rest_turn))]
+fn behind_name_in(
+    alloc: Global,
+    symbols: &[Placed],
+    next: usize,
+    outer: Vec<Frame>,
+    left: Left,
+    last: Uses,
+    uses: ThesaurusUses,
+) -> Result<(State, usize), Halt>
+    ensures { Answers state_of result (thesaurus_in_rest_turn (frames_of outer.items) (left_of left) last.operand.negation (primary_of last.operand.primary) last.operand.options last.at uses last.name last.relationship symbols.now next) }
+{
+    if begins_range(symbols, next) {
+        levels_in(symbols, next, outer, left, last, uses)
+    } else {
+        without_levels(alloc, symbols, next, outer, left, last, uses)
+    }
+}
+
+/// Behind a whole thesaurus in parentheses that has no levels.
+fn without_levels(
+    alloc: Global,
+    symbols: &[Placed],
+    next: usize,
+    outer: Vec<Frame>,
+    left: Left,
+    last: Uses,
+    uses: ThesaurusUses,
+) -> Result<(State, usize), Halt>
+    ensures { Answers state_of result (reading (m.thesauri_next (frames_of outer.items) (left_of left) last.operand.negation (primary_of last.operand.primary) last.operand.options last.at (uses ++ m.thesaurus_use last.name last.relationship None ∷ [])) symbols.now next) }
+{
+    let at = last.at;
+    let (operand, uses) = with_last(last, uses, None)?;
+    thesauri_in(alloc, symbols, next, outer, left, operand, at, uses)
+}
+
+fn begins_range(symbols: &[Placed], next: usize) -> bool
+    ensures { result ≡ turns.begins_range (drop next symbols.now) }
+{
+    is_word(symbols, next, "exactly")
+        || is_word(symbols, next, "from")
+        || is_word(symbols, next, "at")
+}
+
+/// The whole thesauri, with the last one.
+fn with_last(
+    last: Uses,
+    uses: ThesaurusUses,
+    levels: Option<Range>,
+) -> Result<(Operand, ThesaurusUses), Memory>
+    ensures { IfOk result (λ r. r ≡ (last.operand, uses ++ m.thesaurus_use last.name last.relationship levels ∷ [])) }
+{
+    let mut more = uses;
+    more.push(ThesaurusUse {
+        name: last.name,
+        relationship: last.relationship,
+        levels,
+    })?;
+    Ok((last.operand, more))
+}
+
+fn levels_in(
+    symbols: &[Placed],
+    next: usize,
+    outer: Vec<Frame>,
+    left: Left,
+    last: Uses,
+    uses: ThesaurusUses,
+) -> Result<(State, usize), Halt>
+    ensures { Answers state_of result (levels_turn (in_levels (frames_of outer.items) (left_of left) last.operand.negation (primary_of last.operand.primary) last.operand.options last.at uses last.name last.relationship) symbols.now (reading keywords.range symbols.now next)) }
+{
+    match range(symbols, next) {
+        Err(stuck) => Err(Halt::Stuck(stuck)),
+        Ok((range, end)) => {
+            if !is_word(symbols, end, "levels") {
+                return Err(Halt::Stuck(end));
+            }
+            let at = last.at;
+            let (operand, uses) = with_last(last, uses, Some(range))?;
+            let stage = Stage::ThesauriIn(operand, at, uses);
+            Ok((State { outer, left, stage }, end + 1))
+        }
+    }
+}
+
+/// Behind the name of a thesaurus outside parentheses: its relationship.
+pub(crate) fn related(
+    alloc: Global,
+    symbols: &[Placed],
+    next: usize,
+    outer: Vec<Frame>,
+    left: Left,
+    last: Uses,
+) -> Result<(State, usize), Halt>
+    ensures { Answers state_of result (reading (m.relationship_name (λ r. stands (frames_of outer.items) (left_of left) (m.thesaurus last.operand.negation (primary_of last.operand.primary) last.operand.options last.at last.name (Some r)))) symbols.now next) }
+{
+    match text_at(alloc, symbols, next)? {
+        None => Err(Halt::Stuck(next)),
+        Some(text) => {
+            let last = Uses {
+                operand: last.operand,
+                at: last.at,
+                name: last.name,
+                relationship: Some(text),
+            };
+            let stage = Stage::Thesaurus(last);
+            Ok((State { outer, left, stage }, next + 1))
+        }
+    }
+}
+
+/// The operand with a thesaurus option of one thesaurus.
+pub(crate) fn with_one_use(
+    alloc: Global,
+    last: Uses,
+    levels: Option<Range>,
+) -> Result<Operand, Memory>
+    ensures { IfOk result (λ more. more ≡ record last.operand { options = m.thesaurus_ended last.operand.options last.at last.name last.relationship levels }) }
+{
+    let at = last.at;
+    let (operand, uses) = with_last(last, Items::new(alloc), levels)?;
+    with_uses(operand, at, uses)
+}
+
+/// Behind the range of its levels.
+pub(crate) fn levels_outside(
+    alloc: Global,
+    symbols: &[Placed],
+    end: usize,
+    outer: Vec<Frame>,
+    left: Left,
+    last: Uses,
+    range: Range,
+) -> Result<(State, usize), Halt>
+    ensures { Answers state_of result (before_word (codes "levels") (with_levels (frames_of outer.items) (left_of left) last.operand.negation (primary_of last.operand.primary) last.operand.options last.at last.name last.relationship (Some range)) symbols.now end) }
+{
+    if !is_word(symbols, end, "levels") {
+        return Err(Halt::Stuck(end));
+    }
+    let operand = with_one_use(alloc, last, Some(range))?;
+    let stage = Stage::Given(operand);
+    Ok((State { outer, left, stage }, end + 1))
+}

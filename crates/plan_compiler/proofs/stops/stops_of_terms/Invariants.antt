@@ -1,0 +1,7 @@
+-- The keys of the first terms.
+use Rattle.std.proofs.Common.{◌≡◌, map, take}
+use Rattle.plan_compiler.specs.Stops.{term_keys}
+use Rattle.plan_compiler.proofs.stops.stops_of_terms.Given as goal
+
+abbrev pub invariant-loop-term : goal.invariant-loop-term
+invariant-loop-term l = l.stops ≡ map term_keys (take l.term-index l.terms)

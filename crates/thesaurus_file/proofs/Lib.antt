@@ -1,0 +1,7 @@
+pub mod ChainLemmas
+pub mod FieldLemmas
+pub mod GroupLemmas
+pub mod LevelLemmas
+pub mod OrderLemmas
+pub mod ReachedLemmas
+pub mod WalkLemmas
