@@ -82,7 +82,7 @@ dropped documents name =
 abbrev pub lines_asked : State → Asked → List (List ℕ)
 lines_asked documents q = flat_map (λ d. lines_of_document q d.name d.root) documents
 
--- the reply to a selection that was read. Selections with options, filters or `not in` aren't carried out yet
+-- the reply to a selection that was read. One that plans don't decide isn't carried out yet
 abbrev pub answer_form : State → Written → Form → Reply
 answer_form documents w form = if is_decided form then Nodes (lines_asked documents (asked_by w.deep w.name form)) else Refused refusal.NotYet
 

@@ -114,7 +114,7 @@ impl Session {
         }
     }
 
-    /// The lines of the elements whose text satisfies the selection. Selections with options, filters or `not in` aren't carried out yet.
+    /// The lines of the elements whose text satisfies the selection. One that plans don't decide isn't carried out yet.
     fn select_by(&self, query: &WrittenQuery<'_>, selection: &Selection) -> Result<Reply, Memory>
         ensures { IfOk result (λ reply. reply ≡ answer_form self.now (written query.now) (form selection.now)) }
     {

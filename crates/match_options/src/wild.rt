@@ -71,8 +71,8 @@ impl Wild {
         }
     }
 
-    /// Whether the pattern covers a word, given in the form that the options choose. It always answers, in as many steps at most as the
-    /// pattern has atoms times the word has characters.
+    /// Whether the pattern covers a word, given in the form that the options choose. It always answers. It takes as many steps at most as
+    /// the pattern has atoms times the word has characters; it takes more only where a word of 1,024 characters or more meets want of memory.
     pub fn accepts(&self, form: &str) -> bool
         ensures { result ≡ spec.covers self.now.atoms.items (chars form.now) }
     {

@@ -1,3 +1,4 @@
+pub mod ListsMeant
 pub mod Lexicon
 pub mod Decided
 pub mod Stops

@@ -8,6 +8,7 @@ use ft_syntax::{Selection, Selections};
 use std::alloc::Global;
 use std::test::Fail;
 use tokenizer::words_of;
+use word_lists::StopList;
 
 fn tokens(alloc: Global, text: &str) -> Result<Vec<Token>, Memory> {
     let mut tokens = Vec::new(alloc);
@@ -274,5 +275,26 @@ fn the_inner_option_holds(rt: HostRuntime) -> Result<(), Fail> {
         let selection = Selection::With(Box::new(alloc, operand)?, options);
         assert_eq!(rt; satisfies(alloc, "Word", selection)?, Some(expected));
     }
+    Ok(())
+}
+
+fn stop_list(alloc: Global, file: &[u8]) -> Result<StopList, Fail> {
+    match StopList::read(alloc, file) {
+        Ok(list) => Ok(list),
+        Err(_fault) => Err(Fail::from("a bad line")),
+    }
+}
+
+#[test]
+fn lists_by_name(rt: HostRuntime) -> Result<(), Fail> {
+    let alloc = rt.alloc();
+    let mut lists = Lists::new(alloc);
+    assert!(rt; !lists.has_stop("e"));
+    lists.set_stop("e", stop_list(alloc, b"the")?)?;
+    lists.set_stop("f", stop_list(alloc, b"of")?)?;
+    let copy = lists.copy()?;
+    lists.set_stop("e", stop_list(alloc, b"an")?)?;
+    assert!(rt; lists.has_stop("e") && lists.has_stop("f") && copy.has_stop("e"));
+    assert!(rt; !lists.has_stop("E") && !copy.has_stop(""));
     Ok(())
 }
