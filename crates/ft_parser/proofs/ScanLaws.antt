@@ -2,14 +2,13 @@
 use Rattle.std.proofs.Common.{◌≡◌, ◌≤◌, ◌<◌, ◌+◌, ℕ, true, false, cond, List, [], ◌∷◌, ◌++◌, length, take, drop, Option, Some, None, Result, Ok, Err, refl, sym, ◌∙◌, ap, subst, arith, slice_index_or}
 use Rattle.std.proofs.lemmas.List.{length-append, take-append-drop, length-take-le, drop-drop, drop_all, drop_more}
 use Rattle.std.proofs.Math.Seq.{drop-append_seam}
-use Rattle.ft_base.specs.declared.fault.QueryFault.{QueryFault}
 use Rattle.ft_base.specs.declared.fault.QueryFault.TheVariants as Q
 use Rattle.query_grammar.specs.declared.symbol.Placed.{Placed}
 use Rattle.query_grammar.specs.Machine.{State, next, finished_at}
 use Rattle.query_grammar.specs.Reading.{reading}
 use Rattle.query_grammar.specs.Shapes.{Shape, whole, nothing, word, number, text, mark, step, run}
 use Rattle.query_grammar.proofs.Ended.{Ends, next_ends}
-use Rattle.query_grammar.proofs.Readings.{Along, Stopped, Outcome, outcome, is_whole}
+use Rattle.query_grammar.proofs.Readings.{Outcome, outcome, is_whole}
 use Rattle.ft_parser.specs.Answer.{scanned_on, scanned_from}
 use Rattle.ft_parser.specs.Scan.{stopped_before, begins_deep_filter}
 use Rattle.ft_parser.specs.Turns.{state_turn}
