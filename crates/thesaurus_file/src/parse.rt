@@ -1,4 +1,4 @@
-ghost use Rattle.std.specs.Prelude.{◌≡◌, ◌∷◌, ◌++◌, [], IfOk, IfNone, IfSome, MatchOption, Some, None, OnErr, OnOk};
+ghost use Rattle.std.specs.Prelude.{◌≡◌, ◌∷◌, ◌++◌, [], IfOk, MatchOption, Some, None, OnOk};
 ghost use Rattle.std.specs.List.{slice_split};
 ghost use Rattle.text_forms.specs.Forms.{key_of};
 ghost use Rattle.thesaurus_file.specs.Lines.{is_bar, line_of, phrase_of, three, trimmed};

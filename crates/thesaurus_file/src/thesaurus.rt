@@ -1,12 +1,11 @@
-ghost use Rattle.std.specs.Prelude.{◌≡◌, ◌∷◌, ◌++◌, [], if◌then◌else◌, fold, map, filter, not, Ok, IfErr, IfOk, OnErr, OnOk};
+ghost use Rattle.std.specs.Prelude.{◌≡◌, ◌∷◌, ◌++◌, [], if◌then◌else◌, fold, Ok, IfErr, IfOk, OnOk};
 ghost use Rattle.std.specs.BTreeSet.{insert_key};
-ghost use Rattle.std.specs.List.{list_any};
 ghost use Rattle.std.specs.Option.{option_copied};
 ghost use Rattle.word_lists.specs.Adding.{Added, IsFault};
 ghost use Rattle.thesaurus_file.specs.Expansion.{expanded};
 ghost use Rattle.thesaurus_file.specs.Lines.{thesaurus_of, with_line};
 ghost use Rattle.thesaurus_file.specs.Links.{is_wanted, links_from, with_link};
-ghost use Rattle.thesaurus_file.specs.Phrases.{phrase_cmp, phrase_eq};
+ghost use Rattle.thesaurus_file.specs.Phrases.{phrase_cmp};
 ghost use Rattle.thesaurus_file.specs.Walks.{level_behind, unseen_ends};
 
 use crate::levels::Levels;
