@@ -126,7 +126,11 @@ fn selections_are_decided_by_their_truth_values_and_counts(rt: HostRuntime) -> R
 #[test]
 fn options_tell_when_words_are_the_same(rt: HostRuntime) -> Result<(), Fail> {
     for (text, selection, satisfied) in [
-        ("CAFE\u{301}", "\"caf\u{E9}\" using diacritics sensitive", true),
+        (
+            "CAFE\u{301}",
+            "\"caf\u{E9}\" using diacritics sensitive",
+            true,
+        ),
         ("CAFE\u{301}", "\"caf\u{E9}\" using lowercase", true),
         ("CAFE\u{301}", "\"caf\u{E9}\" using uppercase", false),
         ("CAFE\u{301}", "\"cafe\" using diacritics sensitive", false),
@@ -134,12 +138,36 @@ fn options_tell_when_words_are_the_same(rt: HostRuntime) -> Result<(), Fail> {
         ("Test text", "\"t.+t\" using wildcards", true),
         ("stra\u{DF}e", "\"stra.e\" using wildcards", false),
         ("stra\u{DF}e", "\"stra..e\" using wildcards", true),
-        ("propagating few errors", "\"propagating of errors\" using stop words (\"of\")", true),
-        ("propagating errors", "\"propagating of errors\" using stop words (\"of\")", false),
-        ("a x b", "\"a the b\" using stop words (\"the\") except (\"THE\")", false),
-        ("a x b", "(\"a\" ftand \"the b\") using stop words (\"the\")", true),
-        ("A", "(\"a\" using case insensitive) using case sensitive", true),
-        ("A", "(\"a\" using language \"en\") using case sensitive", false),
+        (
+            "propagating few errors",
+            "\"propagating of errors\" using stop words (\"of\")",
+            true,
+        ),
+        (
+            "propagating errors",
+            "\"propagating of errors\" using stop words (\"of\")",
+            false,
+        ),
+        (
+            "a x b",
+            "\"a the b\" using stop words (\"the\") except (\"THE\")",
+            false,
+        ),
+        (
+            "a x b",
+            "(\"a\" ftand \"the b\") using stop words (\"the\")",
+            true,
+        ),
+        (
+            "A",
+            "(\"a\" using case insensitive) using case sensitive",
+            true,
+        ),
+        (
+            "A",
+            "(\"a\" using language \"en\") using case sensitive",
+            false,
+        ),
     ] {
         expect_selection(&rt, rt.alloc(), text, selection, satisfied)?;
     }
