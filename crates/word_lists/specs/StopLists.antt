@@ -1,4 +1,4 @@
--- Stop lists as files: one word a line (XQuery and XPath Full Text 3.0, section 3.4.5, leaves their form open).
+-- Stop lists as files: one word a line (XQuery and XPath Full Text 3.0, section 3.4.7, leaves their form open).
 use Rattle.std.specs.Prelude.{ℕ, if◌then◌else◌, List, [], ◌∷◌, ◌++◌, Option, option_map, Result, bytes_eq}
 use Rattle.std.specs.List.{list_any}
 use Rattle.text_forms.specs.Forms.{key_of}
