@@ -1,0 +1,23 @@
+-- Symbols for examples.
+use Rattle.std.specs.Prelude.{ℕ, ◌+◌, List, [], ◌∷◌, None}
+use Rattle.ft_base.specs.declared.words.Mode.TheVariants.{Any}
+use Rattle.query_grammar.specs.declared.symbol.Placed.{Placed}
+use Rattle.query_grammar.specs.declared.symbol.Symbol.{Symbol}
+use Rattle.query_grammar.specs.Grammar.{Spot, at, string, placed}
+use Rattle.query_grammar.specs.Tree.{Tree, words}
+use Rattle.path_grammar.specs.Grammar.{Inside, inside}
+
+-- symbols in a row, as if each were one byte long
+abbrev pub row_from : ℕ → List Symbol → List Placed
+row_from n [] = []
+row_from n (symbol ∷ rest) = at (n, n + 1) symbol ∷ row_from (n + 1) rest
+
+abbrev pub row : List Symbol → List Placed
+row symbols = row_from 0 symbols
+
+-- the selection of one string
+abbrev pub quoted : Spot → List ℕ → Tree
+quoted p s = words record { strings = placed p s ∷ []; mode = Any; times = None; options = [] }
+
+abbrev pub quoted_inside : Spot → List ℕ → Inside
+quoted_inside p s = inside (string p s ∷ []) (quoted p s)
