@@ -1,0 +1,14 @@
+pub mod Parts
+pub mod Groups
+pub mod Choices
+pub mod Sound
+pub mod Marks
+pub mod Once
+pub mod Levels
+pub mod Operands
+pub mod Strings
+pub mod Faultless
+pub mod Induction
+pub mod Filters
+pub mod Reading
+pub mod PrintedStrings

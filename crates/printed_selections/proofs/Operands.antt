@@ -1,0 +1,139 @@
+-- Words, options behind parentheses, and operands that are joined, each spelled again in the place that its form has.
+use Rattle.std.proofs.Common.{◌≡◌, ℕ, List, [], ◌∷◌, ◌++◌, Option, Some, None, refl, sym, ◌∙◌, ap, append_assoc}
+use Rattle.std.proofs.lemmas.List.{append-nil}
+use Rattle.std.specs.Prelude.{flat_map, option_map}
+use Rattle.std.specs.List.{join_by}
+use Rattle.ft_base.specs.declared.range.Range.{Range}
+use Rattle.ft_base.specs.declared.words.Mode.{Mode}
+use Rattle.ft_base.specs.declared.options.Options.{Options}
+use Rattle.ft_base.specs.Selection as form
+use Rattle.ft_base.specs.Selection.{no_options, Form, Forms}
+use Rattle.ft_syntax.specs.Symbols.{symbols, operands, operand_symbols, in_parentheses, words_symbols}
+use Rattle.query_grammar.specs.Form.{form_of, forms_of, options_of}
+use Rattle.query_grammar.specs.declared.symbol.Symbol.TheVariants as S
+use Rattle.query_grammar.specs.declared.symbol.Placed.{Placed}
+use Rattle.query_grammar.specs.declared.parsed.PlacedOption.{PlacedOption}
+use Rattle.query_grammar.specs.declared.parsed.PlacedTimes.{PlacedTimes}
+use Rattle.query_grammar.specs.Tree as tree
+use Rattle.query_grammar.specs.Tree.{Tree, trees_of, phrases, inner}
+use Rattle.query_grammar.specs.Grammar as g
+use Rattle.query_grammar.specs.Grammar.{at, name, Operand, Selection}
+use Rattle.selection_faults.specs.Options.{second_option}
+use Rattle.printed_selections.specs.Printed.{spellings}
+use Rattle.printed_selections.proofs.Parts as parts
+use Rattle.printed_selections.proofs.Parts.{o, moved, in_marks, texts_same, placed_strings, value_printed, mode_printed, times_printed, placed_times}
+use Rattle.printed_selections.proofs.Once.{once_words, once_with, AllOnce}
+use Rattle.printed_selections.proofs.Choices.{Sound, Done, options_printed}
+use Rattle.printed_selections.proofs.Levels.{Again, Operated, enclosed_placed, Everywhere}
+
+times_same : (t : Option Range) → option_map (λ (x : PlacedTimes). x.range) (placed_times t) ≡ t
+times_same None = refl
+times_same (Some r) = refl
+
+-- words
+pub words_again : (s : List ℕ) (rest : List (List ℕ)) (mode : Mode) (times : Option Range) (options : Options) → Sound options
+    → Again Operated (form.words (record { values = s ∷ rest; mode = mode; times = times; options = options })) (words_symbols (record { values = s ∷ rest; mode = mode; times = times; options = options }))
+unfolding form_of
+words_again s rest mode times options h =
+    let v = value_printed s rest in
+    let m = mode_printed mode in
+    let t = times_printed times in
+    let d = options_printed options h in
+    let front = v.placed ++ m.placed ++ t.placed in
+    record {
+      placed = front ++ d.placed;
+      tree = tree.words (record { strings = placed_strings (s ∷ rest); mode = mode; times = placed_times times; options = d.all });
+      spells = record { operand = phrases (placed_strings (s ∷ rest)) mode (placed_times times); options = d.all; front = front; back = d.placed; spells = Operand.words v.spells m.spells t.spells; chosen = d.spells; split = refl; is = refl };
+      written_so = parts.joined front d.placed _ _ (parts.joined (v.placed ++ m.placed) t.placed _ _ (parts.joined v.placed m.placed _ _ v.is m.is) t.is) d.written_so;
+      is =
+          ap (λ (z : List (List ℕ)). form.words (record { values = z; mode = mode; times = option_map (λ (x : PlacedTimes). x.range) (placed_times times); options = options_of d.all })) (texts_same (s ∷ rest))
+          ∙ ap (λ (z : Option Range). form.words (record { values = s ∷ rest; mode = mode; times = z; options = options_of d.all })) (times_same times)
+          ∙ ap (λ (z : Options). form.words (record { values = s ∷ rest; mode = mode; times = times; options = z })) d.is;
+      once = once_words (record { strings = placed_strings (s ∷ rest); mode = mode; times = placed_times times; options = d.all }) d.once;
+    }
+
+-- a selection in parentheses with options
+pub closed_again : (x : Form) (options : Options) (s t : List (List ℕ)) → (options ≡ no_options → ⊥) → Again Selection x s → Done options t 7 → Again Operated (form.with_options x options) (in_parentheses s ++ t)
+unfolding form_of
+closed_again x options s t some a d = go d.all d.spells d.is d.once
+  where
+    go : (all : List PlacedOption) → g.Options d.placed all → options_of all ≡ options → second_option all ≡ None → Again Operated (form.with_options x options) (in_parentheses s ++ t)
+    go [] k e l = absurd (some (sym e))
+    go (first ∷ rest) k e l = record {
+      placed = enclosed_placed a.placed ++ d.placed;
+      tree = tree.with_options a.tree (first ∷ rest);
+      spells = record { operand = inner a.tree; options = first ∷ rest; front = enclosed_placed a.placed; back = d.placed; spells = Operand.parentheses o a.spells o; chosen = k; split = refl; is = refl };
+      written_so = parts.joined (enclosed_placed a.placed) d.placed (in_parentheses s) t (in_marks (at o S.OpenParenthesis) (at o S.CloseParenthesis) a.placed s a.written_so) d.written_so;
+      is = ap (λ z. form.with_options z (options_of (first ∷ rest))) a.is ∙ ap (λ z. form.with_options x z) e;
+      once = once_with a.tree (first ∷ rest) a.once l;
+    }
+
+-- operands that are joined
+abbrev pub AllEverywhere : List Tree → Type 0
+AllEverywhere [] = Unit {0}
+AllEverywhere (t ∷ rest) = Everywhere (form_of t) × AllEverywhere rest
+
+-- further operands
+record Further (Listed : List Placed → List Tree → Type 0) (key : List ℕ) (wanted : ℕ) (u : List Placed) (xs : List Tree) (rest : List Tree) : Type 0 where
+  placed : List Placed
+  trees : List Tree
+  spells : Listed (u ++ placed) (xs ++ trees)
+  written_so : spellings placed ≡ flat_map (λ operand. key ∷ operand) (operands wanted (forms_of (trees_of rest)))
+  is : forms_of (trees_of trees) ≡ forms_of (trees_of rest)
+  once : AllOnce trees
+
+further : (Kind : List Placed → Tree → Type 0) (Listed : List Placed → List Tree → Type 0) (key : List ℕ) (wanted : ℕ)
+    → ((u v : List Placed) (xs : List Tree) (t : Tree) → Listed u xs → Kind v t → Listed (u ++ name o key ∷ v) (xs ++ t ∷ []))
+    → ((x : Form) → Everywhere x → Again Kind x (operand_symbols wanted x))
+    → (rest : List Tree) → AllEverywhere rest → (u : List Placed) (xs : List Tree) → Listed u xs → Further Listed key wanted u xs rest
+unfolding form_of symbols
+further Kind Listed key wanted more get [] h u xs a = record { placed = []; trees = []; spells = moved Listed u (u ++ []) xs (xs ++ []) a (sym (append-nil u)) (sym (append-nil xs)); written_so = refl; is = refl; once = tt }
+further Kind Listed key wanted more get (t ∷ rest) h u xs a =
+    let b = get (form_of t) h.0 in
+    let y = further Kind Listed key wanted more get rest h.1 (u ++ name o key ∷ b.placed) (xs ++ b.tree ∷ []) (more u b.placed xs b.tree a b.spells) in
+    record {
+      placed = (name o key ∷ b.placed) ++ y.placed;
+      trees = b.tree ∷ y.trees;
+      spells = moved Listed _ _ _ _ y.spells (append_assoc u (name o key ∷ b.placed) y.placed) (append_assoc xs (b.tree ∷ []) y.trees);
+      written_so = parts.joined (name o key ∷ b.placed) y.placed (key ∷ operand_symbols wanted (form_of t)) _ (ap (λ w. key ∷ w) b.written_so) y.written_so;
+      is = ap (λ z. form.more z (forms_of (trees_of y.trees))) b.is ∙ ap (λ z. form.more (form_of t) z) y.is;
+      once = (b.once, y.once);
+    }
+
+-- two operands or more
+pub record Several (Listed : List Placed → List Tree → Type 0) (key : List ℕ) (wanted : ℕ) (trees : List Tree) : Type 0 where
+  pub placed : List Placed
+  pub one : Tree
+  pub two : Tree
+  pub rest : List Tree
+  pub spells : Listed placed (one ∷ two ∷ rest)
+  pub written_so : spellings placed ≡ join_by (λ operand. operand) (key ∷ []) (operands wanted (forms_of (trees_of trees)))
+  pub is : forms_of (trees_of (one ∷ two ∷ rest)) ≡ forms_of (trees_of trees)
+  pub once : AllOnce (one ∷ two ∷ rest)
+
+pub several : (Kind : List Placed → Tree → Type 0) (Listed : List Placed → List Tree → Type 0) (key : List ℕ) (wanted : ℕ)
+    → ((u : List Placed) (t : Tree) → Kind u t → Listed u (t ∷ []))
+    → ((u v : List Placed) (xs : List Tree) (t : Tree) → Listed u xs → Kind v t → Listed (u ++ name o key ∷ v) (xs ++ t ∷ []))
+    → ((x : Form) → Everywhere x → Again Kind x (operand_symbols wanted x))
+    → (one two : Tree) (rest : List Tree) → AllEverywhere (one ∷ two ∷ rest) → Several Listed key wanted (one ∷ two ∷ rest)
+unfolding form_of symbols
+several Kind Listed key wanted first more get one two rest h =
+    let a = get (form_of one) h.0 in
+    let b = get (form_of two) h.1.0 in
+    let y = further Kind Listed key wanted more get rest h.1.1 (a.placed ++ name o key ∷ b.placed) (a.tree ∷ b.tree ∷ []) (more a.placed b.placed (a.tree ∷ []) b.tree (first a.placed a.tree a.spells) b.spells) in
+    record {
+      placed = (a.placed ++ name o key ∷ b.placed) ++ y.placed;
+      one = a.tree;
+      two = b.tree;
+      rest = y.trees;
+      spells = y.spells;
+      written_so =
+          parts.joined (a.placed ++ name o key ∷ b.placed) y.placed (operand_symbols wanted (form_of one) ++ key ∷ operand_symbols wanted (form_of two)) _
+          (parts.joined a.placed (name o key ∷ b.placed) _ (key ∷ operand_symbols wanted (form_of two)) a.written_so (ap (λ w. key ∷ w) b.written_so)) y.written_so
+          ∙ append_assoc (operand_symbols wanted (form_of one)) (key ∷ operand_symbols wanted (form_of two)) _;
+      is =
+          ap (λ z. form.more z (form.more (form_of b.tree) (forms_of (trees_of y.trees)))) a.is
+          ∙ ap (λ z. form.more (form_of one) (form.more z (forms_of (trees_of y.trees)))) b.is
+          ∙ ap (λ z. form.more (form_of one) (form.more (form_of two) z)) y.is;
+      once = (a.once, (b.once, y.once));
+    }

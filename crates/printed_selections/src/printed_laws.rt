@@ -1,0 +1,24 @@
+//! What holds of the printed form of a selection that symbols spell.
+
+ghost use Rattle.std.specs.Prelude.{◌≡◌, ℕ, List, None, Ok};
+ghost use Rattle.ft_base.specs.Selection.{Form};
+ghost use Rattle.ft_parser.specs.Answer.{selection_read};
+ghost use Rattle.printed_selections.specs.Printed.{FaultlessAgain, PrintedSpells, WithinFilters};
+ghost use Rattle.query_grammar.specs.Form.{form_of};
+ghost use Rattle.query_grammar.specs.Grammar.{Selection};
+ghost use Rattle.query_grammar.specs.Tree.{Tree};
+ghost use Rattle.query_grammar.specs.declared.symbol.Placed.{Placed};
+ghost use Rattle.selection_faults.specs.Faults.{fault_of};
+
+/// The printed form of a selection that was spelled is written by symbols that spell the same selection, and one without a fault if it
+/// had none.
+pub fn spelled_again()
+    ensures spelled { (symbols : List Placed) (tree : Tree) → Selection symbols tree → PrintedSpells (form_of tree) }
+    ensures faultless { (symbols : List Placed) (tree : Tree) → Selection symbols tree → fault_of tree ≡ None → FaultlessAgain (form_of tree) }
+{}
+
+/// The printed form of a selection that was read is written by symbols that spell the same selection, without a fault and without a
+/// filter too many.
+pub fn read_again()
+    ensures { (text : List ℕ) (form : Form) → selection_read text ≡ Ok form → WithinFilters form }
+{}
