@@ -11,11 +11,11 @@ use Rattle.ft_base.specs.declared.words.Words.{Words}
 use Rattle.ft_base.specs.declared.words.Mode.{Mode}
 use Rattle.ft_base.specs.declared.words.Mode.TheVariants.{Any, AnyWord, All, AllWords, Phrase}
 use Rattle.all_matches.specs.Variants.{Item, Lexicon, variants}
-use Rattle.all_matches.specs.Hits.{passes_item, stands_as, Interval, intervals, tokens_in, intervals_of, hits, hit_on, match_of_hit}
+use Rattle.all_matches.specs.Hits.{stands_as, Interval, intervals, tokens_in, intervals_of, hits, hit_on, match_of_hit}
 use Rattle.all_matches.specs.Boolean.{empty_match, both, ft_or, ft_and}
 use Rattle.all_matches.specs.Meaning.{is_empty, phrases_by, strings_of, each_phrase, joined_by}
 use Rattle.all_matches.specs.Compositional.{occurrences}
-use Rattle.all_matches.specs.Counting.{begins_as, places, product, joined_count, hit_count, value_count}
+use Rattle.all_matches.specs.Counting.{product, joined_count, hit_count, value_count}
 
 -- ---- sums and products
 
@@ -76,7 +76,7 @@ value_occurrences lexicon options value tokens =
 
 -- ---- places
 
-count_by-cons : {X : Type 0} (p : X → Bool) (x : X) (xs : List X) → count_by p (x ∷ xs) ≡ cond (p x) 1 0 + count_by p xs
+pub count_by-cons : {X : Type 0} (p : X → Bool) (x : X) (xs : List X) → count_by p (x ∷ xs) ≡ cond (p x) 1 0 + count_by p xs
 count_by-cons p x xs = sum_by-cons (λ y. cond (p y) 1 0) x xs
 
 count_by-map : {X Y : Type 0} (p : Y → Bool) (f : X → Y) (xs : List X) → count_by p (map f xs) ≡ count_by (λ x. p (f x)) xs
@@ -86,11 +86,11 @@ count_by-map p f (x ∷ xs) = count_by-cons p (f x) (map f xs) ∙ ap (λ n. con
 count_by-append : {X : Type 0} (p : X → Bool) (xs ys : List X) → count_by p (xs ++ ys) ≡ count_by p xs + count_by p ys
 count_by-append p xs ys = sum_by-append (λ y. cond (p y) 1 0) xs ys
 
-count_by-alike : {X : Type 0} (p q : X → Bool) (xs : List X) → ((x : X) → p x ≡ q x) → count_by p xs ≡ count_by q xs
+pub count_by-alike : {X : Type 0} (p q : X → Bool) (xs : List X) → ((x : X) → p x ≡ q x) → count_by p xs ≡ count_by q xs
 count_by-alike p q [] same = refl
 count_by-alike p q (x ∷ xs) same = count_by-cons p x xs ∙ (λ i. cond (same x i) 1 0 + count_by-alike p q xs same i) ∙ sym (count_by-cons q x xs)
 
-count_by-never : {X : Type 0} (xs : List X) → count_by (λ x. false) xs ≡ 0
+pub count_by-never : {X : Type 0} (xs : List X) → count_by (λ x. false) xs ≡ 0
 count_by-never [] = refl
 count_by-never (x ∷ xs) = count_by-cons (λ y. false) x xs ∙ zero-add (count_by (λ y. false) xs) ∙ count_by-never xs
 
@@ -117,7 +117,7 @@ count_by-flat_map p f [] = refl
 count_by-flat_map p f (x ∷ xs) = count_by-append p (f x) (flat_map f xs) ∙ ap (λ n. count_by p (f x) + n) (count_by-flat_map p f xs) ∙ sym (sum_by-cons (λ y. count_by p (f y)) x xs)
 
 -- the first number, and those behind it
-first_number : (q : ℕ → Bool) (m : ℕ) → count_by q (range_with_len 0 (suc m)) ≡ cond (q 0) 1 0 + count_by (λ k. q (suc k)) (range_with_len 0 m)
+pub first_number : (q : ℕ → Bool) (m : ℕ) → count_by q (range_with_len 0 (suc m)) ≡ cond (q 0) 1 0 + count_by (λ k. q (suc k)) (range_with_len 0 m)
 first_number q m =
     count_by-cons q 0 (range_with_len 1 m)
     ∙ ap (λ n. cond (q 0) 1 0 + n) (ap (count_by q) (moved 1 m) ∙ count_by-map q (λ k. 1 + k) (range_with_len 0 m)
@@ -126,65 +126,48 @@ first_number q m =
     one-add : (k : ℕ) → 1 + k ≡ suc k
     one-add k = omega arith
 
-both_conds : (a b : Bool) → ◌≡◌ {A = ℕ} (cond a (cond b 1 0) 0) (cond (a && b) 1 0)
-both_conds true b = refl
-both_conds false b = refl
+module _ (lexicon : Lexicon) (options : Options) (stood : List (List Item)) where
+  -- whether one of the lists of items stands on the tokens
+  unfoldable pub stands_here : List Token → Bool
+  stands_here tokens = list_any (λ items. stands_as lexicon options items tokens) stood
 
-or_nothing : (b : Bool) → (b || false) ≡ b
-or_nothing true = refl
-or_nothing false = refl
+  -- on how many fronts of a list, but for the empty one
+  unfoldable pub fronts : List Token → ℕ
+  fronts tokens = count_by (λ j. stands_here (take (suc j) tokens)) (range_with_len 0 (length tokens))
 
-module _ (lexicon : Lexicon) (options : Options) where
-  begins : List Item → List Token → Bool
-  begins items tokens = begins_as (passes_item lexicon options) items tokens
+  -- on how many fronts of what is left from each place on
+  unfoldable pub all_fronts : List Token → ℕ
+  all_fronts [] = 0
+  all_fronts (token ∷ tokens) = fronts (token ∷ tokens) + all_fronts tokens
 
-  -- of the fronts of a list, the empty one among them, exactly one stands as the items where the list begins as they do
-  fronts : (items : List Item) (tokens : List Token) → count_by (λ k. stands_as lexicon options items (take k tokens)) (range_with_len 0 (suc (length tokens))) ≡ cond (begins items tokens) 1 0
-  unfolding begins
-  fronts [] [] = refl
-  fronts (item ∷ items) [] = refl
-  fronts [] (token ∷ tokens) =
-      first_number (λ k. stands_as lexicon options [] (take k (token ∷ tokens))) (suc (length tokens))
-      ∙ ap (λ n. 1 + n) (count_by-never (range_with_len 0 (suc (length tokens))))
-  fronts (item ∷ items) (token ∷ tokens) =
-      first_number (λ k. stands_as lexicon options (item ∷ items) (take k (token ∷ tokens))) (suc (length tokens))
-      ∙ zero-add (count_by (λ k. passes_item lexicon options item token && stands_as lexicon options items (take k tokens)) (range_with_len 0 (suc (length tokens))))
-      ∙ count_by-and (passes_item lexicon options item token) (λ k. stands_as lexicon options items (take k tokens)) (range_with_len 0 (suc (length tokens)))
-      ∙ ap (λ n. cond (passes_item lexicon options item token) n 0) (fronts items tokens)
-      ∙ both_conds (passes_item lexicon options item token) (begins items tokens)
-
-  module _ (item : Item) (items : List Item) (tokens : List Token) where
-    fits : Interval → Bool
-    fits interval = list_any (λ variant. stands_as lexicon options variant (tokens_in tokens interval)) ((item ∷ items) ∷ [])
-
+  module _ (tokens : List Token) where
     from_place : ℕ → List Interval
     from_place from = map (λ to. record { from = from; to = to }) (range_with_len from (suc (length tokens) - from))
 
+    fits : Interval → Bool
+    fits interval = list_any (λ items. stands_as lexicon options items (tokens_in tokens interval)) stood
+
     -- the intervals from a place on
-    from_here : (k : ℕ) (rest : List Token) → drop k tokens ≡ rest → length tokens ≡ k + length rest → count_by fits (from_place (suc k)) ≡ cond (begins (item ∷ items) rest) 1 0
-    unfolding fits from_place
+    from_here : (k : ℕ) (rest : List Token) → drop k tokens ≡ rest → length tokens ≡ k + length rest → count_by fits (from_place (suc k)) ≡ fronts rest
+    unfolding fits from_place stands_here fronts
     from_here k rest split size =
         let many : suc (length tokens) - suc k ≡ length rest = omega arith in
         count_by-map fits (λ to. record { from = suc k; to = to }) (range_with_len (suc k) (suc (length tokens) - suc k))
         ∙ ap (λ m. count_by (λ to. fits (record { from = suc k; to = to })) (range_with_len (suc k) m)) many
         ∙ ap (count_by (λ to. fits (record { from = suc k; to = to }))) (moved (suc k) (length rest))
         ∙ count_by-map (λ to. fits (record { from = suc k; to = to })) (λ j. suc k + j) (range_with_len 0 (length rest))
-        ∙ count_by-alike (λ j. fits (record { from = suc k; to = suc k + j })) (λ j. stands_as lexicon options (item ∷ items) (take (suc j) rest)) (range_with_len 0 (length rest)) one_interval
-        ∙ sym (zero-add (count_by (λ j. stands_as lexicon options (item ∷ items) (take (suc j) rest)) (range_with_len 0 (length rest))))
-        ∙ sym (first_number (λ j. stands_as lexicon options (item ∷ items) (take j rest)) (length rest))
-        ∙ fronts (item ∷ items) rest
+        ∙ count_by-alike (λ j. fits (record { from = suc k; to = suc k + j })) (λ j. stands_here (take (suc j) rest)) (range_with_len 0 (length rest)) one_interval
       where
-        one_interval : (j : ℕ) → fits (record { from = suc k; to = suc k + j }) ≡ stands_as lexicon options (item ∷ items) (take (suc j) rest)
+        one_interval : (j : ℕ) → fits (record { from = suc k; to = suc k + j }) ≡ stands_here (take (suc j) rest)
         one_interval j =
             let long : suc (suc k + j) - suc k ≡ suc j = omega arith in
             let start : suc k - 1 ≡ k = omega arith in
-            or_nothing (stands_as lexicon options (item ∷ items) (tokens_in tokens (record { from = suc k; to = suc k + j })))
-            ∙ (λ i. stands_as lexicon options (item ∷ items) (take (long i) (drop (start i) tokens)))
-            ∙ ap (λ xs. stands_as lexicon options (item ∷ items) (take (suc j) xs)) split
+            (λ i. stands_here (take (long i) (drop (start i) tokens)))
+            ∙ ap (λ xs. stands_here (take (suc j) xs)) split
 
     all_places : (k : ℕ) (rest : List Token) → drop k tokens ≡ rest → length tokens ≡ k + length rest
-        → sum_by (λ from. count_by fits (from_place from)) (range_with_len (suc k) (length rest)) ≡ places (passes_item lexicon options) (item ∷ items) rest
-    unfolding begins
+        → sum_by (λ from. count_by fits (from_place from)) (range_with_len (suc k) (length rest)) ≡ all_fronts rest
+    unfolding all_fronts
     all_places k [] split size = refl
     all_places k (token ∷ rest) split size =
         let next : suc k + 1 ≡ suc (suc k) = omega arith in
@@ -199,10 +182,11 @@ module _ (lexicon : Lexicon) (options : Options) where
         behind (suc k) [] e = cc
         behind (suc k) (t ∷ ts) e = behind k ts e
 
-  pub phrase_places : (phrase : List Item) (item : Item) (items : List Item) (tokens : List Token) → variants lexicon options phrase ≡ (item ∷ items) ∷ [] → hit_count lexicon options tokens phrase ≡ places (passes_item lexicon options) (item ∷ items) tokens
-  unfolding fits from_place
-  phrase_places phrase item items tokens one =
-      ap (λ vs. length (filter (λ interval. list_any (λ variant. stands_as lexicon options variant (tokens_in tokens interval)) vs) (intervals (length tokens)))) one
-      ∙ length-filter (fits item items tokens) (intervals (length tokens))
-      ∙ count_by-flat_map (fits item items tokens) (from_place item items tokens) (range_with_len 1 (length tokens))
-      ∙ all_places item items tokens 0 tokens refl (sym (zero-add (length tokens)))
+-- the hits of a phrase are on fronts of what is left from each place on
+pub hits_on_fronts : (lexicon : Lexicon) (options : Options) (phrase : List Item) (tokens : List Token) → hit_count lexicon options tokens phrase ≡ all_fronts lexicon options (variants lexicon options phrase) tokens
+unfolding fits from_place
+hits_on_fronts lexicon options phrase tokens =
+    let stood = variants lexicon options phrase in
+    length-filter (fits lexicon options stood tokens) (intervals (length tokens))
+    ∙ count_by-flat_map (fits lexicon options stood tokens) (from_place lexicon options stood tokens) (range_with_len 1 (length tokens))
+    ∙ all_places lexicon options stood tokens 0 tokens refl (sym (zero-add (length tokens)))

@@ -5,6 +5,7 @@ pub mod RaisedFilters
 pub mod Numbering
 pub mod Compositional
 pub mod Counting
+pub mod VariantPlaces
 pub mod Choices
 pub mod BareWays
 pub mod WayLaws

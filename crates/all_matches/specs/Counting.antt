@@ -1,6 +1,6 @@
 -- How often the words of a value occur in a text, as numbers of places.
-use Rattle.std.specs.Prelude.{ℕ, ◌+◌, ◌*◌, Bool, true, false, ◌&&◌, if◌then◌else◌, List, [], ◌∷◌, map, length, sum}
-use Rattle.std.specs.List.{list_all}
+use Rattle.std.specs.Prelude.{ℕ, ◌+◌, ◌*◌, ◌==◌, Bool, true, false, ◌&&◌, if◌then◌else◌, List, [], ◌∷◌, ◌++◌, map, fold, length, sum}
+use Rattle.std.specs.List.{list_all, list_any}
 use Rattle.ft_base.specs.declared.token.Token.{Token}
 use Rattle.ft_base.specs.declared.options.Options.{Options}
 use Rattle.ft_base.specs.declared.words.Words.{Words}
@@ -16,10 +16,23 @@ begins_as passes [] tokens = true
 begins_as passes (item ∷ items) [] = false
 begins_as passes (item ∷ items) (token ∷ tokens) = passes item token && begins_as passes items tokens
 
--- at how many tokens a list of items begins: `"a b"` at two of `a b a b`
-abbrev pub places : {X Y : Type 0} → (X → Y → Bool) → List X → List Y → ℕ
-places passes items [] = 0
-places passes items (token ∷ tokens) = (if begins_as passes items (token ∷ tokens) then 1 else 0) + places passes items tokens
+-- at how many tokens one of some lists of items begins: `a` or `b` at three of `a x b a`
+abbrev pub places : {X Y : Type 0} → (X → Y → Bool) → List (List X) → List Y → ℕ
+places passes variants [] = 0
+places passes variants (token ∷ tokens) = (if list_any (λ items. begins_as passes items (token ∷ tokens)) variants then 1 else 0) + places passes variants tokens
+
+-- lists of items, those of one length together under it, with one more
+abbrev pub put_variant : {X : Type 0} → List X → List (ℕ × List (List X)) → List (ℕ × List (List X))
+put_variant variant [] = (length variant, variant ∷ []) ∷ []
+put_variant variant (group ∷ groups) = if length variant == group.0 then (group.0, group.1 ++ variant ∷ []) ∷ groups else group ∷ put_variant variant groups
+
+-- a list without items stands nowhere
+abbrev pub with_variant : {X : Type 0} → List (ℕ × List (List X)) → List X → List (ℕ × List (List X))
+with_variant groups [] = groups
+with_variant groups (item ∷ items) = put_variant (item ∷ items) groups
+
+abbrev pub by_length : {X : Type 0} → List (List X) → List (ℕ × List (List X))
+by_length variants = fold with_variant [] variants
 
 abbrev pub product : List ℕ → ℕ
 product [] = 1

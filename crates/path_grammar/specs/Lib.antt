@@ -7,5 +7,6 @@ pub mod Collection
 pub mod Tests
 pub mod Grammar
 pub mod Levels
+pub mod Machine
 pub mod Examples
 pub mod Spellings

@@ -1,11 +1,13 @@
 -- Symbols for examples.
-use Rattle.std.specs.Prelude.{ℕ, ◌+◌, List, [], ◌∷◌, None}
+use Rattle.std.specs.Prelude.{ℕ, ◌+◌, List, [], ◌∷◌, Option, Some, None}
 use Rattle.ft_base.specs.declared.words.Mode.TheVariants.{Any}
 use Rattle.query_grammar.specs.declared.symbol.Placed.{Placed}
 use Rattle.query_grammar.specs.declared.symbol.Symbol.{Symbol}
 use Rattle.query_grammar.specs.Grammar.{Spot, at, string, placed}
 use Rattle.query_grammar.specs.Tree.{Tree, words}
+use Rattle.path_grammar.specs.Form as form
 use Rattle.path_grammar.specs.Grammar.{Inside, inside}
+use Rattle.path_grammar.specs.Machine.{State, read, finished, open_count}
 
 -- symbols in a row, as if each were one byte long
 abbrev pub row_from : ℕ → List Symbol → List Placed
@@ -21,3 +23,18 @@ quoted p s = words record { strings = placed p s ∷ []; mode = Any; times = Non
 
 abbrev pub quoted_inside : Spot → List ℕ → Inside
 quoted_inside p s = inside (string p s ∷ []) (quoted p s)
+
+-- what the machine has read, and how much is open, if symbols lead anywhere
+abbrev pub value_at : Option State → Option (form.Path × List Inside)
+value_at None = None
+value_at (Some s) = finished s
+
+abbrev pub value_of : List Placed → Option (form.Path × List Inside)
+value_of symbols = value_at (read symbols)
+
+abbrev pub depth_at : Option State → Option ℕ
+depth_at None = None
+depth_at (Some s) = Some (open_count s)
+
+abbrev pub depth_of : List Placed → Option ℕ
+depth_of symbols = depth_at (read symbols)

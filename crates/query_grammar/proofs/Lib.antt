@@ -12,5 +12,4 @@ pub mod SelectionWalks
 pub mod Ended
 pub mod Readings
 pub mod Views
-pub mod Steps
 pub mod Laws

@@ -6,6 +6,5 @@ pub mod Grammar
 pub mod Machine
 pub mod Reading
 pub mod Texts
-pub mod Stops
 pub mod Form
 pub mod Examples

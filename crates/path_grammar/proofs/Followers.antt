@@ -1,0 +1,44 @@
+-- What ends a condition goes on with no selection that is whole.
+use Rattle.std.proofs.Common.{◌≡◌, List, [], ◌∷◌, Some, None, refl}
+use Rattle.std.specs.Prelude.{codes}
+use Rattle.query_grammar.specs.declared.symbol.Symbol.{Symbol}
+use Rattle.query_grammar.specs.declared.symbol.Symbol.TheVariants as S
+use Rattle.query_grammar.specs.Grammar.{Spot, at}
+use Rattle.query_grammar.specs.Shapes.{Shape, whole, nothing, word, number, text, mark, step}
+use Rattle.query_grammar.specs.Machine as selection
+use Rattle.query_grammar.specs.Machine.{Left, Frame, State, next, next_at, advance, finished_at, finished_in, selection_at}
+use Rattle.query_grammar.specs.Tree.{Tree}
+
+-- `]`, `)`, `and` and `or`
+pub data Follower : Symbol → Type 0 where
+  close_bracket : Follower S.CloseBracket
+  close_parenthesis : Follower S.CloseParenthesis
+  and : Follower (S.Name (codes "and"))
+  or : Follower (S.Name (codes "or"))
+
+stage_stops : {z : Symbol} (p : Spot) (left : Left) (stage : selection.Stage) (x : Tree) → Follower z → selection_at left stage ≡ Some x → step (next_at [] left stage) (at p z) ≡ None
+stage_stops p left (selection.thesaurus n y os at s None) x close_bracket e = refl
+stage_stops p left (selection.thesaurus n y os at s None) x close_parenthesis e = refl
+stage_stops p left (selection.thesaurus n y os at s None) x and e = refl
+stage_stops p left (selection.thesaurus n y os at s None) x or e = refl
+stage_stops p left (selection.thesaurus n y os at s (Some r)) x close_bracket e = refl
+stage_stops p left (selection.thesaurus n y os at s (Some r)) x close_parenthesis e = refl
+stage_stops p left (selection.thesaurus n y os at s (Some r)) x and e = refl
+stage_stops p left (selection.thesaurus n y os at s (Some r)) x or e = refl
+stage_stops p left other x close_bracket e = cc
+stage_stops p left other x close_parenthesis e = cc
+stage_stops p left other x and e = cc
+stage_stops p left other x or e = cc
+
+state_stops : {z : Symbol} (p : Spot) (outer : List Frame) (left : Left) (stage : selection.Stage) (x : Tree) → Follower z → finished_in outer (selection_at left stage) ≡ Some x → step (next_at outer left stage) (at p z) ≡ None
+state_stops p [] left stage x f e = stage_stops p left stage x f e
+state_stops p (frame ∷ outer) left stage x f e = cc
+
+pub selection_stops : {z : Symbol} (p : Spot) (t : Shape State) (x : Tree) → Follower z → finished_at t ≡ Some x → advance t (at p z) ≡ None
+unfolding next
+selection_stops p (whole s) x f e = state_stops p s.outer s.left s.stage x f e
+selection_stops p nothing x f e = refl
+selection_stops p (word key to rest) x f e = cc
+selection_stops p (number to rest) x f e = cc
+selection_stops p (text to rest) x f e = cc
+selection_stops p (mark m to rest) x f e = cc
