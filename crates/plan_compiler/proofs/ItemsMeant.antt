@@ -1,8 +1,10 @@
--- What a word of a query asks of the forms of a word, and which words are stop words.
-use Rattle.std.proofs.Common.{◌≡◌, refl, ap, ◌∙◌, ℕ, Bool, true, false, not, ◌&&◌, ◌||◌, List, [], ◌∷◌, map, Option, Some, None}
+-- What a word of a query asks of a word of a text, and which words are stop words.
+use Rattle.std.proofs.Common.{◌≡◌, refl, sym, ap, ◌∙◌, ℕ, Bool, true, false, cond, not, ◌&&◌, ◌||◌, List, [], ◌∷◌, ◌++◌, map, Option, Some, None}
 use Rattle.std.specs.Prelude.{flat_map, fold, bytes_eq, if◌then◌else◌}
-use Rattle.std.specs.List.{list_any, list_all}
-use Rattle.std.proofs.lemmas.Bool.{and_parts}
+use Rattle.std.specs.List.{list_any}
+use Rattle.std.proofs.lemmas.Bool.{both_ways}
+use Rattle.std.proofs.lemmas.List.Folds.{list_any-append}
+use Rattle.std.proofs.lemmas.Slice.Eq.{bytes_eq-Decides}
 use Rattle.ft_base.specs.declared.options.Case.{Case}
 use Rattle.ft_base.specs.declared.options.Case.TheVariants.{Insensitive, Sensitive, Lower, Upper}
 use Rattle.ft_base.specs.declared.options.StopChoice.{StopChoice}
@@ -14,14 +16,16 @@ use Rattle.text_forms.specs.Forms.{key_of}
 use Rattle.tokenizer.specs.Words.{words}
 use Rattle.all_matches.specs.Variants.{Item, any_word, word, pattern, source_holds, after_term, is_stop_word}
 use Rattle.all_matches.proofs.ListTests.{list_any-map, list_any-flat_map, list_any-alike}
+use Rattle.match_options.specs.TokenTest.{has_case}
 use Rattle.match_options.specs.WordForms.{forms_of}
 use Rattle.match_options.specs.Wildcards.{pattern_in}
 use Rattle.match_options.specs.WordTests.{is_by_key, item_passes, pattern_passes, forms_as}
 use Rattle.match_options.specs.declared.atom.Atom.{Atom}
 use Rattle.match_options.specs.declared.form_choice.FormChoice.{FormChoice}
-use Rattle.plan_compiler.specs.Decided.{is_written, has_written_stop_words}
-use Rattle.plan_compiler.specs.Lexicon.{lexicon}
-use Rattle.plan_compiler.specs.Stops.{item_key, string_keys, source_keys, term_keys, stops_of, has_key, after_keys, is_stop_key}
+use Rattle.word_lists.specs.StopLists.{with_key}
+use Rattle.plan_compiler.specs.Lexicon.{holds_key, lexicon}
+use Rattle.plan_compiler.specs.NamedLists.{NamedLists, list_named}
+use Rattle.plan_compiler.specs.Stops.{item_key, string_keys, source_keys, term_keys, listed_keys, stops_of, has_key, after_keys, is_stop_key}
 
 -- ---- by all forms, or by keys alone
 
@@ -45,6 +49,61 @@ pub by_forms : (all : Bool) (choice : FormChoice) (item : Item) (w : List ℕ) �
 by_forms true choice item w h = refl
 by_forms false choice item w h = by_key choice.case choice.diacritics_sensitive item w h
 
+case_by_key : (case : Case) (marks : Bool) (w : List ℕ) → is_by_key (record { case = case; diacritics_sensitive = marks }) ≡ true → has_case case (forms_as false w) ≡ has_case case (forms_of w)
+case_by_key Insensitive marks w h = refl
+case_by_key Sensitive marks w h = cc
+case_by_key Lower marks w h = cc
+case_by_key Upper marks w h = cc
+
+pub case_by_forms : (all : Bool) (choice : FormChoice) (w : List ℕ) → (all || is_by_key choice) ≡ true → has_case choice.case (forms_as all w) ≡ has_case choice.case (forms_of w)
+case_by_forms true choice w h = refl
+case_by_forms false choice w h = case_by_key choice.case choice.diacritics_sensitive w h
+
+-- ---- sets of keys
+
+same_back : (a b : List ℕ) → bytes_eq a b ≡ bytes_eq b a
+same_back a b = by_test (bytes_eq a b) refl
+  where
+    by_test : (t : Bool) → bytes_eq a b ≡ t → t ≡ bytes_eq b a
+    by_test true e = sym ((bytes_eq-Decides b a).1 (sym ((bytes_eq-Decides a b).0 e)))
+    by_test false e = by_back (bytes_eq b a) refl
+      where
+        by_back : (s : Bool) → bytes_eq b a ≡ s → false ≡ s
+        by_back true f = absurd (both_ways (bytes_eq a b) e ((bytes_eq-Decides a b).1 (sym ((bytes_eq-Decides b a).0 f))))
+        by_back false f = refl
+
+-- one key more
+put_key : (q : List ℕ) (keys : List (List ℕ)) (key : List ℕ) → has_key (with_key keys key) q ≡ (has_key keys q || bytes_eq q key)
+put_key q keys key = by_test (list_any (bytes_eq key) keys) refl
+  where
+    or_nothing : (b : Bool) → (b || false) ≡ b
+    or_nothing true = refl
+    or_nothing false = refl
+
+    or_true : (b : Bool) → (b || true) ≡ true
+    or_true true = refl
+    or_true false = refl
+
+    there : list_any (bytes_eq key) keys ≡ true → (t : Bool) → bytes_eq q key ≡ t → has_key keys q ≡ (has_key keys q || t)
+    there e true f = ap (λ k. list_any (bytes_eq k) keys) ((bytes_eq-Decides q key).0 f) ∙ e ∙ sym (or_true (has_key keys q))
+    there e false f = sym (or_nothing (has_key keys q))
+
+    by_test : (b : Bool) → list_any (bytes_eq key) keys ≡ b → has_key (cond b keys (keys ++ key ∷ [])) q ≡ (has_key keys q || bytes_eq q key)
+    by_test true e = there e (bytes_eq q key) refl
+    by_test false e = list_any-append (bytes_eq q) keys (key ∷ []) ∙ ap (λ b. has_key keys q || b) (or_nothing (bytes_eq q key))
+
+put_keys : (q : List ℕ) (keys more : List (List ℕ)) → has_key (fold with_key keys more) q ≡ (has_key keys q || has_key more q)
+put_keys q keys [] = or_nothing (has_key keys q)
+  where
+    or_nothing : (b : Bool) → b ≡ (b || false)
+    or_nothing true = refl
+    or_nothing false = refl
+put_keys q keys (key ∷ more) = put_keys q (with_key keys key) more ∙ ap (λ b. b || has_key more q) (put_key q keys key) ∙ joined (has_key keys q) (bytes_eq q key) (has_key more q)
+  where
+    joined : (a b c : Bool) → ((a || b) || c) ≡ (a || (b || c))
+    joined true b c = refl
+    joined false b c = refl
+
 -- ---- stop words
 
 map-map : (ws : List (List ℕ)) → map item_key (map word ws) ≡ map key_of ws
@@ -52,26 +111,32 @@ map-map [] = refl
 map-map (w ∷ ws) = ap (λ keys. key_of w ∷ keys) (map-map ws)
 
 text_has : (text key : List ℕ) → has_key (string_keys text) key ≡ list_any (λ w. bytes_eq (key_of w) key) (words text)
-text_has text key = ap (λ keys. has_key keys key) (map-map (words text)) ∙ list_any-map (λ k. bytes_eq k key) key_of (words text)
+text_has text key =
+    ap (λ keys. has_key keys key) (map-map (words text)) ∙ list_any-map (bytes_eq key) key_of (words text)
+    ∙ list_any-alike (λ w. bytes_eq key (key_of w)) (λ w. bytes_eq (key_of w) key) (words text) (λ w. same_back key (key_of w))
 
-texts_have : (texts : List (List ℕ)) (key : List ℕ) → has_key (flat_map string_keys texts) key ≡ list_any (λ text. list_any (λ w. bytes_eq (key_of w) key) (words text)) texts
+texts_have : (texts : List (List ℕ)) (key : List ℕ) → has_key (fold with_key [] (flat_map string_keys texts)) key ≡ list_any (λ text. list_any (λ w. bytes_eq (key_of w) key) (words text)) texts
 texts_have texts key =
-    list_any-flat_map (λ k. bytes_eq k key) string_keys texts
+    put_keys key [] (flat_map string_keys texts)
+    ∙ list_any-flat_map (bytes_eq key) string_keys texts
     ∙ list_any-alike (λ text. has_key (string_keys text) key) (λ text. list_any (λ w. bytes_eq (key_of w) key) (words text)) texts (λ text. text_has text key)
 
-source_has : (source : StopSource) (key : List ℕ) → is_written source ≡ true → has_key (source_keys source) key ≡ source_holds lexicon source key
-source_has (At name) key h = cc
-source_has (Written texts) key h = texts_have texts key
+list_has : (keys : Option (List (List ℕ))) (key : List ℕ) → has_key (listed_keys keys) key ≡ holds_key keys key
+list_has None key = refl
+list_has (Some keys) key = refl
 
-terms_mean : (terms : List StopTerm) (key : List ℕ) (held : Bool) → list_all (λ term. is_written term.source) terms ≡ true
-    → fold (after_keys key) held (map term_keys terms) ≡ fold (after_term lexicon key) held terms
-terms_mean [] key held h = refl
-terms_mean (term ∷ terms) key held h =
-    let parts = and_parts (is_written term.source) (list_all (λ t. is_written t.source) terms) h in
-    ap (λ b. fold (after_keys key) (if term.except then held && not b else held || b) (map term_keys terms)) (source_has term.source key parts.0)
-    ∙ terms_mean terms key (after_term lexicon key held term) parts.1
+module _ (lists : NamedLists) where
+  source_has : (source : StopSource) (key : List ℕ) → has_key (source_keys lists source) key ≡ source_holds (lexicon lists) source key
+  source_has (At name) key = list_has (list_named name lists.stops) key
+  source_has (Written texts) key = texts_have texts key
 
-pub stops_mean : (choice : Option StopChoice) (key : List ℕ) → has_written_stop_words choice ≡ true → is_stop_key (stops_of choice) key ≡ is_stop_word lexicon choice key
-stops_mean None key h = refl
-stops_mean (Some Stop.No) key h = refl
-stops_mean (Some (Stop.Sets terms)) key h = terms_mean terms key false h
+  terms_mean : (terms : List StopTerm) (key : List ℕ) (held : Bool) → fold (after_keys key) held (map (term_keys lists) terms) ≡ fold (after_term (lexicon lists) key) held terms
+  terms_mean [] key held = refl
+  terms_mean (term ∷ terms) key held =
+      ap (λ b. fold (after_keys key) (if term.except then held && not b else held || b) (map (term_keys lists) terms)) (source_has term.source key)
+      ∙ terms_mean terms key (after_term (lexicon lists) key held term)
+
+  pub stops_mean : (choice : Option StopChoice) (key : List ℕ) → is_stop_key (stops_of lists choice) key ≡ is_stop_word (lexicon lists) choice key
+  stops_mean None key = refl
+  stops_mean (Some Stop.No) key = refl
+  stops_mean (Some (Stop.Sets terms)) key = terms_mean terms key false

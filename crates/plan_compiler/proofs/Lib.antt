@@ -2,7 +2,9 @@ pub mod Capped
 pub mod Places
 pub mod NodeViews
 pub mod ListLemmas
+pub mod GroupLemmas
 pub mod DecidedLemmas
+pub mod MissingLemmas
 pub mod ItemsMeant
 pub mod PhrasesMeant
 pub mod SelectionsMeant

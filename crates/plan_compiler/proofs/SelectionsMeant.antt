@@ -19,10 +19,13 @@ use Rattle.all_matches.proofs.Compositional.{sat-or_of, sat-and_of, sat-not_of, 
 use Rattle.all_matches.proofs.Counting.{value_occurrences}
 use Rattle.match_options.specs.TokenTest.{is_on, case_of}
 use Rattle.match_options.specs.WordTests.{choice_of, is_by_key, is_insensitive}
-use Rattle.match_options.specs.declared.word_forms.Forms.{Forms}
 use Rattle.plan_compiler.specs.Lexicon.{lexicon}
-use Rattle.plan_compiler.specs.Decided.{are_served, is_served, all_served, needs_no_list, has_no_thesaurus, has_written_stop_words}
-use Rattle.plan_compiler.specs.NodeMeant.{truth, forms_of_tokens}
+use Rattle.plan_compiler.specs.NamedLists.{NamedLists}
+use Rattle.plan_compiler.specs.NodeMeant.{truth}
+use Rattle.plan_compiler.specs.Served.{are_served, is_served, all_served}
+use Rattle.plan_compiler.specs.TextWords.{words_of_tokens}
+use Rattle.plan_compiler.specs.declared.looks.Looks.{Looks}
+use Rattle.plan_compiler.specs.declared.text_word.TextWord.{TextWord}
 use Rattle.plan_compiler.specs.WordsMeant.{words_truth}
 use Rattle.plan_compiler.specs.CompiledMeant.{IsCompiled}
 use Rattle.plan_compiler.specs.declared.words_plan.WordsPlan.{WordsPlan}
@@ -30,7 +33,8 @@ use Rattle.plan_compiler.specs.declared.node.Node.{Node}
 use Rattle.plan_compiler.specs.declared.node.Node as N
 use Rattle.plan_compiler.proofs.DecidedLemmas.{form-Words, form-Not, form-With}
 use Rattle.plan_compiler.proofs.NodeViews.{truth-Or, truth-And, truth-Not}
-use Rattle.plan_compiler.proofs.PhrasesMeant.{compiled_count, map-append}
+use Rattle.plan_compiler.proofs.GroupLemmas.{map-append}
+use Rattle.plan_compiler.proofs.PhrasesMeant.{compiled_count}
 
 -- what holds of both options of a group holds of the one that stands further in
 nearer : {X : Type 0} (test : Option X → Bool) (inner outer : Option X) → test inner ≡ true → test outer ≡ true → test (option_or inner outer) ≡ true
@@ -48,44 +52,44 @@ forms_inside : (all : Bool) (inner outer : Options) → (all || is_by_key (choic
 forms_inside true inner outer h k = refl
 forms_inside false inner outer h k = by_key_inside inner outer h k
 
+stems_inside : (stems : Bool) (inner outer : Option Bool) → (stems || not (is_on inner)) ≡ true → (stems || not (is_on outer)) ≡ true → (stems || not (is_on (option_or inner outer))) ≡ true
+stems_inside true inner outer h k = refl
+stems_inside false inner outer h k = nearer (λ o. not (is_on o)) inner outer h k
+
 -- options that are served hold inside others
-pub served_inside : (all : Bool) (inner outer : Options) → are_served all inner ≡ true → are_served all outer ≡ true → are_served all (inside inner outer) ≡ true
-served_inside all inner outer h k =
-    let f = and_parts (needs_no_list inner) (all || is_by_key (choice_of inner)) h in
-    let g = and_parts (needs_no_list outer) (all || is_by_key (choice_of outer)) k in
-    let e = and_parts (not (is_on inner.stemming) && has_no_thesaurus inner.thesaurus) (has_written_stop_words inner.stop_words) f.0 in
-    let d = and_parts (not (is_on outer.stemming) && has_no_thesaurus outer.thesaurus) (has_written_stop_words outer.stop_words) g.0 in
-    let a = and_parts (not (is_on inner.stemming)) (has_no_thesaurus inner.thesaurus) e.0 in
-    let b = and_parts (not (is_on outer.stemming)) (has_no_thesaurus outer.thesaurus) d.0 in
-    let both = inside inner outer in
-    and_from (needs_no_list both) (all || is_by_key (choice_of both))
-    (and_from (not (is_on both.stemming) && has_no_thesaurus both.thesaurus) (has_written_stop_words both.stop_words)
-    (and_from (not (is_on both.stemming)) (has_no_thesaurus both.thesaurus)
-    (nearer (λ o. not (is_on o)) inner.stemming outer.stemming a.0 b.0) (nearer has_no_thesaurus inner.thesaurus outer.thesaurus a.1 b.1))
-    (nearer has_written_stop_words inner.stop_words outer.stop_words e.1 d.1))
-    (forms_inside all inner outer f.1 g.1)
+pub served_inside : (looks : Looks) (inner outer : Options) → are_served looks inner ≡ true → are_served looks outer ≡ true → are_served looks (inside inner outer) ≡ true
+served_inside looks inner outer h k =
+    let a = and_parts (looks.all_forms || is_by_key (choice_of inner)) (looks.stems || not (is_on inner.stemming)) h in
+    let b = and_parts (looks.all_forms || is_by_key (choice_of outer)) (looks.stems || not (is_on outer.stemming)) k in
+    and_from (looks.all_forms || is_by_key (choice_of (inside inner outer))) (looks.stems || not (is_on (option_or inner.stemming outer.stemming)))
+    (forms_inside looks.all_forms inner outer a.0 b.0) (stems_inside looks.stems inner.stemming outer.stemming a.1 b.1)
 
-pub none_served : (all : Bool) → are_served all no_options ≡ true
-none_served true = refl
-none_served false = refl
+pub none_served : (looks : Looks) → are_served looks no_options ≡ true
+none_served looks = by_looks looks.all_forms looks.stems
+  where
+    by_looks : (all stems : Bool) → ((all || true) && (stems || true)) ≡ true
+    by_looks true true = refl
+    by_looks true false = refl
+    by_looks false true = refl
+    by_looks false false = refl
 
-pub words_mean : (all : Bool) (outer : Options) (value : Words) (plan : WordsPlan) (tokens : List Token) → IsCompiled plan (inside value.options outer) value
-    → are_served all (inside value.options outer) ≡ true → words_truth plan (forms_of_tokens all tokens) ≡ sat_under lexicon outer (words value) tokens
-words_mean all outer value plan tokens compiled served =
-    (λ i. enough (compiled.times i) ((compiled_count all (inside value.options outer) plan value tokens compiled served ∙ sym (value_occurrences lexicon (inside value.options outer) value tokens)) i))
-    ∙ sym (sat-words lexicon outer value tokens)
+pub words_mean : (looks : Looks) (lists : NamedLists) (outer : Options) (value : Words) (plan : WordsPlan) (tokens : List Token) → IsCompiled plan lists (inside value.options outer) value
+    → are_served looks (inside value.options outer) ≡ true → words_truth plan (words_of_tokens looks lists.stems tokens) ≡ sat_under (lexicon lists) outer (words value) tokens
+words_mean looks lists outer value plan tokens compiled served =
+    (λ i. enough (compiled.times i) ((compiled_count looks lists (inside value.options outer) plan value tokens compiled served ∙ sym (value_occurrences (lexicon lists) (inside value.options outer) value tokens)) i))
+    ∙ sym (sat-words (lexicon lists) outer value tokens)
 
 -- what compiled operands say, one beside the other
-abbrev pub SayAs : Bool → Options → List Node → List Selection → Type 0
-SayAs all options nodes parts = (tokens : List Token) → map (λ node. truth node (forms_of_tokens all tokens)) nodes ≡ map (λ part. sat_under lexicon options (form part) tokens) parts
+abbrev pub SayAs : Looks → NamedLists → Options → List Node → List Selection → Type 0
+SayAs looks lists options nodes parts = (tokens : List Token) → map (λ node. truth node (words_of_tokens looks lists.stems tokens)) nodes ≡ map (λ part. sat_under (lexicon lists) options (form part) tokens) parts
 
-some_node : (keys : List Forms) (nodes : List Node) → list_any (λ node. truth node keys) nodes ≡ list_any (λ b. b) (map (λ node. truth node keys) nodes)
-some_node keys [] = refl
-some_node keys (node ∷ nodes) = ap (λ b. truth node keys || b) (some_node keys nodes)
+some_node : (text : List TextWord) (nodes : List Node) → list_any (λ node. truth node text) nodes ≡ list_any (λ b. b) (map (λ node. truth node text) nodes)
+some_node text [] = refl
+some_node text (node ∷ nodes) = ap (λ b. truth node text || b) (some_node text nodes)
 
-each_node : (keys : List Forms) (nodes : List Node) → list_all (λ node. truth node keys) nodes ≡ list_all (λ b. b) (map (λ node. truth node keys) nodes)
-each_node keys [] = refl
-each_node keys (node ∷ nodes) = ap (λ b. truth node keys && b) (each_node keys nodes)
+each_node : (text : List TextWord) (nodes : List Node) → list_all (λ node. truth node text) nodes ≡ list_all (λ b. b) (map (λ node. truth node text) nodes)
+each_node text [] = refl
+each_node text (node ∷ nodes) = ap (λ b. truth node text && b) (each_node text nodes)
 
 some_part : (test : Form → Bool) (parts : List Selection) → list_any (λ b. b) (map (λ part. test (form part)) parts) ≡ some_form test (forms_of (map form parts))
 some_part test [] = refl
@@ -95,46 +99,46 @@ each_part : (test : Form → Bool) (parts : List Selection) → list_all (λ b. 
 each_part test [] = refl
 each_part test (part ∷ parts) = ap (λ b. test (form part) && b) (each_part test parts)
 
-pub or_means : (all : Bool) (options : Options) (nodes : List Node) (parts : List Selection) (tokens : List Token) → SayAs all options nodes parts → truth (N.Or nodes) (forms_of_tokens all tokens) ≡ sat_under lexicon options (or_of (forms_of (map form parts))) tokens
-or_means all options nodes parts tokens same =
-    truth-Or nodes (forms_of_tokens all tokens) ∙ some_node (forms_of_tokens all tokens) nodes ∙ ap (list_any (λ b. b)) (same tokens)
-    ∙ some_part (λ f. sat_under lexicon options f tokens) parts ∙ sym (sat-or_of lexicon options (forms_of (map form parts)) tokens)
+pub or_means : (looks : Looks) (lists : NamedLists) (options : Options) (nodes : List Node) (parts : List Selection) (tokens : List Token) → SayAs looks lists options nodes parts → truth (N.Or nodes) (words_of_tokens looks lists.stems tokens) ≡ sat_under (lexicon lists) options (or_of (forms_of (map form parts))) tokens
+or_means looks lists options nodes parts tokens same =
+    truth-Or nodes (words_of_tokens looks lists.stems tokens) ∙ some_node (words_of_tokens looks lists.stems tokens) nodes ∙ ap (list_any (λ b. b)) (same tokens)
+    ∙ some_part (λ f. sat_under (lexicon lists) options f tokens) parts ∙ sym (sat-or_of (lexicon lists) options (forms_of (map form parts)) tokens)
 
-pub and_means : (all : Bool) (options : Options) (nodes : List Node) (parts : List Selection) (tokens : List Token) → SayAs all options nodes parts → truth (N.And nodes) (forms_of_tokens all tokens) ≡ sat_under lexicon options (and_of (forms_of (map form parts))) tokens
-and_means all options nodes parts tokens same =
-    truth-And nodes (forms_of_tokens all tokens) ∙ each_node (forms_of_tokens all tokens) nodes ∙ ap (list_all (λ b. b)) (same tokens)
-    ∙ each_part (λ f. sat_under lexicon options f tokens) parts ∙ sym (sat-and_of lexicon options (forms_of (map form parts)) tokens)
+pub and_means : (looks : Looks) (lists : NamedLists) (options : Options) (nodes : List Node) (parts : List Selection) (tokens : List Token) → SayAs looks lists options nodes parts → truth (N.And nodes) (words_of_tokens looks lists.stems tokens) ≡ sat_under (lexicon lists) options (and_of (forms_of (map form parts))) tokens
+and_means looks lists options nodes parts tokens same =
+    truth-And nodes (words_of_tokens looks lists.stems tokens) ∙ each_node (words_of_tokens looks lists.stems tokens) nodes ∙ ap (list_all (λ b. b)) (same tokens)
+    ∙ each_part (λ f. sat_under (lexicon lists) options f tokens) parts ∙ sym (sat-and_of (lexicon lists) options (forms_of (map form parts)) tokens)
 
 -- which operands are decided
-pub decided_at : (all : Bool) (parts : List Selection) (i : ℕ) (part : Selection) → all_served all (forms_of (map form parts)) ≡ true → i < length parts → part ≡ get_or parts i part → is_served all (form part) ≡ true
+pub decided_at : (looks : Looks) (parts : List Selection) (i : ℕ) (part : Selection) → all_served looks (forms_of (map form parts)) ≡ true → i < length parts → part ≡ get_or parts i part → is_served looks (form part) ≡ true
 unfolding is_served
-decided_at all [] i part h below is = absurd (omega arith)
-decided_at all (first ∷ parts) zero part h below is = ap (λ p. is_served all (form p)) is ∙ (and_parts (is_served all (form first)) (all_served all (forms_of (map form parts))) h).0
-decided_at all (first ∷ parts) (suc i) part h below is = decided_at all parts i part (and_parts (is_served all (form first)) (all_served all (forms_of (map form parts))) h).1 (omega arith) is
+decided_at looks [] i part h below is = absurd (omega arith)
+decided_at looks (first ∷ parts) zero part h below is = ap (λ p. is_served looks (form p)) is ∙ (and_parts (is_served looks (form first)) (all_served looks (forms_of (map form parts))) h).0
+decided_at looks (first ∷ parts) (suc i) part h below is = decided_at looks parts i part (and_parts (is_served looks (form first)) (all_served looks (forms_of (map form parts))) h).1 (omega arith) is
 
 -- ---- what a compiled selection says, of each kind
 
-module _ (all : Bool) (options : Options) (selection : Selection) where
-  pub words_selection : (value : Words) → selection ≡ S.Words value → (tokens : List Token) → sat_under lexicon options (words value) tokens ≡ sat_under lexicon options (form selection) tokens
-  words_selection value e tokens = ap (λ f. sat_under lexicon options f tokens) (sym (ap form e ∙ form-Words value))
+module _ (looks : Looks) (lists : NamedLists) (options : Options) (selection : Selection) where
+  pub words_selection : (value : Words) → selection ≡ S.Words value → (tokens : List Token) → sat_under (lexicon lists) options (words value) tokens ≡ sat_under (lexicon lists) options (form selection) tokens
+  words_selection value e tokens = ap (λ f. sat_under (lexicon lists) options f tokens) (sym (ap form e ∙ form-Words value))
 
   pub with_selection : (operand : Box Selection Global) (inner : Options) → selection ≡ S.With operand inner → (tokens : List Token)
-      → sat_under lexicon (inside inner options) (form operand.value) tokens ≡ sat_under lexicon options (form selection) tokens
+      → sat_under (lexicon lists) (inside inner options) (form operand.value) tokens ≡ sat_under (lexicon lists) options (form selection) tokens
   with_selection operand inner e tokens =
-      sym (sat-with_options lexicon options inner (form operand.value) tokens)
-      ∙ ap (λ f. sat_under lexicon options f tokens) (sym (ap form e ∙ form-With operand inner))
+      sym (sat-with_options (lexicon lists) options inner (form operand.value) tokens)
+      ∙ ap (λ f. sat_under (lexicon lists) options f tokens) (sym (ap form e ∙ form-With operand inner))
 
-  pub or_selection : (parts : List Selection) → selection ≡ S.Or parts → (nodes : List Node) (tokens : List Token) → SayAs all options nodes parts → truth (N.Or nodes) (forms_of_tokens all tokens) ≡ sat_under lexicon options (form selection) tokens
-  or_selection parts e nodes tokens same = or_means all options nodes parts tokens same ∙ ap (λ f. sat_under lexicon options f tokens) (sym (ap form e ∙ form-Or parts))
+  pub or_selection : (parts : List Selection) → selection ≡ S.Or parts → (nodes : List Node) (tokens : List Token) → SayAs looks lists options nodes parts → truth (N.Or nodes) (words_of_tokens looks lists.stems tokens) ≡ sat_under (lexicon lists) options (form selection) tokens
+  or_selection parts e nodes tokens same = or_means looks lists options nodes parts tokens same ∙ ap (λ f. sat_under (lexicon lists) options f tokens) (sym (ap form e ∙ form-Or parts))
 
-  pub and_selection : (parts : List Selection) → selection ≡ S.And parts → (nodes : List Node) (tokens : List Token) → SayAs all options nodes parts → truth (N.And nodes) (forms_of_tokens all tokens) ≡ sat_under lexicon options (form selection) tokens
-  and_selection parts e nodes tokens same = and_means all options nodes parts tokens same ∙ ap (λ f. sat_under lexicon options f tokens) (sym (ap form e ∙ form-And parts))
+  pub and_selection : (parts : List Selection) → selection ≡ S.And parts → (nodes : List Node) (tokens : List Token) → SayAs looks lists options nodes parts → truth (N.And nodes) (words_of_tokens looks lists.stems tokens) ≡ sat_under (lexicon lists) options (form selection) tokens
+  and_selection parts e nodes tokens same = and_means looks lists options nodes parts tokens same ∙ ap (λ f. sat_under (lexicon lists) options f tokens) (sym (ap form e ∙ form-And parts))
 
-  pub not_selection : (operand : Box Selection Global) → selection ≡ S.Not operand → (node : Box Node Global) (tokens : List Token) → truth node.value (forms_of_tokens all tokens) ≡ sat_under lexicon options (form operand.value) tokens
-      → truth (N.Not node) (forms_of_tokens all tokens) ≡ sat_under lexicon options (form selection) tokens
+  pub not_selection : (operand : Box Selection Global) → selection ≡ S.Not operand → (node : Box Node Global) (tokens : List Token) → truth node.value (words_of_tokens looks lists.stems tokens) ≡ sat_under (lexicon lists) options (form operand.value) tokens
+      → truth (N.Not node) (words_of_tokens looks lists.stems tokens) ≡ sat_under (lexicon lists) options (form selection) tokens
   not_selection operand e node tokens same =
-      truth-Not node (forms_of_tokens all tokens) ∙ ap not same ∙ sym (sat-not_of lexicon options (form operand.value) tokens)
-      ∙ ap (λ f. sat_under lexicon options f tokens) (sym (ap form e ∙ form-Not operand))
+      truth-Not node (words_of_tokens looks lists.stems tokens) ∙ ap not same ∙ sym (sat-not_of (lexicon lists) options (form operand.value) tokens)
+      ∙ ap (λ f. sat_under (lexicon lists) options f tokens) (sym (ap form e ∙ form-Not operand))
 
 -- one operand more
 pub say_more : (f : Node → Bool) (g : Selection → Bool) (nodes new : List Node) (parts : List Selection) (i : ℕ) (node : Node) (part : Selection) → i < length parts → part ≡ get_or parts i part

@@ -1,9 +1,15 @@
+pub mod NamedLists
 pub mod ListsMeant
 pub mod Lexicon
+pub mod Missing
 pub mod Decided
+pub mod Served
 pub mod Stops
 pub mod ChosenMeant
 pub mod ReadingMeant
+pub mod TextWords
+pub mod ItemTests
+pub mod GroupsMeant
 pub mod WordsMeant
 pub mod CompiledMeant
 pub mod NodeMeant

@@ -1,28 +1,33 @@
 //! The words of a selection, compiled.
 
-ghost use Rattle.std.specs.Prelude.{◌≡◌, ◌++◌, ◌∷◌, [], IfOk, OnOk, map, flat_map};
-ghost use Rattle.match_options.specs.WordTests.{passes};
+ghost use Rattle.std.specs.Prelude.{◌≡◌, ◌∷◌, ◌++◌, [], map, flat_map, IfOk, OnOk};
+ghost use Rattle.all_matches.specs.Meaning.{phrases_by, singly};
+ghost use Rattle.match_options.specs.Items.{item};
+ghost use Rattle.match_options.specs.Items as items;
 ghost use Rattle.plan_compiler.specs.ChosenMeant.{options_of};
 ghost use Rattle.plan_compiler.specs.CompiledMeant.{IsCompiled};
 ghost use Rattle.plan_compiler.specs.WordsMeant as spec;
 
 use crate::chosen::Chosen;
-use crate::reading::{Reading, item_test, reading_of};
+use crate::lists::Lists;
+use crate::phrase_plan::{PhrasePlan, phrase_plan};
+use crate::reading::{Reading, reading_of};
 use crate::words_plan::WordsPlan;
 use ft_base::{Items, Lines, Memory, Mode, Words};
-use match_options::{WordTest, items_of};
+use match_options::{QueryItem, items_of};
 use std::alloc::Global;
 
 /// The compiled form of words, under the options that hold for them.
 pub(crate) fn compile_words(
     alloc: Global,
+    lists: &Lists,
     words: &Words,
     chosen: &Chosen<'_>,
 ) -> Result<WordsPlan, Memory>
-    ensures { IfOk result (λ plan. IsCompiled plan (options_of chosen.now) words.now) }
+    ensures { IfOk result (λ plan. IsCompiled plan lists.now (options_of chosen.now) words.now) }
 {
-    let reading = reading_of(alloc, chosen)?;
-    let phrases = phrase_tests(alloc, &reading, words.mode, &words.values)?;
+    let reading = reading_of(alloc, lists, chosen)?;
+    let phrases = plans_by(alloc, &reading, words.mode, &words.values)?;
     let all = asks_all(words.mode) && !phrases.is_empty();
     Ok(WordsPlan {
         phrases,
@@ -41,51 +46,74 @@ fn asks_all(mode: Mode) -> bool
     }
 }
 
-/// The tests of the phrases that the mode makes of the strings.
-fn phrase_tests(
+/// The plans of the phrases that the mode makes of the strings.
+fn plans_by(
     alloc: Global,
-    reading: &Reading,
+    reading: &Reading<'_>,
     mode: Mode,
     strings: &Lines,
-) -> Result<Items<Items<WordTest>>, Memory>
-    ensures { IfOk result (λ phrases. spec.tests_of phrases ≡ spec.phrases_tests reading.now mode strings.now) }
+) -> Result<Items<PhrasePlan>, Memory>
+    ensures { IfOk result (λ plans. map spec.plan_tests plans ≡ map (spec.grouped_tests reading.now) (phrases_by mode (map (items.items_of reading.now.wildcards) strings.now))) }
+{
+    let phrases = phrases_by(alloc, reading.wildcards, mode, strings)?;
+    let plans = phrase_plans(alloc, reading, phrases.as_slice())?;
+    Ok(plans)
+}
+
+fn phrase_plans(
+    alloc: Global,
+    reading: &Reading<'_>,
+    phrases: &[Items<QueryItem>],
+) -> Result<Items<PhrasePlan>, Memory>
+    ensures { IfOk result (λ plans. map spec.plan_tests plans ≡ map (spec.grouped_tests reading.now) (map (map item) phrases.now)) }
+{
+    let mut plans = Items::new(alloc);
+    for phrase in phrases {
+        plans.push(phrase_plan(alloc, reading, phrase.as_slice())?)?;
+    }
+    Ok(plans)
+}
+
+/// The phrases that the mode makes of the strings.
+fn phrases_by(
+    alloc: Global,
+    wildcards: bool,
+    mode: Mode,
+    strings: &Lines,
+) -> Result<Items<Items<QueryItem>>, Memory>
+    ensures { IfOk result (λ phrases. map (map item) phrases ≡ phrases_by mode (map (items.items_of wildcards) strings.now)) }
 {
     match mode {
-        Mode::Any => each_string(alloc, reading, strings),
-        Mode::All => each_string(alloc, reading, strings),
-        Mode::AnyWord => each_word(alloc, reading, strings),
-        Mode::AllWords => each_word(alloc, reading, strings),
-        Mode::Phrase => one_phrase(alloc, reading, strings),
+        Mode::Any => each_string(alloc, wildcards, strings),
+        Mode::All => each_string(alloc, wildcards, strings),
+        Mode::AnyWord => each_word(alloc, wildcards, strings),
+        Mode::AllWords => each_word(alloc, wildcards, strings),
+        Mode::Phrase => one_phrase(alloc, wildcards, strings),
     }
 }
 
 fn each_string(
     alloc: Global,
-    reading: &Reading,
+    wildcards: bool,
     strings: &Lines,
-) -> Result<Items<Items<WordTest>>, Memory>
-    ensures { IfOk result (λ phrases. spec.tests_of phrases ≡ map (spec.string_tests reading.now) strings.now) }
+) -> Result<Items<Items<QueryItem>>, Memory>
+    ensures { IfOk result (λ phrases. map (map item) phrases ≡ map (items.items_of wildcards) strings.now) }
 {
     let mut phrases = Items::new(alloc);
     for string in strings.as_slice() {
-        let mut phrase = Items::new(alloc);
-        push_tests(alloc, reading, &mut phrase, string.as_str())?;
-        phrases.push(phrase)?;
+        phrases.push(items_of(alloc, wildcards, string.as_str())?)?;
     }
     Ok(phrases)
 }
 
 fn one_phrase(
     alloc: Global,
-    reading: &Reading,
+    wildcards: bool,
     strings: &Lines,
-) -> Result<Items<Items<WordTest>>, Memory>
-    ensures { IfOk result (λ phrases. spec.tests_of phrases ≡ flat_map (spec.string_tests reading.now) strings.now ∷ []) }
+) -> Result<Items<Items<QueryItem>>, Memory>
+    ensures { IfOk result (λ phrases. map (map item) phrases ≡ flat_map (λ string. string) (map (items.items_of wildcards) strings.now) ∷ []) }
 {
-    let mut phrase = Items::new(alloc);
-    for string in strings.as_slice() {
-        push_tests(alloc, reading, &mut phrase, string.as_str())?;
-    }
+    let phrase = all_items(alloc, wildcards, strings)?;
     let mut phrases = Items::new(alloc);
     phrases.push(phrase)?;
     Ok(phrases)
@@ -93,48 +121,36 @@ fn one_phrase(
 
 fn each_word(
     alloc: Global,
-    reading: &Reading,
+    wildcards: bool,
     strings: &Lines,
-) -> Result<Items<Items<WordTest>>, Memory>
-    ensures { IfOk result (λ phrases. spec.tests_of phrases ≡ flat_map (λ string. spec.alone (spec.string_tests reading.now string)) strings.now) }
+) -> Result<Items<Items<QueryItem>>, Memory>
+    ensures { IfOk result (λ phrases. map (map item) phrases ≡ singly (flat_map (λ string. string) (map (items.items_of wildcards) strings.now))) }
 {
     let mut phrases = Items::new(alloc);
-    for string in strings.as_slice() {
-        push_words(alloc, reading, &mut phrases, string.as_str())?;
+    for item in all_items(alloc, wildcards, strings)?.into_vec() {
+        let mut phrase = Items::new(alloc);
+        phrase.push(item)?;
+        phrases.push(phrase)?;
     }
     Ok(phrases)
 }
 
-/// Puts the test of each item of the string to the end.
-fn push_tests(
-    alloc: Global,
-    reading: &Reading,
-    tests: &mut Items<WordTest>,
-    string: &str,
-) -> Result<(), Memory>
-    ensures { OnOk result (map passes tests.new ≡ map passes tests.old ++ spec.string_tests reading.now string.now) }
+/// The words and patterns of all strings.
+fn all_items(alloc: Global, wildcards: bool, strings: &Lines) -> Result<Items<QueryItem>, Memory>
+    ensures { IfOk result (λ all. map item all ≡ flat_map (λ string. string) (map (items.items_of wildcards) strings.now)) }
 {
-    let items = items_of(alloc, reading.wildcards, string)?;
-    for item in items.as_slice() {
-        tests.push(item_test(alloc, reading, item)?)?;
+    let mut all = Items::new(alloc);
+    for string in strings.as_slice() {
+        push_items(&mut all, items_of(alloc, wildcards, string.as_str())?)?;
     }
-    Ok(())
+    Ok(all)
 }
 
-/// Puts each item of the string, as a phrase of its own, to the end.
-fn push_words(
-    alloc: Global,
-    reading: &Reading,
-    phrases: &mut Items<Items<WordTest>>,
-    string: &str,
-) -> Result<(), Memory>
-    ensures { OnOk result (spec.tests_of phrases.new ≡ spec.tests_of phrases.old ++ spec.alone (spec.string_tests reading.now string.now)) }
+fn push_items(all: &mut Items<QueryItem>, items: Items<QueryItem>) -> Result<(), Memory>
+    ensures { OnOk result (map item all.new ≡ map item all.old ++ map item items) }
 {
-    let items = items_of(alloc, reading.wildcards, string)?;
-    for item in items.as_slice() {
-        let mut phrase = Items::new(alloc);
-        phrase.push(item_test(alloc, reading, item)?)?;
-        phrases.push(phrase)?;
+    for item in items.into_vec() {
+        all.push(item)?;
     }
     Ok(())
 }

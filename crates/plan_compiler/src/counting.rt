@@ -1,65 +1,87 @@
 //! How often words occur in a text.
 
 ghost use Rattle.std.specs.Prelude.{◌≡◌, ◌-◌, ◌^◌, ◌≤◌, ℕ, List, min, map, sum, length};
-ghost use Rattle.all_matches.specs.Counting.{begins_as, product};
+ghost use Rattle.std.specs.List.{list_any};
+ghost use Rattle.all_matches.specs.Counting.{begins_as, places, product};
 ghost use Rattle.all_matches.specs.Compositional.{enough};
 ghost use Rattle.all_matches.specs.Times.{number_in_range};
-ghost use Rattle.match_options.specs.WordTests.{passes};
-ghost use Rattle.plan_compiler.specs.WordsMeant.{phrase_places, words_count};
+ghost use Rattle.plan_compiler.specs.ItemTests.{passes};
+ghost use Rattle.plan_compiler.specs.WordsMeant.{phrase_count, words_count};
 
+use crate::item_test::ItemTest;
+use crate::phrase_plan::PhrasePlan;
+use crate::text_word::TextWord;
 use crate::words_plan::WordsPlan;
 use ft_base::{Items, Range};
-use match_options::{Forms, WordTest};
 
 /// How often the words occur; a number past 2^64 - 1 is given as 2^64 - 1.
-pub(crate) fn count(plan: &WordsPlan, words: &[Forms]) -> u64
+pub(crate) fn count(plan: &WordsPlan, words: &[TextWord]) -> u64
     ensures { result ≡ min (words_count plan.now words.now) (2 ^ 64 - 1) }
 {
     if plan.all {
-        product_of_places(plan.phrases.as_slice(), words)
+        product_of_counts(plan.phrases.as_slice(), words)
     } else {
-        sum_of_places(plan.phrases.as_slice(), words)
+        sum_of_counts(plan.phrases.as_slice(), words)
     }
 }
 
-fn sum_of_places(phrases: &[Items<WordTest>], words: &[Forms]) -> u64
-    ensures { result ≡ min (sum (map (λ phrase. phrase_places phrase words.now) phrases.now)) (2 ^ 64 - 1) }
+fn sum_of_counts(phrases: &[PhrasePlan], words: &[TextWord]) -> u64
+    ensures { result ≡ min (sum (map (λ phrase. phrase_count phrase words.now) phrases.now)) (2 ^ 64 - 1) }
 {
     let mut total: u64 = 0;
     for phrase in phrases {
-        total = total.saturating_add(places(phrase.as_slice(), words) as u64);
+        total = total.saturating_add(count_phrase(phrase, words));
     }
     total
 }
 
-fn product_of_places(phrases: &[Items<WordTest>], words: &[Forms]) -> u64
-    ensures { result ≡ min (product (map (λ phrase. phrase_places phrase words.now) phrases.now)) (2 ^ 64 - 1) }
+fn product_of_counts(phrases: &[PhrasePlan], words: &[TextWord]) -> u64
+    ensures { result ≡ min (product (map (λ phrase. phrase_count phrase words.now) phrases.now)) (2 ^ 64 - 1) }
 {
     let mut total: u64 = 1;
     for phrase in phrases {
-        total = total.saturating_mul(places(phrase.as_slice(), words) as u64);
+        total = total.saturating_mul(count_phrase(phrase, words));
     }
     total
 }
 
-/// At how many words of the text the phrase begins.
-fn places(phrase: &[WordTest], words: &[Forms]) -> usize
-    ensures { result ≡ phrase_places phrase.now words.now }
+/// How often the phrase occurs; a number past 2^64 - 1 is given as 2^64 - 1.
+fn count_phrase(phrase: &PhrasePlan, words: &[TextWord]) -> u64
+    ensures { result ≡ min (phrase_count phrase.now words.now) (2 ^ 64 - 1) }
 {
-    if phrase.is_empty() {
-        return 0;
+    let mut total: u64 = 0;
+    for group in phrase.groups.as_slice() {
+        total = total.saturating_add(places(group.as_slice(), words) as u64);
     }
+    total
+}
+
+/// At how many words of the text one of the variants begins.
+fn places(variants: &[Items<ItemTest>], words: &[TextWord]) -> usize
+    ensures { result ≡ places passes variants.now words.now }
+{
     let mut count = 0;
     for start in 0..words.len() {
-        if begins_as(phrase, &words[start..]) {
+        if some_begins(variants, &words[start..]) {
             count += 1;
         }
     }
     count
 }
 
+fn some_begins(variants: &[Items<ItemTest>], words: &[TextWord]) -> bool
+    ensures { result ≡ list_any (λ variant. begins_as passes variant words.now) variants.now }
+{
+    for variant in variants {
+        if begins_as(variant.as_slice(), words) {
+            return true;
+        }
+    }
+    false
+}
+
 /// Whether the text begins with the words of the phrase.
-fn begins_as(phrase: &[WordTest], words: &[Forms]) -> bool
+fn begins_as(phrase: &[ItemTest], words: &[TextWord]) -> bool
     ensures { result ≡ begins_as passes phrase.now words.now }
 {
     if phrase.len() > words.len() {

@@ -1,99 +1,59 @@
-//! Which selections plans decide.
+//! Which selections plans decide, and what they look at.
 
 ghost use Rattle.std.specs.Prelude.{◌≡◌, map};
-ghost use Rattle.std.specs.List.{list_all};
 ghost use Rattle.ft_syntax.specs.View.{form, forms_of};
-ghost use Rattle.plan_compiler.specs.Decided as spec;
+ghost use Rattle.plan_compiler.specs.Decided as decided;
+ghost use Rattle.plan_compiler.specs.Served as spec;
 
-use ft_base::{Options, StopChoice, StopSource, StopTerm, ThesaurusChoice};
+use crate::looks::Looks;
+use ft_base::Options;
 use ft_syntax::{Selection, Selections};
 use match_options::FormChoice;
 
-/// Whether a plan can be compiled of the selection: it has no filter, no `not in`, and no option that names a list or looks at stems.
+/// Whether a plan can be compiled of the selection: it has no filter and no `not in`.
 pub fn is_decided(selection: &Selection) -> bool
-    ensures { result ≡ spec.is_decided (form selection.now) }
+    ensures { result ≡ decided.is_decided (form selection.now) }
 {
-    is_served(true, selection)
+    let everything = Looks {
+        all_forms: true,
+        stems: true,
+    };
+    is_served(everything, selection)
 }
 
-/// The same, and whether all forms of the words of a text are at hand, or their keys alone serve.
+/// The same, and whether what is looked at of each word of a text serves.
 #[cycle(decided)]
-pub(crate) fn is_served(all: bool, selection: &Selection) -> bool
-    ensures { result ≡ spec.is_served all (form selection.now) }
+pub(crate) fn is_served(looks: Looks, selection: &Selection) -> bool
+    ensures { result ≡ spec.is_served looks (form selection.now) }
 {
     match selection {
-        Selection::Words(words) => are_served(all, &words.options),
-        Selection::Or(parts) => all_served(all, parts),
-        Selection::And(parts) => all_served(all, parts),
+        Selection::Words(words) => are_served(looks, &words.options),
+        Selection::Or(parts) => all_served(looks, parts),
+        Selection::And(parts) => all_served(looks, parts),
         Selection::MildNot(_left, _right) => false,
-        Selection::Not(operand) => is_served(all, operand),
+        Selection::Not(operand) => is_served(looks, operand),
         Selection::Filtered(_operand, _filter) => false,
-        Selection::With(operand, options) => are_served(all, options) && is_served(all, operand),
+        Selection::With(operand, options) => {
+            are_served(looks, options) && is_served(looks, operand)
+        }
     }
 }
 
 #[cycle(decided)]
-fn all_served(all: bool, parts: &Selections) -> bool
-    ensures { result ≡ spec.all_served all (forms_of (map form parts.now)) }
+fn all_served(looks: Looks, parts: &Selections) -> bool
+    ensures { result ≡ spec.all_served looks (forms_of (map form parts.now)) }
 {
     for part in parts.as_slice() {
-        if !is_served(all, part) {
+        if !is_served(looks, part) {
             return false;
         }
     }
     true
 }
 
-fn are_served(all: bool, options: &Options) -> bool
-    ensures { result ≡ spec.are_served all options.now }
+fn are_served(looks: Looks, options: &Options) -> bool
+    ensures { result ≡ spec.are_served looks options.now }
 {
-    needs_no_list(options) && (all || FormChoice::of(options).is_by_key())
-}
-
-fn needs_no_list(options: &Options) -> bool
-    ensures { result ≡ spec.needs_no_list options.now }
-{
-    !options.stemming.unwrap_or(false)
-        && has_no_thesaurus(&options.thesaurus)
-        && has_written_stop_words(&options.stop_words)
-}
-
-fn has_no_thesaurus(choice: &Option<ThesaurusChoice>) -> bool
-    ensures { result ≡ spec.has_no_thesaurus choice.now }
-{
-    match choice {
-        None => true,
-        Some(ThesaurusChoice::No) => true,
-        Some(ThesaurusChoice::Uses(_uses)) => false,
-    }
-}
-
-fn has_written_stop_words(choice: &Option<StopChoice>) -> bool
-    ensures { result ≡ spec.has_written_stop_words choice.now }
-{
-    match choice {
-        None => true,
-        Some(StopChoice::No) => true,
-        Some(StopChoice::Sets(terms)) => all_written(terms.as_slice()),
-    }
-}
-
-fn all_written(terms: &[StopTerm]) -> bool
-    ensures { result ≡ list_all (λ term. spec.is_written term.source) terms.now }
-{
-    for term in terms {
-        if !is_written(&term.source) {
-            return false;
-        }
-    }
-    true
-}
-
-fn is_written(source: &StopSource) -> bool
-    ensures { result ≡ spec.is_written source.now }
-{
-    match source {
-        StopSource::At(_name) => false,
-        StopSource::Written(_texts) => true,
-    }
+    (looks.all_forms || FormChoice::of(options).is_by_key())
+        && (looks.stems || !options.stemming.unwrap_or(false))
 }

@@ -6,12 +6,12 @@ ghost use Rattle.plan_compiler.specs.NodeMeant.{truth};
 
 use crate::counting::{count, is_enough};
 use crate::node::Node;
+use crate::text_word::TextWord;
 use ft_base::Items;
-use match_options::Forms;
 
-/// Whether the words of a text, given in their forms, satisfy the selection.
+/// Whether the words of a text satisfy the selection.
 #[cycle(decide)]
-pub(crate) fn holds(node: &Node, words: &[Forms]) -> bool
+pub(crate) fn holds(node: &Node, words: &[TextWord]) -> bool
     ensures { result ≡ truth node.now words.now }
 {
     match node {
@@ -23,7 +23,7 @@ pub(crate) fn holds(node: &Node, words: &[Forms]) -> bool
 }
 
 #[cycle(decide)]
-fn some_holds(parts: &Items<Node>, words: &[Forms]) -> bool
+fn some_holds(parts: &Items<Node>, words: &[TextWord]) -> bool
     ensures { result ≡ list_any (λ part. truth part words.now) parts.now }
 {
     for part in parts.as_slice() {
@@ -35,7 +35,7 @@ fn some_holds(parts: &Items<Node>, words: &[Forms]) -> bool
 }
 
 #[cycle(decide)]
-fn all_hold(parts: &Items<Node>, words: &[Forms]) -> bool
+fn all_hold(parts: &Items<Node>, words: &[TextWord]) -> bool
     ensures { result ≡ list_all (λ part. truth part words.now) parts.now }
 {
     for part in parts.as_slice() {

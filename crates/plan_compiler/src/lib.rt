@@ -10,16 +10,25 @@ mod counting;
 mod decided;
 mod deciding;
 mod fault;
+mod item_test;
+#[cfg(test)]
+mod list_tests;
 mod lists;
+mod looks;
+mod missing;
 mod node;
+mod phrase_plan;
 mod plan;
 mod reading;
 mod stops;
 #[cfg(test)]
 mod tests;
+mod text_word;
+mod variants;
 mod words_plan;
 
 pub use decided::is_decided;
 pub use fault::CompileFault;
 pub use lists::Lists;
+pub use missing::missing_list;
 pub use plan::Plan;

@@ -1,111 +1,181 @@
 //! The lists that selections name.
 
-ghost use Rattle.std.specs.Prelude.{◌≡◌, List, ℕ, Some, None, if◌then◌else◌, IfOk, OnErr, OnOk, bytes_eq, map};
+ghost use Rattle.std.specs.Prelude.{◌≡◌, length, map, option_map, IfOk, OnErr, OnOk};
 ghost use Rattle.std.specs.Option.{is_some};
-ghost use Rattle.plan_compiler.specs.ListsMeant.{find_list, named, stop_list};
-ghost use Rattle.plan_compiler.specs.ListsMeant as spec;
+ghost use Rattle.word_lists.specs.Stems.{stem_in};
+ghost use Rattle.plan_compiler.specs.ListsMeant.{dictionary, named};
+ghost use Rattle.plan_compiler.specs.NamedLists.{list_named, no_lists, with_list, with_stems, with_stop_list, with_thesaurus};
 
-use ft_base::{Line, Memory};
+use ft_base::Memory;
+use indexmap::IndexMap;
 use std::alloc::Global;
+use std::marker::Model;
 use std::rc::Rc;
-use word_lists::StopList;
+use thesaurus_file::Thesaurus;
+use word_lists::{Stems, StopList};
 
-/// The lists that selections name: stop lists by their names.
+/// The lists that selections name: stop lists and thesauri by their names, in the order in which the names first came, and one
+/// dictionary of stems.
 #[derive(Drop)]
 pub struct Lists {
     alloc: Global,
-    stops: Vec<NamedStopList>,
+    stops: IndexMap<String, Rc<StopList>>,
+    thesauri: IndexMap<String, Rc<Thesaurus>>,
+    stems: Option<Rc<Stems>>,
 }
 
-/// A stop list and its name.
-#[derive(Drop)]
-pub(crate) struct NamedStopList {
-    pub(crate) name: Line,
-    pub(crate) list: Rc<StopList>,
+impl Model for Lists {
+    ghost use Rattle.std.specs.Prelude.{map};
+    ghost use Rattle.plan_compiler.specs.ListsMeant.{dictionary, named};
+    ghost use Rattle.plan_compiler.specs.NamedLists.{NamedLists};
+
+    ghost Value = { NamedLists };
+
+    ghost view = { λ lists. record {
+      stops = map named lists.stops.entries;
+      thesauri = map named lists.thesauri.entries;
+      stems = dictionary lists.stems;
+    } };
 }
 
 impl Lists {
-    /// No list.
+    /// No list, and no stem.
     pub fn new(alloc: Global) -> Lists
-        ensures { (name : List ℕ) → stop_list result name ≡ None }
+        ensures { result ≡ no_lists }
     {
         Lists {
             alloc,
-            stops: Vec::new(alloc),
+            stops: IndexMap::new(alloc),
+            thesauri: IndexMap::new(alloc),
+            stems: None,
         }
     }
 
     /// A copy, which shares the lists themselves.
     pub fn copy(&self) -> Result<Lists, Memory>
-        ensures { IfOk result (λ copy. (name : List ℕ) → stop_list copy name ≡ stop_list self.now name) }
+        ensures { IfOk result (λ copy. copy ≡ self.now) }
     {
-        let stops = copy_stops(self.alloc, self.stops.as_slice())?;
         Ok(Lists {
             alloc: self.alloc,
-            stops,
+            stops: copy_lists(&self.stops)?,
+            thesauri: copy_lists(&self.thesauri)?,
+            stems: copy_stems(&self.stems)?,
         })
     }
 
-    /// Puts a stop list under a name, in the place of the one that has it. Where memory runs out, the lists stay as they were.
+    /// Puts a stop list under a name, in the place of the one that has it, or behind the others. Where memory runs out, the lists
+    /// stay as they were.
     pub fn set_stop(&mut self, name: &str, list: StopList) -> Result<(), Memory>
-        ensures ok { OnOk result ((other : List ℕ) → stop_list self.new other ≡ (if bytes_eq name.now other then Some list else stop_list self.old other)) }
-        ensures err { OnErr result ((other : List ℕ) → stop_list self.new other ≡ stop_list self.old other) }
+        ensures ok { OnOk result (self.new ≡ with_stop_list name.now list self.old) }
+        ensures err { OnErr result (self.new ≡ self.old) }
     {
-        put_stop(self.alloc, &mut self.stops, name, list)
+        put_list(self.alloc, &mut self.stops, name, list)
+    }
+
+    /// Puts a thesaurus under a name, in the place of the one that has it, or behind the others. Where memory runs out, the lists
+    /// stay as they were.
+    pub fn set_thesaurus(&mut self, name: &str, list: Thesaurus) -> Result<(), Memory>
+        ensures ok { OnOk result (self.new ≡ with_thesaurus name.now list self.old) }
+        ensures err { OnErr result (self.new ≡ self.old) }
+    {
+        put_list(self.alloc, &mut self.thesauri, name, list)
+    }
+
+    /// Takes the dictionary for all stems. Where memory runs out, the lists stay as they were.
+    pub fn set_stems(&mut self, stems: Stems) -> Result<(), Memory>
+        ensures ok { OnOk result (self.new ≡ with_stems stems self.old) }
+        ensures err { OnErr result (self.new ≡ self.old) }
+    {
+        let stems = Rc::new(self.alloc, stems)?;
+        self.stems = Some(stems);
+        Ok(())
     }
 
     /// Whether there is a stop list of that name.
     pub fn has_stop(&self, name: &str) -> bool
-        ensures { result ≡ is_some (stop_list self.now name.now) }
+        ensures { result ≡ is_some (list_named name.now self.now.stops) }
     {
-        let stops = self.stops.as_slice();
-        place_of(stops, name) < stops.len()
+        self.stops.contains_key(name)
     }
-}
 
-fn copy_stops(alloc: Global, stops: &[NamedStopList]) -> Result<Vec<NamedStopList>, Memory>
-    ensures { IfOk result (λ copies. map named copies.items ≡ map named stops.now) }
-{
-    let mut copies = Vec::new(alloc);
-    for stop in stops {
-        copies.push(NamedStopList {
-            name: Line::read(alloc, stop.name.as_str())?,
-            list: stop.list.clone()?,
-        })?;
+    /// Whether there is a thesaurus of that name.
+    pub fn has_thesaurus(&self, name: &str) -> bool
+        ensures { result ≡ is_some (list_named name.now self.now.thesauri) }
+    {
+        self.thesauri.contains_key(name)
     }
-    Ok(copies)
-}
 
-fn put_stop(
-    alloc: Global,
-    stops: &mut Vec<NamedStopList>,
-    name: &str,
-    list: StopList,
-) -> Result<(), Memory>
-    ensures ok { OnOk result ((other : List ℕ) → find_list (map named stops.new.items) other ≡ (if bytes_eq name.now other then Some list else find_list (map named stops.old.items) other)) }
-    ensures err { OnErr result (stops.new.items ≡ stops.old.items) }
-{
-    let stop = NamedStopList {
-        name: Line::read(alloc, name)?,
-        list: Rc::new(alloc, list)?,
-    };
-    let place = place_of(stops.as_slice(), name);
-    if place < stops.len() {
-        stops[place] = stop;
-        return Ok(());
+    /// How many stop lists there are.
+    pub fn stop_count(&self) -> usize
+        ensures { result ≡ length self.now.stops }
+    {
+        self.stops.len()
     }
-    stops.push(stop)?;
-    Ok(())
-}
 
-/// The place of the list of a name, or the number of the lists where there is none.
-fn place_of(stops: &[NamedStopList], name: &str) -> usize
-    ensures { result ≡ spec.place_of (map named stops.now) name.now }
-{
-    for place in 0..stops.len() {
-        if stops[place].name.as_str() == name {
-            return place;
+    /// How many thesauri there are.
+    pub fn thesaurus_count(&self) -> usize
+        ensures { result ≡ length self.now.thesauri }
+    {
+        self.thesauri.len()
+    }
+
+    /// The stop list of that name.
+    pub(crate) fn stop<'a>(&'a self, name: &str) -> Option<&'a StopList>
+        ensures { option_map (λ list. list.now) result ≡ list_named name.now self.now.stops }
+    {
+        match self.stops.get(name) {
+            Some(list) => Some(&**list),
+            None => None,
         }
     }
-    stops.len()
+
+    /// The thesaurus of that name.
+    pub(crate) fn thesaurus<'a>(&'a self, name: &str) -> Option<&'a Thesaurus>
+        ensures { option_map (λ list. list.now) result ≡ list_named name.now self.now.thesauri }
+    {
+        match self.thesauri.get(name) {
+            Some(list) => Some(&**list),
+            None => None,
+        }
+    }
+
+    /// The stem of a key: that of the dictionary, or the key itself.
+    pub(crate) fn stem<'a>(&'a self, key: &'a str) -> &'a str
+        ensures { result.now ≡ stem_in self.now.stems key.now }
+    {
+        match &self.stems {
+            Some(stems) => stems.stem(key),
+            None => key,
+        }
+    }
+}
+
+fn copy_lists<T: Drop>(lists: &IndexMap<String, Rc<T>>) -> Result<IndexMap<String, Rc<T>>, Memory>
+    ensures { IfOk result (λ copies. map named copies.entries ≡ map named lists.now.entries) }
+{
+    Ok(lists.clone()?)
+}
+
+fn copy_stems(stems: &Option<Rc<Stems>>) -> Result<Option<Rc<Stems>>, Memory>
+    ensures { IfOk result (λ copy. dictionary copy ≡ dictionary stems.now) }
+{
+    match stems {
+        Some(stems) => Ok(Some(stems.clone()?)),
+        None => Ok(None),
+    }
+}
+
+fn put_list<T: Drop>(
+    alloc: Global,
+    lists: &mut IndexMap<String, Rc<T>>,
+    name: &str,
+    list: T,
+) -> Result<(), Memory>
+    ensures ok { OnOk result (map named lists.new.entries ≡ with_list name.now list (map named lists.old.entries)) }
+    ensures err { OnErr result (lists.new.entries ≡ lists.old.entries) }
+{
+    let name = String::from_str(alloc, name)?;
+    let list = Rc::new(alloc, list)?;
+    lists.insert(name, list)?;
+    Ok(())
 }

@@ -1,12 +1,15 @@
 //! Plans, and whether a text satisfies the selection of a plan.
 
-ghost use Rattle.std.specs.Prelude.{◌≡◌, List, ℕ, IfOk, IsTrue, Err};
+ghost use Rattle.std.specs.Prelude.{◌≡◌, List, IfErr, IfOk, IsTrue, None};
 ghost use Rattle.ft_base.specs.declared.token.Token.{Token};
 ghost use Rattle.ft_syntax.specs.View.{form};
 ghost use Rattle.all_matches.specs.Meaning.{sat};
 ghost use Rattle.plan_compiler.specs.Decided.{is_decided};
 ghost use Rattle.plan_compiler.specs.Lexicon.{lexicon};
-ghost use Rattle.plan_compiler.specs.NodeMeant.{forms_of_tokens, truth};
+ghost use Rattle.plan_compiler.specs.Missing.{first_missing, IsMissing};
+ghost use Rattle.plan_compiler.specs.NodeMeant.{truth};
+ghost use Rattle.plan_compiler.specs.Served.{is_served};
+ghost use Rattle.plan_compiler.specs.TextWords.{words_of_tokens};
 
 use crate::chosen::none_chosen;
 use crate::compiling::compile;
@@ -14,27 +17,32 @@ use crate::decided::is_served;
 use crate::deciding::holds;
 use crate::fault::CompileFault;
 use crate::lists::Lists;
+use crate::looks::Looks;
+use crate::missing::missing_list;
 use crate::node::Node;
-use ft_base::{Items, Memory, Token};
+use crate::text_word::text_words;
+use ft_base::{Line, Memory, Token};
 use ft_syntax::{Selection, copy_selection};
-use match_options::{Forms, forms_as};
 use std::alloc::Global;
 
-/// A selection, compiled. It decides by truth values and counts, in time linear in the text for each phrase.
+/// A selection, compiled with the lists that it names. It decides by truth values and counts, in time linear in the text for each
+/// phrase and each phrase that this one stands for.
 #[derive(Drop)]
 pub struct Plan {
     alloc: Global,
     selection: Selection,
-    /// Whether it looks at all forms of the words of a text, or at their keys alone.
-    all_forms: bool,
+    lists: Lists,
+    /// What it looks at of the words of a text.
+    looks: Looks,
     root: Node,
-    ghost sound: { (tokens : List Token) → truth root (forms_of_tokens all_forms tokens) ≡ sat lexicon (form selection) tokens },
+    ghost sound: { (tokens : List Token) → truth root (words_of_tokens looks lists.stems tokens) ≡ sat (lexicon lists) (form selection) tokens },
 }
 
 impl Plan {
-    ghost use Rattle.plan_compiler.specs.PlanMeant.{plan_form};
+    ghost use Rattle.plan_compiler.specs.PlanMeant.{plan_form, plan_lists};
 
-    /// The plan of a selection. Selections with filters, `not in`, stemming, a thesaurus or stop lists aren't compiled yet.
+    /// The plan of a selection without filters and `not in`. A list that it names and that isn't there is a fault: the first one in the
+    /// order of its printed form. The plan shares the lists.
     pub fn compile(
         alloc: Global,
         selection: &Selection,
@@ -42,36 +50,57 @@ impl Plan {
     ) -> Result<Plan, CompileFault>
         requires { IsTrue (is_decided (form selection.now)) }
         ensures of { IfOk result (λ plan. plan_form plan ≡ form selection.now) }
-        ensures lists { (name : List ℕ) → result ≡ Err (CompileFault.NoSuchList name) → ⊥ }
+        ensures lists { IfOk result (λ plan. plan_lists plan ≡ lists.now) }
+        ensures there { IfOk result (λ _. first_missing lists.now (form selection.now) ≡ None) }
+        ensures missing { IfErr result (λ fault. IsMissing fault (first_missing lists.now (form selection.now))) }
     {
-        let _lists = lists;
-        let all_forms = !is_served(false, selection);
-        let root = compile(alloc, all_forms, &none_chosen(), selection)?;
+        if let Some(name) = missing_list(selection, lists) {
+            let name = Line::read(alloc, name)?;
+            return Err(CompileFault::NoSuchList { name });
+        }
+        let looks = looks_of(selection);
+        let root = compile(alloc, lists, looks, &none_chosen(), selection)?;
         let selection = copy_selection(alloc, selection)?;
+        let lists = lists.copy()?;
         Ok(Plan {
             alloc,
             selection,
-            all_forms,
+            lists,
+            looks,
             root,
         })
     }
 
     /// Whether a text with these tokens satisfies the plan's selection.
     pub fn check(&self, tokens: &Vec<Token>) -> Result<bool, Memory>
-        ensures { IfOk result (λ satisfied. satisfied ≡ sat lexicon (plan_form self.now) tokens.now.items) }
+        ensures { IfOk result (λ satisfied. satisfied ≡ sat (lexicon (plan_lists self.now)) (plan_form self.now) tokens.now.items) }
     {
-        let words = token_forms(self.alloc, self.all_forms, tokens.as_slice())?;
+        let words = text_words(self.alloc, self.looks, &self.lists, tokens.as_slice())?;
         Ok(holds(&self.root, words.as_slice()))
     }
 }
 
-/// All forms of each token, or its key alone.
-fn token_forms(alloc: Global, all: bool, tokens: &[Token]) -> Result<Items<Forms>, Memory>
-    ensures { IfOk result (λ forms. forms ≡ forms_of_tokens all tokens.now) }
+/// The least that has to be looked at of each word of a text.
+fn looks_of(selection: &Selection) -> Looks
+    requires { IsTrue (is_decided (form selection.now)) }
+    ensures { IsTrue (is_served result (form selection.now)) }
 {
-    let mut forms = Items::new(alloc);
-    for token in tokens {
-        forms.push(forms_as(alloc, all, token.word.as_str())?)?;
+    let all_forms = !is_served(
+        Looks {
+            all_forms: false,
+            stems: true,
+        },
+        selection,
+    );
+    let without_stems = Looks {
+        all_forms,
+        stems: false,
+    };
+    if is_served(without_stems, selection) {
+        return without_stems;
     }
-    Ok(forms)
+    Looks {
+        all_forms,
+        stems: true,
+    }
 }

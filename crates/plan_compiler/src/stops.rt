@@ -1,98 +1,129 @@
-//! Stop words that are written as strings, as keys.
+//! Stop words as keys: those of lists, and those that are written as strings.
 
-ghost use Rattle.std.specs.Prelude.{◌≡◌, ◌++◌, IfOk, OnOk, map, flat_map, Some, option_map};
+ghost use Rattle.std.specs.Prelude.{◌≡◌, [], IfOk, OnOk, map, flat_map, fold, Some, option_map, string_bytes};
 ghost use Rattle.match_options.specs.Items.{item};
+ghost use Rattle.word_lists.specs.StopLists.{with_key};
 ghost use Rattle.plan_compiler.specs.Stops as spec;
 
-use ft_base::{Items, Line, Lines, Memory, StopChoice, StopSource, StopTerm};
+use crate::lists::Lists;
+use ft_base::{Line, Memory, StopChoice, StopSource, StopTerm};
+use indexmap::IndexSet;
 use match_options::{QueryItem, items_of};
 use std::alloc::Global;
 use text_forms::key;
+use word_lists::StopList;
 
 /// The keys of a term of stop words, and whether they are taken out.
-#[derive(Debug, Drop)]
-pub(crate) struct StopKeys {
+#[derive(Drop)]
+pub(crate) struct StopKeys<'a> {
     pub(crate) except: bool,
-    pub(crate) keys: Lines,
+    pub(crate) keys: KeySet<'a>,
+}
+
+/// A set of keys.
+#[derive(Drop)]
+pub(crate) enum KeySet<'a> {
+    /// Those of a stop list, if there is one of the name.
+    Listed(Option<&'a StopList>),
+    /// Those of the words of written strings.
+    Collected(IndexSet<String>),
 }
 
 /// The keys of the terms of a choice.
-pub(crate) fn stops_of(
+pub(crate) fn stops_of<'a>(
     alloc: Global,
+    lists: &'a Lists,
     choice: Option<&StopChoice>,
-) -> Result<Items<StopKeys>, Memory>
-    ensures { IfOk result (λ stops. stops ≡ spec.stops_of (option_map (λ lent. lent.now) choice.entry)) }
+) -> Result<Vec<StopKeys<'a>>, Memory>
+    ensures { IfOk result (λ stops. map spec.term_of stops.items ≡ spec.stops_of lists.now (option_map (λ lent. lent.now) choice.entry)) }
 {
     match choice {
-        None => Ok(Items::new(alloc)),
-        Some(choice) => stops_of_choice(alloc, choice),
+        None => Ok(Vec::new(alloc)),
+        Some(choice) => stops_of_choice(alloc, lists, choice),
     }
 }
 
-fn stops_of_choice(alloc: Global, choice: &StopChoice) -> Result<Items<StopKeys>, Memory>
-    ensures { IfOk result (λ stops. stops ≡ spec.stops_of (Some choice.now)) }
+fn stops_of_choice<'a>(
+    alloc: Global,
+    lists: &'a Lists,
+    choice: &StopChoice,
+) -> Result<Vec<StopKeys<'a>>, Memory>
+    ensures { IfOk result (λ stops. map spec.term_of stops.items ≡ spec.stops_of lists.now (Some choice.now)) }
 {
     match choice {
-        StopChoice::No => Ok(Items::new(alloc)),
-        StopChoice::Sets(terms) => stops_of_terms(alloc, terms.as_slice()),
+        StopChoice::No => Ok(Vec::new(alloc)),
+        StopChoice::Sets(terms) => stops_of_terms(alloc, lists, terms.as_slice()),
     }
 }
 
-fn stops_of_terms(alloc: Global, terms: &[StopTerm]) -> Result<Items<StopKeys>, Memory>
-    ensures { IfOk result (λ stops. stops ≡ map spec.term_keys terms.now) }
+fn stops_of_terms<'a>(
+    alloc: Global,
+    lists: &'a Lists,
+    terms: &[StopTerm],
+) -> Result<Vec<StopKeys<'a>>, Memory>
+    ensures { IfOk result (λ stops. map spec.term_of stops.items ≡ map (spec.term_keys lists.now) terms.now) }
 {
-    let mut stops = Items::new(alloc);
+    let mut stops = Vec::new(alloc);
     for term in terms {
         stops.push(StopKeys {
             except: term.except,
-            keys: source_keys(alloc, &term.source)?,
+            keys: source_keys(alloc, lists, &term.source)?,
         })?;
     }
     Ok(stops)
 }
 
-fn source_keys(alloc: Global, source: &StopSource) -> Result<Lines, Memory>
-    ensures { IfOk result (λ keys. keys ≡ spec.source_keys source.now) }
+fn source_keys<'a>(
+    alloc: Global,
+    lists: &'a Lists,
+    source: &StopSource,
+) -> Result<KeySet<'a>, Memory>
+    ensures { IfOk result (λ keys. spec.keys_of_set keys ≡ spec.source_keys lists.now source.now) }
 {
     match source {
-        StopSource::At(_name) => Ok(Items::new(alloc)),
-        StopSource::Written(texts) => keys_of_texts(alloc, texts.as_slice()),
+        StopSource::At(name) => Ok(KeySet::Listed(lists.stop(name.as_str()))),
+        StopSource::Written(texts) => {
+            let keys = keys_of_texts(alloc, texts.as_slice())?;
+            Ok(KeySet::Collected(keys))
+        }
     }
 }
 
-fn keys_of_texts(alloc: Global, texts: &[Line]) -> Result<Lines, Memory>
-    ensures { IfOk result (λ keys. keys ≡ flat_map spec.string_keys texts.now) }
+fn keys_of_texts(alloc: Global, texts: &[Line]) -> Result<IndexSet<String>, Memory>
+    ensures { IfOk result (λ keys. map string_bytes keys.keys ≡ fold with_key [] (flat_map spec.string_keys texts.now)) }
 {
-    let mut keys = Items::new(alloc);
+    let mut keys = IndexSet::new(alloc);
     for text in texts {
-        push_keys(alloc, &mut keys, text.as_str())?;
+        insert_keys(alloc, &mut keys, text.as_str())?;
     }
     Ok(keys)
 }
 
-/// Puts the key of each word of the string to the end.
-fn push_keys(alloc: Global, keys: &mut Lines, string: &str) -> Result<(), Memory>
-    ensures { OnOk result (keys.new ≡ keys.old ++ spec.string_keys string.now) }
+/// Puts the key of each word of the string into the set.
+fn insert_keys(alloc: Global, keys: &mut IndexSet<String>, string: &str) -> Result<(), Memory>
+    ensures { OnOk result (map string_bytes keys.new.keys ≡ fold with_key (map string_bytes keys.old.keys) (spec.string_keys string.now)) }
 {
     let items = items_of(alloc, false, string)?;
     for item in items.as_slice() {
-        keys.push(item_key(alloc, item)?)?;
+        let key = item_key(alloc, item)?.into_string();
+        keys.insert(key)?;
     }
     Ok(())
 }
 
-fn item_key(alloc: Global, query: &QueryItem) -> Result<Line, Memory>
+/// The key of a word; that of a pattern is empty.
+pub(crate) fn item_key(alloc: Global, query: &QueryItem) -> Result<Line, Memory>
     ensures { IfOk result (λ key. key ≡ spec.item_key (item query.now)) }
 {
     match query {
         QueryItem::Word(word) => key(alloc, word.as_str()),
-        QueryItem::Pattern(pattern) => key(alloc, pattern.as_str()),
+        QueryItem::Pattern(_pattern) => Ok(Line::from_string(String::new(alloc))),
     }
 }
 
 /// Whether a key is a stop word, the terms being taken from left to right.
-pub(crate) fn is_stop_key(stops: &[StopKeys], key: &str) -> bool
-    ensures { result ≡ spec.is_stop_key stops.now key.now }
+pub(crate) fn is_stop_key(stops: &[StopKeys<'_>], key: &str) -> bool
+    ensures { result ≡ spec.is_stop_key (map spec.term_of stops.now) key.now }
 {
     let mut held = false;
     for term in stops {
@@ -101,23 +132,22 @@ pub(crate) fn is_stop_key(stops: &[StopKeys], key: &str) -> bool
     held
 }
 
-fn after_keys(term: &StopKeys, key: &str, held: bool) -> bool
-    ensures { result ≡ spec.after_keys key.now held term.now }
+fn after_keys(term: &StopKeys<'_>, key: &str, held: bool) -> bool
+    ensures { result ≡ spec.after_keys key.now held (spec.term_of term.now) }
 {
     if term.except {
-        held && !has_key(term.keys.as_slice(), key)
+        held && !holds(&term.keys, key)
     } else {
-        held || has_key(term.keys.as_slice(), key)
+        held || holds(&term.keys, key)
     }
 }
 
-fn has_key(keys: &[Line], key: &str) -> bool
-    ensures { result ≡ spec.has_key keys.now key.now }
+fn holds(keys: &KeySet<'_>, key: &str) -> bool
+    ensures { result ≡ spec.has_key (spec.keys_of_set keys.now) key.now }
 {
-    for other in keys {
-        if other.as_str() == key {
-            return true;
-        }
+    match keys {
+        KeySet::Listed(None) => false,
+        KeySet::Listed(Some(list)) => list.holds(key),
+        KeySet::Collected(keys) => keys.contains(key),
     }
-    false
 }

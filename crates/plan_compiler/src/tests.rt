@@ -7,10 +7,11 @@ use ft_base::{
 use ft_syntax::{Selection, Selections};
 use std::alloc::Global;
 use std::test::Fail;
+use thesaurus_file::Thesaurus;
 use tokenizer::words_of;
-use word_lists::StopList;
+use word_lists::{Stems, StopList};
 
-fn tokens(alloc: Global, text: &str) -> Result<Vec<Token>, Memory> {
+pub(crate) fn tokens(alloc: Global, text: &str) -> Result<Vec<Token>, Memory> {
     let mut tokens = Vec::new(alloc);
     let pieces = words_of(alloc, text)?;
     for piece in &pieces {
@@ -24,7 +25,7 @@ fn tokens(alloc: Global, text: &str) -> Result<Vec<Token>, Memory> {
     Ok(tokens)
 }
 
-fn words(
+pub(crate) fn words(
     alloc: Global,
     strings: &[&str],
     mode: Mode,
@@ -42,7 +43,7 @@ fn words(
     }))
 }
 
-fn quoted(alloc: Global, string: &str) -> Result<Selection, Memory> {
+pub(crate) fn quoted(alloc: Global, string: &str) -> Result<Selection, Memory> {
     words(alloc, &[string], Mode::Any, None)
 }
 
@@ -50,7 +51,7 @@ fn not(alloc: Global, operand: Selection) -> Result<Selection, Memory> {
     Ok(Selection::Not(Box::new(alloc, operand)?))
 }
 
-fn both(alloc: Global, left: Selection, right: Selection) -> Result<Selections, Memory> {
+pub(crate) fn both(alloc: Global, left: Selection, right: Selection) -> Result<Selections, Memory> {
     let mut parts = Items::new(alloc);
     parts.push(left)?;
     parts.push(right)?;
@@ -221,7 +222,7 @@ fn wildcards(rt: HostRuntime) -> Result<(), Fail> {
     Ok(())
 }
 
-fn term(alloc: Global, except: bool, strings: &[&str]) -> Result<StopTerm, Memory> {
+pub(crate) fn term(alloc: Global, except: bool, strings: &[&str]) -> Result<StopTerm, Memory> {
     let mut texts = Items::new(alloc);
     for string in strings {
         texts.push(Line::read(alloc, string)?)?;
@@ -278,9 +279,23 @@ fn the_inner_option_holds(rt: HostRuntime) -> Result<(), Fail> {
     Ok(())
 }
 
-fn stop_list(alloc: Global, file: &[u8]) -> Result<StopList, Fail> {
+pub(crate) fn stop_list(alloc: Global, file: &[u8]) -> Result<StopList, Fail> {
     match StopList::read(alloc, file) {
         Ok(list) => Ok(list),
+        Err(_fault) => Err(Fail::from("a bad line")),
+    }
+}
+
+pub(crate) fn thesaurus(alloc: Global, file: &[u8]) -> Result<Thesaurus, Fail> {
+    match Thesaurus::read(alloc, file) {
+        Ok(thesaurus) => Ok(thesaurus),
+        Err(_fault) => Err(Fail::from("a bad line")),
+    }
+}
+
+pub(crate) fn stems(alloc: Global, file: &[u8]) -> Result<Stems, Fail> {
+    match Stems::read(alloc, file) {
+        Ok(stems) => Ok(stems),
         Err(_fault) => Err(Fail::from("a bad line")),
     }
 }
@@ -292,9 +307,18 @@ fn lists_by_name(rt: HostRuntime) -> Result<(), Fail> {
     assert!(rt; !lists.has_stop("e"));
     lists.set_stop("e", stop_list(alloc, b"the")?)?;
     lists.set_stop("f", stop_list(alloc, b"of")?)?;
+    lists.set_thesaurus("t", thesaurus(alloc, b"r | a | b")?)?;
+    lists.set_stems(stems(alloc, b"roses rose")?)?;
     let copy = lists.copy()?;
     lists.set_stop("e", stop_list(alloc, b"an")?)?;
+    lists.set_thesaurus("e", thesaurus(alloc, b"r | b | c")?)?;
+    lists.set_thesaurus("t", thesaurus(alloc, b"")?)?;
     assert!(rt; lists.has_stop("e") && lists.has_stop("f") && copy.has_stop("e"));
-    assert!(rt; !lists.has_stop("E") && !copy.has_stop(""));
+    assert!(rt; !lists.has_stop("E") && !copy.has_stop("") && !lists.has_stop("t"));
+    assert!(rt; lists.has_thesaurus("t") && lists.has_thesaurus("e"));
+    assert!(rt; copy.has_thesaurus("t") && !copy.has_thesaurus("e"));
+    assert_eq!(rt; lists.stop_count(), 2);
+    assert_eq!(rt; lists.thesaurus_count(), 2);
+    assert_eq!(rt; copy.thesaurus_count(), 1);
     Ok(())
 }

@@ -40,7 +40,7 @@ some_places : (kind : ℕ → QueryFault) (places : List ℕ) → has_some (faul
 some_places kind [] = refl
 some_places kind (at ∷ rest) = refl
 
-some_option : (o : Option ℕ) → has_some (option_to_list o) ≡ is_some o
+pub some_option : (o : Option ℕ) → has_some (option_to_list o) ≡ is_some o
 some_option None = refl
 some_option (Some at) = refl
 
@@ -70,9 +70,16 @@ without true t b m f e = e
 without false true b m f e = cc
 without false false b m f e = e
 
-none_of : {A : Type 0} (o : Option A) → is_some o ≡ false → o ≡ None
+pub none_of : {A : Type 0} (o : Option A) → is_some o ≡ false → o ≡ None
 none_of None e = refl
 none_of (Some x) e = cc
+
+-- whether there is a fault is told by the form, and by whether an option is given twice
+pub same_fault : (t u : Tree) → form_of u ≡ form_of t → has_some (options_twice u) ≡ has_some (options_twice t) → is_some (fault_of u) ≡ is_some (fault_of t)
+same_fault t u e twice =
+    has_fault u
+    ∙ (λ i. (((past (e i) || twice i) || bad (e i)) || (marks_of (e i)).mild_not_excludes) || (marks_of (e i)).inside_filters)
+    ∙ sym (has_fault t)
 
 -- a selection of the form of one without a fault has none, if it has no option twice
 pub faultless_again : (t u : Tree) → form_of u ≡ form_of t → Once u → fault_of t ≡ None → fault_of u ≡ None

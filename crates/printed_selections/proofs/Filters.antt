@@ -61,5 +61,5 @@ mutual
   all_same tree.none = refl
   all_same (tree.more t rest) = both (within_same t) (all_same rest)
 
-pub filters_again : (t u : Tree) → form_of u ≡ form_of t → are_filters_within t ≡ true → are_filters_within u ≡ true
-filters_again t u e h = within_same u ∙ ap within e ∙ sym (within_same t) ∙ h
+pub filters_same : (t u : Tree) → form_of u ≡ form_of t → are_filters_within u ≡ are_filters_within t
+filters_same t u e = within_same u ∙ ap within e ∙ sym (within_same t)

@@ -22,6 +22,8 @@ use Rattle.printed_selections.proofs.Once.{once_not, once_mild, once_filtered, o
 use Rattle.printed_selections.proofs.Faultless.{faultless_again}
 use Rattle.printed_selections.proofs.Choices.{Sound, options_printed}
 use Rattle.printed_selections.proofs.Sound.{NotEmpty, not_empty, value_some, options_sound, some_given}
+use Rattle.printed_selections.proofs.Fits.{Fit}
+use Rattle.printed_selections.proofs.Good.{good_append, good_word}
 use Rattle.printed_selections.proofs.Levels.{Anded, Everywhere, from_operated, from_unary, from_mild, from_anded, from_selection, selection_up}
 use Rattle.printed_selections.proofs.Operands.{words_again, closed_again, AllEverywhere, several}
 
@@ -31,7 +33,7 @@ PrimaryAgain (phrases strings mode times) = NotEmpty strings
 PrimaryAgain (inner t) = Everywhere (form_of t)
 
 optioned_again : (x : Primary) (os : List PlacedOption) → PrimaryAgain x → Sound (options_of os) → ((first : PlacedOption) (rest : List PlacedOption) → os ≡ first ∷ rest → options_of os ≡ no_options → ⊥) → Everywhere (form_of (optioned x os))
-unfolding form_of symbols
+unfolding form_of symbols Fit
 optioned_again (phrases [] mode times) os h sound some = absurd h
 optioned_again (phrases (s ∷ rest) mode times) os h sound some = from_operated (form_of (optioned (phrases (s ∷ rest) mode times) os)) refl (words_again s.text (g.texts_of rest) mode (option_map (λ (x : PlacedTimes). x.range) times) (options_of os) sound)
 optioned_again (inner t) [] h sound some = h
@@ -39,7 +41,7 @@ optioned_again (inner t) (first ∷ rest) h sound some = from_operated (form.wit
     (closed_again (form_of t) (options_of (first ∷ rest)) (symbols (form_of t)) _ (some first rest refl) h.alone (options_printed (options_of (first ∷ rest)) sound))
 
 negated_again : (n : Option ℕ) (t : Tree) → Everywhere (form_of t) → Everywhere (form_of (negated n t))
-unfolding form_of symbols
+unfolding form_of symbols Fit
 negated_again None t h = h
 negated_again (Some p) t h = let x = h.in_not.spells in
     from_unary (form.not_of (form_of t)) refl (record {
@@ -49,10 +51,11 @@ negated_again (Some p) t h = let x = h.in_not.spells in
       written_so = ap (λ z. codes "ftnot" ∷ z) h.in_not.written_so;
       is = ap form.not_of h.in_not.is;
       once = once_not 0 h.in_not.tree h.in_not.once;
+      good = λ d k. good_word o (codes "ftnot") _ d refl (h.in_not.good d k);
     })
 
 mild_again : (left right : Tree) → Everywhere (form_of left) → Everywhere (form_of right) → Everywhere (form_of (tree.mild_not left right))
-unfolding form_of symbols
+unfolding form_of symbols Fit
 mild_again left right h k = from_mild (form.mild_not (form_of left) (form_of right)) refl (record {
   placed = h.in_and.placed ++ name o (codes "not") ∷ name o (codes "in") ∷ k.in_mild.placed;
   tree = tree.mild_not h.in_and.tree k.in_mild.tree;
@@ -60,6 +63,8 @@ mild_again left right h k = from_mild (form.mild_not (form_of left) (form_of rig
   written_so = parts.joined h.in_and.placed (name o (codes "not") ∷ name o (codes "in") ∷ k.in_mild.placed) _ _ h.in_and.written_so (ap (λ w. codes "not" ∷ codes "in" ∷ w) k.in_mild.written_so);
   is = ap (λ z. form.mild_not z (form_of k.in_mild.tree)) h.in_and.is ∙ ap (λ z. form.mild_not (form_of left) z) k.in_mild.is;
   once = once_mild h.in_and.tree k.in_mild.tree h.in_and.once k.in_mild.once;
+  good = λ d l. good_append h.in_and.placed (name o (codes "not") ∷ name o (codes "in") ∷ k.in_mild.placed) d (h.in_and.good d l.0)
+      (good_word o (codes "not") _ d refl (good_word o (codes "in") _ d refl (k.in_mild.good d l.1)));
 })
 
 not_below : (x : Form) → nat_lt (level x) 0 ≡ false
@@ -72,7 +77,7 @@ not_below (form.filtered x filter) = refl
 not_below (form.with_options x options) = refl
 
 filtered_again : (t : Tree) (f : Filter) → Everywhere (form_of t) → Everywhere (form_of (tree.filtered t f))
-unfolding form_of symbols
+unfolding form_of symbols Fit
 filtered_again t f h =
     let x = filter_printed f in
     from_selection (form.filtered (form_of t) f) 0 refl refl refl refl refl (record {
@@ -82,14 +87,15 @@ filtered_again t f h =
       written_so = parts.joined h.alone.placed x.placed _ (filter_symbols f) (h.alone.written_so ∙ ap (λ b. cond b (in_parentheses (symbols (form_of t))) (symbols (form_of t))) (sym (not_below (form_of t)))) x.is;
       is = ap (λ z. form.filtered z f) h.alone.is;
       once = once_filtered h.alone.tree f h.alone.once;
+      good = λ d k. good_append h.alone.placed x.placed d (h.alone.good d k.0) (x.good d k.1);
     })
 
 anded_again : (xs : List Tree) → NotEmpty xs → AllEverywhere xs → Everywhere (form_of (joined tree.and_of xs))
-unfolding form_of symbols
+unfolding form_of symbols Fit
 anded_again [] h all = absurd h
 anded_again (t ∷ []) h all = all.0
 anded_again (t ∷ next ∷ rest) h all =
-    let x = several Mild Ands (codes "ftand") 3 (λ u t a. Ands.first_and a) (λ u v xs t a b. Ands.further_and a o b) (λ x k. k.in_and) t next rest all in
+    let x = several Mild Ands (codes "ftand") 3 (λ u t a. Ands.first_and a) (λ u v xs t a b. Ands.further_and a o b) (λ x k. k.in_and) refl t next rest all in
     from_anded (form.and_of (forms_of (trees_of (t ∷ next ∷ rest)))) refl (record {
       placed = x.placed;
       tree = tree.and_of (trees_of (x.one ∷ x.two ∷ x.rest));
@@ -97,6 +103,7 @@ anded_again (t ∷ next ∷ rest) h all =
       written_so = x.written_so;
       is = ap form.and_of x.is;
       once = once_and (x.one ∷ x.two ∷ x.rest) x.once;
+      good = x.good;
     })
 
 ors_first : (u : List Placed) (t : Tree) → Anded u t → Ors u (t ∷ [])
@@ -106,11 +113,11 @@ ors_more : (u v : List Placed) (xs : List Tree) (t : Tree) → Ors u xs → Ande
 ors_more u v xs t a b = subst (λ z. Ors (u ++ name o (codes "ftor") ∷ v) (xs ++ z ∷ [])) (sym b.is) (Ors.further_or a o b.spells)
 
 ored_again : (xs : List Tree) → NotEmpty xs → AllEverywhere xs → Everywhere (form_of (joined tree.or_of xs))
-unfolding form_of symbols
+unfolding form_of symbols Fit
 ored_again [] h all = absurd h
 ored_again (t ∷ []) h all = all.0
 ored_again (t ∷ next ∷ rest) h all =
-    let x = several Anded Ors (codes "ftor") 2 ors_first ors_more (λ x k. k.in_or) t next rest all in
+    let x = several Anded Ors (codes "ftor") 2 ors_first ors_more (λ x k. k.in_or) refl t next rest all in
     from_selection (form.or_of (forms_of (trees_of (t ∷ next ∷ rest)))) 1 refl refl refl refl refl (selection_up _ _ (record {
       placed = x.placed;
       tree = tree.or_of (trees_of (x.one ∷ x.two ∷ x.rest));
@@ -118,6 +125,7 @@ ored_again (t ∷ next ∷ rest) h all =
       written_so = x.written_so;
       is = ap form.or_of x.is;
       once = once_or (x.one ∷ x.two ∷ x.rest) x.once;
+      good = x.good;
     }))
 
 all_append : (xs : List Tree) (t : Tree) → AllEverywhere xs → Everywhere (form_of t) → AllEverywhere (xs ++ t ∷ [])

@@ -13,7 +13,7 @@ use Rattle.query_grammar.specs.declared.symbol.Symbols.{Symbols}
 use Rattle.ft_parser.specs.Symbols.{with_letter, quoted_at, front, before, with_further, symbols_within}
 use Rattle.ft_syntax.specs.OptionSymbols.{in_quotes, string_symbol}
 use Rattle.ft_syntax.proofs.Quotes.{in_quotes_letter}
-use Rattle.printed_selections.specs.Strings.{doubled, with_string}
+use Rattle.printed_selections.specs.Strings.{with_string}
 
 -- a letter that isn't a quotation mark, and the closing one
 one_letter : (c : ℕ) (rest : List ℕ) → eqb c 34 ≡ false → quoted_at 34 (c ∷ rest) ≡ with_letter c 1 (quoted_at 34 rest)
@@ -24,25 +24,25 @@ closing : (rest : List ℕ) → begins_with 34 rest ≡ false → quoted_at 34 (
 closing [] h = refl
 closing (d ∷ rest) h = ap (λ b. cond b (with_letter 34 2 (quoted_at 34 rest)) (Some record { text = []; size = 1 })) h
 
-quoted_more : (c : ℕ) (letters rest : List ℕ) (b : Bool) → eqb c 34 ≡ b → quoted_at 34 (doubled letters ++ 34 ∷ rest) ≡ Some record { text = encode_utf8_all letters; size = length (doubled letters) + 1 }
-    → quoted_at 34 (doubled (c ∷ letters) ++ 34 ∷ rest) ≡ Some record { text = encode_utf8_all (c ∷ letters); size = length (doubled (c ∷ letters)) + 1 }
+quoted_more : (c : ℕ) (letters rest : List ℕ) (b : Bool) → eqb c 34 ≡ b → quoted_at 34 (flat_map in_quotes letters ++ 34 ∷ rest) ≡ Some record { text = encode_utf8_all letters; size = length (flat_map in_quotes letters) + 1 }
+    → quoted_at 34 (flat_map in_quotes (c ∷ letters) ++ 34 ∷ rest) ≡ Some record { text = encode_utf8_all (c ∷ letters); size = length (flat_map in_quotes (c ∷ letters)) + 1 }
 quoted_more c letters rest true e more =
     let same : 34 ≡ c = sym (eqb-true c 34 e) in
-    let two : 2 + (length (doubled letters) + 1) ≡ length (34 ∷ 34 ∷ doubled letters) + 1 = omega arith in
-    let sizes : 2 + (length (doubled letters) + 1) ≡ length (doubled (c ∷ letters)) + 1 = two ∙ ap (λ b. length (cond b (34 ∷ 34 ∷ []) (c ∷ []) ++ doubled letters) + 1) (sym e) in
-    let first : quoted_at 34 (doubled (c ∷ letters) ++ 34 ∷ rest) ≡ with_letter 34 2 (quoted_at 34 (doubled letters ++ 34 ∷ rest)) = ap (λ b. quoted_at 34 ((cond b (34 ∷ 34 ∷ []) (c ∷ []) ++ doubled letters) ++ 34 ∷ rest)) e in
-    let last : with_letter 34 2 (Some record { text = encode_utf8_all letters; size = length (doubled letters) + 1 }) ≡ Some record { text = encode_utf8_all (c ∷ letters); size = length (doubled (c ∷ letters)) + 1 }
+    let two : 2 + (length (flat_map in_quotes letters) + 1) ≡ length (34 ∷ 34 ∷ flat_map in_quotes letters) + 1 = omega arith in
+    let sizes : 2 + (length (flat_map in_quotes letters) + 1) ≡ length (flat_map in_quotes (c ∷ letters)) + 1 = two ∙ ap (λ b. length (cond b (34 ∷ 34 ∷ []) (c ∷ []) ++ flat_map in_quotes letters) + 1) (sym e) in
+    let first : quoted_at 34 (flat_map in_quotes (c ∷ letters) ++ 34 ∷ rest) ≡ with_letter 34 2 (quoted_at 34 (flat_map in_quotes letters ++ 34 ∷ rest)) = ap (λ b. quoted_at 34 ((cond b (34 ∷ 34 ∷ []) (c ∷ []) ++ flat_map in_quotes letters) ++ 34 ∷ rest)) e in
+    let last : with_letter 34 2 (Some record { text = encode_utf8_all letters; size = length (flat_map in_quotes letters) + 1 }) ≡ Some record { text = encode_utf8_all (c ∷ letters); size = length (flat_map in_quotes (c ∷ letters)) + 1 }
     = λ i. Some record { text = encode_utf8 (same i) ++ encode_utf8_all letters; size = sizes i } in
     first ∙ ap (with_letter 34 2) more ∙ last
 quoted_more c letters rest false e more =
-    let one : 1 + (length (doubled letters) + 1) ≡ length (c ∷ doubled letters) + 1 = omega arith in
-    let sizes : 1 + (length (doubled letters) + 1) ≡ length (doubled (c ∷ letters)) + 1 = one ∙ ap (λ b. length (cond b (34 ∷ 34 ∷ []) (c ∷ []) ++ doubled letters) + 1) (sym e) in
-    let first : quoted_at 34 (doubled (c ∷ letters) ++ 34 ∷ rest) ≡ quoted_at 34 (c ∷ (doubled letters ++ 34 ∷ rest)) = ap (λ b. quoted_at 34 ((cond b (34 ∷ 34 ∷ []) (c ∷ []) ++ doubled letters) ++ 34 ∷ rest)) e in
-    let last : with_letter c 1 (Some record { text = encode_utf8_all letters; size = length (doubled letters) + 1 }) ≡ Some record { text = encode_utf8_all (c ∷ letters); size = length (doubled (c ∷ letters)) + 1 }
+    let one : 1 + (length (flat_map in_quotes letters) + 1) ≡ length (c ∷ flat_map in_quotes letters) + 1 = omega arith in
+    let sizes : 1 + (length (flat_map in_quotes letters) + 1) ≡ length (flat_map in_quotes (c ∷ letters)) + 1 = one ∙ ap (λ b. length (cond b (34 ∷ 34 ∷ []) (c ∷ []) ++ flat_map in_quotes letters) + 1) (sym e) in
+    let first : quoted_at 34 (flat_map in_quotes (c ∷ letters) ++ 34 ∷ rest) ≡ quoted_at 34 (c ∷ (flat_map in_quotes letters ++ 34 ∷ rest)) = ap (λ b. quoted_at 34 ((cond b (34 ∷ 34 ∷ []) (c ∷ []) ++ flat_map in_quotes letters) ++ 34 ∷ rest)) e in
+    let last : with_letter c 1 (Some record { text = encode_utf8_all letters; size = length (flat_map in_quotes letters) + 1 }) ≡ Some record { text = encode_utf8_all (c ∷ letters); size = length (flat_map in_quotes (c ∷ letters)) + 1 }
     = λ i. Some record { text = encode_utf8 c ++ encode_utf8_all letters; size = sizes i } in
-    first ∙ one_letter c (doubled letters ++ 34 ∷ rest) e ∙ ap (with_letter c 1) more ∙ last
+    first ∙ one_letter c (flat_map in_quotes letters ++ 34 ∷ rest) e ∙ ap (with_letter c 1) more ∙ last
 
-quoted_letters : (letters rest : List ℕ) → begins_with 34 rest ≡ false → quoted_at 34 (doubled letters ++ 34 ∷ rest) ≡ Some record { text = encode_utf8_all letters; size = length (doubled letters) + 1 }
+quoted_letters : (letters rest : List ℕ) → begins_with 34 rest ≡ false → quoted_at 34 (flat_map in_quotes letters ++ 34 ∷ rest) ≡ Some record { text = encode_utf8_all letters; size = length (flat_map in_quotes letters) + 1 }
 quoted_letters [] rest h = closing rest h
 quoted_letters (c ∷ letters) rest h = quoted_more c letters rest (eqb c 34) refl (quoted_letters letters rest h)
 
@@ -52,34 +52,34 @@ unfolding lib.Utf8.encode
 bytes_letter c true e = ap (λ n. flat_map in_quotes (encode_utf8 n)) (eqb-true c 34 e) ∙ ap (λ n. encode_utf8_all (in_quotes n)) (sym (eqb-true c 34 e))
 bytes_letter c false e = in_quotes_letter c (eqb-false c 34 e) ∙ sym (append-nil (encode_utf8 c)) ∙ ap (λ b. encode_utf8_all (cond b (34 ∷ 34 ∷ []) (c ∷ []))) (sym e)
 
-bytes_doubled : (letters : List ℕ) → flat_map in_quotes (encode_utf8_all letters) ≡ encode_utf8_all (doubled letters)
+bytes_doubled : (letters : List ℕ) → flat_map in_quotes (encode_utf8_all letters) ≡ encode_utf8_all (flat_map in_quotes letters)
 bytes_doubled [] = refl
 bytes_doubled (c ∷ letters) =
     flat_map-append in_quotes (encode_utf8 c) (encode_utf8_all letters)
     ∙ ap (λ w. w ++ flat_map in_quotes (encode_utf8_all letters)) (bytes_letter c (eqb c 34) refl)
     ∙ ap (λ w. encode_utf8_all (in_quotes c) ++ w) (bytes_doubled letters)
-    ∙ sym (encodes-append (in_quotes c) (doubled letters))
+    ∙ sym (encodes-append (in_quotes c) (flat_map in_quotes letters))
 
-pub string_written : (letters : List ℕ) → encode_utf8_all (34 ∷ doubled letters ++ 34 ∷ []) ≡ string_symbol (encode_utf8_all letters)
+pub string_written : (letters : List ℕ) → encode_utf8_all (34 ∷ flat_map in_quotes letters ++ 34 ∷ []) ≡ string_symbol (encode_utf8_all letters)
 unfolding lib.Utf8.encode
-string_written letters = ap (λ w. 34 ∷ w) (encodes-append (doubled letters) (34 ∷ []) ∙ ap (λ w. w ++ 34 ∷ []) (sym (bytes_doubled letters)))
+string_written letters = ap (λ w. 34 ∷ w) (encodes-append (flat_map in_quotes letters) (34 ∷ []) ∙ ap (λ w. w ++ 34 ∷ []) (sym (bytes_doubled letters)))
 
 -- the first symbol, and what is left
-take_front : (xs ys : List ℕ) → take (length xs) (xs ++ ys) ≡ xs
+pub take_front : (xs ys : List ℕ) → take (length xs) (xs ++ ys) ≡ xs
 take_front [] ys = refl
 take_front (x ∷ xs) ys = ap (λ w. x ∷ w) (take_front xs ys)
 
 abbrev behind : ℕ → ℕ → List ℕ → List ℕ → List ℕ → Symbols
 behind bound place letters taken left = before (record { symbol = S.Text (encode_utf8_all letters); from = place; to = place + length (encode_utf8_all taken) }) (symbols_within bound (place + length (encode_utf8_all taken)) left)
 
-pub string_read : (bound place : ℕ) (letters rest : List ℕ) → begins_with 34 rest ≡ false → symbols_within (suc bound) place (34 ∷ doubled letters ++ 34 ∷ rest) ≡ with_string bound place (encode_utf8_all letters) rest
+pub string_read : (bound place : ℕ) (letters rest : List ℕ) → begins_with 34 rest ≡ false → symbols_within (suc bound) place (34 ∷ flat_map in_quotes letters ++ 34 ∷ rest) ≡ with_string bound place (encode_utf8_all letters) rest
 unfolding symbols_within front is_name_start
 string_read bound place letters rest h =
-    let word : List ℕ = 34 ∷ doubled letters ++ 34 ∷ [] in
-    let split : 34 ∷ doubled letters ++ 34 ∷ rest ≡ word ++ rest = sym (append_assoc (34 ∷ doubled letters) (34 ∷ []) rest) in
-    let size : (length (doubled letters) + 1) + 1 ≡ length word = omega (arith, length-append (34 ∷ doubled letters) (34 ∷ [])) in
-    ap (λ q. with_further place (34 ∷ doubled letters ++ 34 ∷ rest) (symbols_within bound) (option_map (λ z. record { symbol = S.Text z.text; size = z.size + 1 }) q)) (quoted_letters letters rest h)
-    ∙ ap (λ n. behind bound place letters (take n (34 ∷ doubled letters ++ 34 ∷ rest)) (drop n (34 ∷ doubled letters ++ 34 ∷ rest))) size
+    let word : List ℕ = 34 ∷ flat_map in_quotes letters ++ 34 ∷ [] in
+    let split : 34 ∷ flat_map in_quotes letters ++ 34 ∷ rest ≡ word ++ rest = sym (append_assoc (34 ∷ flat_map in_quotes letters) (34 ∷ []) rest) in
+    let size : (length (flat_map in_quotes letters) + 1) + 1 ≡ length word = omega (arith, length-append (34 ∷ flat_map in_quotes letters) (34 ∷ [])) in
+    ap (λ q. with_further place (34 ∷ flat_map in_quotes letters ++ 34 ∷ rest) (symbols_within bound) (option_map (λ z. record { symbol = S.Text z.text; size = z.size + 1 }) q)) (quoted_letters letters rest h)
+    ∙ ap (λ n. behind bound place letters (take n (34 ∷ flat_map in_quotes letters ++ 34 ∷ rest)) (drop n (34 ∷ flat_map in_quotes letters ++ 34 ∷ rest))) size
     ∙ ap (λ w. behind bound place letters (take (length word) w) (drop (length word) w)) split
     ∙ ap (λ w. behind bound place letters w (drop (length word) (word ++ rest))) (take_front word rest)
     ∙ ap (λ w. behind bound place letters word w) (drop-append_seam word rest)

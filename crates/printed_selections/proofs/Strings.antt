@@ -58,7 +58,7 @@ mutual
   all_same around tree.none = refl
   all_same around (tree.more t rest) = two (strings_inside around t) (strings_inside_all around rest) (strings_same around t) (all_same around rest)
 
-past_by : (b : Bool) (x y : ℕ) (p q : Option ℕ) → is_some p ≡ is_some q → is_some (cond b (Some x) p) ≡ is_some (cond b (Some y) q)
+pub past_by : (b : Bool) (x y : ℕ) (p q : Option ℕ) → is_some p ≡ is_some q → is_some (cond b (Some x) p) ≡ is_some (cond b (Some y) q)
 past_by true x y p q e = refl
 past_by false x y p q e = e
 

@@ -1,2 +1,4 @@
 pub mod Printed
 pub mod Strings
+pub mod Places
+pub mod Printable

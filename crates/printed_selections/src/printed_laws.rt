@@ -3,6 +3,7 @@
 ghost use Rattle.std.specs.Prelude.{◌≡◌, ℕ, List, None, Ok};
 ghost use Rattle.ft_base.specs.Selection.{Form};
 ghost use Rattle.ft_parser.specs.Answer.{selection_read};
+ghost use Rattle.ft_syntax.specs.Symbols.{printed};
 ghost use Rattle.printed_selections.specs.Printed.{FaultlessAgain, PrintedSpells, WithinFilters};
 ghost use Rattle.query_grammar.specs.Form.{form_of};
 ghost use Rattle.query_grammar.specs.Grammar.{Selection};
@@ -21,4 +22,9 @@ pub fn spelled_again()
 /// filter too many.
 pub fn read_again()
     ensures { (text : List ℕ) (form : Form) → selection_read text ≡ Ok form → WithinFilters form }
+{}
+
+/// What is printed of a selection that was read is read as that selection.
+pub fn read_back()
+    ensures { (text : List ℕ) (form : Form) → selection_read text ≡ Ok form → selection_read (printed form) ≡ Ok form }
 {}

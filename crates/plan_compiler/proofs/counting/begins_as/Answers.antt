@@ -1,5 +1,5 @@
 -- A text has no phrase that is longer.
-use Rattle.match_options.specs.WordTests.{passes}
+use Rattle.plan_compiler.specs.ItemTests.{passes}
 use Rattle.plan_compiler.proofs.Places.{too_long}
 use Rattle.plan_compiler.proofs.counting.begins_as.Goals as goal
 

@@ -1,6 +1,6 @@
 -- The words so far are those of the phrase.
 use Rattle.std.proofs.Common.{◌≡◌, drop}
-use Rattle.match_options.specs.WordTests.{passes}
+use Rattle.plan_compiler.specs.ItemTests.{passes}
 use Rattle.all_matches.specs.Counting.{begins_as}
 use Rattle.plan_compiler.proofs.counting.begins_as.Given as goal
 

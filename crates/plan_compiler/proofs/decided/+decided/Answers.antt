@@ -1,51 +1,51 @@
 -- Which selections of each kind are decided.
 use Rattle.std.proofs.Common.{sym, ap, ◌∙◌, ◌&&◌, map, Bool, arith, drop, ◌+◌}
 use Rattle.ft_syntax.specs.View.{form, forms_of}
-use Rattle.plan_compiler.specs.Decided.{is_served, all_served}
+use Rattle.plan_compiler.specs.Served.{is_served, all_served}
 use Rattle.plan_compiler.proofs.DecidedLemmas.{decided-Words, decided-Or, decided-And, decided-Not, decided-With, decided-MildNot, decided-Filtered, decided_more, decided_end}
 use Rattle.plan_compiler.proofs.decided.+decided.Goals as goal
 
 pub all_served-returns-then-not-is_served : goal.all_served-returns-then-not-is_served
 all_served-returns-then-not-is_served t c =
-    sym (decided_more c.args.all c.as_slice-part-items.result.now c.loop-part.part-index c.part-item.result c.loop-part-test.true c.part-item.is
-    ∙ ap (λ (b : Bool). b && all_served c.args.all (forms_of (map form (drop (c.loop-part.part-index + 1) c.as_slice-part-items.result.now)))) (sym c.is_served.ensures ∙ c.if-not-is_served.true))
+    sym (decided_more c.args.looks c.as_slice-part-items.result.now c.loop-part.part-index c.part-item.result c.loop-part-test.true c.part-item.is
+    ∙ ap (λ (b : Bool). b && all_served c.args.looks (forms_of (map form (drop (c.loop-part.part-index + 1) c.as_slice-part-items.result.now)))) (sym c.is_served.ensures ∙ c.if-not-is_served.true))
     ∙ c.loop-part.invariant
 
 pub all_served-loop-part-preserved : goal.all_served-loop-part-preserved
 all_served-loop-part-preserved t c =
-    sym (decided_more c.args.all c.as_slice-part-items.result.now c.loop-part.part-index c.part-item.result c.loop-part-test.true c.part-item.is
-    ∙ ap (λ (b : Bool). b && all_served c.args.all (forms_of (map form (drop (c.loop-part.part-index + 1) c.as_slice-part-items.result.now)))) (sym c.is_served.ensures ∙ c.if-not-is_served.false))
+    sym (decided_more c.args.looks c.as_slice-part-items.result.now c.loop-part.part-index c.part-item.result c.loop-part-test.true c.part-item.is
+    ∙ ap (λ (b : Bool). b && all_served c.args.looks (forms_of (map form (drop (c.loop-part.part-index + 1) c.as_slice-part-items.result.now)))) (sym c.is_served.ensures ∙ c.if-not-is_served.false))
     ∙ c.loop-part.invariant
 
 pub all_served-returns : goal.all_served-returns
-all_served-returns t c = sym (decided_end c.args.all c.as_slice-part-items.result.now c.loop-part.part-index (omega arith)) ∙ c.loop-part.invariant
+all_served-returns t c = sym (decided_end c.args.looks c.as_slice-part-items.result.now c.loop-part.part-index (omega arith)) ∙ c.loop-part.invariant
 
 pub is_served-returns-in-Words : goal.is_served-returns-in-Words
-is_served-returns-in-Words t c = c.are_served.ensures ∙ sym (decided-Words c.args.all c.args.selection.now c.in-Words.words c.in-Words.is)
+is_served-returns-in-Words t c = c.are_served.ensures ∙ sym (decided-Words c.args.looks c.args.selection.now c.in-Words.words c.in-Words.is)
 
 pub is_served-returns-in-Or : goal.is_served-returns-in-Or
-is_served-returns-in-Or t c = c.all_served.ensures ∙ sym (decided-Or c.args.all c.args.selection.now c.in-Or.parts c.in-Or.is)
+is_served-returns-in-Or t c = c.all_served.ensures ∙ sym (decided-Or c.args.looks c.args.selection.now c.in-Or.parts c.in-Or.is)
 
 pub is_served-returns-in-And : goal.is_served-returns-in-And
-is_served-returns-in-And t c = c.all_served-in-And.ensures ∙ sym (decided-And c.args.all c.args.selection.now c.in-And.parts c.in-And.is)
+is_served-returns-in-And t c = c.all_served-in-And.ensures ∙ sym (decided-And c.args.looks c.args.selection.now c.in-And.parts c.in-And.is)
 
 pub is_served-returns-in-MildNot : goal.is_served-returns-in-MildNot
-is_served-returns-in-MildNot t c = sym (decided-MildNot c.args.all c.args.selection.now c.in-MildNot._left c.in-MildNot._right c.in-MildNot.is)
+is_served-returns-in-MildNot t c = sym (decided-MildNot c.args.looks c.args.selection.now c.in-MildNot._left c.in-MildNot._right c.in-MildNot.is)
 
 pub is_served-returns-in-Not : goal.is_served-returns-in-Not
-is_served-returns-in-Not t c = c.is_served.ensures ∙ ap (λ s. is_served c.args.all (form s)) c.deref.ensures ∙ sym (decided-Not c.args.all c.args.selection.now c.in-Not.operand c.in-Not.is)
+is_served-returns-in-Not t c = c.is_served.ensures ∙ ap (λ s. is_served c.args.looks (form s)) c.deref.ensures ∙ sym (decided-Not c.args.looks c.args.selection.now c.in-Not.operand c.in-Not.is)
 
 pub is_served-returns-in-Filtered : goal.is_served-returns-in-Filtered
-is_served-returns-in-Filtered t c = sym (decided-Filtered c.args.all c.args.selection.now c.in-Filtered._operand c.in-Filtered._filter c.in-Filtered.is)
+is_served-returns-in-Filtered t c = sym (decided-Filtered c.args.looks c.args.selection.now c.in-Filtered._operand c.in-Filtered._filter c.in-Filtered.is)
 
 pub is_served-returns-then-are_served : goal.is_served-returns-then-are_served
 is_served-returns-then-are_served t c =
-    c.is_served-then-are_served.ensures ∙ ap (λ s. is_served c.args.all (form s)) c.deref-then-are_served.ensures
-    ∙ ap (λ (b : Bool). b && is_served c.args.all (form c.in-With.operand.value)) (sym (sym c.are_served-in-With.ensures ∙ c.if-are_served.true))
-    ∙ sym (decided-With c.args.all c.args.selection.now c.in-With.operand c.in-With.options c.in-With.is)
+    c.is_served-then-are_served.ensures ∙ ap (λ s. is_served c.args.looks (form s)) c.deref-then-are_served.ensures
+    ∙ ap (λ (b : Bool). b && is_served c.args.looks (form c.in-With.operand.value)) (sym (sym c.are_served-in-With.ensures ∙ c.if-are_served.true))
+    ∙ sym (decided-With c.args.looks c.args.selection.now c.in-With.operand c.in-With.options c.in-With.is)
 
 pub is_served-returns-else-are_served : goal.is_served-returns-else-are_served
 is_served-returns-else-are_served t c =
     c.if-are_served.false
-    ∙ ap (λ (b : Bool). b && is_served c.args.all (form c.in-With.operand.value)) (sym (sym c.are_served-in-With.ensures ∙ c.if-are_served.false))
-    ∙ sym (decided-With c.args.all c.args.selection.now c.in-With.operand c.in-With.options c.in-With.is)
+    ∙ ap (λ (b : Bool). b && is_served c.args.looks (form c.in-With.operand.value)) (sym (sym c.are_served-in-With.ensures ∙ c.if-are_served.false))
+    ∙ sym (decided-With c.args.looks c.args.selection.now c.in-With.operand c.in-With.options c.in-With.is)

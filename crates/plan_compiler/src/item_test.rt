@@ -1,0 +1,45 @@
+//! What a word of a text has to be for an item of a query.
+
+ghost use Rattle.std.specs.Prelude.{◌≡◌};
+ghost use Rattle.match_options.specs.TokenTest as token;
+ghost use Rattle.plan_compiler.specs.ItemTests as spec;
+
+use crate::text_word::TextWord;
+use ft_base::{Case, Line};
+use match_options::{Forms, WordTest};
+
+/// What a word of a text has to be.
+#[derive(Debug, Drop)]
+pub(crate) enum ItemTest {
+    /// A word that passes by its forms.
+    ByForms(WordTest),
+    /// A word with the stem, in the case that is asked for.
+    ByStem(Line, Case),
+}
+
+impl ItemTest {
+    /// Whether a word passes.
+    #[tactic(auto, unfolding(crate::specs::ItemTests::passes))]
+    pub(crate) fn passes(&self, word: &TextWord) -> bool
+        ensures { result ≡ spec.passes self.now word.now }
+    {
+        match self {
+            ItemTest::ByForms(test) => test.passes(&word.forms),
+            ItemTest::ByStem(stem, case) => {
+                stem.as_str() == word.stem.as_str() && has_case(*case, &word.forms)
+            }
+        }
+    }
+}
+
+/// What `lowercase` and `uppercase` ask of the word of the text.
+fn has_case(case: Case, text: &Forms) -> bool
+    ensures { result ≡ token.has_case case text.now }
+{
+    match case {
+        Case::Insensitive => true,
+        Case::Sensitive => true,
+        Case::Lower => text.lower,
+        Case::Upper => text.upper,
+    }
+}
