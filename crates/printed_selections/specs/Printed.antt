@@ -1,8 +1,8 @@
 -- What it means that the printed form of a selection spells it again.
-use Rattle.std.specs.Prelude.{◌≡◌, ℕ, true, List, [], ◌∷◌, codes, None}
+use Rattle.std.specs.Prelude.{◌≡◌, ℕ, List, [], ◌∷◌, codes, None}
 use Rattle.std.specs.Fmt.{decimal}
 use Rattle.ft_base.specs.Selection.{Form}
-use Rattle.ft_parser.specs.FilterLimit.{are_filters_within}
+use Rattle.ft_parser.specs.Selected.{IsWhole}
 use Rattle.ft_syntax.specs.OptionSymbols.{string_symbol}
 use Rattle.ft_syntax.specs.Symbols.{symbols}
 use Rattle.query_grammar.specs.Form.{form_of}
@@ -49,7 +49,7 @@ pub record FaultlessAgain (form : Form) : Type 0 where
   pub spelled : PrintedSpells form
   pub faultless : fault_of spelled.tree ≡ None
 
--- and where no filter is one too many
-pub record WithinFilters (form : Form) : Type 0 where
+-- and within all limits: of numbers, of parentheses, and of filters
+pub record WithinLimits (form : Form) : Type 0 where
   pub again : FaultlessAgain form
-  pub filters : are_filters_within again.spelled.tree ≡ true
+  pub whole : IsWhole again.spelled.placed again.spelled.tree

@@ -4,7 +4,7 @@ ghost use Rattle.std.specs.Prelude.{◌≡◌, ℕ, List, None, Ok};
 ghost use Rattle.ft_base.specs.Selection.{Form};
 ghost use Rattle.ft_parser.specs.Answer.{selection_read};
 ghost use Rattle.ft_syntax.specs.Symbols.{printed};
-ghost use Rattle.printed_selections.specs.Printed.{FaultlessAgain, PrintedSpells, WithinFilters};
+ghost use Rattle.printed_selections.specs.Printed.{FaultlessAgain, PrintedSpells, WithinLimits};
 ghost use Rattle.query_grammar.specs.Form.{form_of};
 ghost use Rattle.query_grammar.specs.Grammar.{Selection};
 ghost use Rattle.query_grammar.specs.Tree.{Tree};
@@ -18,10 +18,10 @@ pub fn spelled_again()
     ensures faultless { (symbols : List Placed) (tree : Tree) → Selection symbols tree → fault_of tree ≡ None → FaultlessAgain (form_of tree) }
 {}
 
-/// The printed form of a selection that was read is written by symbols that spell the same selection, without a fault and without a
-/// filter too many.
+/// The printed form of a selection that was read is written by symbols that spell the same selection, without a fault, and within the
+/// limits of numbers, of parentheses and of filters.
 pub fn read_again()
-    ensures { (text : List ℕ) (form : Form) → selection_read text ≡ Ok form → WithinFilters form }
+    ensures { (text : List ℕ) (form : Form) → selection_read text ≡ Ok form → WithinLimits form }
 {}
 
 /// What is printed of a selection that was read is read as that selection.
