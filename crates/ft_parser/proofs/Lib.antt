@@ -2,7 +2,6 @@ pub mod Bounds
 pub mod Fronts
 pub mod Places
 pub mod QuotedStrings
-pub mod Runs
 pub mod Turns
 pub mod Frames
 pub mod TurnLaws
@@ -14,3 +13,7 @@ pub mod FilterShapes
 pub mod FilterStates
 pub mod FilterStages
 pub mod FilterRuns
+pub mod Extents
+pub mod Runs
+pub mod Prefixes
+pub mod PrefixLaws

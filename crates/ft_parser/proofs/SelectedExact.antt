@@ -27,7 +27,7 @@ begun u b C there = go (read u) refl
     go (Some shape) e = there shape e
 
 -- a symbol that may stand
-passed : (bad : Option ℕ) (size depth : ℕ) (p : Placed) (v : List Placed) (shape next : Shape State) → passes depth p.symbol ≡ false → is_deep_filter shape p.symbol ≡ false → advance shape p ≡ Some next → rest_read depth shape (p ∷ v) bad size ≡ rest_read (open_behind depth p.symbol) next v bad size
+pub passed : (bad : Option ℕ) (size depth : ℕ) (p : Placed) (v : List Placed) (shape next : Shape State) → passes depth p.symbol ≡ false → is_deep_filter shape p.symbol ≡ false → advance shape p ≡ Some next → rest_read depth shape (p ∷ v) bad size ≡ rest_read (open_behind depth p.symbol) next v bad size
 unfolding scanned_from
 passed bad size depth p v shape next l f a =
     ap (λ b. read_as (scanned_from shape (cond b [] (p ∷ before_limit (open_behind depth p.symbol) v))) (cond b (p ∷ v) (from_limit (open_behind depth p.symbol) v)) bad size) l
@@ -57,11 +57,11 @@ to_there : (symbols : List Placed) (bad : Option ℕ) (size : ℕ) (u v : List P
 to_there symbols bad size u v s e r h = ap (λ w. rest_read 0 (whole start) w bad size) e ∙ along bad size u [] v (whole start) s refl r h.limits
 
 -- a symbol that may not
-at_limit : (bad : Option ℕ) (size depth : ℕ) (p : Placed) (v : List Placed) (shape : Shape State) → passes depth p.symbol ≡ true → rest_read depth shape (p ∷ v) bad size ≡ Err (limit_fault p)
+pub at_limit : (bad : Option ℕ) (size depth : ℕ) (p : Placed) (v : List Placed) (shape : Shape State) → passes depth p.symbol ≡ true → rest_read depth shape (p ∷ v) bad size ≡ Err (limit_fault p)
 unfolding scanned_from
 at_limit bad size depth p v shape l = ap (λ b. read_as (scanned_from shape (cond b [] (p ∷ before_limit (open_behind depth p.symbol) v))) (cond b (p ∷ v) (from_limit (open_behind depth p.symbol) v)) bad size) l
 
-at_filter : (bad : Option ℕ) (size depth : ℕ) (p : Placed) (v : List Placed) (shape : Shape State) → is_deep_filter shape p.symbol ≡ true → rest_read depth shape (p ∷ v) bad size ≡ Err (Q.Deep p.from)
+pub at_filter : (bad : Option ℕ) (size depth : ℕ) (p : Placed) (v : List Placed) (shape : Shape State) → is_deep_filter shape p.symbol ≡ true → rest_read depth shape (p ∷ v) bad size ≡ Err (Q.Deep p.from)
 unfolding scanned_from
 at_filter bad size depth p v shape f =
     ap (λ b. read_as (scanned_from shape (cond b [] (p ∷ before_limit (open_behind depth p.symbol) v))) (cond b (p ∷ v) (from_limit (open_behind depth p.symbol) v)) bad size) (deep_passes_none shape p.symbol depth f)

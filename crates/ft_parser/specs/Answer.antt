@@ -51,6 +51,9 @@ read_as (Ok x) passing bad size = limited passing bad size x
 abbrev pub symbols_read : Symbols → ℕ → Result Form QueryFault
 symbols_read symbols size = read_as (scanned (before_limit 0 symbols.placed)) (from_limit 0 symbols.placed) symbols.bad size
 
+abbrev pub symbols_with : List Placed → Option ℕ → Symbols
+symbols_with placed bad = record { placed = placed; bad = bad }
+
 -- what a text is read as
 unfoldable pub selection_read : List ℕ → Result Form QueryFault
 selection_read text = symbols_read (symbols_of text) (length text)

@@ -10,3 +10,5 @@ pub mod Scan
 pub mod FilterLimit
 pub mod Selected
 pub mod FilterPlaces
+pub mod Prefix
+pub mod Extent

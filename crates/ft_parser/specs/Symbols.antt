@@ -125,7 +125,7 @@ Steps_to letters old next place new (Passed next' place') =
 Steps_to letters old next place new Bad =
     (bound : ℕ) → record { placed = new; bad = Some place } ≡ behind_placed old (symbols_within (suc bound) place (drop next letters))
 
--- where a step leads lies in the text
-abbrev pub Stays_within : List ℕ → Turn → Type 0
-Stays_within letters (Passed next place) = (next ≤ length letters) × (place ≤ bytes_of_first next letters)
-Stays_within letters Bad = Unit {0}
+-- where a step leads lies in a text of so many bytes, with all characters behind it
+abbrev pub Stays_within : List ℕ → ℕ → Turn → Type 0
+Stays_within letters bytes (Passed next place) = (next ≤ length letters) × (place + length (encode_utf8_all (drop next letters)) ≤ bytes)
+Stays_within letters bytes Bad = Unit {0}

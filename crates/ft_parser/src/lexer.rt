@@ -1,7 +1,8 @@
 //! The symbols of a text.
 
-ghost use Rattle.std.specs.Prelude.{◌≡◌, ◌≤◌, ◌<◌, IfOk, encode_utf8_all, length};
-ghost use Rattle.ft_parser.specs.Symbols.{Stays_within, Steps_to, bytes_of_first, symbols_of, symbols_within};
+ghost use Rattle.std.specs.Prelude.{◌≡◌, ◌≤◌, ◌<◌, ◌+◌, IfOk, IsCharBoundary, drop, encode_utf8_all, length};
+ghost use Rattle.ft_parser.specs.Prefix as prefix;
+ghost use Rattle.ft_parser.specs.Symbols.{Stays_within, Steps_to, symbols_of, symbols_within};
 
 use crate::characters::is_blank;
 use crate::front::front;
@@ -15,17 +16,31 @@ pub fn symbols(alloc: Global, text: &str) -> Result<Symbols, Memory>
     ensures { IfOk result (λ symbols. symbols ≡ symbols_of text.now) }
 {
     let letters = letters_of(alloc, text)?;
-    all_symbols(alloc, &letters, text.len())
+    all_symbols(alloc, &letters, 0, text.len())
 }
 
-/// The symbols of characters that have so many bytes together.
-fn all_symbols(alloc: Global, letters: &[char], bytes: usize) -> Result<Symbols, Memory>
-    requires { length (encode_utf8_all letters.now) ≤ bytes }
-    ensures { IfOk result (λ symbols. symbols ≡ symbols_within (length letters.now) 0 letters.now) }
+/// The symbols of a text from a byte place on, at which a character starts or the text ends, with their places in the text. It reads what stands there once.
+pub fn symbols_from(alloc: Global, text: &str, from: usize) -> Result<Symbols, Memory>
+    requires { IsCharBoundary text.now from }
+    ensures { IfOk result (λ symbols. symbols ≡ prefix.symbols_from from text.now) }
+{
+    let letters = letters_of(alloc, &text[from..])?;
+    all_symbols(alloc, &letters, from, text.len())
+}
+
+/// The symbols of the characters from a place on, in a text of so many bytes.
+fn all_symbols(
+    alloc: Global,
+    letters: &[char],
+    from: usize,
+    bytes: usize,
+) -> Result<Symbols, Memory>
+    requires { from + length (encode_utf8_all letters.now) ≤ bytes }
+    ensures { IfOk result (λ symbols. symbols ≡ symbols_within (length letters.now) from letters.now) }
 {
     let mut placed = Items::new(alloc);
     let mut next = 0;
-    let mut place = 0;
+    let mut place = from;
     for step in 0..letters.len() {
         if next == letters.len() {
             return Ok(Symbols { placed, bad: None });
@@ -53,11 +68,10 @@ fn turn(
     place: usize,
     placed: &mut Items<Placed>,
 ) -> Result<Turn, Memory>
-    requires fits { length (encode_utf8_all letters.now) ≤ bytes }
+    requires fits { place + length (encode_utf8_all (drop next letters.now)) ≤ bytes }
     requires here { next < length letters.now }
-    requires small { place ≤ bytes_of_first next letters.now }
     ensures value { IfOk result (Steps_to letters.now placed.old next place placed.new) }
-    ensures within { IfOk result (Stays_within letters.now) }
+    ensures within { IfOk result (Stays_within letters.now bytes) }
 {
     if is_blank(letters[next]) {
         return Ok(Turn::Passed(next + 1, place + 1));

@@ -3,6 +3,7 @@
 
 mod building;
 mod characters;
+mod extent;
 mod filter_depth;
 mod finishing;
 mod front;
@@ -14,6 +15,10 @@ mod operand_turns;
 mod option_turns;
 mod parts;
 mod plain_option;
+mod prefix;
+mod prefix_laws;
+#[cfg(test)]
+mod prefix_tests;
 mod read;
 mod scan;
 mod selection_examples;
@@ -30,7 +35,9 @@ mod thesaurus_turns;
 mod turn;
 mod value_turns;
 
-pub use lexer::symbols;
+pub use lexer::{symbols, symbols_from};
+pub use prefix::{read_prefix, read_run};
+pub use prefix_laws::run_law;
 pub use query_grammar::{Placed, Symbol, Symbols};
 pub use read::read_selection;
 pub use selection_examples::{levels, words_and_filters};

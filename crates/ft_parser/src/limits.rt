@@ -1,6 +1,7 @@
 //! The limits of numbers and of open parentheses.
 
-ghost use Rattle.std.specs.Prelude.{◌≡◌, ◌<◌, ◌^◌, [], IfSome, IfNone, drop, length, take};
+ghost use Rattle.std.specs.Prelude.{◌≡◌, ◌<◌, ◌+◌, ◌^◌, [], IfSome, IfNone, drop, length, take};
+ghost use Rattle.ft_parser.specs.Extent as extent;
 ghost use Rattle.ft_parser.specs.Limits as spec;
 
 use ft_base::QueryFault;
@@ -51,6 +52,21 @@ pub(crate) fn limit_at(symbols: &[Placed]) -> Option<usize>
         number += 1;
     }
     None
+}
+
+/// How many parentheses are open behind symbols, where so many are open before them and none of them passes a limit.
+pub(crate) fn open_within(depth: usize, symbols: &[Placed]) -> Option<usize>
+    requires { depth + length symbols.now < 2 ^ 63 }
+    ensures { result ≡ extent.open_within depth symbols.now }
+{
+    let mut count = depth;
+    for placed in symbols {
+        if passes(count, &placed.symbol) {
+            return None;
+        }
+        count = open_behind(count, &placed.symbol);
+    }
+    Some(count)
 }
 
 /// The fault of a symbol that passes a limit.

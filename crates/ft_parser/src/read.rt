@@ -2,7 +2,7 @@
 
 ghost use Rattle.std.specs.Prelude.{option_map};
 ghost use Rattle.ft_parser.specs.Answer as spec;
-ghost use Rattle.ft_parser.specs.Answer.{Answered, scanned, selection_read, symbols_read};
+ghost use Rattle.ft_parser.specs.Answer.{Answered, scanned, selection_read, symbols_read, symbols_with};
 ghost use Rattle.ft_syntax.specs.View.{form};
 ghost use Rattle.query_grammar.specs.View.{tree};
 ghost use Rattle.selection_faults.specs.Faults.{fault_of};
@@ -12,7 +12,7 @@ use crate::limits::{limit_at, limit_fault};
 use crate::scan::{Scan, scan_symbols};
 use ft_base::QueryFault;
 use ft_syntax::Selection;
-use query_grammar::{Parsed, Placed, Symbols};
+use query_grammar::{Parsed, Placed};
 use selection_faults::{first_fault, selection_of};
 use std::alloc::Global;
 
@@ -22,18 +22,22 @@ pub fn read_selection(alloc: Global, text: &str) -> Result<Selection, QueryFault
     ensures { Answered form (selection_read text.now) result }
 {
     match symbols(alloc, text) {
-        Ok(found) => read_symbols(alloc, &found, text.len()),
+        Ok(found) => read_placed(alloc, found.placed.as_slice(), found.bad, text.len()),
         Err(_) => Err(QueryFault::Memory),
     }
 }
 
-/// Reads the symbols of a text of so many bytes.
-fn read_symbols(alloc: Global, found: &Symbols, size: usize) -> Result<Selection, QueryFault>
-    ensures { Answered form (symbols_read found.now size) result }
+/// Reads symbols in a text of so many bytes, which has a character behind them that begins no symbol, or none.
+pub(crate) fn read_placed(
+    alloc: Global,
+    placed: &[Placed],
+    bad: Option<usize>,
+    size: usize,
+) -> Result<Selection, QueryFault>
+    ensures { Answered form (symbols_read (symbols_with placed.now bad) size) result }
 {
-    let placed = found.placed.as_slice();
     match limit_at(placed) {
-        None => ended(alloc, found.bad, size, parsed(alloc, placed)?),
+        None => ended(alloc, bad, size, parsed(alloc, placed)?),
         Some(number) => {
             parsed(alloc, &placed[..number])?;
             Err(limit_fault(&placed[number]))

@@ -58,7 +58,7 @@ fn stopped(symbols: &[Placed], end: usize) -> Scan
 }
 
 /// Before the first symbol.
-fn start(alloc: Global) -> State
+pub(crate) fn start(alloc: Global) -> State
     ensures { state_of result ≡ m.start }
 {
     State {

@@ -14,7 +14,7 @@ fn fault_in(rt: HostRuntime, text: &str) -> Option<QueryFault> {
 }
 
 /// A text with a piece that stands so many times.
-fn repeated(
+pub(crate) fn repeated(
     rt: HostRuntime,
     before: &str,
     count: u8,
@@ -31,7 +31,7 @@ fn repeated(
 }
 
 /// A text in so many parentheses.
-fn enclosed(rt: HostRuntime, count: u8, inside: &str) -> Result<String, Fail> {
+pub(crate) fn enclosed(rt: HostRuntime, count: u8, inside: &str) -> Result<String, Fail> {
     let front = repeated(rt, "", count, "(", inside)?;
     repeated(rt, front.as_str(), count, ")", "")
 }

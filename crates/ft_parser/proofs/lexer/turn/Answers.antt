@@ -2,20 +2,19 @@
 use Rattle.std.proofs.Common.{◌+◌, ◌-◌, ◌≤◌, length, drop, take, sym, ap, ◌∙◌, arith, length-drop}
 use Rattle.std.proofs.lemmas.List.{take_rest}
 use Rattle.ft_parser.specs.Symbols.{front}
-use Rattle.ft_parser.proofs.Places.{bytes_of_first-le, bytes_of_first-add, one_byte, slice_bytes, behind_symbol}
+use Rattle.ft_parser.proofs.Places.{one_left, slice_bytes, left_behind}
 use Rattle.ft_parser.proofs.Turns.{blank_turn, bad_turn, symbol_turn}
 use Rattle.ft_parser.proofs.lexer.turn.Goals as goal
 
 pub overflow_add-result-then-is_blank : goal.overflow_add-result-then-is_blank
-overflow_add-result-then-is_blank c =
-    omega (arith, c.requires.fits, c.requires.small, one_byte c.args.next c.args.letters.now c.requires.here, bytes_of_first-le (c.args.next + 1) c.args.letters.now)
+overflow_add-result-then-is_blank c = omega (arith, c.requires.fits, one_left c.args.next c.args.letters.now c.requires.here)
 
 pub returns-then-is_blank-clause-value : goal.returns-then-is_blank-clause-value
 returns-then-is_blank-clause-value c =
     blank_turn c.args.letters.now c.args.placed.now c.args.next c.args.place c.index-letters-next.result c.requires.here c.index-letters-next.is (sym c.is_blank.ensures ∙ c.if-is_blank.true)
 
 pub returns-then-is_blank-clause-within : goal.returns-then-is_blank-clause-within
-returns-then-is_blank-clause-within c = (omega arith, omega (arith, c.requires.small, one_byte c.args.next c.args.letters.now c.requires.here))
+returns-then-is_blank-clause-within c = (omega arith, omega (arith, c.requires.fits, one_left c.args.next c.args.letters.now c.requires.here))
 
 pub returns-in_default-clause-value : goal.returns-in_default-clause-value
 returns-in_default-clause-value c =
@@ -24,13 +23,7 @@ returns-in_default-clause-value c =
 
 pub byte_count-requires : goal.byte_count-requires
 byte_count-requires c =
-    omega (
-      arith,
-      c.requires.fits,
-      slice_bytes c.args.next c.in-Some.lexeme.size c.args.letters.now,
-      bytes_of_first-add c.args.next c.in-Some.lexeme.size c.args.letters.now,
-      bytes_of_first-le (c.args.next + c.in-Some.lexeme.size) c.args.letters.now,
-    )
+    omega (arith, c.requires.fits, slice_bytes c.args.next c.in-Some.lexeme.size c.args.letters.now, left_behind c.args.next c.in-Some.lexeme.size c.args.letters.now)
 
 pub overflow_add-to : goal.overflow_add-to
 overflow_add-to c =
@@ -39,8 +32,7 @@ overflow_add-to c =
       c.requires.fits,
       c.byte_count.ensures,
       slice_bytes c.args.next c.in-Some.lexeme.size c.args.letters.now,
-      behind_symbol c.args.next c.in-Some.lexeme.size c.args.place c.args.letters.now c.requires.small,
-      bytes_of_first-le (c.args.next + c.in-Some.lexeme.size) c.args.letters.now,
+      left_behind c.args.next c.in-Some.lexeme.size c.args.letters.now,
     )
 
 pub returns-clause-value : goal.returns-clause-value
@@ -56,5 +48,11 @@ returns-clause-within c =
     let short : c.in-Some.lexeme.size ≤ length (take (length c.args.letters.now - c.args.next) (drop c.args.next c.args.letters.now)) = rw c.in-Some.is at c.in_ok-lexeme.ensures.within in
     let rest = ap length (take_rest c.args.letters.now c.args.next) in (
       omega (arith, short, rest, length-drop c.args.next c.args.letters.now, c.requires.here),
-      omega (arith, c.byte_count.ensures, slice_bytes c.args.next c.in-Some.lexeme.size c.args.letters.now, behind_symbol c.args.next c.in-Some.lexeme.size c.args.place c.args.letters.now c.requires.small),
+      omega (
+        arith,
+        c.requires.fits,
+        c.byte_count.ensures,
+        slice_bytes c.args.next c.in-Some.lexeme.size c.args.letters.now,
+        left_behind c.args.next c.in-Some.lexeme.size c.args.letters.now,
+      ),
     )
