@@ -9,7 +9,7 @@ use Rattle.query_grammar.specs.declared.symbol.Symbol.{Symbol}
 use Rattle.query_grammar.specs.declared.symbol.Placed.{Placed}
 use Rattle.query_grammar.specs.Machine.{State, start, read, finished, finished_at}
 use Rattle.query_grammar.specs.Shapes.{whole, is_mark, open_parenthesis, close_parenthesis}
-use Rattle.query_grammar.proofs.Steps.{Reads, reads_at, stops_at}
+use Rattle.ft_parser.proofs.Steps.{Reads, reads_at, stops_at}
 use Rattle.ft_parser.specs.Extent.{Suffices, Stands, Leads, all_read, open_within, may_end, part, stopped, unless}
 use Rattle.ft_parser.specs.Limits.{open_behind, passes}
 use Rattle.ft_parser.specs.Prefix.{is_whole}

@@ -13,6 +13,7 @@ pub mod FilterShapes
 pub mod FilterStates
 pub mod FilterStages
 pub mod FilterRuns
+pub mod Steps
 pub mod Extents
 pub mod Runs
 pub mod Prefixes
