@@ -1,8 +1,10 @@
 pub mod AnswerLemmas
+pub mod ListLemmas
 pub mod PlaceLemmas
 pub mod ProgressLemmas
 pub mod QueryLemmas
 pub mod ReadLemmas
 pub mod SessionLemmas
+pub mod StoppedLemmas
 pub mod TokenCounts
 pub mod WrittenLemmas

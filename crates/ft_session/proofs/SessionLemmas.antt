@@ -9,14 +9,15 @@ use Rattle.doc_profile.specs.declared.fault.DocFault.TheVariants as faults
 use Rattle.plain_tree.specs.Document.{Node}
 use Rattle.session_text.specs.declared.reply.FullOf.TheVariants.{Documents}
 use Rattle.session_text.specs.declared.reply.Refusal.{Refusal}
-use Rattle.session_text.specs.declared.reply.Refusal.TheVariants.{Document, Full, NameTaken, NoSuchName, TooManyTokens}
+use Rattle.session_text.specs.declared.reply.Refusal.TheVariants as refusal
+use Rattle.session_text.specs.declared.reply.Refusal.TheVariants.{Full, NameTaken, NoSuchName, TooManyTokens}
 use Rattle.session_text.specs.declared.reply.Reply.{Reply}
 use Rattle.session_text.specs.declared.reply.Reply.TheVariants.{Refused, Done}
 use Rattle.tokenizer.specs.Tokens.{tokens}
 use Rattle.doc_profile.specs.Readings.{Faults, document_of}
 use Rattle.ft_session.specs.declared.loaded.Loaded.{Loaded}
 use Rattle.ft_session.specs.Limits.{max_documents, max_tokens}
-use Rattle.ft_session.specs.Step.{State, added, dropped, has_name, loadable, loaded, to_document, with_few_tokens, without}
+use Rattle.ft_session.specs.Step.{Document, added, dropped, has_name, loadable, loaded, to_document, with_few_tokens, without}
 
 -- a name is taken where a look-up finds it
 pub has_name-lookup : (name : List ℕ) (entries : List (List ℕ × Loaded)) → has_name name (map to_document entries) ≡ is_some (lookup (bytes_eq name) entries)
@@ -26,13 +27,13 @@ has_name-lookup name (e ∷ es) =
     [ true ↦ refl | false ↦ has_name-lookup name es ]
 
 -- the two tests decide, before the block is looked at
-pub loaded-tests : (documents : State) (name : List ℕ) (read : Result Node Refusal) (taken full : Bool) → has_name name documents ≡ taken → nat_le max_documents (length documents) ≡ full
+pub loaded-tests : (documents : List Document) (name : List ℕ) (read : Result Node Refusal) (taken full : Bool) → has_name name documents ≡ taken → nat_le max_documents (length documents) ≡ full
     → loaded documents name read ≡ cond taken (documents, Refused (NameTaken name)) (cond full (documents, Refused (Full Documents)) (added documents name read))
 loaded-tests documents name read taken full has long =
     ap (λ t. cond t (documents, Refused (NameTaken name)) (cond (nat_le max_documents (length documents)) (documents, Refused (Full Documents)) (added documents name read))) has
     ∙ ap (λ t. cond taken (documents, Refused (NameTaken name)) (cond t (documents, Refused (Full Documents)) (added documents name read))) long
 
-pub dropped-test : (documents : State) (name : List ℕ) (there : Bool) → has_name name documents ≡ there
+pub dropped-test : (documents : List Document) (name : List ℕ) (there : Bool) → has_name name documents ≡ there
     → dropped documents name ≡ cond there (without name documents, Done) (documents, Refused (NoSuchName name))
 dropped-test documents name there has = ap (λ t. cond t (without name documents, Done) (documents, Refused (NoSuchName name))) has
 
@@ -53,12 +54,12 @@ test_true a b h = grind (arith, nat_tests)
 test_false : (a b : ℕ) → b ≤ a → nat_lt a b ≡ false
 test_false a b h = grind (arith, nat_tests)
 
-abbrev pub with_reply : State → Reply → State × Reply
+abbrev pub with_reply : List Document → Reply → List Document × Reply
 with_reply state reply = (state, reply)
 
 -- a block's fault, too many tokens, or its document
 module _ (block : List ℕ) where
-  pub loadable-fault : (fault : DocFault) → document_of block ≡ Err fault → loadable block ≡ Err (Document fault)
+  pub loadable-fault : (fault : DocFault) → document_of block ≡ Err fault → loadable block ≡ Err (refusal.Document fault)
   unfolding loadable
   loadable-fault fault is = ap with_few_tokens is
 
@@ -71,7 +72,7 @@ module _ (block : List ℕ) where
   loadable-few root is few = ap with_few_tokens is ∙ ap (λ t. cond t (Err TooManyTokens) (Ok root)) (test_false max_tokens (length (tokens root)) few)
 
   -- a fault that isn't want of memory is the block's
-  pub loadable-refused : (fault : DocFault) (why : Refusal) → Faults (document_of block) fault → fault ≢ faults.Memory → why ≡ Document fault → Err why ≡ loadable block
+  pub loadable-refused : (fault : DocFault) (why : Refusal) → Faults (document_of block) fault → fault ≢ faults.Memory → why ≡ refusal.Document fault → Err why ≡ loadable block
   loadable-refused (faults.NotUtf8 at) why h other is = ap Err is ∙ sym (loadable-fault (faults.NotUtf8 at) h)
   loadable-refused (faults.Syntax at) why h other is = ap Err is ∙ sym (loadable-fault (faults.Syntax at) h)
   loadable-refused (faults.Depth at) why h other is = ap Err is ∙ sym (loadable-fault (faults.Depth at) h)

@@ -3,7 +3,9 @@ pub mod Limits
 pub mod Paths
 pub mod Query
 pub mod QueryView
+pub mod Lists
 pub mod Step
+pub mod Codes
 pub mod LoadView
 pub mod Output
 pub mod Run

@@ -7,3 +7,7 @@ max_tokens = 1_000_000
 
 abbrev pub max_documents : ℕ
 max_documents = 4096
+
+-- the most stop lists, and the most thesauri, at once
+abbrev pub max_lists : ℕ
+max_lists = 64

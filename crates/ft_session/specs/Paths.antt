@@ -1,5 +1,5 @@
 -- Which path is a query that is carried out, and what its parts are.
-use Rattle.std.specs.Prelude.{ℕ, ◌+◌, Bool, false, ◌&&◌, ◌==◌, nat_eq, if◌then◌else◌, List, [], ◌∷◌, ◌++◌, length, drop, codes, chars, Option, Some, None}
+use Rattle.std.specs.Prelude.{ℕ, ◌+◌, Bool, true, false, ◌&&◌, ◌==◌, nat_eq, if◌then◌else◌, List, [], ◌∷◌, ◌++◌, length, drop, codes, chars, Option, Some, None}
 use Rattle.std.specs.List.{before_first, list_all, starts_with}
 use Rattle.std.specs.Str.{bytes_eq, is_utf8}
 use Rattle.ft_base.specs.Characters.{is_name_start, is_name_char}
@@ -17,9 +17,13 @@ pub record Written : Type 0 where
 abbrev pub steps : Bool → List ℕ
 steps deep = if deep then codes "collection()//" else codes "collection()/"
 
+-- what stands between the name and the selection
+abbrev pub predicate_front : List ℕ
+predicate_front = codes "[. contains text "
+
 -- what stands before the selection
 abbrev pub query_front : Bool → List ℕ → List ℕ
-query_front deep name = steps deep ++ (name ++ codes "[. contains text ")
+query_front deep name = steps deep ++ (name ++ predicate_front)
 
 abbrev pub query_text : Written → List ℕ
 query_text w = query_front w.deep w.name ++ (w.selection ++ codes "]")
@@ -27,9 +31,9 @@ query_text w = query_front w.deep w.name ++ (w.selection ++ codes "]")
 abbrev pub written_as : Bool → List ℕ → List ℕ → Written
 written_as deep name selection = record { deep = deep; name = name; selection = selection }
 
--- whether two slashes stand behind the root
+-- whether two slashes stand before the name
 abbrev pub is_deep : List ℕ → Bool
-is_deep path = starts_with nat_eq (drop 13 path) (codes "/")
+is_deep path = starts_with nat_eq path (steps true)
 
 -- the only way in which a path could be a query: its name ends at the bracket, its selection before the last byte
 abbrev pub name_guess : Bool → List ℕ → List ℕ

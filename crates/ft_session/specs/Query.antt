@@ -7,16 +7,19 @@ use Rattle.ft_base.specs.Selection.{Form}
 use Rattle.all_matches.specs.Meaning.{sat}
 use Rattle.plain_tree.specs.Document.{Node, element, text, Nodes, no_nodes, node_then}
 use Rattle.plan_compiler.specs.Lexicon.{lexicon}
+use Rattle.plan_compiler.specs.NamedLists.{NamedLists}
 use Rattle.tokenizer.specs.Tokens.{tokens}
 
 -- which elements are looked for, at any depth or among the roots alone: those of this name whose text satisfies this selection
+-- under these lists
 pub record Asked : Type 0 where
   pub deep : Bool
   pub name : List ℕ
   pub form : Form
+  pub lists : NamedLists
 
-abbrev pub asked_by : Bool → List ℕ → Form → Asked
-asked_by deep name form = record { deep = deep; name = name; form = form }
+abbrev pub asked_by : Bool → List ℕ → Form → NamedLists → Asked
+asked_by deep name form lists = record { deep = deep; name = name; form = form; lists = lists }
 
 -- the name of an element
 abbrev pub names : Node → List (List ℕ)
@@ -55,7 +58,7 @@ abbrev mutual
 
 -- whether a node is an element of the asked name whose tokens satisfy the asked selection
 abbrev pub asks : Asked → Node → Bool
-asks q node = list_any (bytes_eq q.name) (names node) && sat lexicon q.form (tokens node)
+asks q node = list_any (bytes_eq q.name) (names node) && sat (lexicon q.lists) q.form (tokens node)
 
 -- `/`, the name, and the number in brackets
 abbrev pub step_text : Step → List ℕ

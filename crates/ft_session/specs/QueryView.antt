@@ -7,11 +7,11 @@ use Rattle.ft_session.specs.declared.query.PlaceStep.{PlaceStep}
 use Rattle.ft_session.specs.declared.paths.WrittenQuery.{WrittenQuery}
 use Rattle.ft_session.specs.declared.paths.Guess.{Guess}
 use Rattle.ft_session.specs.Paths.{Written, written_as}
-use Rattle.plan_compiler.specs.PlanMeant.{plan_form}
+use Rattle.plan_compiler.specs.PlanMeant.{plan_form, plan_lists}
 use Rattle.ft_session.specs.Query.{Asked, asked_by, Step}
 
 abbrev pub asked : AskedElements → Asked
-asked q = asked_by q.deep q.name.now (plan_form q.plan)
+asked q = asked_by q.deep q.name.now (plan_form q.plan) (plan_lists q.plan)
 
 abbrev pub step : PlaceStep → Step
 step s = record { name = s.name.now; number = s.number }

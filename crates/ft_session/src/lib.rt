@@ -3,6 +3,9 @@
 #![tactic(auto)]
 
 mod answering;
+#[cfg(test)]
+mod list_tests;
+mod lists;
 mod loaded;
 mod loading;
 mod paths;

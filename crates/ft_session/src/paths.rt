@@ -59,7 +59,7 @@ pub(crate) fn read_query_path<'a>(
 fn guess_of(path: &[u8]) -> Guess<'_>
     ensures { guessed result ≡ paths.query_guess path.now }
 {
-    let deep = behind(path, 13).starts_with(b"/");
+    let deep = path.starts_with(steps(true));
     let name = before(b'[', behind(path, steps(deep).len()));
     let selection = without_last(behind(path, front_len(deep, name)));
     Guess {
@@ -80,11 +80,18 @@ fn steps(deep: bool) -> &'static [u8]
     }
 }
 
+/// What stands between the name and the selection.
+fn predicate_front() -> &'static [u8]
+    ensures { result.now ≡ paths.predicate_front }
+{
+    b"[. contains text "
+}
+
 /// The bytes before the selection.
 pub(crate) fn front_len(deep: bool, name: &[u8]) -> usize
     ensures { result ≡ length (paths.query_front deep name.now) }
 {
-    steps(deep).len() + name.len() + 17
+    steps(deep).len() + name.len() + predicate_front().len()
 }
 
 /// What stands behind the first bytes.
@@ -126,7 +133,7 @@ fn spell(alloc: Global, deep: bool, name: &[u8], selection: &[u8]) -> Result<Vec
     let mut text = Vec::new(alloc);
     text.extend_from_slice(steps(deep))?;
     text.extend_from_slice(name)?;
-    text.extend_from_slice(b"[. contains text ")?;
+    text.extend_from_slice(predicate_front())?;
     text.extend_from_slice(selection)?;
     text.extend_from_slice(b"]")?;
     Ok(text)

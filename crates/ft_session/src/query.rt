@@ -6,7 +6,7 @@ ghost use Rattle.plain_tree.specs.View.{node};
 ghost use Rattle.tokenizer.specs.Tokens.{tokens};
 ghost use Rattle.all_matches.specs.Meaning.{sat};
 ghost use Rattle.plan_compiler.specs.Lexicon.{lexicon};
-ghost use Rattle.plan_compiler.specs.PlanMeant.{plan_form};
+ghost use Rattle.plan_compiler.specs.PlanMeant.{plan_form, plan_lists};
 ghost use Rattle.ft_session.specs.Limits.{max_tokens};
 ghost use Rattle.ft_session.specs.Query.{asked_lines, asks, lines_of_document, names, place_line, placed, placed_at};
 ghost use Rattle.ft_session.specs.QueryView.{asked, count_of, step, IsCountOf};
@@ -54,7 +54,7 @@ fn count_name(alloc: Global, counts: &mut NameCounts, name: &str) -> Result<u64,
 /// Whether the tokens of the tree satisfy the plan's selection.
 fn satisfies(alloc: Global, plan: &Plan, tree: &Tree) -> Result<bool, Memory>
     requires { length (tokens (node tree.now)) ≤ max_tokens }
-    ensures { IfOk result (λ is. is ≡ sat lexicon (plan_form plan.now) (tokens (node tree.now))) }
+    ensures { IfOk result (λ is. is ≡ sat (lexicon (plan_lists plan.now)) (plan_form plan.now) (tokens (node tree.now))) }
 {
     match tokens_of_tree(alloc, tree) {
         Ok(tokens) => plan.check(&tokens),

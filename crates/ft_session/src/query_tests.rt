@@ -210,7 +210,6 @@ fn faults_of_selections_have_their_places_in_the_path(rt: HostRuntime) -> Result
         ("\"a\"\"", "7 query: syntax at 32"),
         ("\"a\" and \"b\"", "7 query: syntax at 36"),
         ("", "7 query: syntax at 32"),
-        ("\"a\" using stemming", "14 not yet"),
         ("\"a\" ordered", "14 not yet"),
         ("\"a\" not in \"b\"", "14 not yet"),
     ] {

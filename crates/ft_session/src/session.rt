@@ -1,10 +1,12 @@
-ghost use Rattle.std.specs.Prelude.{◌≡◌, [], map, IfOk, OnErr};
+ghost use Rattle.std.specs.Prelude.{◌≡◌, map, IfOk, OnErr};
 ghost use Rattle.ft_parser.specs.Answer.{selection_read};
 ghost use Rattle.ft_syntax.specs.View.{form};
+ghost use Rattle.plan_compiler.specs.Missing.{first_missing};
 ghost use Rattle.ft_session.specs.Paths.{query_of_path};
 ghost use Rattle.ft_session.specs.QueryView.{asked, written};
-ghost use Rattle.ft_session.specs.Step.{answer, answer_form, answer_read, dropped, lines_asked, loadable, loaded, step, to_document};
+ghost use Rattle.ft_session.specs.Step.{answer, answer_lists, answer_read, dropped, lines_asked, loadable, loaded, opening, step, to_document, with_documents};
 
+use crate::lists::{put_stems, put_stop_list, put_thesaurus};
 use crate::loaded::Loaded;
 use crate::loading::{Outcome, read_document};
 use crate::paths::{WrittenQuery, fault_behind, front_len, read_query_path};
@@ -13,38 +15,41 @@ use ft_base::{Line, Lines, MAX_DOCUMENTS, Memory, Steps};
 use ft_parser::read_selection;
 use ft_syntax::Selection;
 use indexmap::IndexMap;
-use plan_compiler::{CompileFault, Lists, Plan, is_decided};
+use plan_compiler::{CompileFault, Lists, Plan, is_decided, missing_list};
 use session_text::{Command, FullOf, Refusal, Reply};
 use std::alloc::Global;
 use std::marker::Model;
 use std::sync::ledger::Ledger;
 
-/// The documents of a session by their names, in the order in which they were loaded.
+/// The documents of a session by their names, in the order in which they were loaded, and the lists that selections name.
 #[derive(Drop)]
 pub struct Session {
     alloc: Global,
     documents: IndexMap<Line, Loaded>,
+    lists: Lists,
 }
 
 impl Model for Session {
-    ghost use Rattle.std.specs.Prelude.{List, map};
-    ghost use Rattle.ft_session.specs.Step.{Document, to_document, document_code};
+    ghost use Rattle.std.specs.Prelude.{map};
+    ghost use Rattle.ft_session.specs.Codes.{state_code};
+    ghost use Rattle.ft_session.specs.Step.{State, to_document};
 
-    ghost Value = { List Document };
+    ghost Value = { State };
 
-    ghost coded = { document_code };
+    ghost coded = { state_code };
 
-    ghost view = { λ session. map to_document session.documents.entries };
+    ghost view = { λ session. record { documents = map to_document session.documents.entries; lists = session.lists } };
 }
 
 impl Session {
     /// A session that holds nothing.
     pub fn new(alloc: Global) -> Result<Session, Memory>
-        ensures { IfOk result (λ session. session ≡ []) }
+        ensures { IfOk result (λ session. session ≡ opening) }
     {
         Ok(Session {
             alloc,
             documents: IndexMap::new(alloc),
+            lists: Lists::new(alloc),
         })
     }
 
@@ -65,6 +70,13 @@ impl Session {
         match command {
             Command::Load { name, block } => self.load(name, block.as_slice()),
             Command::Drop { name } => self.remove(name),
+            Command::Stop { name, block } => {
+                put_stop_list(self.alloc, &mut self.lists, name.as_str(), block.as_slice())
+            }
+            Command::Stems { block } => put_stems(self.alloc, &mut self.lists, block.as_slice()),
+            Command::Thesaurus { name, block } => {
+                put_thesaurus(self.alloc, &mut self.lists, name.as_str(), block.as_slice())
+            }
             Command::Query { path } => self.query(path.as_str()),
             Command::BadCommand { line } => {
                 Ok(Reply::Refused(Refusal::BadCommand { line: *line }))
@@ -76,7 +88,7 @@ impl Session {
 
     /// Loads the block as a document under the name.
     fn load(&mut self, name: &Line, block: &[u8]) -> Result<Reply, Memory>
-        ensures answer { IfOk result (λ reply. (self.new, reply) ≡ loaded self.old name.now (loadable block.now)) }
+        ensures answer { IfOk result (λ reply. (self.new, reply) ≡ with_documents self.old (loaded self.old.documents name.now (loadable block.now))) }
         ensures err { OnErr result (self.new ≡ self.old) }
     {
         load_document(self.alloc, &mut self.documents, name, block)
@@ -84,7 +96,7 @@ impl Session {
 
     /// Takes the document of the name out.
     fn remove(&mut self, name: &Line) -> Result<Reply, Memory>
-        ensures answer { IfOk result (λ reply. (self.new, reply) ≡ dropped self.old name.now) }
+        ensures answer { IfOk result (λ reply. (self.new, reply) ≡ with_documents self.old (dropped self.old.documents name.now)) }
         ensures err { OnErr result (self.new ≡ self.old) }
     {
         drop_document(self.alloc, &mut self.documents, name)
@@ -114,14 +126,19 @@ impl Session {
         }
     }
 
-    /// The lines of the elements whose text satisfies the selection. One that plans don't decide isn't carried out yet.
+    /// The lines of the elements whose text satisfies the selection, or the name of a list that it names and that isn't there.
+    /// A selection that plans don't decide isn't carried out yet.
     fn select_by(&self, query: &WrittenQuery<'_>, selection: &Selection) -> Result<Reply, Memory>
-        ensures { IfOk result (λ reply. reply ≡ answer_form self.now (written query.now) (form selection.now)) }
+        ensures { IfOk result (λ reply. reply ≡ answer_lists self.now (written query.now) (form selection.now) (first_missing self.now.lists (form selection.now))) }
     {
+        if let Some(name) = missing_list(selection, &self.lists) {
+            let name = Line::read(self.alloc, name)?;
+            return Ok(Reply::Refused(Refusal::NoSuchList { name }));
+        }
         if !is_decided(selection) {
             return Ok(Reply::Refused(Refusal::NotYet));
         }
-        let plan = match Plan::compile(self.alloc, selection, &Lists::new(self.alloc)) {
+        let plan = match Plan::compile(self.alloc, selection, &self.lists) {
             Ok(plan) => plan,
             Err(CompileFault::NoSuchList { .. }) => unreachable!(),
             Err(CompileFault::Memory) => return Err(Memory),

@@ -1,5 +1,5 @@
 -- What each way out of the loop leaves.
-use Rattle.std.proofs.Common.{◌≡◌, ◌∙◌, ap, refl, subst, arith, ◌+◌, ◌≤◌, [], ℕ, length, take}
+use Rattle.std.proofs.Common.{◌≡◌, ◌∙◌, ap, refl, subst, arith, ◌+◌, ◌<◌, ◌≤◌, [], ℕ, length, take}
 use Rattle.std.proofs.lemmas.List.{length-take-le}
 use Rattle.std.specs.Prelude.{Option, IfSome, string_bytes}
 use Rattle.ft_io.specs.Shelf.{Files, Reads, told_bytes}
@@ -10,6 +10,7 @@ use Rattle.ft_session.specs.Step.{replies}
 use Rattle.ft_session.proofs.AnswerLemmas.{front_all}
 use Rattle.ft_session.proofs.ProgressLemmas.{progress_all, progress_end, progress_front, progress_length, progress_more, progress_refuses, progress_start, progress_stays, progress_within, rest_piece}
 use Rattle.ft_session.proofs.ReadLemmas.{take_front}
+use Rattle.ft_session.proofs.StoppedLemmas.{no_long, no_read_fault, sink_fault, unanswered_as}
 use Rattle.ft_session.proofs.pieces.answer_file.Goals as goal
 
 pub loop-taken-init : goal.loop-taken-init
@@ -129,3 +130,46 @@ loop-taken-preserved g c =
           a.lines c.answer_piece.new.answering.lines a.session c.answer_piece.new.answering.session c.loop-taken.refused c.in_ok-refused-2.field-0 piece buffer
           c.loop-taken.invariant.progress c.in_ok-refused-2.ensures.answered reads within is;
     }
+
+pub returns-in_err-refused-clause-read_fault : goal.returns-in_err-refused-clause-read_fault
+returns-in_err-refused-clause-read_fault g c = λ is. absurd (no_read_fault c.from_residual-in_err-refused.result c.in_err-refused.field-0.0 c.from_residual-in_err-refused.ensures.1 is)
+
+pub returns-in_err-refused-clause-read_fault_writes : goal.returns-in_err-refused-clause-read_fault_writes
+returns-in_err-refused-clause-read_fault_writes g c = λ is. absurd (no_read_fault c.from_residual-in_err-refused.result c.in_err-refused.field-0.0 c.from_residual-in_err-refused.ensures.1 is)
+
+pub returns-in_err-refused-clause-too_long : goal.returns-in_err-refused-clause-too_long
+returns-in_err-refused-clause-too_long g c = λ is. absurd (no_long c.from_residual-in_err-refused.result c.in_err-refused.field-0.0 c.from_residual-in_err-refused.ensures.1 is)
+
+pub returns-in_err-refused-clause-too_long_writes : goal.returns-in_err-refused-clause-too_long_writes
+returns-in_err-refused-clause-too_long_writes g c = λ is. absurd (no_long c.from_residual-in_err-refused.result c.in_err-refused.field-0.0 c.from_residual-in_err-refused.ensures.1 is)
+
+pub returns-in_err-refused-clause-longer : goal.returns-in_err-refused-clause-longer
+returns-in_err-refused-clause-longer g c = λ is. absurd (no_long c.from_residual-in_err-refused.result c.in_err-refused.field-0.0 c.from_residual-in_err-refused.ensures.1 is)
+
+pub returns-in_err-refused-2-clause-read_fault : goal.returns-in_err-refused-2-clause-read_fault
+returns-in_err-refused-2-clause-read_fault g c = λ is. absurd (no_read_fault c.from_residual-in_err-refused-2.result c.in_err-refused-2.field-0.0 c.from_residual-in_err-refused-2.ensures.1 is)
+
+pub returns-in_err-refused-2-clause-read_fault_early : goal.returns-in_err-refused-2-clause-read_fault_early
+returns-in_err-refused-2-clause-read_fault_early g c = λ is. absurd (no_read_fault c.from_residual-in_err-refused-2.result c.in_err-refused-2.field-0.0 c.from_residual-in_err-refused-2.ensures.1 is)
+
+pub returns-in_err-refused-2-clause-read_fault_writes : goal.returns-in_err-refused-2-clause-read_fault_writes
+returns-in_err-refused-2-clause-read_fault_writes g c = λ is. absurd (no_read_fault c.from_residual-in_err-refused-2.result c.in_err-refused-2.field-0.0 c.from_residual-in_err-refused-2.ensures.1 is)
+
+pub returns-in_err-refused-2-clause-too_long : goal.returns-in_err-refused-2-clause-too_long
+returns-in_err-refused-2-clause-too_long g c = λ is. absurd (no_long c.from_residual-in_err-refused-2.result c.in_err-refused-2.field-0.0 c.from_residual-in_err-refused-2.ensures.1 is)
+
+pub returns-in_err-refused-2-clause-too_long_writes : goal.returns-in_err-refused-2-clause-too_long_writes
+returns-in_err-refused-2-clause-too_long_writes g c = λ is. absurd (no_long c.from_residual-in_err-refused-2.result c.in_err-refused-2.field-0.0 c.from_residual-in_err-refused-2.ensures.1 is)
+
+pub returns-in_err-refused-2-clause-longer : goal.returns-in_err-refused-2-clause-longer
+returns-in_err-refused-2-clause-longer g c = λ is. absurd (no_long c.from_residual-in_err-refused-2.result c.in_err-refused-2.field-0.0 c.from_residual-in_err-refused-2.ensures.1 is)
+
+pub returns-in_err-refused-clause-write_fault : goal.returns-in_err-refused-clause-write_fault
+returns-in_err-refused-clause-write_fault g c = λ is.
+    let fault = sink_fault c.from_residual-in_err-refused.result c.in_err-refused.field-0.0 c.from_residual-in_err-refused.ensures.1 is in
+    subst (λ (n : ℕ). n < g.K.Sink.faults c.answer_end.new.sink) c.loop-taken.invariant.write_faults (c.in_err-refused.ensures.cause (unanswered_as c.in_err-refused.field-0.0 fault))
+
+pub returns-in_err-refused-2-clause-write_fault : goal.returns-in_err-refused-2-clause-write_fault
+returns-in_err-refused-2-clause-write_fault g c = λ is.
+    let fault = sink_fault c.from_residual-in_err-refused-2.result c.in_err-refused-2.field-0.0 c.from_residual-in_err-refused-2.ensures.1 is in
+    subst (λ (n : ℕ). n < g.K.Sink.faults c.answer_piece.new.sink) c.loop-taken.invariant.write_faults (c.in_err-refused-2.ensures.cause (unanswered_as c.in_err-refused-2.field-0.0 fault))

@@ -1,0 +1,6 @@
+-- The law.
+use Rattle.path_subset.proofs.path_laws.spelled_law.Goals as goal
+use Rattle.path_subset.proofs.Spelled.{spelled}
+
+pub returns : goal.returns
+returns c = spelled

@@ -1,0 +1,20 @@
+//! Reading the paths of queries, and the selections in them.
+#![tactic(auto)]
+
+mod building;
+mod closing;
+mod conditions;
+mod heads;
+mod limits;
+mod path;
+mod path_laws;
+mod read;
+mod state;
+mod stepping;
+#[cfg(test)]
+mod tests;
+mod turn;
+
+pub use path::{Extent, ReadPath};
+pub use path_laws::{refused_law, spelled_law};
+pub use read::read_path;

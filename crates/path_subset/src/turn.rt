@@ -1,0 +1,131 @@
+//! One step of the reader: where a symbol leads.
+#![tactic(auto)]
+
+ghost use Rattle.std.specs.Prelude.{◌≡◌, [], IfOk, option_map};
+ghost use Rattle.path_grammar.specs.Machine as m;
+ghost use Rattle.path_subset.specs.State.{frames_of, inner_of, joint_of, root_stage_of, state_of, steps_of, way_of};
+ghost use Rattle.path_subset.specs.Turns.{closed_root, opened_root};
+
+use crate::building::no_joint;
+use crate::closing::{behind_condition, stand};
+use crate::conditions::{at_sign, attribute, equals, numbered, wanted};
+use crate::heads::is_word;
+use crate::state::{Frame, Inner, Joint, RootStage, Stage, State, Way};
+use crate::stepping::{behind_steps, not_name, stepped, test};
+use ft_base::{Line, Memory};
+use path_grammar::{PathRoot, Step};
+use query_grammar::{Placed, Symbol};
+use std::alloc::Global;
+
+/// Where a symbol leads behind the root.
+pub(crate) fn inner_turn(
+    alloc: Global,
+    inner: Inner,
+    placed: &Placed,
+) -> Result<Option<Way>, Memory>
+    ensures { IfOk result (λ way. option_map way_of way ≡ m.advance_inner (inner_of inner) placed.now) }
+{
+    let Inner {
+        frames,
+        joint,
+        stage,
+    } = inner;
+    let symbol = &placed.symbol;
+    match stage {
+        Stage::NoStep => Ok(on(behind_steps(alloc, frames, joint, Vec::new(alloc), symbol)?)),
+        Stage::Slashes(before, deep) => Ok(on(test(alloc, frames, joint, before, deep, symbol)?)),
+        Stage::Stepped(last) => Ok(on(stepped(alloc, frames, joint, last, symbol)?)),
+        Stage::Wanted(first) => Ok(on(wanted(alloc, frames, joint, first, symbol)?)),
+        Stage::Number(number) => Ok(on(numbered(frames, number, symbol)?)),
+        Stage::NotName => Ok(on(not_name(alloc, frames, joint, symbol)?)),
+        Stage::AtSign => Ok(on(at_sign(alloc, frames, joint, symbol)?)),
+        Stage::Attribute(name) => Ok(on(attribute(alloc, frames, joint, name, symbol)?)),
+        Stage::Equals(name) => Ok(on(equals(alloc, frames, joint, name, symbol)?)),
+        Stage::Ended(whole) => Ok(on(behind_condition(alloc, frames, joint, whole, symbol)?)),
+        Stage::Contains(before) => Ok(text(frames, joint, before, symbol)),
+    }
+}
+
+fn on(there: Option<Inner>) -> Option<Way>
+    ensures { option_map way_of result ≡ option_map inner_of there }
+{
+    match there {
+        None => None,
+        Some(inner) => Some(Way::On(inner)),
+    }
+}
+
+/// `text`, behind `contains`.
+fn text(frames: Vec<Frame>, joint: Joint, before: Vec<Step>, symbol: &Symbol) -> Option<Way>
+    ensures { option_map way_of result ≡ m.text_next (frames_of frames.items) (joint_of joint) [] (steps_of before.items) symbol.now }
+{
+    if !is_word(symbol, "text") {
+        return None;
+    }
+    Some(Way::Selection(frames, joint, before))
+}
+
+/// Where a symbol leads in the root.
+pub(crate) fn root_turn(
+    alloc: Global,
+    stage: RootStage,
+    symbol: &Symbol,
+) -> Result<Option<State>, Memory>
+    ensures { IfOk result (λ there. option_map state_of there ≡ m.root_next (root_stage_of stage) symbol.now) }
+{
+    match stage {
+        RootStage::Nothing => Ok(root_name(symbol)),
+        RootStage::CollectionName => Ok(opens(symbol, RootStage::CollectionOpen)),
+        RootStage::CollectionOpen => Ok(closes(alloc, symbol, PathRoot::Collection)),
+        RootStage::DocName => Ok(opens(symbol, RootStage::DocOpen)),
+        RootStage::DocOpen => document_name(alloc, symbol),
+        RootStage::DocText(name) => Ok(closes(alloc, symbol, PathRoot::Doc(name))),
+    }
+}
+
+fn root_name(symbol: &Symbol) -> Option<State>
+    ensures { option_map state_of result ≡ m.root_words symbol.now }
+{
+    if is_word(symbol, "collection") {
+        Some(State::AtRoot(RootStage::CollectionName))
+    } else if is_word(symbol, "doc") {
+        Some(State::AtRoot(RootStage::DocName))
+    } else {
+        None
+    }
+}
+
+/// Inside the root's parenthesis, if the symbol opens it.
+fn opens(symbol: &Symbol, inside: RootStage) -> Option<State>
+    ensures { option_map state_of result ≡ opened_root symbol.now (root_stage_of inside) }
+{
+    match symbol {
+        Symbol::OpenParenthesis => Some(State::AtRoot(inside)),
+        _ => None,
+    }
+}
+
+/// Behind the root, if the symbol closes its parenthesis.
+fn closes(alloc: Global, symbol: &Symbol, root: PathRoot) -> Option<State>
+    ensures { option_map state_of result ≡ closed_root symbol.now root }
+{
+    match symbol {
+        Symbol::CloseParenthesis => {
+            let inner = stand(Vec::new(alloc), no_joint(alloc), Stage::NoStep);
+            Some(State::Along(root, inner))
+        }
+        _ => None,
+    }
+}
+
+fn document_name(alloc: Global, symbol: &Symbol) -> Result<Option<State>, Memory>
+    ensures { IfOk result (λ there. option_map state_of there ≡ m.root_next m.doc_open symbol.now) }
+{
+    match symbol {
+        Symbol::Text(name) => {
+            let name = Line::read(alloc, name.as_str())?;
+            Ok(Some(State::AtRoot(RootStage::DocText(name))))
+        }
+        _ => Ok(None),
+    }
+}
