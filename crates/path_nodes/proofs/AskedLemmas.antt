@@ -1,0 +1,90 @@
+-- What is asked by a part is asked by the whole.
+use Rattle.std.proofs.Common.{◌≡◌, ◌<◌, ℕ, zero, suc, List, [], ◌∷◌, map, length, get_or, Box, Global, ap, ◌∙◌, subst, arith, rules}
+use Rattle.path_grammar.specs.Form as form
+use Rattle.path_grammar.specs.View.{step, predicate, condition}
+use Rattle.path_grammar.specs.declared.path.Step.{Step}
+use Rattle.path_grammar.specs.declared.path.Predicate.{Predicate, Holds}
+use Rattle.path_grammar.specs.declared.path.Condition.{Condition, Or, And, Not, Exists, Contains, the_lemmas}
+use Rattle.path_grammar.proofs.Views.{view_holds, view_or, view_and, view_not, view_exists, view_contains}
+use Rattle.path_nodes.specs.Asked.{OfEach, OfStep, OfPredicates, OfPredicate, OfCondition, OfConditions}
+
+pub step-is : (s : Step) → step s ≡ form.step s.deep s.test (form.predicates (map predicate s.predicates))
+step-is s = search (rules, the_lemmas)
+
+module _ (P : ℕ → Type 0) where
+  pub of-or : (c : Condition) (parts : List Condition) → c ≡ Or parts → OfCondition P (condition c) → OfConditions P (form.conditions (map condition parts))
+  unfolding OfCondition
+  of-or c parts is h = subst (OfCondition P) (ap condition is ∙ view_or parts) h
+
+  pub of-and : (c : Condition) (parts : List Condition) → c ≡ And parts → OfCondition P (condition c) → OfConditions P (form.conditions (map condition parts))
+  unfolding OfCondition
+  of-and c parts is h = subst (OfCondition P) (ap condition is ∙ view_and parts) h
+
+  pub of-not : (c : Condition) (operand : Box Condition Global) → c ≡ Not operand → OfCondition P (condition c) → OfCondition P (condition operand.value)
+  unfolding OfCondition
+  of-not c operand is h = subst (OfCondition P) (ap condition is ∙ view_not operand) h
+
+  pub of-exists : (c : Condition) (further : List Step) → c ≡ Exists further → OfCondition P (condition c) → OfEach P (form.steps (map step further))
+  unfolding OfCondition
+  of-exists c further is h = subst (OfCondition P) (ap condition is ∙ view_exists further) h
+
+  pub of-contains : (c : Condition) (further : List Step) (selection : ℕ) → c ≡ Contains further selection → OfCondition P (condition c) → OfEach P (form.steps (map step further)) × P selection
+  unfolding OfCondition
+  of-contains c further selection is h = subst (OfCondition P) (ap condition is ∙ view_contains further selection) h
+
+  pub of-holds : (p : Predicate) (c : Condition) → p ≡ Holds c → OfPredicate P (predicate p) → OfCondition P (condition c)
+  unfolding OfPredicate
+  of-holds p c is h = subst (OfPredicate P) (ap predicate is ∙ view_holds c) h
+
+  pub of-step : (s : Step) → OfStep P (step s) → OfPredicates P (form.predicates (map predicate s.predicates))
+  unfolding OfStep
+  of-step s h = subst (OfStep P) (step-is s) h
+
+  pub nth-step : (xs : List Step) (i : ℕ) (d : Step) → i < length xs → OfEach P (form.steps (map step xs)) → OfStep P (step (get_or xs i d))
+  unfolding OfEach
+  nth-step [] i d lt h = absurd (omega (arith, lt))
+  nth-step (x ∷ xs) zero d lt h = h.0
+  nth-step (x ∷ xs) (suc i) d lt h = nth-step xs i d (omega (arith, lt)) h.1
+
+  pub nth-predicate : (xs : List Predicate) (i : ℕ) (d : Predicate) → i < length xs → OfPredicates P (form.predicates (map predicate xs)) → OfPredicate P (predicate (get_or xs i d))
+  unfolding OfPredicates
+  nth-predicate [] i d lt h = absurd (omega (arith, lt))
+  nth-predicate (x ∷ xs) zero d lt h = h.0
+  nth-predicate (x ∷ xs) (suc i) d lt h = nth-predicate xs i d (omega (arith, lt)) h.1
+
+  pub nth-condition : (xs : List Condition) (i : ℕ) (d : Condition) → i < length xs → OfConditions P (form.conditions (map condition xs)) → OfCondition P (condition (get_or xs i d))
+  unfolding OfConditions
+  nth-condition [] i d lt h = absurd (omega (arith, lt))
+  nth-condition (x ∷ xs) zero d lt h = h.0
+  nth-condition (x ∷ xs) (suc i) d lt h = nth-condition xs i d (omega (arith, lt)) h.1
+
+-- what holds of every number holds of those for which steps ask
+mutual
+  unfolding OfEach
+
+  pub of-all : (P : ℕ → Type 0) → ((k : ℕ) → P k) → (s : form.Steps) → OfEach P s
+  of-all P h form.no_steps = tt
+  of-all P h (form.step_then s rest) = (all-step P h s, of-all P h rest)
+
+  all-step : (P : ℕ → Type 0) → ((k : ℕ) → P k) → (s : form.Step) → OfStep P s
+  all-step P h (form.step deep test ps) = all-predicates P h ps
+
+  all-predicates : (P : ℕ → Type 0) → ((k : ℕ) → P k) → (ps : form.Predicates) → OfPredicates P ps
+  all-predicates P h form.no_predicates = tt
+  all-predicates P h (form.predicate_then p ps) = (all-predicate P h p, all-predicates P h ps)
+
+  all-predicate : (P : ℕ → Type 0) → ((k : ℕ) → P k) → (p : form.Predicate) → OfPredicate P p
+  all-predicate P h (form.number k) = tt
+  all-predicate P h (form.holds c) = all-condition P h c
+
+  all-condition : (P : ℕ → Type 0) → ((k : ℕ) → P k) → (c : form.Condition) → OfCondition P c
+  all-condition P h (form.or_of cs) = all-conditions P h cs
+  all-condition P h (form.and_of cs) = all-conditions P h cs
+  all-condition P h (form.not_of c) = all-condition P h c
+  all-condition P h (form.attribute name value) = tt
+  all-condition P h (form.exists s) = of-all P h s
+  all-condition P h (form.contains s k) = (of-all P h s, h k)
+
+  all-conditions : (P : ℕ → Type 0) → ((k : ℕ) → P k) → (cs : form.Conditions) → OfConditions P cs
+  all-conditions P h form.no_conditions = tt
+  all-conditions P h (form.condition_then c cs) = (all-condition P h c, all-conditions P h cs)

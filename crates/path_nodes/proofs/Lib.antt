@@ -1,0 +1,13 @@
+pub mod SpotLemmas
+pub mod ChildrenLemmas
+pub mod PlaceLemmas
+pub mod ListLemmas
+pub mod RegionLemmas
+pub mod AttributeLemmas
+pub mod NumberLemmas
+pub mod FrontLemmas
+pub mod AskedLemmas
+pub mod MeaningLemmas
+pub mod ChosenLemmas
+pub mod SelectedLemmas
+pub mod PrintableLemmas

@@ -1,0 +1,206 @@
+-- A step from a document: its root, and what a deep step finds below it.
+use Rattle.std.proofs.Common.{◌≡◌, ◌≢◌, ◌<◌, ◌==◌, ◌⊎◌, inl, inr, ℕ, Bool, true, false, ◌||◌, List, [], ◌∷◌, ◌++◌, map, filter, flat_map, drop, length, get_or, cond, refl, sym, ap, ◌∙◌, subst, arith, append-nil}
+use Rattle.std.specs.List.{All, AllPairs, Contains, list_any}
+use Rattle.std.proofs.lemmas.List.{length-append}
+use Rattle.std.proofs.lemmas.Slice.Eq.{bytes_eq-Decides}
+use Rattle.plain_tree.specs.Document.{Node, element, text}
+use Rattle.path_grammar.specs.Elements as el
+use Rattle.path_grammar.specs.Elements.{Element, placed, elements, kids_of, is_same, is_in}
+use Rattle.path_grammar.specs.Form as form
+use Rattle.path_grammar.specs.Form.{Step, step, Predicate, Predicates, no_predicates, predicate_then}
+use Rattle.path_grammar.specs.Meaning.{document, item, children, is_named, filtered, filtered_by, is_true, stepped, led, selected}
+use Rattle.path_grammar.specs.View as view
+use Rattle.path_grammar.specs.declared.path.Step as steps
+use Rattle.path_grammar.proofs.Lists.{filter-alike}
+use Rattle.ordered_tree.specs.Numbered.{Numbered, element_at, text_at, plain, reference, is_element}
+use Rattle.ordered_tree.specs.Stands.{round_root, references}
+use Rattle.ordered_tree.specs.declared.node_ref.NodeRef.{NodeRef}
+use Rattle.path_nodes.specs.Asked.{OfEach}
+use Rattle.path_nodes.specs.Kept.{kept, kept_children}
+use Rattle.path_nodes.specs.References.{Spot, spots, spots_in, element_of, IsElement, HasSingleAttributes}
+use Rattle.path_nodes.specs.Regions.{at_or_below, below}
+use Rattle.path_nodes.specs.Says.{Meaning, satisfied}
+use Rattle.path_nodes.specs.Within.{is_front, AtOrBelow}
+use Rattle.path_nodes.proofs.ChosenLemmas.{map-map, not-in, not-itself}
+use Rattle.path_nodes.proofs.FrontLemmas.{under, filter-none}
+use Rattle.path_nodes.proofs.MeaningLemmas.{items-children}
+use Rattle.path_nodes.proofs.RegionLemmas.{opened}
+use Rattle.path_nodes.proofs.SpotLemmas.{element_of-is}
+
+-- the element alone, or nothing
+abbrev Short : Element → List Element → Type 0
+Short e xs = (xs ≡ []) ⊎ (xs ≡ e ∷ [])
+
+one-or-none : (e : Element) (b : Bool) → Short e (cond b (e ∷ []) [])
+one-or-none e true = inr refl
+one-or-none e false = inl refl
+
+number-short : (e : Element) (k : ℕ) (b : Bool) → Short e (map (λ (c : ℕ × Element). c.1) (cond b ((1, e) ∷ []) []))
+number-short e k true = inr refl
+number-short e k false = inl refl
+
+module _ (sat : ℕ → Element → Bool) (all : List Element) (e : Element) where
+  by-short : (p : Predicate) → Short e (filtered_by sat all p (e ∷ []))
+  unfolding filtered_by
+  by-short (form.number k) = number-short e k (k == 1)
+  by-short (form.holds c) = one-or-none e (is_true sat all c e)
+
+  by-none : (p : Predicate) → filtered_by sat all p [] ≡ []
+  unfolding filtered_by
+  by-none (form.number k) = refl
+  by-none (form.holds c) = refl
+
+  filtered-none : (ps : Predicates) → filtered sat all ps [] ≡ []
+  unfolding filtered
+  filtered-none no_predicates = refl
+  filtered-none (predicate_then p ps) = ap (filtered sat all ps) (by-none p) ∙ filtered-none ps
+
+  filtered-short : (ps : Predicates) (xs : List Element) → Short e xs → Short e (filtered sat all ps xs)
+  unfolding filtered
+  filtered-short no_predicates xs h = h
+  filtered-short (predicate_then p ps) xs (inl is) = inl (ap (λ l. filtered sat all ps (filtered_by sat all p l)) is ∙ ap (filtered sat all ps) (by-none p) ∙ filtered-none ps)
+  filtered-short (predicate_then p ps) xs (inr is) = subst (λ l. Short e (filtered sat all ps (filtered_by sat all p l))) (sym is) (filtered-short ps (filtered_by sat all p (e ∷ [])) (by-short p))
+
+kept-short : (root : Numbered) (m : Meaning) (s : Step) (e : Element) → Short e (kept root m s (e ∷ []))
+kept-short root m (step deep test ps) e = filtered-short (satisfied root m) (elements (plain root)) e ps (filter (λ x. is_named test x.node) (e ∷ [])) (one-or-none e (is_named test e.node))
+
+untrue : (b : Bool) → (b ≡ true → ⊥) → b ≡ false
+untrue true never = absurd (never refl)
+untrue false never = refl
+
+-- an element below another isn't the same
+below-other : (base x : Element) (k : ℕ) (r : List ℕ) → x.place ≡ base.place ++ k ∷ r → is_same x base ≡ false
+below-other base x k r is =
+    untrue (is_same x base) (λ h. let same : x.place ≡ base.place = (bytes_eq-Decides x.place base.place).0 h in
+    let l = length-append base.place (k ∷ r) in omega (arith, l, ap length (sym same ∙ is)))
+
+same-itself : (e : Element) → is_same e e ≡ true
+same-itself e = (bytes_eq-Decides e.place e.place).1 refl
+
+-- the root's own list, and what is found below it
+module _ (e : Element) (h : Element → Bool) (apart : h e ≡ false) where
+  tested : List Element → Element → Bool
+  tested ks x = list_any (is_same x) ks || h x
+
+  below-none : filter h (e ∷ below e) ≡ filter h (below e)
+  below-none = ap (λ b. cond b (e ∷ filter h (below e)) (filter h (below e))) apart
+
+  pub root-then-below : (ks : List Element) → Short e ks → filter (λ x. list_any (is_same x) ks || h x) (e ∷ below e) ≡ ks ++ filter h (below e)
+  root-then-below ks (inl is) = ap (λ l. filter (λ x. list_any (is_same x) l || h x) (e ∷ below e)) is ∙ below-none ∙ ap (λ l. l ++ filter h (below e)) (sym is)
+  root-then-below ks (inr is) =
+      ap (λ l. filter (λ x. list_any (is_same x) l || h x) (e ∷ below e)) is
+      ∙ ap (λ b. cond ((b || false) || h e) (e ∷ filter (λ x. (is_same x e || false) || h x) (below e)) (filter (λ x. (is_same x e || false) || h x) (below e))) (same-itself e)
+      ∙ ap (λ l. e ∷ l) (filter-alike (λ x. (is_same x e || false) || h x) h (below e)
+      (λ k d within. let b = under e.place 1 (kids_of e.node) k d within in
+      ap (λ c. (c || false) || h (get_or (below e) k d)) (below-other e (get_or (below e) k d) b.0 b.1 b.3)))
+      ∙ ap (λ l. l ++ filter h (below e)) (sym is)
+
+module _ (root : Numbered) (m : Meaning) (test : _) (ps : Predicates) (e : Element) (alone : el.element_at [] (plain root) ≡ e ∷ []) (all : elements (plain root) ≡ e ∷ below e) where
+  -- what a step keeps of the root is what it leads to from the document
+  pub from-document : kept root m (step false test ps) (e ∷ []) ≡ stepped (satisfied root m) (elements (plain root)) (step false test ps) (document (plain root) ∷ [])
+  unfolding stepped
+  from-document =
+      let s = step false test ps in
+      let ks = kept root m s (e ∷ []) in
+      sym (
+      ap (λ items. filter (is_in (kept root m s items ∷ [])) (elements (plain root))) alone
+      ∙ ap (filter (is_in (ks ∷ []))) all
+      ∙ root-then-below e (λ x. false) refl ks (kept-short root m s e)
+      ∙ ap (λ l. ks ++ l) (filter-none (λ x. false) (below e) (λ k d within. refl))
+      ∙ append-nil ks
+      )
+
+  -- a deep step leads also to what it keeps of the children of each element
+  pub deep-from-document : is_in (map (kept_children root m (step true test ps)) (elements (plain root))) e ≡ false
+      → kept root m (step true test ps) (e ∷ []) ++ filter (is_in (map (kept_children root m (step true test ps)) (elements (plain root)))) (elements (plain root))
+      ≡ stepped (satisfied root m) (elements (plain root)) (step true test ps) (document (plain root) ∷ [])
+  unfolding stepped
+  deep-from-document apart =
+      let s = step true test ps in
+      let ks = kept root m s (e ∷ []) in
+      let every = elements (plain root) in
+      let f : List Element → List Element = λ items. filtered (satisfied root m) (elements (plain root)) ps (filter (λ x. is_named test x.node) items) in
+      let h = is_in (map (kept_children root m s) every) in
+      sym (
+      ap (λ items. filter (is_in (kept root m s items ∷ map f (map children (map item every) ++ []))) every) alone
+      ∙ ap (λ ls. filter (is_in (ks ∷ map f ls)) every) (append-nil (map children (map item every)) ∙ items-children every)
+      ∙ ap (λ ls. filter (is_in (ks ∷ ls)) every) (map-map root m true test ps every)
+      ∙ ap (filter (is_in (ks ∷ map (kept_children root m s) every))) all
+      ∙ root-then-below e h apart ks (kept-short root m s e)
+      ∙ ap (λ l. ks ++ l) (sym (ap (filter h) all ∙ below-none e h apart))
+      )
+
+-- ---- the root by its reference
+
+abbrev root-spot : Numbered → Spot
+root-spot root = record { place = []; stand = record { node = root; around = round_root } }
+
+root-among : (root : Numbered) → Contains (spots_in root) (root-spot root)
+unfolding spots
+root-among (element_at r name attrs kids) = (0, omega arith, refl)
+root-among (text_at r bytes) = (0, omega arith, refl)
+
+module _ (root : Numbered) (r : NodeRef) (refers : r ≡ reference root) (apart : AllPairs (λ a b. a ≢ b) (references root)) where
+  pub root-there : is_element root ≡ true → HasSingleAttributes root → IsElement root r
+  root-there is single = record { spot = root-spot root; among = root-among root; refers = sym refers; element = is; apart = apart; single = single }
+
+  pub root-placed : element_of root r ≡ placed [] (plain root)
+  root-placed = ap (element_of root) refers ∙ element_of-is root (root-spot root) (root-among root) apart
+
+-- every place is below the root's
+pub below-root : (root : Numbered) (base : Element) → base ≡ placed [] (plain root) → (xs : List Element) → All (AtOrBelow base) xs
+below-root root base first xs k d within = ap (λ b. is_front b.place (get_or xs k d).place) first
+
+alone-is : (n : Node) (e : Element) (rest : List Element) → e ≡ placed [] n → elements n ≡ e ∷ rest → el.element_at [] n ≡ e ∷ []
+alone-is (element name attributes kids) e rest is h = ap (λ x. x ∷ []) (sym is)
+alone-is (text bytes) e rest is h = cc
+
+-- ---- a step from the document by the root's reference
+
+module _ (root : Numbered) (m : Meaning) (s : Step) (deep : Bool) (test : _) (ps : Predicates) (is : s ≡ step deep test ps) (r : NodeRef) (x : IsElement root r) (first : element_of root r ≡ placed [] (plain root)) where
+  all-of : elements (plain root) ≡ element_of root r ∷ below (element_of root r)
+  all-of = ap at_or_below (sym first) ∙ opened root r x
+
+  alone-of : el.element_at [] (plain root) ≡ element_of root r ∷ []
+  alone-of = alone-is (plain root) (element_of root r) (below (element_of root r)) first all-of
+
+  pub one-step : deep ≡ false → kept root m s (element_of root r ∷ []) ≡ stepped (satisfied root m) (elements (plain root)) s (document (plain root) ∷ [])
+  one-step flat =
+      let same : s ≡ step false test ps = is ∙ ap (λ b. step b test ps) flat in
+      subst (λ t. kept root m t (element_of root r ∷ []) ≡ stepped (satisfied root m) (elements (plain root)) t (document (plain root) ∷ [])) (sym same)
+      (from-document root m test ps (element_of root r) alone-of all-of)
+
+  -- the root's own and what is found below it
+  pub deep-step : deep ≡ true → (parents : List Element) → parents ≡ flat_map at_or_below (element_of root r ∷ [])
+      → kept root m s (element_of root r ∷ []) ++ filter (is_in (map (kept_children root m s) parents)) (elements (plain root))
+      ≡ stepped (satisfied root m) (elements (plain root)) s (document (plain root) ∷ [])
+  deep-step down parents from =
+      let e = element_of root r in
+      let every = elements (plain root) in
+      let same : s ≡ step true test ps = is ∙ ap (λ b. step b test ps) down in
+      let each : parents ≡ every = from ∙ append-nil (at_or_below e) ∙ ap at_or_below first in
+      ap (λ l. kept root m s (e ∷ []) ++ filter (is_in (map (kept_children root m s) l)) every) each
+      ∙ subst (λ t. kept root m t (e ∷ []) ++ filter (is_in (map (kept_children root m t) every)) every ≡ stepped (satisfied root m) every t (document (plain root) ∷ [])) (sym same)
+      (deep-from-document root m test ps e alone-of all-of (not-in root m (step true test ps) e e every (not-itself root m (step true test ps) e) (below-root root e first every)))
+
+-- ---- the first step, then the others
+
+module _ (sat : ℕ → Element → Bool) (root : Node) where
+  pub selected-none : (xs : List steps.Step) → xs ≡ [] → [] ≡ selected sat (form.steps (map view.step xs)) root
+  unfolding selected
+  selected-none xs none = sym (ap (λ l. selected sat (form.steps (map view.step l)) root) none)
+
+  pub selected-next : (xs : List steps.Step) (d : steps.Step) → 0 < length xs
+      → led sat (elements root) (form.steps (map view.step (drop 1 xs))) (stepped sat (elements root) (view.step (get_or xs 0 d)) (document root ∷ [])) ≡ selected sat (form.steps (map view.step xs)) root
+  unfolding selected
+  selected-next [] d lt = absurd (omega (arith, lt))
+  selected-next (x ∷ xs) d lt = refl
+
+pub later-steps : (P : ℕ → Type 0) (xs : List steps.Step) → OfEach P (form.steps (map view.step xs)) → OfEach P (form.steps (map view.step (drop 1 xs)))
+unfolding OfEach
+later-steps P [] h = h
+later-steps P (x ∷ xs) h = h.1
+
+pub not-empty : {A : Type 0} (xs : List A) (b : Bool) → (xs ≡ [] → b ≡ true) → b ≡ false → 0 < length xs
+not-empty [] b f e = let h : b ≡ true = f refl in cc
+not-empty (x ∷ xs) b f e = omega arith

@@ -1,0 +1,59 @@
+-- What is done, then what is left, is all; the test means what it meant.
+use Rattle.std.proofs.Common.{◌≡◌, All, map, filter, take, drop}
+use Rattle.ordered_tree.specs.Numbered.{plain}
+use Rattle.ordered_tree.specs.declared.node_ref.NodeRef.{NodeRef}
+use Rattle.path_grammar.specs.Elements.{elements, is_in}
+use Rattle.path_grammar.specs.Form as form
+use Rattle.path_grammar.specs.Meaning as meaning
+use Rattle.path_grammar.specs.View as view
+use Rattle.path_nodes.specs.Kept.{kept, kept_children}
+use Rattle.path_nodes.specs.Marks.{is_marked}
+use Rattle.path_nodes.specs.References.{IsElement, element_of}
+use Rattle.path_nodes.specs.Says.{satisfied}
+use Rattle.path_nodes.specs.Within.{AtOrBelow}
+use Rattle.path_nodes.proofs.evaluating.+evaluate.Given as goal
+
+abbrev pub invariant-chosen-loop-parent : goal.invariant-chosen-loop-parent
+invariant-chosen-loop-parent g l = record {
+  marks : (r : NodeRef) → IsElement l.tree.root r
+      → is_marked l.marks r ≡ is_in (map (kept_children l.tree.root (g.T.TextTest.meaning l.fn.test) (view.step l.fn.step)) (map (element_of l.tree.root) (take l.parent-index l.parent-items))) (element_of l.tree.root r);
+  meaning : g.T.TextTest.meaning l.test ≡ g.T.TextTest.meaning l.fn.test;
+}
+
+abbrev pub invariant-kept-loop-predicate : goal.invariant-kept-loop-predicate
+invariant-kept-loop-predicate g l = record {
+  left : meaning.filtered (satisfied l.tree.root (g.T.TextTest.meaning l.fn.test)) (elements (plain l.tree.root)) (form.predicates (map view.predicate (drop l.predicate-index l.predicate-items))) (map (element_of l.tree.root) l.kept)
+      ≡ kept l.tree.root (g.T.TextTest.meaning l.fn.test) (view.step l.fn.step) (map (element_of l.tree.root) l.fn.items);
+  there : All (IsElement l.tree.root) l.kept;
+  meaning : g.T.TextTest.meaning l.test ≡ g.T.TextTest.meaning l.fn.test;
+}
+
+abbrev pub invariant-led-loop-step : goal.invariant-led-loop-step
+invariant-led-loop-step g l = record {
+  left : meaning.led (satisfied l.tree.root (g.T.TextTest.meaning l.fn.test)) (elements (plain l.tree.root)) (form.steps (map view.step (drop l.step-index l.steps))) (map (element_of l.tree.root) l.items)
+      ≡ meaning.led (satisfied l.tree.root (g.T.TextTest.meaning l.fn.test)) (elements (plain l.tree.root)) (form.steps (map view.step l.fn.steps)) (map (element_of l.tree.root) l.fn.from);
+  there : All (IsElement l.tree.root) l.items;
+  inside : All (λ r. AtOrBelow (element_of l.tree.root l.base) (element_of l.tree.root r)) l.items;
+  meaning : g.T.TextTest.meaning l.test ≡ g.T.TextTest.meaning l.fn.test;
+}
+
+abbrev pub invariant-satisfying-loop-item : goal.invariant-satisfying-loop-item
+invariant-satisfying-loop-item g l = record {
+  done : map (element_of l.tree.root) l.kept ≡ filter (meaning.is_true (satisfied l.tree.root (g.T.TextTest.meaning l.fn.test)) (elements (plain l.tree.root)) (view.condition l.fn.condition)) (map (element_of l.tree.root) (take l.item-index l.item-items));
+  there : All (IsElement l.tree.root) l.kept;
+  meaning : g.T.TextTest.meaning l.test ≡ g.T.TextTest.meaning l.fn.test;
+}
+
+abbrev pub invariant-some_true-loop-condition : goal.invariant-some_true-loop-condition
+invariant-some_true-loop-condition g l = record {
+  left : meaning.some_true (satisfied l.tree.root (g.T.TextTest.meaning l.fn.test)) (elements (plain l.tree.root)) (form.conditions (map view.condition (drop l.condition-index l.condition-items))) (element_of l.tree.root l.item)
+      ≡ meaning.some_true (satisfied l.tree.root (g.T.TextTest.meaning l.fn.test)) (elements (plain l.tree.root)) (form.conditions (map view.condition l.fn.conditions)) (element_of l.tree.root l.item);
+  meaning : g.T.TextTest.meaning l.test ≡ g.T.TextTest.meaning l.fn.test;
+}
+
+abbrev pub invariant-each_true-loop-condition : goal.invariant-each_true-loop-condition
+invariant-each_true-loop-condition g l = record {
+  left : meaning.each_true (satisfied l.tree.root (g.T.TextTest.meaning l.fn.test)) (elements (plain l.tree.root)) (form.conditions (map view.condition (drop l.condition-index l.condition-items))) (element_of l.tree.root l.item)
+      ≡ meaning.each_true (satisfied l.tree.root (g.T.TextTest.meaning l.fn.test)) (elements (plain l.tree.root)) (form.conditions (map view.condition l.fn.conditions)) (element_of l.tree.root l.item);
+  meaning : g.T.TextTest.meaning l.test ≡ g.T.TextTest.meaning l.fn.test;
+}

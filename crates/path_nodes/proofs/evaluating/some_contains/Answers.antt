@@ -1,0 +1,50 @@
+-- One that satisfies it is enough.
+use Rattle.std.proofs.Common.{◌≡◌, ◌+◌, ◌||◌, true, false, map, drop, get_or, sym, ap, ◌∙◌, subst}
+use Rattle.std.specs.List.{All, list_any}
+use Rattle.std.proofs.lemmas.List.Elements.{All-get_or}
+use Rattle.path_nodes.specs.References.{IsElement, element_of}
+use Rattle.path_nodes.specs.Says.{satisfied}
+use Rattle.path_nodes.proofs.ListLemmas.{any-drop}
+use Rattle.path_nodes.proofs.PlaceLemmas.{reference-back}
+use Rattle.path_nodes.proofs.SpotLemmas.{of_number}
+use Rattle.path_nodes.proofs.evaluating.some_contains.Goals as goal
+
+pub returns-then-contains-clause-truth : goal.returns-then-contains-clause-truth
+returns-then-contains-clause-truth g c =
+    let root = c.args.tree.now.root in
+    let items = c.as_slice-node-items.result.now in
+    let i = c.loop-node.node-index in
+    let q = get_or items i (of_number 0) in
+    let m = g.T.TextTest.meaning c.args.test.now in
+    let f = satisfied root m c.args.selection in
+    let all : All (IsElement root) items = subst (All (IsElement root)) (sym c.as_slice-node-items.ensures) c.requires.nodes in
+    let x : IsElement root q = All-get_or (IsElement root) items i (of_number 0) c.loop-node-test.true all in
+    let says : f (element_of root q) ≡ true =
+    ap (λ r. m.says c.args.selection r) (reference-back root q x)
+    ∙ ap (λ n. n.says c.args.selection q) (sym c.loop-node.invariant.meaning)
+    ∙ sym c.contains.ensures.says ∙ c.if-contains.true in
+    sym (
+    sym c.loop-node.invariant.left
+    ∙ any-drop (element_of root) f items i (of_number 0) c.loop-node-test.true
+    ∙ ap (λ b. b || list_any f (map (element_of root) (drop (i + 1) items))) says
+    )
+
+pub loop-node-preserved : goal.loop-node-preserved
+loop-node-preserved g c =
+    let root = c.args.tree.now.root in
+    let items = c.as_slice-node-items.result.now in
+    let i = c.loop-node.node-index in
+    let q = get_or items i (of_number 0) in
+    let m = g.T.TextTest.meaning c.args.test.now in
+    let f = satisfied root m c.args.selection in
+    let all : All (IsElement root) items = subst (All (IsElement root)) (sym c.as_slice-node-items.ensures) c.requires.nodes in
+    let x : IsElement root q = All-get_or (IsElement root) items i (of_number 0) c.loop-node-test.true all in
+    let says : f (element_of root q) ≡ false =
+    ap (λ r. m.says c.args.selection r) (reference-back root q x)
+    ∙ ap (λ n. n.says c.args.selection q) (sym c.loop-node.invariant.meaning)
+    ∙ sym c.contains.ensures.says ∙ c.if-contains.false in
+    record {
+      left = sym (any-drop (element_of root) f items i (of_number 0) c.loop-node-test.true ∙ ap (λ b. b || list_any f (map (element_of root) (drop (i + 1) items))) says)
+          ∙ c.loop-node.invariant.left;
+      meaning = c.contains.ensures.meaning ∙ c.loop-node.invariant.meaning;
+    }

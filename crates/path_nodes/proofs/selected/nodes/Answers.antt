@@ -1,0 +1,72 @@
+-- The first step leads from the document, the others from what it leads to.
+use Rattle.std.proofs.Common.{◌-◌, [], ◌∷◌, map, take, drop, length, sym, ap, ◌∙◌, subst}
+use Rattle.std.proofs.lemmas.List.{take_rest}
+use Rattle.ordered_tree.specs.Numbered.{plain}
+use Rattle.path_grammar.specs.Elements.{elements}
+use Rattle.path_grammar.specs.Form as form
+use Rattle.path_grammar.specs.Meaning as meaning
+use Rattle.path_grammar.specs.View as view
+use Rattle.path_nodes.specs.Asked.{OfEach, OfStep, MayAsk}
+use Rattle.path_nodes.specs.References.{element_of}
+use Rattle.path_nodes.specs.Says.{satisfied}
+use Rattle.path_nodes.specs.Within.{AtOrBelow}
+use Rattle.path_nodes.proofs.AskedLemmas.{nth-step}
+use Rattle.path_nodes.proofs.ChosenLemmas.{all-refs}
+use Rattle.path_nodes.proofs.SelectedLemmas.{root-there, root-placed, below-root, selected-none, selected-next, later-steps, not-empty}
+use Rattle.path_nodes.proofs.selected.nodes.Goals as goal
+
+pub returns-then-is_empty-clause-elements : goal.returns-then-is_empty-clause-elements
+returns-then-is_empty-clause-elements g c =
+    let root = c.args.tree.now.root in
+    ap (map (element_of root)) c.new.ensures.items
+    ∙ selected-none (satisfied root (g.T.TextTest.meaning c.args.test.now)) (plain root) c.args.steps.now (c.is_empty.ensures.0 c.if-is_empty.true)
+
+pub from_document-requires-clause-root : goal.from_document-requires-clause-root
+from_document-requires-clause-root g c =
+    root-there c.args.tree.now.root c.root-root.result c.root-root.ensures.root c.root-root.ensures.apart c.requires.root c.requires.attributes
+
+pub from_document-requires-clause-first : goal.from_document-requires-clause-first
+from_document-requires-clause-first g c = root-placed c.args.tree.now.root c.root-root.result c.root-root.ensures.root c.root-root.ensures.apart
+
+pub from_document-requires-clause-asked : goal.from_document-requires-clause-asked
+from_document-requires-clause-asked g c =
+    let P = MayAsk c.args.tree.now.root (g.T.TextTest.meaning c.args.test.now) in
+    let some = not-empty c.args.steps.now c.is_empty.result c.is_empty.ensures.1 c.if-is_empty.false in
+    subst (λ s. OfStep P (view.step s)) (sym c.get.ensures) (nth-step P c.args.steps.now 0 c.get.result.now some c.requires.asked)
+
+pub led-requires-clause-base : goal.led-requires-clause-base
+led-requires-clause-base g c =
+    root-there c.args.tree.now.root c.root-root.result c.root-root.ensures.root c.root-root.ensures.apart c.requires.root c.requires.attributes
+
+pub led-requires-clause-inside : goal.led-requires-clause-inside
+led-requires-clause-inside g c =
+    let root = c.args.tree.now.root in
+    let base = element_of root c.root-root.result in
+    all-refs root (AtOrBelow base) c.in_ok-first.first
+    (below-root root base (root-placed root c.root-root.result c.root-root.ensures.root c.root-root.ensures.apart) (map (element_of root) c.in_ok-first.first))
+
+pub led-requires-clause-asked : goal.led-requires-clause-asked
+led-requires-clause-asked g c =
+    let root = c.args.tree.now.root in
+    let steps = c.as_slice.result.now in
+    let P = MayAsk root (g.T.TextTest.meaning c.args.test.now) in
+    subst (λ n. OfEach (MayAsk root n) (form.steps (map view.step (take (length steps - 1) (drop 1 steps))))) (sym c.in_ok-first.ensures.meaning)
+    (subst (λ l. OfEach P (form.steps (map view.step l))) (sym (take_rest steps 1))
+    (later-steps P steps (subst (λ l. OfEach P (form.steps (map view.step l))) (sym c.as_slice.ensures) c.requires.asked)))
+
+pub returns-clause-elements : goal.returns-clause-elements
+returns-clause-elements g c =
+    let root = c.args.tree.now.root in
+    let steps = c.as_slice.result.now in
+    let m = g.T.TextTest.meaning c.args.test.now in
+    let sat = satisfied root m in
+    let all = elements (plain root) in
+    let first = map (element_of root) c.in_ok-first.first in
+    let some = not-empty c.args.steps.now c.is_empty.result c.is_empty.ensures.1 c.if-is_empty.false in
+    ap (map (element_of root)) c.into_vec.ensures
+    ∙ c.in_ok-found.ensures.elements
+    ∙ ap (λ n. meaning.led (satisfied root n) all (form.steps (map view.step (take (length steps - 1) (drop 1 steps)))) first) c.in_ok-first.ensures.meaning
+    ∙ ap (λ l. meaning.led sat all (form.steps (map view.step l)) first) (take_rest steps 1 ∙ ap (drop 1) c.as_slice.ensures)
+    ∙ ap (meaning.led sat all (form.steps (map view.step (drop 1 c.args.steps.now)))) c.in_ok-first.ensures.elements
+    ∙ ap (λ s. meaning.led sat all (form.steps (map view.step (drop 1 c.args.steps.now))) (meaning.stepped sat all (view.step s) (meaning.document (plain root) ∷ []))) c.get.ensures
+    ∙ selected-next sat (plain root) c.args.steps.now c.get.result.now some

@@ -1,0 +1,23 @@
+-- What a test says of the elements of a document.
+use Rattle.std.specs.Prelude.{ℕ, Bool, Option, Some, None}
+use Rattle.ordered_tree.specs.Numbered.{Numbered, reference}
+use Rattle.ordered_tree.specs.Places.{at_place}
+use Rattle.ordered_tree.specs.declared.node_ref.NodeRef.{NodeRef}
+use Rattle.path_grammar.specs.Elements.{Element}
+
+-- What a test is: the pairs of a selection's number and a node that it may be asked for, and what it says of each.
+pub record Meaning : Type 0 where
+  pub may_ask : ℕ → NodeRef → Bool
+  pub says : ℕ → NodeRef → Bool
+
+abbrev pub reference_or : NodeRef → Option Numbered → NodeRef
+reference_or other None = other
+reference_or other (Some n) = reference n
+
+-- the reference of the node at the element's place
+unfoldable pub reference_of : Numbered → Element → NodeRef
+reference_of root e = reference_or (reference root) (at_place e.place root)
+
+-- whether an element satisfies a selection, as a test says it
+abbrev pub satisfied : Numbered → Meaning → ℕ → Element → Bool
+satisfied root meaning selection e = meaning.says selection (reference_of root e)

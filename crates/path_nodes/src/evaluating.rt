@@ -1,0 +1,301 @@
+//! What the steps, predicates and conditions of a path say of elements.
+
+ghost use Rattle.std.specs.Prelude.{◌≡◌, ◌∷◌, [], All, IfOk, filter, map};
+ghost use Rattle.std.specs.List.{list_any};
+ghost use Rattle.ordered_tree.specs.Numbered.{plain};
+ghost use Rattle.path_grammar.specs.Elements.{elements, is_in};
+ghost use Rattle.path_grammar.specs.Form as form;
+ghost use Rattle.path_grammar.specs.Meaning as meaning;
+ghost use Rattle.path_grammar.specs.View as view;
+ghost use Rattle.path_nodes.specs.Asked.{OfEach, OfStep, OfPredicate, OfCondition, OfConditions, MayAsk};
+ghost use Rattle.path_nodes.specs.Kept as spec;
+ghost use Rattle.path_nodes.specs.References.{IsElement, element_of};
+ghost use Rattle.path_nodes.specs.Says.{satisfied};
+ghost use Rattle.path_nodes.specs.Within.{AtOrBelow};
+
+use crate::attributes::has_attribute;
+use crate::children::element_children;
+use crate::kept::push_if;
+use crate::marks::{Marks, mark_all};
+use crate::names::named;
+use crate::numbers::numbered;
+use crate::walks::{add_marked, with_descendants};
+use crate::{Nodes, TextTest};
+use ft_base::{Items, Memory};
+use ordered_tree::{DocTree, NodeRef};
+use path_grammar::{Condition, Predicate, Step};
+use std::alloc::Global;
+
+/// The elements to which steps lead from elements at or below an element, one step behind the other.
+#[cycle(evaluate)]
+pub(crate) fn led<T: TextTest>(
+    alloc: Global,
+    tree: &DocTree,
+    steps: &[Step],
+    base: NodeRef,
+    from: Nodes,
+    test: &mut T,
+) -> Result<Nodes, Memory>
+    requires base { IsElement tree.now.root base }
+    requires from { All (IsElement tree.now.root) from }
+    requires inside { All (λ r. AtOrBelow (element_of tree.now.root base) (element_of tree.now.root r)) from }
+    requires asked { OfEach (MayAsk tree.now.root (T.meaning test.old)) (form.steps (map view.step steps.now)) }
+    ensures elements { IfOk result (λ found. map (element_of tree.now.root) found ≡ meaning.led (satisfied tree.now.root (T.meaning test.old)) (elements (plain tree.now.root)) (form.steps (map view.step steps.now)) (map (element_of tree.now.root) from)) }
+    ensures there { IfOk result (All (IsElement tree.now.root)) }
+    ensures meaning { T.meaning test.new ≡ T.meaning test.old }
+{
+    let mut items = from;
+    for step in steps {
+        items = stepped(alloc, tree, step, base, items, test)?;
+    }
+    Ok(items)
+}
+
+/// The elements to which a step leads from elements at or below an element.
+#[cycle(evaluate)]
+fn stepped<T: TextTest>(
+    alloc: Global,
+    tree: &DocTree,
+    step: &Step,
+    base: NodeRef,
+    contexts: Nodes,
+    test: &mut T,
+) -> Result<Nodes, Memory>
+    requires base { IsElement tree.now.root base }
+    requires contexts { All (IsElement tree.now.root) contexts }
+    requires inside { All (λ r. AtOrBelow (element_of tree.now.root base) (element_of tree.now.root r)) contexts }
+    requires asked { OfStep (MayAsk tree.now.root (T.meaning test.old)) (view.step step.now) }
+    ensures elements { IfOk result (λ found. map (element_of tree.now.root) found ≡ meaning.stepped (satisfied tree.now.root (T.meaning test.old)) (elements (plain tree.now.root)) (view.step step.now) (map meaning.item (map (element_of tree.now.root) contexts))) }
+    ensures there { IfOk result (All (IsElement tree.now.root)) }
+    ensures inside { IfOk result (All (λ r. AtOrBelow (element_of tree.now.root base) (element_of tree.now.root r))) }
+    ensures meaning { T.meaning test.new ≡ T.meaning test.old }
+{
+    let parents = parents_of(alloc, tree, step.deep, contexts)?;
+    chosen(alloc, tree, step, base, &parents, test)
+}
+
+/// The elements to whose children a step leads: the contexts or, where it is deep, they and all elements below them.
+pub(crate) fn parents_of(
+    alloc: Global,
+    tree: &DocTree,
+    deep: bool,
+    contexts: Nodes,
+) -> Result<Nodes, Memory>
+    requires { All (IsElement tree.now.root) contexts }
+    ensures elements { IfOk result (λ found. map (element_of tree.now.root) found ≡ spec.parents deep (map (element_of tree.now.root) contexts)) }
+    ensures there { IfOk result (All (IsElement tree.now.root)) }
+{
+    if deep {
+        with_descendants(alloc, tree, &contexts)
+    } else {
+        Ok(contexts)
+    }
+}
+
+/// The elements that a step keeps of the children of each parent, in document order.
+#[cycle(evaluate)]
+pub(crate) fn chosen<T: TextTest>(
+    alloc: Global,
+    tree: &DocTree,
+    step: &Step,
+    base: NodeRef,
+    parents: &Nodes,
+    test: &mut T,
+) -> Result<Nodes, Memory>
+    requires base { IsElement tree.now.root base }
+    requires parents { All (IsElement tree.now.root) parents.now }
+    requires inside { All (λ r. AtOrBelow (element_of tree.now.root base) (element_of tree.now.root r)) parents.now }
+    requires asked { OfStep (MayAsk tree.now.root (T.meaning test.old)) (view.step step.now) }
+    ensures elements { IfOk result (λ found. map (element_of tree.now.root) found ≡ filter (is_in (map (spec.kept_children tree.now.root (T.meaning test.old) (view.step step.now)) (map (element_of tree.now.root) parents.now))) (elements (plain tree.now.root))) }
+    ensures there { IfOk result (All (IsElement tree.now.root)) }
+    ensures inside { IfOk result (All (λ r. AtOrBelow (element_of tree.now.root base) (element_of tree.now.root r))) }
+    ensures meaning { T.meaning test.new ≡ T.meaning test.old }
+{
+    let mut marks = Marks::new(alloc);
+    for parent in parents.as_slice() {
+        let children = element_children(alloc, tree, *parent)?;
+        let kept = kept(alloc, tree, step, &children, test)?;
+        mark_all(tree, &mut marks, &kept)?;
+    }
+    let mut found = Nodes::new(alloc);
+    add_marked(alloc, tree, base, &marks, &mut found)?;
+    Ok(found)
+}
+
+/// The elements of a list that pass the step's test of names and then its predicates.
+#[cycle(evaluate)]
+pub(crate) fn kept<T: TextTest>(
+    alloc: Global,
+    tree: &DocTree,
+    step: &Step,
+    items: &Nodes,
+    test: &mut T,
+) -> Result<Nodes, Memory>
+    requires items { All (IsElement tree.now.root) items.now }
+    requires asked { OfStep (MayAsk tree.now.root (T.meaning test.old)) (view.step step.now) }
+    ensures elements { IfOk result (λ kept. map (element_of tree.now.root) kept ≡ spec.kept tree.now.root (T.meaning test.old) (view.step step.now) (map (element_of tree.now.root) items.now)) }
+    ensures there { IfOk result (All (IsElement tree.now.root)) }
+    ensures meaning { T.meaning test.new ≡ T.meaning test.old }
+{
+    let mut kept = named(alloc, tree, &step.test, items)?;
+    for predicate in step.predicates.as_slice() {
+        kept = filtered(alloc, tree, predicate, kept, test)?;
+    }
+    Ok(kept)
+}
+
+/// The elements of a list that pass a predicate.
+#[cycle(evaluate)]
+fn filtered<T: TextTest>(
+    alloc: Global,
+    tree: &DocTree,
+    predicate: &Predicate,
+    items: Nodes,
+    test: &mut T,
+) -> Result<Nodes, Memory>
+    requires items { All (IsElement tree.now.root) items }
+    requires asked { OfPredicate (MayAsk tree.now.root (T.meaning test.old)) (view.predicate predicate.now) }
+    ensures elements { IfOk result (λ kept. map (element_of tree.now.root) kept ≡ meaning.filtered_by (satisfied tree.now.root (T.meaning test.old)) (elements (plain tree.now.root)) (view.predicate predicate.now) (map (element_of tree.now.root) items)) }
+    ensures there { IfOk result (All (IsElement tree.now.root)) }
+    ensures meaning { T.meaning test.new ≡ T.meaning test.old }
+{
+    match predicate {
+        Predicate::Number(number) => numbered(alloc, tree, *number, &items),
+        Predicate::Holds(condition) => satisfying(alloc, tree, condition, items, test),
+    }
+}
+
+/// The elements of a list of which a condition is true.
+#[cycle(evaluate)]
+fn satisfying<T: TextTest>(
+    alloc: Global,
+    tree: &DocTree,
+    condition: &Condition,
+    items: Nodes,
+    test: &mut T,
+) -> Result<Nodes, Memory>
+    requires items { All (IsElement tree.now.root) items }
+    requires asked { OfCondition (MayAsk tree.now.root (T.meaning test.old)) (view.condition condition.now) }
+    ensures elements { IfOk result (λ kept. map (element_of tree.now.root) kept ≡ filter (meaning.is_true (satisfied tree.now.root (T.meaning test.old)) (elements (plain tree.now.root)) (view.condition condition.now)) (map (element_of tree.now.root) items)) }
+    ensures there { IfOk result (All (IsElement tree.now.root)) }
+    ensures meaning { T.meaning test.new ≡ T.meaning test.old }
+{
+    let mut kept = Nodes::new(alloc);
+    for item in items.as_slice() {
+        let wanted = is_true(alloc, tree, condition, *item, test)?;
+        push_if(wanted, *item, &mut kept)?;
+    }
+    Ok(kept)
+}
+
+/// Whether a condition is true of an element.
+#[cycle(evaluate)]
+fn is_true<T: TextTest>(
+    alloc: Global,
+    tree: &DocTree,
+    condition: &Condition,
+    item: NodeRef,
+    test: &mut T,
+) -> Result<bool, Memory>
+    requires item { IsElement tree.now.root item }
+    requires asked { OfCondition (MayAsk tree.now.root (T.meaning test.old)) (view.condition condition.now) }
+    ensures truth { IfOk result (λ truth. truth ≡ meaning.is_true (satisfied tree.now.root (T.meaning test.old)) (elements (plain tree.now.root)) (view.condition condition.now) (element_of tree.now.root item)) }
+    ensures meaning { T.meaning test.new ≡ T.meaning test.old }
+{
+    match condition {
+        Condition::Or(parts) => some_true(alloc, tree, parts, item, test),
+        Condition::And(parts) => each_true(alloc, tree, parts, item, test),
+        Condition::Not(operand) => Ok(!is_true(alloc, tree, operand, item, test)?),
+        Condition::Attribute { name, value } => Ok(has_attribute(tree, item, name, value)),
+        Condition::Exists(steps) => {
+            let nodes = led_from(alloc, tree, steps, item, test)?;
+            Ok(!nodes.is_empty())
+        }
+        Condition::Contains { steps, selection } => {
+            let nodes = led_from(alloc, tree, steps, item, test)?;
+            Ok(some_contains(tree, *selection, &nodes, test))
+        }
+    }
+}
+
+/// The elements to which steps lead from an element, in document order, each once. `contains text` is answered by the
+/// test, which is asked only as long as the truth isn't known. Answers `Memory` for want of memory alone.
+///
+/// The meaning of steps is that of XQuery 3.0, section 3.3.
+#[cycle(evaluate)]
+pub fn led_from<T: TextTest>(
+    alloc: Global,
+    tree: &DocTree,
+    steps: &Items<Step>,
+    item: NodeRef,
+    test: &mut T,
+) -> Result<Nodes, Memory>
+    requires item { IsElement tree.now.root item }
+    requires asked { OfEach (MayAsk tree.now.root (T.meaning test.old)) (form.steps (map view.step steps.now)) }
+    ensures elements { IfOk result (λ found. map (element_of tree.now.root) found ≡ meaning.led (satisfied tree.now.root (T.meaning test.old)) (elements (plain tree.now.root)) (form.steps (map view.step steps.now)) (element_of tree.now.root item ∷ [])) }
+    ensures there { IfOk result (All (IsElement tree.now.root)) }
+    ensures meaning { T.meaning test.new ≡ T.meaning test.old }
+{
+    let from = Nodes::from_slice(alloc, &[item])?;
+    led(alloc, tree, steps.as_slice(), item, from, test)
+}
+
+/// Whether one of the conditions is true of an element; those behind it aren't looked at.
+#[cycle(evaluate)]
+fn some_true<T: TextTest>(
+    alloc: Global,
+    tree: &DocTree,
+    conditions: &Items<Condition>,
+    item: NodeRef,
+    test: &mut T,
+) -> Result<bool, Memory>
+    requires item { IsElement tree.now.root item }
+    requires asked { OfConditions (MayAsk tree.now.root (T.meaning test.old)) (form.conditions (map view.condition conditions.now)) }
+    ensures truth { IfOk result (λ truth. truth ≡ meaning.some_true (satisfied tree.now.root (T.meaning test.old)) (elements (plain tree.now.root)) (form.conditions (map view.condition conditions.now)) (element_of tree.now.root item)) }
+    ensures meaning { T.meaning test.new ≡ T.meaning test.old }
+{
+    for condition in conditions.as_slice() {
+        if is_true(alloc, tree, condition, item, test)? {
+            return Ok(true);
+        }
+    }
+    Ok(false)
+}
+
+/// Whether each of the conditions is true of an element; those behind a false one aren't looked at.
+#[cycle(evaluate)]
+fn each_true<T: TextTest>(
+    alloc: Global,
+    tree: &DocTree,
+    conditions: &Items<Condition>,
+    item: NodeRef,
+    test: &mut T,
+) -> Result<bool, Memory>
+    requires item { IsElement tree.now.root item }
+    requires asked { OfConditions (MayAsk tree.now.root (T.meaning test.old)) (form.conditions (map view.condition conditions.now)) }
+    ensures truth { IfOk result (λ truth. truth ≡ meaning.each_true (satisfied tree.now.root (T.meaning test.old)) (elements (plain tree.now.root)) (form.conditions (map view.condition conditions.now)) (element_of tree.now.root item)) }
+    ensures meaning { T.meaning test.new ≡ T.meaning test.old }
+{
+    for condition in conditions.as_slice() {
+        if !is_true(alloc, tree, condition, item, test)? {
+            return Ok(false);
+        }
+    }
+    Ok(true)
+}
+
+/// Whether one of the elements satisfies a selection; those behind it aren't asked for.
+fn some_contains<T: TextTest>(tree: &DocTree, selection: usize, nodes: &Nodes, test: &mut T) -> bool
+    requires nodes { All (IsElement tree.now.root) nodes.now }
+    requires asked { MayAsk tree.now.root (T.meaning test.old) selection }
+    ensures truth { result ≡ list_any (satisfied tree.now.root (T.meaning test.old) selection) (map (element_of tree.now.root) nodes.now) }
+    ensures meaning { T.meaning test.new ≡ T.meaning test.old }
+{
+    let _root = tree.root();
+    for node in nodes.as_slice() {
+        if test.contains(selection, *node) {
+            return true;
+        }
+    }
+    false
+}

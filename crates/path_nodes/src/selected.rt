@@ -1,0 +1,78 @@
+ghost use Rattle.std.specs.Prelude.{◌≡◌, ◌∷◌, [], ◌++◌, All, IfOk, OnOk, map, true};
+ghost use Rattle.ordered_tree.specs.Numbered.{is_element, plain};
+ghost use Rattle.path_grammar.specs.Elements.{elements, placed};
+ghost use Rattle.path_grammar.specs.Form as form;
+ghost use Rattle.path_grammar.specs.Meaning as meaning;
+ghost use Rattle.path_grammar.specs.View as view;
+ghost use Rattle.path_nodes.specs.Asked.{OfEach, OfStep, MayAsk};
+ghost use Rattle.path_nodes.specs.References.{HasSingleAttributes, IsElement, element_of};
+ghost use Rattle.path_nodes.specs.Says.{satisfied};
+
+use crate::evaluating::{chosen, kept, led, parents_of};
+use crate::{Nodes, TextTest};
+use ft_base::Memory;
+use ordered_tree::{DocTree, NodeRef};
+use path_grammar::{Step, Steps};
+use std::alloc::Global;
+
+/// The elements of a document to which steps lead from it, in document order, each once. `contains text` is answered by the
+/// test, which is asked only as long as the truth isn't known. Answers `Memory` for want of memory alone.
+///
+/// The meaning of steps is that of XQuery 3.0, section 3.3.
+pub fn nodes<T: TextTest>(
+    alloc: Global,
+    steps: &Steps,
+    tree: &DocTree,
+    test: &mut T,
+) -> Result<Vec<NodeRef>, Memory>
+    requires root { is_element tree.now.root ≡ true }
+    requires attributes { HasSingleAttributes tree.now.root }
+    requires asked { OfEach (MayAsk tree.now.root (T.meaning test.old)) (form.steps (map view.step steps.now)) }
+    ensures elements { IfOk result (λ found. map (element_of tree.now.root) found.items ≡ meaning.selected (satisfied tree.now.root (T.meaning test.old)) (form.steps (map view.step steps.now)) (plain tree.now.root)) }
+    ensures there { IfOk result (λ found. All (IsElement tree.now.root) found.items) }
+    ensures meaning { T.meaning test.new ≡ T.meaning test.old }
+{
+    let root = tree.root();
+    if steps.is_empty() {
+        return Ok(Vec::new(alloc));
+    }
+    let first = from_document(alloc, tree, steps.get(0), root, test)?;
+    let found = led(alloc, tree, &steps.as_slice()[1..], root, first, test)?;
+    Ok(found.into_vec())
+}
+
+/// The elements to which a step leads from the document, whose only child is the root.
+fn from_document<T: TextTest>(
+    alloc: Global,
+    tree: &DocTree,
+    step: &Step,
+    root: NodeRef,
+    test: &mut T,
+) -> Result<Nodes, Memory>
+    requires root { IsElement tree.now.root root }
+    requires first { element_of tree.now.root root ≡ placed [] (plain tree.now.root) }
+    requires asked { OfStep (MayAsk tree.now.root (T.meaning test.old)) (view.step step.now) }
+    ensures elements { IfOk result (λ found. map (element_of tree.now.root) found ≡ meaning.stepped (satisfied tree.now.root (T.meaning test.old)) (elements (plain tree.now.root)) (view.step step.now) (meaning.document (plain tree.now.root) ∷ [])) }
+    ensures there { IfOk result (All (IsElement tree.now.root)) }
+    ensures meaning { T.meaning test.new ≡ T.meaning test.old }
+{
+    let only = Nodes::from_slice(alloc, &[root])?;
+    let mut found = kept(alloc, tree, step, &only, test)?;
+    if !step.deep {
+        return Ok(found);
+    }
+    let parents = parents_of(alloc, tree, true, only)?;
+    let below = chosen(alloc, tree, step, root, &parents, test)?;
+    append(&mut found, &below)?;
+    Ok(found)
+}
+
+/// Puts nodes behind others.
+fn append(nodes: &mut Nodes, more: &Nodes) -> Result<(), Memory>
+    ensures { OnOk result (nodes.new ≡ nodes.old ++ more.now) }
+{
+    for node in more.as_slice() {
+        nodes.push(*node)?;
+    }
+    Ok(())
+}

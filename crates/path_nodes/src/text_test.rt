@@ -1,0 +1,17 @@
+ghost use Rattle.std.specs.Prelude.{◌≡◌, IsTrue};
+ghost use Rattle.path_nodes.specs.Says.{Meaning};
+
+use ordered_tree::NodeRef;
+
+/// What answers `contains text`.
+pub trait TextTest {
+    /// For which pairs of a selection's number and a node it may be asked, and what it says of each. It never changes.
+    ghost meaning: { Self → Meaning };
+
+    /// Whether the node satisfies the selection of this number. The selections of a path are numbered from 0 in the
+    /// order of its text.
+    fn contains(&mut self, selection: usize, node: NodeRef) -> bool
+        requires { IsTrue ((meaning self.old).may_ask selection node) }
+        ensures says { result ≡ (meaning self.old).says selection node }
+        ensures meaning { meaning self.new ≡ meaning self.old };
+}
