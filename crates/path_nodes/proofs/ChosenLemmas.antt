@@ -30,7 +30,7 @@ use Rattle.path_nodes.proofs.RegionLemmas.{opened}
 
 -- ---- an element that a reference names is one of the document
 
-Contains-later : (x e : Element) (xs : List Element) → Contains xs e → Contains (x ∷ xs) e
+pub Contains-later : (x e : Element) (xs : List Element) → Contains xs e → Contains (x ∷ xs) e
 Contains-later x e xs (k, more, is) = (suc k, (omega (arith, more)), is)
 
 abbrev Is : List Element → Spot → Type 0

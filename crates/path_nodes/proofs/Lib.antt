@@ -11,3 +11,4 @@ pub mod MeaningLemmas
 pub mod ChosenLemmas
 pub mod SelectedLemmas
 pub mod PrintableLemmas
+pub mod ListedLemmas

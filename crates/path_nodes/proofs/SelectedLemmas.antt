@@ -17,12 +17,14 @@ use Rattle.ordered_tree.specs.Stands.{round_root, references}
 use Rattle.ordered_tree.specs.declared.node_ref.NodeRef.{NodeRef}
 use Rattle.path_nodes.specs.Asked.{OfEach}
 use Rattle.path_nodes.specs.Kept.{kept, kept_children}
+use Rattle.path_nodes.specs.Listed.{HaveSame}
 use Rattle.path_nodes.specs.References.{Spot, spots, spots_in, element_of, IsElement, HasSingleAttributes}
 use Rattle.path_nodes.specs.Regions.{at_or_below, below}
 use Rattle.path_nodes.specs.Says.{Meaning, satisfied}
 use Rattle.path_nodes.specs.Within.{is_front, AtOrBelow}
 use Rattle.path_nodes.proofs.ChosenLemmas.{map-map, not-in, not-itself}
 use Rattle.path_nodes.proofs.FrontLemmas.{under, filter-none}
+use Rattle.path_nodes.proofs.ListedLemmas.{same-offered}
 use Rattle.path_nodes.proofs.MeaningLemmas.{items-children}
 use Rattle.path_nodes.proofs.RegionLemmas.{opened}
 use Rattle.path_nodes.proofs.SpotLemmas.{element_of-is}
@@ -171,15 +173,16 @@ module _ (root : Numbered) (m : Meaning) (s : Step) (deep : Bool) (test : _) (ps
       (from-document root m test ps (element_of root r) alone-of all-of)
 
   -- the root's own and what is found below it
-  pub deep-step : deep ≡ true → (parents : List Element) → parents ≡ flat_map at_or_below (element_of root r ∷ [])
+  pub deep-step : deep ≡ true → (parents : List Element) → HaveSame parents (flat_map at_or_below (element_of root r ∷ []))
       → kept root m s (element_of root r ∷ []) ++ filter (is_in (map (kept_children root m s) parents)) (elements (plain root))
       ≡ stepped (satisfied root m) (elements (plain root)) s (document (plain root) ∷ [])
   deep-step down parents from =
       let e = element_of root r in
       let every = elements (plain root) in
       let same : s ≡ step true test ps = is ∙ ap (λ b. step b test ps) down in
-      let each : parents ≡ every = from ∙ append-nil (at_or_below e) ∙ ap at_or_below first in
-      ap (λ l. kept root m s (e ∷ []) ++ filter (is_in (map (kept_children root m s) l)) every) each
+      let each : flat_map at_or_below (e ∷ []) ≡ every = append-nil (at_or_below e) ∙ ap at_or_below first in
+      ap (λ l. kept root m s (e ∷ []) ++ l)
+      (same-offered (kept_children root m s) parents (flat_map at_or_below (e ∷ [])) every from ∙ ap (λ l. filter (is_in (map (kept_children root m s) l)) every) each)
       ∙ subst (λ t. kept root m t (e ∷ []) ++ filter (is_in (map (kept_children root m t) every)) every ≡ stepped (satisfied root m) every t (document (plain root) ∷ [])) (sym same)
       (deep-from-document root m test ps e alone-of all-of (not-in root m (step true test ps) e e every (not-itself root m (step true test ps) e) (below-root root e first every)))
 

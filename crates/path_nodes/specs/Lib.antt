@@ -5,3 +5,4 @@ pub mod Within
 pub mod Says
 pub mod Asked
 pub mod Kept
+pub mod Listed

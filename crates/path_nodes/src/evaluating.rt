@@ -9,6 +9,7 @@ ghost use Rattle.path_grammar.specs.Meaning as meaning;
 ghost use Rattle.path_grammar.specs.View as view;
 ghost use Rattle.path_nodes.specs.Asked.{OfEach, OfStep, OfPredicate, OfCondition, OfConditions, MayAsk};
 ghost use Rattle.path_nodes.specs.Kept as spec;
+ghost use Rattle.path_nodes.specs.Listed.{HaveSame};
 ghost use Rattle.path_nodes.specs.References.{IsElement, element_of};
 ghost use Rattle.path_nodes.specs.Says.{satisfied};
 ghost use Rattle.path_nodes.specs.Within.{AtOrBelow};
@@ -82,7 +83,7 @@ pub(crate) fn parents_of(
     contexts: Nodes,
 ) -> Result<Nodes, Memory>
     requires { All (IsElement tree.now.root) contexts }
-    ensures elements { IfOk result (λ found. map (element_of tree.now.root) found ≡ spec.parents deep (map (element_of tree.now.root) contexts)) }
+    ensures members { IfOk result (λ found. HaveSame (map (element_of tree.now.root) found) (spec.parents deep (map (element_of tree.now.root) contexts))) }
     ensures there { IfOk result (All (IsElement tree.now.root)) }
 {
     if deep {

@@ -13,3 +13,13 @@ pub(crate) fn push_if(wanted: bool, node: NodeRef, nodes: &mut Nodes) -> Result<
     }
     Ok(())
 }
+
+/// Puts nodes behind others.
+pub(crate) fn append(nodes: &mut Nodes, more: &Nodes) -> Result<(), Memory>
+    ensures { OnOk result (nodes.new ≡ nodes.old ++ more.now) }
+{
+    for node in more.as_slice() {
+        nodes.push(*node)?;
+    }
+    Ok(())
+}

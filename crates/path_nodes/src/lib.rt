@@ -5,6 +5,7 @@ mod attributes;
 mod children;
 mod evaluating;
 mod kept;
+mod laws;
 mod marks;
 mod names;
 mod numbers;
@@ -16,6 +17,7 @@ mod walks;
 
 pub use evaluating::led_from;
 use ft_base::Items;
+pub use laws::single_attributes_law;
 use ordered_tree::NodeRef;
 pub use selected::nodes;
 pub use text_test::TextTest;

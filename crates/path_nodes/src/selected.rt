@@ -1,4 +1,4 @@
-ghost use Rattle.std.specs.Prelude.{◌≡◌, ◌∷◌, [], ◌++◌, All, IfOk, OnOk, map, true};
+ghost use Rattle.std.specs.Prelude.{◌≡◌, ◌∷◌, [], All, IfOk, map, true};
 ghost use Rattle.ordered_tree.specs.Numbered.{is_element, plain};
 ghost use Rattle.path_grammar.specs.Elements.{elements, placed};
 ghost use Rattle.path_grammar.specs.Form as form;
@@ -9,6 +9,7 @@ ghost use Rattle.path_nodes.specs.References.{HasSingleAttributes, IsElement, el
 ghost use Rattle.path_nodes.specs.Says.{satisfied};
 
 use crate::evaluating::{chosen, kept, led, parents_of};
+use crate::kept::append;
 use crate::{Nodes, TextTest};
 use ft_base::Memory;
 use ordered_tree::{DocTree, NodeRef};
@@ -65,14 +66,4 @@ fn from_document<T: TextTest>(
     let below = chosen(alloc, tree, step, root, &parents, test)?;
     append(&mut found, &below)?;
     Ok(found)
-}
-
-/// Puts nodes behind others.
-fn append(nodes: &mut Nodes, more: &Nodes) -> Result<(), Memory>
-    ensures { OnOk result (nodes.new ≡ nodes.old ++ more.now) }
-{
-    for node in more.as_slice() {
-        nodes.push(*node)?;
-    }
-    Ok(())
 }

@@ -21,6 +21,7 @@ use Rattle.path_nodes.proofs.AskedLemmas.{step-is, of-or, of-and, of-not, of-exi
 use Rattle.path_nodes.proofs.MeaningLemmas.{led-next, led-none, filtered-next, filtered-none, some-next, some-none, each-next, each-none, by-number, by-condition, true-or, true-and, true-not, true-attribute, true-exists, true-contains, emptied}
 use Rattle.path_nodes.proofs.ChosenLemmas.{within-base, below-base, parents-inside, all-refs, stepped-is}
 use Rattle.path_nodes.proofs.FrontLemmas.{front-itself}
+use Rattle.path_nodes.proofs.ListedLemmas.{same-offered, same-inside}
 use Rattle.path_nodes.proofs.ListLemmas.{any-more-of}
 use Rattle.path_nodes.proofs.SpotLemmas.{of_number}
 use Rattle.path_nodes.proofs.evaluating.+evaluate.Goals as goal
@@ -149,7 +150,7 @@ stepped-chosen-requires g t c κs within =
             c.in_ok-parents.ensures.there,
             (
               all-refs root Q c.in_ok-parents.parents
-                  (subst (All Q) (sym c.in_ok-parents.ensures.elements)
+                  (same-inside (element_of root c.args.base) (map (element_of root) c.in_ok-parents.parents) (spec.parents c.args.step.now.deep (map (element_of root) c.args.contexts)) c.in_ok-parents.ensures.members
                   (parents-inside (element_of root c.args.base) c.args.step.now.deep (map (element_of root) c.args.contexts) (All-map Q (element_of root) c.args.contexts c.requires.inside))),
               c.requires.asked,
             ),
@@ -164,7 +165,7 @@ stepped-returns-clause-elements g t c =
     let s = c.args.step.now in
     let m = g.T.TextTest.meaning c.args.test.now in
     subst (λ es. IfOk c.chosen.result (λ found. map (element_of root) found ≡ es))
-    (ap (λ ps. filter (is_in (map (spec.kept_children root m (view.step s)) ps)) (elements (plain root))) c.in_ok-parents.ensures.elements
+    (same-offered (spec.kept_children root m (view.step s)) (map (element_of root) c.in_ok-parents.parents) (spec.parents s.deep (map (element_of root) c.args.contexts)) (elements (plain root)) c.in_ok-parents.ensures.members
     ∙ stepped-is root m (view.step s) s.deep s.test (form.predicates (map view.predicate s.predicates)) (map (element_of root) c.args.contexts) (step-is s))
     c.chosen.ensures.elements
 

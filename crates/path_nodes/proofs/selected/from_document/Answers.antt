@@ -1,6 +1,6 @@
 -- What is kept of the root, and what a deep step finds below it.
 use Rattle.std.proofs.Common.{◌≡◌, ◌∷◌, [], ◌++◌, true, map, filter, sym, ap, ◌∙◌, subst}
-use Rattle.std.specs.List.{All}
+use Rattle.std.specs.List.{All, list_any}
 use Rattle.std.proofs.lemmas.List.{map-append}
 use Rattle.std.proofs.lemmas.List.Elements.{All-append}
 use Rattle.ordered_tree.specs.Numbered.{plain}
@@ -38,7 +38,7 @@ returns-clause-elements g c =
     ∙ ap (λ l. l ++ map (element_of root) c.in_ok-below.below) own
     ∙ ap (λ l. spec.kept root m (view.step s) (element_of root c.args.root ∷ []) ++ l) deeper
     ∙ deep-step root m (view.step s) s.deep s.test (form.predicates (map view.predicate s.predicates)) (step-is s) c.args.root c.requires.root c.requires.first c.if-not-step.false
-    offered (c.in_ok-parents.ensures.elements ∙ ap (λ l. spec.parents true (map (element_of root) l)) c.in_ok-only.ensures)
+    offered (λ p. c.in_ok-parents.ensures.members p ∙ ap (λ l. list_any p (spec.parents true (map (element_of root) l))) c.in_ok-only.ensures)
 
 pub returns-clause-there : goal.returns-clause-there
 returns-clause-there g c =
