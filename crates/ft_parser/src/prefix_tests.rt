@@ -6,8 +6,11 @@ use ft_base::QueryFault;
 use ft_syntax::print_selection;
 use std::test::Fail;
 
-/// The fault of a text from a place on, if it has one.
+/// The fault of a text from a place on at which a character starts, if it has one.
 fn fault_from(rt: HostRuntime, text: &str, from: usize) -> Option<QueryFault> {
+    if !text.is_char_boundary(from) {
+        return None;
+    }
     match read_prefix(rt.alloc(), text, from) {
         Ok(_) => None,
         Err(fault) => Some(fault),
@@ -16,6 +19,9 @@ fn fault_from(rt: HostRuntime, text: &str, from: usize) -> Option<QueryFault> {
 
 /// The place behind the selection with which a text begins, if it begins with one.
 fn place_in(rt: HostRuntime, text: &str) -> Option<usize> {
+    if !text.is_char_boundary(0) {
+        return None;
+    }
     match read_prefix(rt.alloc(), text, 0) {
         Ok((_, behind)) => Some(behind),
         Err(_) => None,
@@ -153,6 +159,7 @@ fn reads_a_run_of_symbols(rt: HostRuntime) -> Result<(), Fail> {
     let alloc = rt.alloc();
     let found = symbols(alloc, "\"a\" ftor \"b\" ] ?")?;
     let placed = found.placed.as_slice();
+    assert_eq!(rt; placed.len(), 4);
     let (selection, count) = read_run(alloc, placed, found.bad, 16)?;
     assert_eq!(rt;
         print_selection(alloc, &selection)?.as_str(),
