@@ -21,7 +21,7 @@ use Rattle.path_nodes.specs.Kept.{parents, kept, kept_children, named_children}
 use Rattle.path_nodes.specs.References.{Spot, spots, child_spots, spots_in, spot_element, element_of, IsElement}
 use Rattle.path_nodes.specs.Regions.{at_or_below, below}
 use Rattle.path_nodes.specs.Says.{Meaning, satisfied}
-use Rattle.path_nodes.specs.Within.{is_front, AtOrBelow}
+use Rattle.path_nodes.specs.Within.{is_front, AtOrBelow, IsBelow}
 use Rattle.path_nodes.proofs.FrontLemmas.{From, from, under, front-of, region}
 use Rattle.path_nodes.proofs.MeaningLemmas.{lists-are}
 use Rattle.path_nodes.proofs.NumberLemmas.{numbered_from, at, past, before}
@@ -97,9 +97,6 @@ kept-of root m (step deep test ps) P items h =
 
 -- ---- places below another
 
-abbrev pub Strict : Element → Element → Type 0
-Strict base e = (k : ℕ) × (r : List ℕ) × (e.place ≡ base.place ++ k ∷ r)
-
 one-at : (above : List ℕ) (number : ℕ) (node : Node) → All (λ e. e.place ≡ above ++ number ∷ []) (el.element_at (above ++ number ∷ []) node)
 one-at above number (element name attributes kids) = All-cons (λ e. e.place ≡ above ++ number ∷ []) (placed (above ++ number ∷ []) (element name attributes kids)) [] refl (All-nil (λ e. e.place ≡ above ++ number ∷ []))
 one-at above number (text bytes) = All-nil (λ e. e.place ≡ above ++ number ∷ [])
@@ -122,37 +119,40 @@ tail-of [] q h = (q, refl)
 tail-of (a ∷ p) [] h = cc
 tail-of (a ∷ p) (b ∷ q) h = tail-cons a b p q (a == b) refl h (tail-of p q)
 
-strict-from : (base y : Element) (k : ℕ) (r : List ℕ) → y.place ≡ base.place ++ (r ++ k ∷ []) → Strict base y
+strict-from : (base y : Element) (k : ℕ) (r : List ℕ) → y.place ≡ base.place ++ (r ++ k ∷ []) → IsBelow base y
 strict-from base y k [] is = (k, [], is)
 strict-from base y k (n ∷ r) is = (n, r ++ k ∷ [], is)
 
-strict-child : (base q : Element) (y : Element) → AtOrBelow base q → (k : ℕ) × (y.place ≡ q.place ++ k ∷ []) → Strict base y
+strict-child : (base q : Element) (y : Element) → AtOrBelow base q → (k : ℕ) × (y.place ≡ q.place ++ k ∷ []) → IsBelow base y
 strict-child base q y h (k, is) = strict-from base y k (tail-of base.place q.place h).0 (is ∙ ap (λ p. p ++ k ∷ []) (tail-of base.place q.place h).1 ∙ append_assoc base.place (tail-of base.place q.place h).0 (k ∷ []))
 
-kept-strict : (root : Numbered) (m : Meaning) (s : Step) (base q : Element) → AtOrBelow base q → All (Strict base) (kept_children root m s q)
+kept-strict : (root : Numbered) (m : Meaning) (s : Step) (base q : Element) → AtOrBelow base q → All (IsBelow base) (kept_children root m s q)
 kept-strict root m s base q h =
-    kept-of root m s (Strict base) (element_children q)
+    kept-of root m s (IsBelow base) (element_children q)
     (λ k d within. strict-child base q (get_or (element_children q) k d) h (children-strict q.place 1 (kids_of q.node) k d within))
 
-no-first : (base x y : Element) (ys : List Element) (b : Bool) → is_same x y ≡ b → (Strict base x → ⊥) → Strict base y → (is_same x y || list_any (is_same x) ys) ≡ list_any (is_same x) ys
+pub kept-places : (root : Numbered) (m : Meaning) (s : Step) (q : Element) → All (λ e. (k : ℕ) × (e.place ≡ q.place ++ k ∷ [])) (kept_children root m s q)
+kept-places root m s q = kept-of root m s (λ e. (k : ℕ) × (e.place ≡ q.place ++ k ∷ [])) (element_children q) (children-strict q.place 1 (kids_of q.node))
+
+no-first : (base x y : Element) (ys : List Element) (b : Bool) → is_same x y ≡ b → (IsBelow base x → ⊥) → IsBelow base y → (is_same x y || list_any (is_same x) ys) ≡ list_any (is_same x) ys
 no-first base x y ys true e never (k, r, is) = absurd (never (k, r, (bytes_eq-Decides x.place y.place).0 e ∙ is))
 no-first base x y ys false e never s = ap (λ b. b || list_any (is_same x) ys) e
 
-no-same : (base x : Element) (ys : List Element) → (Strict base x → ⊥) → All (Strict base) ys → list_any (is_same x) ys ≡ false
+no-same : (base x : Element) (ys : List Element) → (IsBelow base x → ⊥) → All (IsBelow base) ys → list_any (is_same x) ys ≡ false
 no-same base x [] never h = refl
-no-same base x (y ∷ ys) never h = no-first base x y ys (is_same x y) refl never (All-head (Strict base) y ys h) ∙ no-same base x ys never (All-tail (Strict base) y ys h)
+no-same base x (y ∷ ys) never h = no-first base x y ys (is_same x y) refl never (All-head (IsBelow base) y ys h) ∙ no-same base x ys never (All-tail (IsBelow base) y ys h)
 
 module _ (root : Numbered) (m : Meaning) (s : Step) (base : Element) where
-  pub not-in : (x : Element) (qs : List Element) → (Strict base x → ⊥) → All (AtOrBelow base) qs → is_in (map (kept_children root m s) qs) x ≡ false
+  pub not-in : (x : Element) (qs : List Element) → (IsBelow base x → ⊥) → All (AtOrBelow base) qs → is_in (map (kept_children root m s) qs) x ≡ false
   not-in x [] never h = refl
   not-in x (q ∷ qs) never h =
       ap (λ b. b || is_in (map (kept_children root m s) qs) x) (no-same base x (kept_children root m s q) never (kept-strict root m s base q (All-head (AtOrBelow base) q qs h)))
       ∙ not-in x qs never (All-tail (AtOrBelow base) q qs h)
 
-  pub not-itself : Strict base base → ⊥
+  pub not-itself : IsBelow base base → ⊥
   not-itself (k, r, is) = let l = length-append base.place (k ∷ r) in omega (arith, l, ap length is)
 
-  strict-front : (x : Element) → Strict base x → is_front base.place x.place ≡ true
+  strict-front : (x : Element) → IsBelow base x → is_front base.place x.place ≡ true
   strict-front x (k, r, is) = ap (is_front base.place) is ∙ front-of base.place (k ∷ r)
 
   and-front : (x : Element) (qs : List Element) → All (AtOrBelow base) qs → (b : Bool) → is_front base.place x.place ≡ b

@@ -12,3 +12,5 @@ pub mod ChosenLemmas
 pub mod SelectedLemmas
 pub mod PrintableLemmas
 pub mod ListedLemmas
+pub mod AboveLemmas
+pub mod WayLemmas

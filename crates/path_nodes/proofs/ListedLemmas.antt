@@ -66,14 +66,14 @@ module _ (root : Numbered) (r : NodeRef) (x : IsElement root r) where
   same-there (q ∷ items) all h =
       same-first q items (is_same (element_of root r) (element_of root q)) (All-head (IsElement root) q items all) refl (same-there items (All-tail (IsElement root) q items all)) h
 
-or-cases : (a b c : Bool) → (a || b) ≡ true → (a ≡ true → c ≡ true) → (b ≡ true → c ≡ true) → c ≡ true
+pub or-cases : (a b c : Bool) → (a || b) ≡ true → (a ≡ true → c ≡ true) → (b ≡ true → c ≡ true) → c ≡ true
 or-cases true b c h f g = f refl
 or-cases false b c h f g = g h
 
 or-left : (a b : Bool) → a ≡ true → (a || b) ≡ true
 or-left a b h = ap (λ c. c || b) h
 
-or-right : (a b : Bool) → b ≡ true → (a || b) ≡ true
+pub or-right : (a b : Bool) → b ≡ true → (a || b) ≡ true
 or-right true b h = refl
 or-right false b h = h
 

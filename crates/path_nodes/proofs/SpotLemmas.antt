@@ -42,7 +42,7 @@ spot-there root s h = Contains-map (λ x. reference x.node) (stands_in root) s.s
 
 -- ---- what is below a node is in the document
 
-Contains-cons : (x : Spot) (xs : List Spot) (t : Spot) → Contains xs t → Contains (x ∷ xs) t
+pub Contains-cons : (x : Spot) (xs : List Spot) (t : Spot) → Contains xs t → Contains (x ∷ xs) t
 Contains-cons x xs t (k, more, is) = (suc k, (omega (arith, more)), is)
 
 abbrev Closed : List Spot → List Spot → Type 0

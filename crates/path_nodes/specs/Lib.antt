@@ -2,6 +2,7 @@ pub mod References
 pub mod Regions
 pub mod Marks
 pub mod Within
+pub mod Ways
 pub mod Says
 pub mod Asked
 pub mod Kept

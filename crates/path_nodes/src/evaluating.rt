@@ -17,7 +17,7 @@ ghost use Rattle.path_nodes.specs.Within.{AtOrBelow};
 use crate::attributes::has_attribute;
 use crate::children::element_children;
 use crate::kept::push_if;
-use crate::marks::{Marks, mark_all};
+use crate::marks::{Marks, mark_all, mark_way_to};
 use crate::names::named;
 use crate::numbers::numbered;
 use crate::walks::{add_marked, with_descendants};
@@ -113,13 +113,15 @@ pub(crate) fn chosen<T: TextTest>(
     ensures meaning { T.meaning test.new ≡ T.meaning test.old }
 {
     let mut marks = Marks::new(alloc);
+    let mut ways = Marks::new(alloc);
     for parent in parents.as_slice() {
         let children = element_children(alloc, tree, *parent)?;
         let kept = kept(alloc, tree, step, &children, test)?;
         mark_all(tree, &mut marks, &kept)?;
+        mark_way_to(tree, &mut ways, *parent, &kept)?;
     }
     let mut found = Nodes::new(alloc);
-    add_marked(alloc, tree, base, &marks, &mut found)?;
+    add_marked(alloc, tree, base, &marks, &ways, &mut found)?;
     Ok(found)
 }
 

@@ -1,9 +1,10 @@
-ghost use Rattle.std.specs.Prelude.{◌≡◌, ◌||◌, ◌==◌, All, map, OnOk};
+ghost use Rattle.std.specs.Prelude.{◌≡◌, ◌≢◌, ◌||◌, ◌==◌, [], true, All, map, OnOk};
 ghost use Rattle.std.specs.List.{list_any};
 ghost use Rattle.ordered_tree.specs.declared.node_ref.NodeRef.{NodeRef};
 ghost use Rattle.path_grammar.specs.Elements.{is_same};
 ghost use Rattle.path_nodes.specs.Marks.{is_marked};
 ghost use Rattle.path_nodes.specs.References.{IsElement, element_of};
+ghost use Rattle.path_nodes.specs.Ways.{AreWays};
 
 use crate::Nodes;
 use ft_base::Memory;
@@ -37,4 +38,48 @@ pub(crate) fn mark_all(tree: &DocTree, marks: &mut Marks, nodes: &Nodes) -> Resu
         mark(marks, *node)?;
     }
     Ok(())
+}
+
+/// Marks an element, of whose children some were kept, and all elements above it.
+pub(crate) fn mark_way_to(
+    tree: &DocTree,
+    ways: &mut Marks,
+    parent: NodeRef,
+    kept: &Nodes,
+) -> Result<(), Memory>
+    requires parent { IsElement tree.now.root parent }
+    requires ways { AreWays tree.now.root ways.old }
+    ensures ways { OnOk result (AreWays tree.now.root ways.new) }
+    ensures more { OnOk result ((r : NodeRef) → is_marked ways.old r ≡ true → is_marked ways.new r ≡ true) }
+    ensures there { OnOk result ((kept.now ≢ []) → is_marked ways.new parent ≡ true) }
+{
+    if kept.is_empty() {
+        return Ok(());
+    }
+    mark_way(tree, ways, parent)?;
+    Ok(())
+}
+
+/// Marks an element and all elements above it; those above a marked one are marked already.
+fn mark_way(tree: &DocTree, ways: &mut Marks, node: NodeRef) -> Result<(), Memory>
+    requires node { IsElement tree.now.root node }
+    requires ways { AreWays tree.now.root ways.old }
+    ensures ways { OnOk result (AreWays tree.now.root ways.new) }
+    ensures more { OnOk result ((r : NodeRef) → is_marked ways.old r ≡ true → is_marked ways.new r ≡ true) }
+    ensures there { OnOk result (is_marked ways.new node ≡ true) }
+{
+    if has_mark(ways, node) {
+        return Ok(());
+    }
+    match tree.parent(node) {
+        Some(parent) => {
+            mark_way(tree, ways, parent)?;
+            mark(ways, node)?;
+            Ok(())
+        }
+        None => {
+            mark(ways, node)?;
+            Ok(())
+        }
+    }
 }

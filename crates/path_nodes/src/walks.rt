@@ -6,6 +6,7 @@ ghost use Rattle.path_nodes.specs.Listed.{AreListed, HaveSame};
 ghost use Rattle.path_nodes.specs.Marks.{is_marked};
 ghost use Rattle.path_nodes.specs.References.{IsElement, element_of};
 ghost use Rattle.path_nodes.specs.Regions.{at_or_below, below};
+ghost use Rattle.path_nodes.specs.Ways.{LeadTo};
 
 use crate::Nodes;
 use crate::children::element_children;
@@ -78,24 +79,30 @@ fn add_unlisted(
     Ok(())
 }
 
-/// Puts the marked elements below an element to the end, in document order.
+/// Puts the marked elements below an element to the end, in document order. What is below an element that leads to none of
+/// them isn't looked at.
 pub(crate) fn add_marked(
     alloc: Global,
     tree: &DocTree,
     here: NodeRef,
     marks: &Marks,
+    ways: &Marks,
     found: &mut Nodes,
 ) -> Result<(), Memory>
     requires here { IsElement tree.now.root here }
     requires found { All (IsElement tree.now.root) found.old }
     ensures elements { OnOk result ((test : Element → Bool) → ((r : NodeRef) → IsElement tree.now.root r → is_marked marks.now r ≡ test (element_of tree.now.root r))
+        → LeadTo tree.now.root ways.now test
         → map (element_of tree.now.root) found.new ≡ map (element_of tree.now.root) found.old ++ filter test (below (element_of tree.now.root here))) }
     ensures there { OnOk result (All (IsElement tree.now.root) found.new) }
 {
+    if !has_mark(ways, here) {
+        return Ok(());
+    }
     let children = element_children(alloc, tree, here)?;
     for child in children.as_slice() {
         push_marked(marks, *child, found)?;
-        add_marked(alloc, tree, *child, marks, found)?;
+        add_marked(alloc, tree, *child, marks, ways, found)?;
     }
     Ok(())
 }

@@ -6,3 +6,4 @@ pub mod Everywhere
 pub mod Runs
 pub mod Spelled
 pub mod Refused
+pub mod Exact

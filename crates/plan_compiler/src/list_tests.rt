@@ -8,6 +8,7 @@ use ft_base::{
 };
 use ft_syntax::Selection;
 use std::alloc::Global;
+use std::process::Abort;
 use std::test::Fail;
 
 /// Two stop lists, a thesaurus and a dictionary of stems.
@@ -43,10 +44,34 @@ fn under(alloc: Global, operand: Selection, options: Options) -> Result<Selectio
     Ok(Selection::With(Box::new(alloc, operand)?, options))
 }
 
+/// What a plan of the string under the options says of the text.
+fn answer_under(
+    alloc: Global,
+    lists: &Lists,
+    text: &str,
+    string: &str,
+    options: Options,
+) -> Result<Option<bool>, Fail> {
+    let selection = under(alloc, quoted(alloc, string)?, options)?;
+    answer(alloc, lists, text, &selection)
+}
+
+fn stemming_options(case: Option<Case>, marks: Option<bool>, wildcards: Option<bool>) -> Options {
+    let mut options = Options::none();
+    options.stemming = Some(true);
+    options.case = case;
+    options.diacritics_sensitive = marks;
+    options.wildcards = wildcards;
+    options
+}
+
 #[test]
 fn stemming(rt: HostRuntime) -> Result<(), Fail> {
-    let alloc = rt.alloc();
-    let lists = some_lists(alloc)?;
+    let lists = some_lists(rt.alloc())?;
+    compares_stems(&rt, rt.alloc(), &lists)
+}
+
+fn compares_stems(rt: &impl Abort, alloc: Global, lists: &Lists) -> Result<(), Fail> {
     for (text, string, case, marks, wildcards, expected) in [
         ("ROSES", "rose", Some(Case::Upper), None, None, true),
         ("Roses", "rose", Some(Case::Upper), None, None, false),
@@ -67,20 +92,15 @@ fn stemming(rt: HostRuntime) -> Result<(), Fail> {
         ("roses", "ro.e", None, None, Some(true), false),
         ("roses", "ro.es", None, None, Some(true), true),
     ] {
-        let mut options = Options::none();
-        options.stemming = Some(true);
-        options.case = case;
-        options.diacritics_sensitive = marks;
-        options.wildcards = wildcards;
-        let selection = under(alloc, quoted(alloc, string)?, options)?;
+        let options = stemming_options(case, marks, wildcards);
         assert_eq!(rt;
-            answer(alloc, &lists, text, &selection)?,
+            answer_under(alloc, lists, text, string, options)?,
             Some(expected),
             "{text} {string}"
         );
     }
     assert_eq!(rt;
-        answer(alloc, &lists, "roses", &quoted(alloc, "rose")?)?,
+        answer_under(alloc, lists, "roses", "rose", Options::none())?,
         Some(false)
     );
     Ok(())
@@ -106,10 +126,24 @@ fn thesaurus_at(
     Ok(ThesaurusChoice::Uses(uses))
 }
 
+fn thesaurus_options(
+    alloc: Global,
+    relationship: Option<&str>,
+    levels: Option<Range>,
+) -> Result<Options, Memory> {
+    let choice = thesaurus_at(alloc, "t", relationship, levels)?;
+    let mut options = Options::none();
+    options.thesaurus = Some(choice);
+    Ok(options)
+}
+
 #[test]
 fn thesauri(rt: HostRuntime) -> Result<(), Fail> {
-    let alloc = rt.alloc();
-    let lists = some_lists(alloc)?;
+    let lists = some_lists(rt.alloc())?;
+    reaches_by_levels(&rt, rt.alloc(), &lists)
+}
+
+fn reaches_by_levels(rt: &impl Abort, alloc: Global, lists: &Lists) -> Result<(), Fail> {
     for (text, string, relationship, levels, expected) in [
         ("c", "a", None, Some(Range::Exactly(1)), false),
         ("c", "a", None, Some(Range::AtMost(2)), true),
@@ -127,11 +161,9 @@ fn thesauri(rt: HostRuntime) -> Result<(), Fail> {
         ("New NY", "ny", None, None, true),
         ("big", "ny", None, None, false),
     ] {
-        let mut options = Options::none();
-        options.thesaurus = Some(thesaurus_at(alloc, "t", relationship, levels)?);
-        let selection = under(alloc, quoted(alloc, string)?, options)?;
+        let options = thesaurus_options(alloc, relationship, levels)?;
         assert_eq!(rt;
-            answer(alloc, &lists, text, &selection)?,
+            answer_under(alloc, lists, text, string, options)?,
             Some(expected),
             "{text} {string}"
         );
@@ -141,8 +173,23 @@ fn thesauri(rt: HostRuntime) -> Result<(), Fail> {
 
 #[test]
 fn a_reached_phrase_is_read_as_its_keys(rt: HostRuntime) -> Result<(), Fail> {
-    let alloc = rt.alloc();
-    let lists = some_lists(alloc)?;
+    let lists = some_lists(rt.alloc())?;
+    reads_keys(&rt, rt.alloc(), &lists)
+}
+
+/// Options with a thesaurus, a case and wildcards.
+fn reading_options(
+    alloc: Global,
+    case: Option<Case>,
+    wildcards: Option<bool>,
+) -> Result<Options, Memory> {
+    let mut options = thesaurus_options(alloc, None, None)?;
+    options.case = case;
+    options.wildcards = wildcards;
+    Ok(options)
+}
+
+fn reads_keys(rt: &impl Abort, alloc: Global, lists: &Lists) -> Result<(), Fail> {
     for (text, string, case, wildcards, expected) in [
         ("B", "a", Some(Case::Sensitive), None, false),
         ("b", "a", Some(Case::Sensitive), None, true),
@@ -151,13 +198,9 @@ fn a_reached_phrase_is_read_as_its_keys(rt: HostRuntime) -> Result<(), Fail> {
         ("a b", "a-b", None, Some(true), true),
         ("a b", "a-b.", None, Some(true), false),
     ] {
-        let mut options = Options::none();
-        options.thesaurus = Some(thesaurus_at(alloc, "t", None, None)?);
-        options.case = case;
-        options.wildcards = wildcards;
-        let selection = under(alloc, quoted(alloc, string)?, options)?;
+        let options = reading_options(alloc, case, wildcards)?;
         assert_eq!(rt;
-            answer(alloc, &lists, text, &selection)?,
+            answer_under(alloc, lists, text, string, options)?,
             Some(expected),
             "{text} {string}"
         );
@@ -165,10 +208,36 @@ fn a_reached_phrase_is_read_as_its_keys(rt: HostRuntime) -> Result<(), Fail> {
     Ok(())
 }
 
+/// Whether the string is found so many times in the text under the options.
+fn is_found(
+    alloc: Global,
+    lists: &Lists,
+    text: &str,
+    string: &str,
+    count: u32,
+    options: Options,
+) -> Result<Option<bool>, Fail> {
+    let operand = words(alloc, &[string], Mode::Any, Some(Range::Exactly(count)))?;
+    let selection = under(alloc, operand, options)?;
+    answer(alloc, lists, text, &selection)
+}
+
+/// Options under which `b` is a stop word, with the phrases at the first level of the thesaurus.
+fn stopped_options(alloc: Global) -> Result<Options, Memory> {
+    let mut terms = Items::new(alloc);
+    terms.push(term(alloc, false, &["b"])?)?;
+    let mut options = thesaurus_options(alloc, None, Some(Range::Exactly(1)))?;
+    options.stop_words = Some(StopChoice::Sets(terms));
+    Ok(options)
+}
+
 #[test]
 fn variants_are_counted_by_their_places(rt: HostRuntime) -> Result<(), Fail> {
-    let alloc = rt.alloc();
-    let lists = some_lists(alloc)?;
+    let lists = some_lists(rt.alloc())?;
+    counts_places(&rt, rt.alloc(), &lists)
+}
+
+fn counts_places(rt: &impl Abort, alloc: Global, lists: &Lists) -> Result<(), Fail> {
     for (text, string, count) in [
         ("ny city", "ny", 2),
         ("ny ny city", "ny", 3),
@@ -176,24 +245,15 @@ fn variants_are_counted_by_their_places(rt: HostRuntime) -> Result<(), Fail> {
         ("a b", "a", 2),
         ("a b", "a b", 1),
     ] {
-        let mut options = Options::none();
-        options.thesaurus = Some(thesaurus_at(alloc, "t", None, None)?);
-        let operand = words(alloc, &[string], Mode::Any, Some(Range::Exactly(count)))?;
-        let selection = under(alloc, operand, options)?;
+        let options = thesaurus_options(alloc, None, None)?;
         assert_eq!(rt;
-            answer(alloc, &lists, text, &selection)?,
+            is_found(alloc, lists, text, string, count, options)?,
             Some(true),
             "{text} {string}"
         );
     }
-    let mut terms = Items::new(alloc);
-    terms.push(term(alloc, false, &["b"])?)?;
-    let mut options = Options::none();
-    options.thesaurus = Some(thesaurus_at(alloc, "t", None, Some(Range::Exactly(1)))?);
-    options.stop_words = Some(StopChoice::Sets(terms));
-    let once = words(alloc, &["a"], Mode::Any, Some(Range::Exactly(1)))?;
-    let selection = under(alloc, once, options)?;
-    assert_eq!(rt; answer(alloc, &lists, "a", &selection)?, Some(true));
+    let options = stopped_options(alloc)?;
+    assert_eq!(rt; is_found(alloc, lists, "a", "a", 1, options)?, Some(true));
     Ok(())
 }
 
@@ -204,10 +264,36 @@ fn listed(alloc: Global, except: bool, name: &str) -> Result<StopTerm, Memory> {
     })
 }
 
+/// The stop list `e` without a word, and a thesaurus.
+fn stop_options(alloc: Global, except: Option<&str>) -> Result<Options, Memory> {
+    let mut terms = Items::new(alloc);
+    terms.push(listed(alloc, false, "e")?)?;
+    if let Some(word) = except {
+        terms.push(term(alloc, true, &[word])?)?;
+    }
+    let mut options = thesaurus_options(alloc, None, None)?;
+    options.stop_words = Some(StopChoice::Sets(terms));
+    Ok(options)
+}
+
+/// The stop list `f` without the words of `e`.
+fn difference_options(alloc: Global) -> Result<Options, Memory> {
+    let mut terms = Items::new(alloc);
+    terms.push(listed(alloc, false, "f")?)?;
+    terms.push(listed(alloc, true, "e")?)?;
+    let mut options = Options::none();
+    options.stop_words = Some(StopChoice::Sets(terms));
+    Ok(options)
+}
+
 #[test]
 fn stop_lists(rt: HostRuntime) -> Result<(), Fail> {
-    let alloc = rt.alloc();
-    let lists = some_lists(alloc)?;
+    let lists = some_lists(rt.alloc())?;
+    passes_stop_words(&rt, rt.alloc(), &lists)?;
+    takes_words_out(&rt, rt.alloc(), &lists)
+}
+
+fn passes_stop_words(rt: &impl Abort, alloc: Global, lists: &Lists) -> Result<(), Fail> {
     for (string, text, except, expected) in [
         ("a The b", "a x b", None, true),
         ("a of b", "a x b", None, false),
@@ -216,64 +302,69 @@ fn stop_lists(rt: HostRuntime) -> Result<(), Fail> {
         ("big", "y x", None, true),
         ("big", "the", None, false),
     ] {
-        let mut terms = Items::new(alloc);
-        terms.push(listed(alloc, false, "e")?)?;
-        if let Some(word) = except {
-            terms.push(term(alloc, true, &[word])?)?;
-        }
-        let mut options = Options::none();
-        options.stop_words = Some(StopChoice::Sets(terms));
-        options.thesaurus = Some(thesaurus_at(alloc, "t", None, None)?);
-        let selection = under(alloc, quoted(alloc, string)?, options)?;
+        let options = stop_options(alloc, except)?;
         assert_eq!(rt;
-            answer(alloc, &lists, text, &selection)?,
-            Some(expected),
-            "{string}"
-        );
-    }
-    for (string, expected) in [("a of b", true), ("a the b", false)] {
-        let mut terms = Items::new(alloc);
-        terms.push(listed(alloc, false, "f")?)?;
-        terms.push(listed(alloc, true, "e")?)?;
-        let mut options = Options::none();
-        options.stop_words = Some(StopChoice::Sets(terms));
-        let selection = under(alloc, quoted(alloc, string)?, options)?;
-        assert_eq!(rt;
-            answer(alloc, &lists, "a x b", &selection)?,
+            answer_under(alloc, lists, text, string, options)?,
             Some(expected),
             "{string}"
         );
     }
     Ok(())
+}
+
+fn takes_words_out(rt: &impl Abort, alloc: Global, lists: &Lists) -> Result<(), Fail> {
+    for (string, expected) in [("a of b", true), ("a the b", false)] {
+        let options = difference_options(alloc)?;
+        assert_eq!(rt;
+            answer_under(alloc, lists, "a x b", string, options)?,
+            Some(expected),
+            "{string}"
+        );
+    }
+    Ok(())
+}
+
+/// `"a" ftand "the x"`.
+fn pair(alloc: Global) -> Result<Selection, Memory> {
+    let left = quoted(alloc, "a")?;
+    let right = quoted(alloc, "the x")?;
+    Ok(Selection::And(both(alloc, left, right)?))
 }
 
 #[test]
 fn one_stop_list_for_both_sides(rt: HostRuntime) -> Result<(), Fail> {
-    let alloc = rt.alloc();
-    let lists = some_lists(alloc)?;
+    let lists = some_lists(rt.alloc())?;
+    assert_eq!(rt; answer_pair(rt.alloc(), &lists)?, Some(true));
+    Ok(())
+}
+
+fn answer_pair(alloc: Global, lists: &Lists) -> Result<Option<bool>, Fail> {
+    let options = stop_options(alloc, None)?;
+    let selection = under(alloc, pair(alloc)?, options)?;
+    answer(alloc, lists, "a x b", &selection)
+}
+
+/// Options under which the string `a.` is written as a stop word.
+fn written_options(alloc: Global) -> Result<Options, Memory> {
     let mut terms = Items::new(alloc);
-    terms.push(listed(alloc, false, "e")?)?;
+    terms.push(term(alloc, false, &["a."])?)?;
     let mut options = Options::none();
     options.stop_words = Some(StopChoice::Sets(terms));
-    let pair = Selection::And(both(alloc, quoted(alloc, "a")?, quoted(alloc, "the x")?)?);
-    let selection = under(alloc, pair, options)?;
-    assert_eq!(rt; answer(alloc, &lists, "a x b", &selection)?, Some(true));
-    Ok(())
+    options.wildcards = Some(true);
+    Ok(options)
 }
 
 #[test]
 fn written_stop_words_are_no_patterns(rt: HostRuntime) -> Result<(), Fail> {
-    let alloc = rt.alloc();
-    let lists = Lists::new(alloc);
+    let lists = Lists::new(rt.alloc());
+    reads_written_words(&rt, rt.alloc(), &lists)
+}
+
+fn reads_written_words(rt: &impl Abort, alloc: Global, lists: &Lists) -> Result<(), Fail> {
     for (string, expected) in [("a", true), ("b", false), ("a.", false)] {
-        let mut terms = Items::new(alloc);
-        terms.push(term(alloc, false, &["a."])?)?;
-        let mut options = Options::none();
-        options.stop_words = Some(StopChoice::Sets(terms));
-        options.wildcards = Some(true);
-        let selection = under(alloc, quoted(alloc, string)?, options)?;
+        let options = written_options(alloc)?;
         assert_eq!(rt;
-            answer(alloc, &lists, "x", &selection)?,
+            answer_under(alloc, lists, "x", string, options)?,
             Some(expected),
             "{string}"
         );
@@ -283,8 +374,11 @@ fn written_stop_words_are_no_patterns(rt: HostRuntime) -> Result<(), Fail> {
 
 #[test]
 fn letters_of_title_case_are_neither_low_nor_high(rt: HostRuntime) -> Result<(), Fail> {
-    let alloc = rt.alloc();
-    let lists = Lists::new(alloc);
+    let lists = Lists::new(rt.alloc());
+    compares_title_case(&rt, rt.alloc(), &lists)
+}
+
+fn compares_title_case(rt: &impl Abort, alloc: Global, lists: &Lists) -> Result<(), Fail> {
     for (text, case, expected) in [
         ("\u{1c5}", Case::Lower, false),
         ("\u{1c5}", Case::Upper, false),
@@ -293,9 +387,8 @@ fn letters_of_title_case_are_neither_low_nor_high(rt: HostRuntime) -> Result<(),
     ] {
         let mut options = Options::none();
         options.case = Some(case);
-        let selection = under(alloc, quoted(alloc, "\u{1c6}")?, options)?;
         assert_eq!(rt;
-            answer(alloc, &lists, text, &selection)?,
+            answer_under(alloc, lists, text, "\u{1c6}", options)?,
             Some(expected),
             "{text}"
         );
@@ -319,10 +412,43 @@ fn naming(
     under(alloc, operand, options)
 }
 
+/// Compares what is missing of a selection, alone and behind another, with what is expected.
+fn expect_missing(
+    rt: &impl Abort,
+    alloc: Global,
+    lists: &Lists,
+    outer: Selection,
+    missing: Option<&str>,
+) -> Result<(), Fail> {
+    assert_eq!(rt; missing_list(&outer, lists), missing);
+    let first = quoted(alloc, "a")?;
+    let either = Selection::Or(both(alloc, first, outer)?);
+    assert_eq!(rt; missing_list(&either, lists), missing);
+    expect_refusal(rt, alloc, lists, &either, missing)
+}
+
+fn expect_refusal(
+    rt: &impl Abort,
+    alloc: Global,
+    lists: &Lists,
+    selection: &Selection,
+    missing: Option<&str>,
+) -> Result<(), Fail> {
+    match Plan::compile(alloc, selection, lists) {
+        Ok(_plan) => assert!(rt; missing.is_none()),
+        Err(CompileFault::NoSuchList { name }) => assert_eq!(rt; Some(name.as_str()), missing),
+        Err(CompileFault::Memory) => return Err(Fail::from("memory")),
+    }
+    Ok(())
+}
+
 #[test]
 fn missing_lists(rt: HostRuntime) -> Result<(), Fail> {
-    let alloc = rt.alloc();
-    let lists = some_lists(alloc)?;
+    let lists = some_lists(rt.alloc())?;
+    names_the_first_missing(&rt, rt.alloc(), &lists)
+}
+
+fn names_the_first_missing(rt: &impl Abort, alloc: Global, lists: &Lists) -> Result<(), Fail> {
     for (inner_thesaurus, inner_stop, outer_thesaurus, outer_stop, missing) in [
         ("t", "e", "t", "f", None),
         ("t", "t", "t", "f", Some("t")),
@@ -332,18 +458,10 @@ fn missing_lists(rt: HostRuntime) -> Result<(), Fail> {
         ("t", "e", "x", "y", Some("x")),
         ("t", "e", "t", "y", Some("y")),
     ] {
-        let inner = naming(alloc, quoted(alloc, "a")?, inner_thesaurus, inner_stop)?;
+        let word = quoted(alloc, "a")?;
+        let inner = naming(alloc, word, inner_thesaurus, inner_stop)?;
         let outer = naming(alloc, inner, outer_thesaurus, outer_stop)?;
-        assert_eq!(rt; missing_list(&outer, &lists), missing);
-        let either = Selection::Or(both(alloc, quoted(alloc, "a")?, outer)?);
-        assert_eq!(rt; missing_list(&either, &lists), missing);
-        match Plan::compile(alloc, &either, &lists) {
-            Ok(_plan) => assert!(rt; missing.is_none()),
-            Err(CompileFault::NoSuchList { name }) => {
-                assert_eq!(rt; Some(name.as_str()), missing)
-            }
-            Err(CompileFault::Memory) => return Err(Fail::from("memory")),
-        }
+        expect_missing(rt, alloc, lists, outer, missing)?;
     }
     Ok(())
 }

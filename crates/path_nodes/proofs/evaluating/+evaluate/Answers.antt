@@ -1,8 +1,8 @@
 -- Each kind of condition and predicate, one more of each list.
-use Rattle.std.proofs.Common.{◌≡◌, ◌+◌, ◌≤◌, ◌||◌, ◌&&◌, not, [], ◌++◌, map, filter, drop, length, get_or, IfOk, sym, ap, ◌∙◌, subst, arith, rules}
+use Rattle.std.proofs.Common.{◌≡◌, ◌+◌, ◌≤◌, ◌||◌, ◌&&◌, not, [], ◌++◌, map, filter, take, drop, length, get_or, IfOk, sym, ap, ◌∙◌, subst, arith, rules}
 use Rattle.std.specs.List.{All, list_any}
 use Rattle.std.proofs.lemmas.List.{take_all, drop_all}
-use Rattle.std.proofs.lemmas.List.Elements.{All-nil, All-cons, All-map, All-filter}
+use Rattle.std.proofs.lemmas.List.Elements.{All-nil, All-cons, All-map, All-filter, All-get_or}
 use Rattle.ordered_tree.specs.declared.node_ref.NodeRef.{NodeRef}
 use Rattle.path_grammar.specs.declared.path.Condition.{the_lemmas}
 use Rattle.ordered_tree.specs.Numbered.{plain}
@@ -16,14 +16,16 @@ use Rattle.path_nodes.specs.Marks.{is_marked}
 use Rattle.path_nodes.specs.References.{IsElement, element_of}
 use Rattle.path_nodes.specs.Regions.{below}
 use Rattle.path_nodes.specs.Says.{satisfied}
+use Rattle.path_nodes.specs.Ways.{LeadTo}
 use Rattle.path_nodes.specs.Within.{AtOrBelow}
 use Rattle.path_nodes.proofs.AskedLemmas.{step-is, of-or, of-and, of-not, of-exists, of-contains, of-holds, of-step, nth-step, nth-predicate, nth-condition}
 use Rattle.path_nodes.proofs.MeaningLemmas.{led-next, led-none, filtered-next, filtered-none, some-next, some-none, each-next, each-none, by-number, by-condition, true-or, true-and, true-not, true-attribute, true-exists, true-contains, emptied}
 use Rattle.path_nodes.proofs.ChosenLemmas.{within-base, below-base, parents-inside, all-refs, stepped-is}
 use Rattle.path_nodes.proofs.FrontLemmas.{front-itself}
-use Rattle.path_nodes.proofs.ListedLemmas.{same-offered, same-inside}
+use Rattle.path_nodes.proofs.ListedLemmas.{or-cases, same-offered, same-inside}
 use Rattle.path_nodes.proofs.ListLemmas.{any-more-of}
 use Rattle.path_nodes.proofs.SpotLemmas.{of_number}
+use Rattle.path_nodes.proofs.WayLemmas.{lead-kept}
 use Rattle.path_nodes.proofs.evaluating.+evaluate.Goals as goal
 
 -- ---- filtered
@@ -497,6 +499,8 @@ chosen-loop-parent-preserved g t c =
     c.in_ok-kept.ensures.elements
     ∙ ap (λ n. spec.kept root n s (map (element_of root) c.in_ok-children.children)) c.loop-parent.invariant.meaning
     ∙ ap (spec.kept root m s) c.in_ok-children.ensures.elements in
+    let all : All (IsElement root) items = subst (All (IsElement root)) (sym c.as_slice-parent-items.ensures) c.requires.parents in
+    let y : IsElement root q = All-get_or (IsElement root) items i (of_number 0) c.loop-parent-test.true all in
     record {
       marks = λ r x.
           let p = list_any (is_same (element_of root r)) in
@@ -504,6 +508,12 @@ chosen-loop-parent-preserved g t c =
           ∙ ap (λ l. p l || is_marked c.loop-parent.marks r) kept
           ∙ ap (λ b. p (spec.kept_children root m s (element_of root q)) || b) (c.loop-parent.invariant.marks r x)
           ∙ sym (any-more-of (element_of root) (spec.kept_children root m s) p items i (of_number 0) c.loop-parent-test.true);
+      ways = c.in_ok-mark_way_to.ensures.ways;
+      lead = λ r x e h is.
+          or-cases (list_any (is_same e) (spec.kept_children root m s (element_of root q))) (is_in (map (spec.kept_children root m s) (map (element_of root) (take i items))) e) (is_marked c.mark_way_to.new.ways r)
+          (sym (any-more-of (element_of root) (spec.kept_children root m s) (list_any (is_same e)) items i (of_number 0) c.loop-parent-test.true) ∙ is)
+          (lead-kept root m s q y c.mark_way_to.new.ways c.in_ok-mark_way_to.ensures.ways c.in_ok-kept.kept kept c.in_ok-mark_way_to.ensures.there r x e h)
+          (λ before. c.in_ok-mark_way_to.ensures.more r (c.loop-parent.invariant.lead r x e h before));
       meaning = c.kept.ensures.meaning ∙ c.loop-parent.invariant.meaning;
     }
 
@@ -520,6 +530,7 @@ chosen-returns-clause-elements g t c =
     let test = is_in (map (spec.kept_children root m s) ps) in
     c.in_ok-add_marked.ensures.elements test
     (λ r x. c.loop-parent.invariant.marks r x ∙ ap (λ l. is_in (map (spec.kept_children root m s) (map (element_of root) l)) (element_of root r)) (take_all i items past ∙ c.as_slice-parent-items.ensures))
+    (subst (λ l. LeadTo root c.loop-parent.ways (is_in (map (spec.kept_children root m s) (map (element_of root) l)))) (take_all i items past ∙ c.as_slice-parent-items.ensures) c.loop-parent.invariant.lead)
     ∙ ap (λ l. map (element_of root) l ++ filter test (below base)) c.new-found.ensures
     ∙ within-base root m s c.args.base c.requires.base ps (All-map (AtOrBelow base) (element_of root) c.args.parents.now c.requires.inside)
 
@@ -537,5 +548,6 @@ chosen-returns-clause-inside g t c =
     let found : map (element_of root) c.add_marked.new.found ≡ filter test (below base) =
     c.in_ok-add_marked.ensures.elements test
     (λ r x. c.loop-parent.invariant.marks r x ∙ ap (λ l. is_in (map (spec.kept_children root m s) (map (element_of root) l)) (element_of root r)) (take_all i items past ∙ c.as_slice-parent-items.ensures))
+    (subst (λ l. LeadTo root c.loop-parent.ways (is_in (map (spec.kept_children root m s) (map (element_of root) l)))) (take_all i items past ∙ c.as_slice-parent-items.ensures) c.loop-parent.invariant.lead)
     ∙ ap (λ l. map (element_of root) l ++ filter test (below base)) c.new-found.ensures in
     all-refs root (AtOrBelow base) c.add_marked.new.found (subst (All (AtOrBelow base)) (sym found) (All-filter test (AtOrBelow base) (below base) (below-base base)))

@@ -11,12 +11,15 @@ use Rattle.path_nodes.specs.Marks.{is_marked}
 use Rattle.path_nodes.specs.References.{IsElement, element_of}
 use Rattle.path_nodes.specs.Says.{satisfied}
 use Rattle.path_nodes.specs.Within.{AtOrBelow}
+use Rattle.path_nodes.specs.Ways.{AreWays, LeadTo}
 use Rattle.path_nodes.proofs.evaluating.+evaluate.Given as goal
 
 abbrev pub invariant-chosen-loop-parent : goal.invariant-chosen-loop-parent
 invariant-chosen-loop-parent g l = record {
   marks : (r : NodeRef) → IsElement l.tree.root r
       → is_marked l.marks r ≡ is_in (map (kept_children l.tree.root (g.T.TextTest.meaning l.fn.test) (view.step l.fn.step)) (map (element_of l.tree.root) (take l.parent-index l.parent-items))) (element_of l.tree.root r);
+  ways : AreWays l.tree.root l.ways;
+  lead : LeadTo l.tree.root l.ways (is_in (map (kept_children l.tree.root (g.T.TextTest.meaning l.fn.test) (view.step l.fn.step)) (map (element_of l.tree.root) (take l.parent-index l.parent-items))));
   meaning : g.T.TextTest.meaning l.test ≡ g.T.TextTest.meaning l.fn.test;
 }
 

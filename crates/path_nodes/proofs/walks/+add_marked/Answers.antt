@@ -1,5 +1,5 @@
 -- Each child is lighter; the marked ones of it stand behind those before.
-use Rattle.std.proofs.Common.{◌≡◌, ◌<◌, ◌≤◌, ◌∷◌, [], ◌++◌, filter, flat_map, map, take, length, get_or, sym, ap, ◌∙◌, subst, arith, append_assoc}
+use Rattle.std.proofs.Common.{◌≡◌, ◌<◌, ◌≤◌, ◌∷◌, [], ◌++◌, filter, flat_map, map, take, length, get_or, sym, ap, ◌∙◌, subst, arith, append_assoc, append-nil}
 use Rattle.std.specs.List.{All}
 use Rattle.std.proofs.lemmas.List.{take_all}
 use Rattle.std.proofs.lemmas.List.Elements.{All-get_or, filter-append}
@@ -10,6 +10,7 @@ use Rattle.path_nodes.specs.Regions.{at_or_below, below}
 use Rattle.path_nodes.proofs.ListLemmas.{flat-map-more, one-kept, kept-there}
 use Rattle.path_nodes.proofs.RegionLemmas.{weight, children-light, child-has, opened, below-children}
 use Rattle.path_nodes.proofs.SpotLemmas.{of_number}
+use Rattle.path_nodes.proofs.WayLemmas.{none-below}
 use Rattle.path_nodes.proofs.walks.+add_marked.Goals as goal
 
 pub add_marked-requires : goal.add_marked-requires
@@ -34,33 +35,39 @@ loop-child-preserved t c =
     let all : All (IsElement root) items = subst (All (IsElement root)) (sym c.as_slice-child-items.ensures) c.in_ok-children.ensures.there in
     let x : IsElement root q = All-get_or (IsElement root) items i (of_number 0) c.loop-child-test.true all in
     record {
-      done = λ test agree.
+      done = λ test agree lead.
           let old = map (element_of root) c.args.found.now in
           let before = flat_map at_or_below (map (element_of root) (take i items)) in
           let pushed : map (element_of root) c.push_marked.new.found ≡ map (element_of root) c.loop-child.found ++ filter test (element_of root q ∷ []) =
           one-kept (element_of root) (is_marked c.args.marks.now) test c.loop-child.found q c.push_marked.new.found c.in_ok-push_marked.ensures (agree q x) in
           let all-of : filter test (at_or_below (element_of root q)) ≡ filter test (element_of root q ∷ []) ++ filter test (below (element_of root q)) =
           ap (filter test) (opened root q x) ∙ filter-append test (element_of root q ∷ []) (below (element_of root q)) in
-          c.in_ok-add_marked.ensures.elements test agree
+          c.in_ok-add_marked.ensures.elements test agree lead
           ∙ ap (λ l. l ++ filter test (below (element_of root q))) pushed
           ∙ append_assoc (map (element_of root) c.loop-child.found) (filter test (element_of root q ∷ [])) (filter test (below (element_of root q)))
           ∙ ap (λ l. map (element_of root) c.loop-child.found ++ l) (sym all-of)
-          ∙ ap (λ l. l ++ filter test (at_or_below (element_of root q))) (c.loop-child.invariant.done test agree)
+          ∙ ap (λ l. l ++ filter test (at_or_below (element_of root q))) (c.loop-child.invariant.done test agree lead)
           ∙ append_assoc old (filter test before) (filter test (at_or_below (element_of root q)))
           ∙ ap (λ l. old ++ l) (sym (filter-append test before (at_or_below (element_of root q))))
           ∙ ap (λ l. old ++ filter test l) (sym (flat-map-more (element_of root) at_or_below items i (of_number 0) c.loop-child-test.true));
       there = c.in_ok-add_marked.ensures.there;
     }
 
+pub returns-then-not-has_mark-clause-elements : goal.returns-then-not-has_mark-clause-elements
+returns-then-not-has_mark-clause-elements t c = λ test agree lead.
+    let root = c.args.tree.now.root in
+    let old = map (element_of root) c.args.found.now in
+    sym (ap (λ l. old ++ l) (none-below root c.args.here c.requires.here c.args.ways.now test lead (sym c.has_mark.ensures ∙ c.if-not-has_mark.true)) ∙ append-nil old)
+
 pub returns-clause-elements : goal.returns-clause-elements
-returns-clause-elements t c = λ test agree.
+returns-clause-elements t c = λ test agree lead.
     let root = c.args.tree.now.root in
     let here = element_of root c.args.here in
     let items = c.as_slice-child-items.result.now in
     let i = c.loop-child.child-index in
     let kids : map (element_of root) items ≡ element_children here = ap (map (element_of root)) c.as_slice-child-items.ensures ∙ c.in_ok-children.ensures.elements in
     let past : length items ≤ i = omega (arith, c.loop-child-test.false) in
-    c.loop-child.invariant.done test agree
+    c.loop-child.invariant.done test agree lead
     ∙ ap (λ l. map (element_of root) c.args.found.now ++ filter test (flat_map at_or_below (map (element_of root) l))) (take_all i items past)
     ∙ ap (λ l. map (element_of root) c.args.found.now ++ filter test (flat_map at_or_below l)) kids
     ∙ ap (λ l. map (element_of root) c.args.found.now ++ filter test l) (below-children here)
