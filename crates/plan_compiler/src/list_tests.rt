@@ -434,6 +434,9 @@ fn expect_refusal(
     selection: &Selection,
     missing: Option<&str>,
 ) -> Result<(), Fail> {
+    if !is_decided(selection) {
+        return Err(Fail::from("not decided"));
+    }
     match Plan::compile(alloc, selection, lists) {
         Ok(_plan) => assert!(rt; missing.is_none()),
         Err(CompileFault::NoSuchList { name }) => assert_eq!(rt; Some(name.as_str()), missing),
