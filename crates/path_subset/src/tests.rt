@@ -158,8 +158,9 @@ fn reads_roots_and_first_steps(rt: HostRuntime) -> Result<(), Fail> {
     for (text, root, deep, name, first) in &texts {
         let path = read_path(rt.alloc(), *text)?;
         assert_eq!(rt; root_name(path.root()), *root);
-        assert_eq!(rt; path.steps().len(), 1);
-        let step = path.steps().get(0);
+        let steps = path.steps();
+        assert_eq!(rt; steps.len(), 1);
+        let step = steps.get(0);
         assert_eq!(rt; step.deep, *deep);
         assert_eq!(rt; step_name(step), *name);
         assert_eq!(rt; first_kind(&step.predicates), *first);
@@ -173,11 +174,12 @@ fn reads_further_steps_and_predicates(rt: HostRuntime) -> Result<(), Fail> {
         rt.alloc(),
         "collection()/a[. contains text \"a\"] [1]//b/c[d][e][2]",
     )?;
-    assert_eq!(rt; path.steps().len(), 3);
-    assert_eq!(rt; path.steps().get(0).predicates.len(), 2);
-    assert_eq!(rt; path.steps().get(1).deep, true);
-    assert_eq!(rt; step_name(path.steps().get(1)), "b");
-    assert_eq!(rt; path.steps().get(2).predicates.len(), 3);
+    let steps = path.steps();
+    assert_eq!(rt; steps.len(), 3);
+    assert_eq!(rt; steps.get(0).predicates.len(), 2);
+    assert_eq!(rt; steps.get(1).deep, true);
+    assert_eq!(rt; step_name(steps.get(1)), "b");
+    assert_eq!(rt; steps.get(2).predicates.len(), 3);
     Ok(())
 }
 
