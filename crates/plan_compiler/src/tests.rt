@@ -6,6 +6,7 @@ use ft_base::{
 };
 use ft_syntax::{Selection, Selections};
 use std::alloc::Global;
+use std::process::Abort;
 use std::test::Fail;
 use thesaurus_file::Thesaurus;
 use tokenizer::words_of;
@@ -300,25 +301,49 @@ pub(crate) fn stems(alloc: Global, file: &[u8]) -> Result<Stems, Fail> {
     }
 }
 
-#[test]
-fn lists_by_name(rt: HostRuntime) -> Result<(), Fail> {
-    let alloc = rt.alloc();
-    let mut lists = Lists::new(alloc);
-    assert!(rt; !lists.has_stop("e"));
+/// Two stop lists, a thesaurus and a dictionary of stems.
+fn put_lists(alloc: Global, lists: &mut Lists) -> Result<(), Fail> {
     lists.set_stop("e", stop_list(alloc, b"the")?)?;
     lists.set_stop("f", stop_list(alloc, b"of")?)?;
     lists.set_thesaurus("t", thesaurus(alloc, b"r | a | b")?)?;
     lists.set_stems(stems(alloc, b"roses rose")?)?;
-    let copy = lists.copy()?;
+    Ok(())
+}
+
+/// A stop list and a thesaurus in the places of others, and a new thesaurus.
+fn put_further_lists(alloc: Global, lists: &mut Lists) -> Result<(), Fail> {
     lists.set_stop("e", stop_list(alloc, b"an")?)?;
     lists.set_thesaurus("e", thesaurus(alloc, b"r | b | c")?)?;
     lists.set_thesaurus("t", thesaurus(alloc, b"")?)?;
-    assert!(rt; lists.has_stop("e") && lists.has_stop("f") && copy.has_stop("e"));
-    assert!(rt; !lists.has_stop("E") && !copy.has_stop("") && !lists.has_stop("t"));
-    assert!(rt; lists.has_thesaurus("t") && lists.has_thesaurus("e"));
-    assert!(rt; copy.has_thesaurus("t") && !copy.has_thesaurus("e"));
+    Ok(())
+}
+
+fn expect_names(rt: &impl Abort, lists: &Lists) {
+    assert!(rt; lists.has_stop("e") && lists.has_stop("f"));
+    assert!(rt; !lists.has_stop("E") && !lists.has_stop("t") && !lists.has_stop(""));
+    assert!(rt; lists.has_thesaurus("t") && !lists.has_thesaurus("f"));
     assert_eq!(rt; lists.stop_count(), 2);
+}
+
+#[test]
+fn lists_by_name(rt: HostRuntime) -> Result<(), Fail> {
+    let mut lists = Lists::new(rt.alloc());
+    assert!(rt; !lists.has_stop("e"));
+    put_lists(rt.alloc(), &mut lists)?;
+    expect_copy(&rt, rt.alloc(), &lists)?;
+    put_further_lists(rt.alloc(), &mut lists)?;
+    expect_names(&rt, &lists);
+    assert!(rt; lists.has_thesaurus("e"));
     assert_eq!(rt; lists.thesaurus_count(), 2);
-    assert_eq!(rt; copy.thesaurus_count(), 1);
+    Ok(())
+}
+
+/// What is put into a copy isn't put into the lists.
+fn expect_copy(rt: &impl Abort, alloc: Global, lists: &Lists) -> Result<(), Fail> {
+    let mut copy = lists.copy()?;
+    put_further_lists(alloc, &mut copy)?;
+    expect_names(rt, &copy);
+    assert!(rt; copy.has_thesaurus("e") && !lists.has_thesaurus("e"));
+    assert_eq!(rt; lists.thesaurus_count(), 1);
     Ok(())
 }
