@@ -5,6 +5,7 @@ pub mod LinksLemmas
 pub mod PlacesLemmas
 pub mod ReadingLemmas
 pub mod RowLemmas
+pub mod RowsLemmas
 pub mod ShiftLemmas
 pub mod SlotsLemmas
 pub mod TreeCounts

@@ -1,8 +1,9 @@
 -- What the slot of a node says of it.
-use Rattle.std.proofs.Common.{◌≡◌, ℕ, ◌+◌, ◌<◌, ◌≤◌, true, false, List, Some, length, get_or, refl, sym, ap, ◌∙◌, arith}
+use Rattle.std.proofs.Common.{◌≡◌, ℕ, ◌+◌, ◌<◌, ◌≤◌, true, false, List, Some, length, get_or, IsTrue, refl, sym, ap, ◌∙◌, arith}
 use Rattle.std.specs.List.{All, Contains}
 use Rattle.std.proofs.lemmas.List.{get_or-map, length-map}
 use Rattle.std.proofs.lemmas.List.Elements.{All-contains, Contains-get_or}
+use Rattle.plain_tree.specs.Document.{is_document}
 use Rattle.ordered_tree.specs.Counts.{word_count}
 use Rattle.ordered_tree.specs.Numbered.{Numbered, element_at, text_at, plain, reference, is_element, name_of}
 use Rattle.ordered_tree.specs.Slots.{held, slot, IsIn}
@@ -62,3 +63,8 @@ held-free (text_at r bytes) h = cc
 pub held-name : (n : Numbered) (name : List ℕ) (attrs : _) → held n ≡ Element name attrs → name_of n ≡ Some name
 held-name (element_at r name' attrs' kids) name attrs h = cc
 held-name (text_at r bytes) name attrs h = cc
+
+-- a document is an element
+pub document-element : (n : Numbered) → IsTrue (is_document (plain n)) → is_element n ≡ true
+document-element (element_at r name attrs kids) h = refl
+document-element (text_at r bytes) h = cc

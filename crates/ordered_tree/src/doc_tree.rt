@@ -2,12 +2,13 @@ use crate::around::Around;
 use crate::building::add_tree;
 use crate::climbing::add_place;
 use crate::copying::copy_slots;
+use crate::counting::count_nodes;
 use crate::leaves::add_leaves;
 use crate::plain::tree_of;
 use crate::slot::Slot;
 use crate::{Leaves, NodeRef, Place};
 use ft_base::Memory;
-use plain_tree::PlainDoc;
+use plain_tree::{PlainDoc, Tree};
 use std::alloc::Global;
 use std::marker::Model;
 
@@ -37,11 +38,12 @@ impl Model for DocTree {
 }
 
 impl DocTree {
-    ghost use Rattle.std.specs.Prelude.{◌≡◌, ◌≢◌, ◌+◌, ◌<◌, ◌^◌, length, AllPairs, Contains, IfOk, IfSome, Some};
+    ghost use Rattle.std.specs.Prelude.{◌≡◌, ◌≢◌, ◌+◌, ◌<◌, ◌^◌, length, true, AllPairs, Contains, IfOk, IfSome, Some};
     ghost use Rattle.doc_grammar.specs.Limits.{node_count};
+    ghost use Rattle.plain_tree.specs.View as view;
     ghost use Rattle.ordered_tree.specs.Counts.{element_depth};
     ghost use Rattle.ordered_tree.specs.Leaves.{leaves};
-    ghost use Rattle.ordered_tree.specs.Numbered.{plain, reference};
+    ghost use Rattle.ordered_tree.specs.Numbered.{is_element, plain, reference};
     ghost use Rattle.ordered_tree.specs.Numbering.{numbered};
     ghost use Rattle.ordered_tree.specs.Places.{at_place};
     ghost use Rattle.ordered_tree.specs.Slots.{slot};
@@ -55,7 +57,7 @@ impl DocTree {
         ensures { IfOk result (λ tree. tree ≡ record { root = numbered 0 doc.now; slots = node_count doc.now }) }
     {
         let root = doc.root();
-        let mut slots = Vec::new(alloc);
+        let mut slots = Vec::with_capacity(alloc, count_nodes(root))?;
         let added = add_tree(alloc, &mut slots, root, Around::root(), true)?;
         let nodes = slots.len();
         Ok(DocTree {
@@ -73,6 +75,15 @@ impl DocTree {
     {
         let tree = tree_of(self.alloc, &self.slots, NodeRef(0))?;
         Ok(PlainDoc::from_tree(tree))
+    }
+
+    /// A node as a plain tree, with all that is below it.
+    pub fn to_tree(&self, node: NodeRef) -> Result<Tree, Memory>
+        requires { Contains (references self.now.root) node }
+        ensures { IfOk result (λ tree. OnNode self.now.root node (λ s. view.node tree ≡ plain s.node)) }
+    {
+        let tree = tree_of(self.alloc, &self.slots, node)?;
+        Ok(tree)
     }
 
     /// A tree of the same document, with the same references.
@@ -112,6 +123,7 @@ impl DocTree {
     pub fn root(&self) -> NodeRef
         ensures root { result ≡ reference self.now.root }
         ensures there { Contains (references self.now.root) result }
+        ensures element { is_element self.now.root ≡ true }
         ensures apart { AllPairs (λ a b. a ≢ b) (references self.now.root) }
     {
         let _slots = &self.slots;
@@ -132,7 +144,8 @@ impl DocTree {
 
     /// How many nodes there are.
     pub fn node_count(&self) -> usize
-        ensures { result ≡ node_count (plain self.now.root) }
+        ensures count { result ≡ node_count (plain self.now.root) }
+        ensures few { result < 2 ^ 31 }
     {
         self.nodes
     }

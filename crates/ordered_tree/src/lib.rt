@@ -6,6 +6,7 @@ mod attrs;
 mod building;
 mod climbing;
 mod copying;
+mod counting;
 mod doc_tree;
 mod laws;
 mod leaf;

@@ -142,3 +142,36 @@ fn a_copy_has_the_same_leaves_and_document(rt: HostRuntime) -> Result<(), Fail> 
     assert!(rt; tokens.is_ok());
     Ok(())
 }
+
+#[test]
+fn a_node_is_a_tree_of_its_own(rt: HostRuntime) -> Result<(), Fail> {
+    let alloc = rt.alloc();
+    let tree = tree_of(alloc, &nested(alloc)?)?;
+    let Some(text) = tree.first_child(tree.root()) else {
+        return Err(Fail::from("no first child"));
+    };
+    let Some(element) = tree.next(text) else {
+        return Err(Fail::from("no second child"));
+    };
+    assert!(rt; is_text(&tree.to_tree(text)?, "x "));
+    assert!(rt; is_element_with_text(&tree.to_tree(element)?, "a", "y"));
+    Ok(())
+}
+
+/// Whether the tree is this text.
+fn is_text(tree: &Tree, wanted: &str) -> bool {
+    match tree {
+        Tree::Text { text } => text.as_str() == wanted,
+        Tree::Elem { .. } => false,
+    }
+}
+
+/// Whether the tree is an element of this name, with a text alone in it.
+fn is_element_with_text(tree: &Tree, wanted: &str, text: &str) -> bool {
+    match tree {
+        Tree::Elem { name, kids, .. } => {
+            name.as_str() == wanted && kids.len() == 1 && is_text(kids.get(0), text)
+        }
+        Tree::Text { .. } => false,
+    }
+}

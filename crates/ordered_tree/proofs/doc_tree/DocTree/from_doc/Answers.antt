@@ -19,7 +19,7 @@ filled : (c : goal.After-len-nodes) → c.add_tree.new.slots.items ≡ map slot 
 filled c =
     let root = node c.root-root.result.now in
     c.in_ok-added.ensures.slots
-    ∙ ap (λ l. l ++ map slot (stands (record c.root.result { next = next_sibling true (length l + node_count root) }) (numbered (length l) root))) c.new-slots.ensures.items
+    ∙ ap (λ l. l ++ map slot (stands (record c.root.result { next = next_sibling true (length l + node_count root) }) (numbered (length l) root))) c.in_ok-slots.ensures.items
     ∙ ap (λ a. map slot (stands (record a { next = None }) (numbered 0 root))) c.root.ensures
     ∙ ap (λ n. map slot (stands_in (numbered 0 n))) c.root-root.ensures.tree
 
