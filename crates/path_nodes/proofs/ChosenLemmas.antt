@@ -81,7 +81,7 @@ numbered-of P (suc k) (x ∷ items) h =
     ]
 
 module _ (sat : ℕ → Element → Bool) (all : List Element) (P : Element → Type 0) where
-  by-of : (p : Predicate) (items : List Element) → All P items → All P (filtered_by sat all p items)
+  pub by-of : (p : Predicate) (items : List Element) → All P items → All P (filtered_by sat all p items)
   unfolding filtered_by
   by-of (form.number k) items h = numbered-of P k items h
   by-of (form.holds c) items h = All-filter (is_true sat all c) P items h

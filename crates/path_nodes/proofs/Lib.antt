@@ -14,3 +14,5 @@ pub mod PrintableLemmas
 pub mod ListedLemmas
 pub mod AboveLemmas
 pub mod WayLemmas
+pub mod NamedLemmas
+pub mod AlikeLemmas

@@ -1,9 +1,10 @@
 -- What a test says of the elements of a document.
-use Rattle.std.specs.Prelude.{ℕ, Bool, Option, Some, None}
+use Rattle.std.specs.Prelude.{◌≡◌, ℕ, Bool, Option, Some, None}
 use Rattle.ordered_tree.specs.Numbered.{Numbered, reference}
 use Rattle.ordered_tree.specs.Places.{at_place}
 use Rattle.ordered_tree.specs.declared.node_ref.NodeRef.{NodeRef}
 use Rattle.path_grammar.specs.Elements.{Element}
+use Rattle.path_nodes.specs.References.{IsElement, element_of}
 
 -- What a test is: the pairs of a selection's number and a node that it may be asked for, and what it says of each.
 pub record Meaning : Type 0 where
@@ -21,3 +22,7 @@ reference_of root e = reference_or (reference root) (at_place e.place root)
 -- whether an element satisfies a selection, as a test says it
 abbrev pub satisfied : Numbered → Meaning → ℕ → Element → Bool
 satisfied root meaning selection e = meaning.says selection (reference_of root e)
+
+-- A test says of each element what `satisfies` says of it.
+abbrev pub Agrees : Numbered → Meaning → (ℕ → Element → Bool) → Type 0
+Agrees root meaning satisfies = (selection : ℕ) (r : NodeRef) → IsElement root r → meaning.says selection r ≡ satisfies selection (element_of root r)

@@ -216,7 +216,7 @@ fn is_true<T: TextTest>(
         }
         Condition::Contains { steps, selection } => {
             let nodes = led_from(alloc, tree, steps, item, test)?;
-            Ok(some_contains(tree, *selection, &nodes, test))
+            some_contains(tree, *selection, &nodes, test)
         }
     }
 }
@@ -288,17 +288,22 @@ fn each_true<T: TextTest>(
 }
 
 /// Whether one of the elements satisfies a selection; those behind it aren't asked for.
-fn some_contains<T: TextTest>(tree: &DocTree, selection: usize, nodes: &Nodes, test: &mut T) -> bool
+fn some_contains<T: TextTest>(
+    tree: &DocTree,
+    selection: usize,
+    nodes: &Nodes,
+    test: &mut T,
+) -> Result<bool, Memory>
     requires nodes { All (IsElement tree.now.root) nodes.now }
     requires asked { MayAsk tree.now.root (T.meaning test.old) selection }
-    ensures truth { result ≡ list_any (satisfied tree.now.root (T.meaning test.old) selection) (map (element_of tree.now.root) nodes.now) }
+    ensures truth { IfOk result (λ truth. truth ≡ list_any (satisfied tree.now.root (T.meaning test.old) selection) (map (element_of tree.now.root) nodes.now)) }
     ensures meaning { T.meaning test.new ≡ T.meaning test.old }
 {
     let _root = tree.root();
     for node in nodes.as_slice() {
-        if test.contains(selection, *node) {
-            return true;
+        if test.contains(selection, *node)? {
+            return Ok(true);
         }
     }
-    false
+    Ok(false)
 }

@@ -1,12 +1,12 @@
-ghost use Rattle.std.specs.Prelude.{◌≡◌, ◌∷◌, [], All, IfOk, map, true};
+ghost use Rattle.std.specs.Prelude.{◌≡◌, ◌∷◌, [], ℕ, All, Bool, IfOk, map, true};
 ghost use Rattle.ordered_tree.specs.Numbered.{is_element, plain};
-ghost use Rattle.path_grammar.specs.Elements.{elements, placed};
+ghost use Rattle.path_grammar.specs.Elements.{Element, elements, placed};
 ghost use Rattle.path_grammar.specs.Form as form;
 ghost use Rattle.path_grammar.specs.Meaning as meaning;
 ghost use Rattle.path_grammar.specs.View as view;
 ghost use Rattle.path_nodes.specs.Asked.{OfEach, OfStep, MayAsk};
 ghost use Rattle.path_nodes.specs.References.{HasSingleAttributes, IsElement, element_of};
-ghost use Rattle.path_nodes.specs.Says.{satisfied};
+ghost use Rattle.path_nodes.specs.Says.{Agrees, satisfied};
 
 use crate::evaluating::{chosen, kept, led, parents_of};
 use crate::kept::append;
@@ -30,6 +30,7 @@ pub fn nodes<T: TextTest>(
     requires attributes { HasSingleAttributes tree.now.root }
     requires asked { OfEach (MayAsk tree.now.root (T.meaning test.old)) (form.steps (map view.step steps.now)) }
     ensures elements { IfOk result (λ found. map (element_of tree.now.root) found.items ≡ meaning.selected (satisfied tree.now.root (T.meaning test.old)) (form.steps (map view.step steps.now)) (plain tree.now.root)) }
+    ensures agrees { (satisfies : ℕ → Element → Bool) → Agrees tree.now.root (T.meaning test.old) satisfies → IfOk result (λ found. map (element_of tree.now.root) found.items ≡ meaning.selected satisfies (form.steps (map view.step steps.now)) (plain tree.now.root)) }
     ensures there { IfOk result (λ found. All (IsElement tree.now.root) found.items) }
     ensures meaning { T.meaning test.new ≡ T.meaning test.old }
 {

@@ -4,7 +4,7 @@ ghost use Rattle.path_nodes.specs.References.{HasSingleAttributes};
 
 use crate::{TextTest, nodes};
 use doc_profile::read_doc;
-use ft_base::{Items, Line};
+use ft_base::{Items, Line, Memory};
 use ordered_tree::{DocTree, NodeRef};
 use path_grammar::{Condition, NameTest, Predicate, Predicates, Step, Steps};
 use std::alloc::Global;
@@ -24,9 +24,9 @@ impl TextTest for Listed {
 
     ghost meaning = { λ test. record { may_ask = λ selection r. true; says = λ selection r. list_any (λ n. n == r.0) test.nodes.items } };
 
-    fn contains(&mut self, _selection: usize, node: NodeRef) -> bool {
+    fn contains(&mut self, _selection: usize, node: NodeRef) -> Result<bool, Memory> {
         self.asked = self.asked.saturating_add(1);
-        self.nodes.as_slice().contains(&node.0)
+        Ok(self.nodes.as_slice().contains(&node.0))
     }
 }
 

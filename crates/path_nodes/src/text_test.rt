@@ -1,6 +1,7 @@
-ghost use Rattle.std.specs.Prelude.{◌≡◌, IsTrue};
+ghost use Rattle.std.specs.Prelude.{◌≡◌, IfOk, IsTrue};
 ghost use Rattle.path_nodes.specs.Says.{Meaning};
 
+use ft_base::Memory;
 use ordered_tree::NodeRef;
 
 /// What answers `contains text`.
@@ -9,9 +10,9 @@ pub trait TextTest {
     ghost meaning: { Self → Meaning };
 
     /// Whether the node satisfies the selection of this number. The selections of a path are numbered from 0 in the
-    /// order of its text.
-    fn contains(&mut self, selection: usize, node: NodeRef) -> bool
+    /// order of its text. Answers `Memory` for want of memory alone.
+    fn contains(&mut self, selection: usize, node: NodeRef) -> Result<bool, Memory>
         requires { IsTrue ((meaning self.old).may_ask selection node) }
-        ensures says { result ≡ (meaning self.old).says selection node }
+        ensures says { IfOk result (λ is. is ≡ (meaning self.old).says selection node) }
         ensures meaning { meaning self.new ≡ meaning self.old };
 }

@@ -199,10 +199,11 @@ is_true-returns-in_ok-nodes-in-Contains-clause-truth g t c =
     let all = elements (plain root) in
     let e = element_of root c.args.item in
     let k = c.in-Contains.selection in
-    c.some_contains.ensures.truth
-    ∙ ap (λ n. list_any (satisfied root n k) (map (element_of root) c.in_ok-nodes-in-Contains.nodes)) c.in_ok-nodes-in-Contains.ensures.meaning
+    subst (λ b. IfOk c.some_contains.result (λ truth. truth ≡ b))
+    (ap (λ n. list_any (satisfied root n k) (map (element_of root) c.in_ok-nodes-in-Contains.nodes)) c.in_ok-nodes-in-Contains.ensures.meaning
     ∙ ap (list_any (satisfied root m k)) c.in_ok-nodes-in-Contains.ensures.elements
-    ∙ true-contains (satisfied root m) all c.args.condition.now e c.in-Contains.steps k c.in-Contains.is
+    ∙ true-contains (satisfied root m) all c.args.condition.now e c.in-Contains.steps k c.in-Contains.is)
+    c.some_contains.ensures.truth
 
 -- ---- some_true
 

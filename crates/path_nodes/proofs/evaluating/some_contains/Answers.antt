@@ -9,8 +9,8 @@ use Rattle.path_nodes.proofs.PlaceLemmas.{reference-back}
 use Rattle.path_nodes.proofs.SpotLemmas.{of_number}
 use Rattle.path_nodes.proofs.evaluating.some_contains.Goals as goal
 
-pub returns-then-contains-clause-truth : goal.returns-then-contains-clause-truth
-returns-then-contains-clause-truth g c =
+pub returns-then-branch-clause-truth : goal.returns-then-branch-clause-truth
+returns-then-branch-clause-truth g c =
     let root = c.args.tree.now.root in
     let items = c.as_slice-node-items.result.now in
     let i = c.loop-node.node-index in
@@ -22,7 +22,7 @@ returns-then-contains-clause-truth g c =
     let says : f (element_of root q) ≡ true =
     ap (λ r. m.says c.args.selection r) (reference-back root q x)
     ∙ ap (λ n. n.says c.args.selection q) (sym c.loop-node.invariant.meaning)
-    ∙ sym c.contains.ensures.says ∙ c.if-contains.true in
+    ∙ sym c.in_ok-contains.ensures.says ∙ c.if-branch.true in
     sym (
     sym c.loop-node.invariant.left
     ∙ any-drop (element_of root) f items i (of_number 0) c.loop-node-test.true
@@ -42,7 +42,7 @@ loop-node-preserved g c =
     let says : f (element_of root q) ≡ false =
     ap (λ r. m.says c.args.selection r) (reference-back root q x)
     ∙ ap (λ n. n.says c.args.selection q) (sym c.loop-node.invariant.meaning)
-    ∙ sym c.contains.ensures.says ∙ c.if-contains.false in
+    ∙ sym c.in_ok-contains.ensures.says ∙ c.if-branch.false in
     record {
       left = sym (any-drop (element_of root) f items i (of_number 0) c.loop-node-test.true ∙ ap (λ b. b || list_any f (map (element_of root) (drop (i + 1) items))) says)
           ∙ c.loop-node.invariant.left;

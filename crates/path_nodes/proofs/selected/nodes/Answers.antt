@@ -10,8 +10,10 @@ use Rattle.path_nodes.specs.Asked.{OfEach, OfStep, MayAsk}
 use Rattle.path_nodes.specs.References.{element_of}
 use Rattle.path_nodes.specs.Says.{satisfied}
 use Rattle.path_nodes.specs.Within.{AtOrBelow}
+use Rattle.path_nodes.proofs.AlikeLemmas.{selected-alike}
 use Rattle.path_nodes.proofs.AskedLemmas.{nth-step}
 use Rattle.path_nodes.proofs.ChosenLemmas.{all-refs}
+use Rattle.path_nodes.proofs.NamedLemmas.{agrees-there}
 use Rattle.path_nodes.proofs.SelectedLemmas.{root-there, root-placed, below-root, selected-none, selected-next, later-steps, not-empty}
 use Rattle.path_nodes.proofs.selected.nodes.Goals as goal
 
@@ -20,6 +22,13 @@ returns-then-is_empty-clause-elements g c =
     let root = c.args.tree.now.root in
     ap (map (element_of root)) c.new.ensures.items
     ∙ selected-none (satisfied root (g.T.TextTest.meaning c.args.test.now)) (plain root) c.args.steps.now (c.is_empty.ensures.0 c.if-is_empty.true)
+
+pub returns-then-is_empty-clause-agrees : goal.returns-then-is_empty-clause-agrees
+returns-then-is_empty-clause-agrees g c = λ satisfies agree.
+    let root = c.args.tree.now.root in
+    returns-then-is_empty-clause-elements g c
+    ∙ selected-alike (satisfied root (g.T.TextTest.meaning c.args.test.now)) satisfies (plain root)
+    (agrees-there root c.root-root.ensures.apart c.requires.attributes (g.T.TextTest.meaning c.args.test.now) satisfies agree) (form.steps (map view.step c.args.steps.now))
 
 pub from_document-requires-clause-root : goal.from_document-requires-clause-root
 from_document-requires-clause-root g c =
@@ -70,3 +79,10 @@ returns-clause-elements g c =
     ∙ ap (meaning.led sat all (form.steps (map view.step (drop 1 c.args.steps.now)))) c.in_ok-first.ensures.elements
     ∙ ap (λ s. meaning.led sat all (form.steps (map view.step (drop 1 c.args.steps.now))) (meaning.stepped sat all (view.step s) (meaning.document (plain root) ∷ []))) c.get.ensures
     ∙ selected-next sat (plain root) c.args.steps.now c.get.result.now some
+
+pub returns-clause-agrees : goal.returns-clause-agrees
+returns-clause-agrees g c = λ satisfies agree.
+    let root = c.args.tree.now.root in
+    returns-clause-elements g c
+    ∙ selected-alike (satisfied root (g.T.TextTest.meaning c.args.test.now)) satisfies (plain root)
+    (agrees-there root c.root-root.ensures.apart c.requires.attributes (g.T.TextTest.meaning c.args.test.now) satisfies agree) (form.steps (map view.step c.args.steps.now))

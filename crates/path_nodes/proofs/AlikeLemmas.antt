@@ -1,0 +1,147 @@
+-- What steps lead to depends on what is said of the elements of the document alone.
+use Rattle.std.proofs.Common.{◌≡◌, ◌+◌, ℕ, Bool, true, false, not, ◌||◌, ◌&&◌, List, [], ◌∷◌, ◌++◌, map, filter, flat_map, get_or, refl, sym, ap, ◌∙◌, subst, arith}
+use Rattle.std.specs.List.{All, Contains, list_any}
+use Rattle.std.proofs.lemmas.List.Elements.{All-nil, All-cons, All-head, All-tail, All-append, All-map, All-filter, All-weaker, All-contains, All-contains_itself, Contains-append_right}
+use Rattle.plain_tree.specs.Document.{Node, element, text, Nodes, no_nodes, node_then}
+use Rattle.path_grammar.specs.Elements as el
+use Rattle.path_grammar.specs.Elements.{Element, placed, elements_from, elements_below, elements_among, element_children, elements, kids_of, is_in}
+use Rattle.path_grammar.specs.Form as form
+use Rattle.path_grammar.specs.Form.{Step, step, Steps, no_steps, step_then, Predicate, holds, Predicates, no_predicates, predicate_then, Condition, or_of, and_of, not_of, attribute, exists, contains, Conditions, no_conditions, condition_then}
+use Rattle.path_grammar.specs.Meaning.{Context, document, item, children, with_descendants, lists, is_named, some_element, stepped, led, filtered, filtered_by, is_true, some_true, each_true, selected}
+use Rattle.path_grammar.proofs.Lists.{filter-alike, list_any-alike}
+use Rattle.path_nodes.specs.Regions.{at_or_below}
+use Rattle.path_nodes.specs.Within.{is_front}
+use Rattle.path_nodes.proofs.ChosenLemmas.{Contains-later, by-of}
+use Rattle.path_nodes.proofs.FrontLemmas.{region}
+
+-- ---- the lists of a step have elements of the document alone
+
+abbrev In : Node → Element → Type 0
+In root = Contains (elements root)
+
+region-in : (root : Node) (e : Element) → In root e → All (In root) (at_or_below e)
+region-in root e there =
+    subst (All (In root)) (region [] root e there) (All-filter (λ x. is_front e.place x.place) (In root) (elements root) (All-contains_itself (elements root)))
+
+among-below : (above : List ℕ) (number : ℕ) (ns : Nodes) → All (Contains (elements_below above number ns)) (elements_among above number ns)
+among-below above number no_nodes = All-nil (Contains [])
+among-below above number (node_then (element name attributes kids) ns) =
+    let place = above ++ number ∷ [] in
+    let first = elements_from place (element name attributes kids) in
+    let rest = elements_below above (number + 1) ns in
+    All-cons (Contains (first ++ rest)) (placed place (element name attributes kids)) (elements_among above (number + 1) ns) (0, omega arith, refl)
+    (λ k d within. Contains-append_right first rest (get_or (elements_among above (number + 1) ns) k d) (among-below above (number + 1) ns k d within))
+among-below above number (node_then (text bytes) ns) = among-below above (number + 1) ns
+
+children-from : (place : List ℕ) (n : Node) → All (Contains (elements_from place n)) (elements_among place 1 (kids_of n))
+children-from place (element name attributes kids) = λ k d within.
+    Contains-later (placed place (element name attributes kids)) (get_or (elements_among place 1 kids) k d) (elements_below place 1 kids) (among-below place 1 kids k d within)
+children-from place (text bytes) = All-nil (Contains [])
+
+children-in : (root : Node) (e : Element) → In root e → All (In root) (element_children e)
+children-in root e there = λ k d within.
+    All-contains (In root) (at_or_below e) (get_or (element_children e) k d) (region-in root e there) (children-from e.place e.node k d within)
+
+abbrev ContextIn : Node → Context → Type 0
+ContextIn root (document n) = n ≡ root
+ContextIn root (item e) = In root e
+
+root-in : (n : Node) → All (In n) (el.element_at [] n)
+root-in (element name attributes kids) = All-cons (In (element name attributes kids)) (placed [] (element name attributes kids)) [] (0, omega arith, refl) (All-nil (In (element name attributes kids)))
+root-in (text bytes) = All-nil (In (text bytes))
+
+offered-in : (root : Node) (c : Context) → ContextIn root c → All (In root) (children c)
+offered-in root (document n) is = subst (λ x. All (In x) (el.element_at [] n)) is (root-in n)
+offered-in root (item e) there = children-in root e there
+
+contexts-in : (root : Node) (c : Context) → ContextIn root c → All (ContextIn root) (with_descendants c)
+contexts-in root (document n) is =
+    All-cons (ContextIn root) (document n) (map item (elements n)) is
+    (All-map (ContextIn root) item (elements n) (subst (λ x. All (In x) (elements n)) is (All-contains_itself (elements n))))
+contexts-in root (item e) there = All-map (ContextIn root) item (at_or_below e) (region-in root e there)
+
+lists-in : (root : Node) (deep : Bool) (c : Context) → ContextIn root c → All (All (In root)) (lists deep c)
+lists-in root true c h =
+    All-map (All (In root)) children (with_descendants c) (All-weaker (ContextIn root) (λ x. All (In root) (children x)) (offered-in root) (with_descendants c) (contexts-in root c h))
+lists-in root false c h = All-cons (All (In root)) (children c) [] (offered-in root c h) (All-nil (All (In root)))
+
+pub all-lists-in : (root : Node) (deep : Bool) (cs : List Context) → All (ContextIn root) cs → All (All (In root)) (flat_map (lists deep) cs)
+all-lists-in root deep [] h = All-nil (All (In root))
+all-lists-in root deep (c ∷ cs) h =
+    All-append (All (In root)) (lists deep c) (flat_map (lists deep) cs) (lists-in root deep c (All-head (ContextIn root) c cs h)) (all-lists-in root deep cs (All-tail (ContextIn root) c cs h))
+
+map-alike : (f g : List Element → List Element) (ls : List (List Element)) → All (λ l. f l ≡ g l) ls → map f ls ≡ map g ls
+map-alike f g [] same = refl
+map-alike f g (l ∷ ls) same = ap (λ x. x ∷ map f ls) (All-head (λ l. f l ≡ g l) l ls same) ∙ ap (λ x. g l ∷ x) (map-alike f g ls (All-tail (λ l. f l ≡ g l) l ls same))
+
+-- ---- what two answers that are alike for these elements lead to
+
+module _ (f g : ℕ → Element → Bool) (root : Node) (same : All (λ e. (k : ℕ) → f k e ≡ g k e) (elements root)) where
+  stepped-in : (s : Step) (cs : List Context) → All (In root) (stepped g (elements root) s cs)
+  unfolding stepped
+  stepped-in (step deep test ps) cs =
+      All-filter (is_in (map (λ items. filtered g (elements root) ps (filter (λ e. is_named test e.node) items)) (flat_map (lists deep) cs))) (In root) (elements root) (All-contains_itself (elements root))
+
+  led-in : (s : Steps) (items : List Element) → All (In root) items → All (In root) (led g (elements root) s items)
+  unfolding led
+  led-in no_steps items h = h
+  led-in (step_then s rest) items h = led-in rest (stepped g (elements root) s (map item items)) (stepped-in s (map item items))
+
+  one : (e : Element) → In root e → All (In root) (e ∷ [])
+  one e there = All-cons (In root) e [] there (All-nil (In root))
+
+  mutual
+    unfolding stepped led filtered filtered_by is_true some_true each_true
+
+    stepped-alike : (s : Step) (cs : List Context) → All (ContextIn root) cs → stepped f (elements root) s cs ≡ stepped g (elements root) s cs
+    stepped-alike (step deep test ps) cs h =
+        let name : Element → Bool = λ e. is_named test e.node in
+        ap (λ ls. filter (is_in ls) (elements root))
+        (map-alike (λ items. filtered f (elements root) ps (filter name items)) (λ items. filtered g (elements root) ps (filter name items)) (flat_map (lists deep) cs)
+        (All-weaker (All (In root)) (λ l. filtered f (elements root) ps (filter name l) ≡ filtered g (elements root) ps (filter name l))
+        (λ l there. filtered-alike ps (filter name l) (All-filter name (In root) l there)) (flat_map (lists deep) cs) (all-lists-in root deep cs h)))
+
+    led-alike : (s : Steps) (items : List Element) → All (In root) items → led f (elements root) s items ≡ led g (elements root) s items
+    led-alike no_steps items h = refl
+    led-alike (step_then s rest) items h =
+        ap (led f (elements root) rest) (stepped-alike s (map item items) (All-map (ContextIn root) item items h))
+        ∙ led-alike rest (stepped g (elements root) s (map item items)) (stepped-in s (map item items))
+
+    filtered-alike : (ps : Predicates) (items : List Element) → All (In root) items → filtered f (elements root) ps items ≡ filtered g (elements root) ps items
+    filtered-alike no_predicates items h = refl
+    filtered-alike (predicate_then p ps) items h =
+        ap (filtered f (elements root) ps) (by-alike p items h) ∙ filtered-alike ps (filtered_by g (elements root) p items) (by-of g (elements root) (In root) p items h)
+
+    by-alike : (p : Predicate) (items : List Element) → All (In root) items → filtered_by f (elements root) p items ≡ filtered_by g (elements root) p items
+    by-alike (form.number k) items h = refl
+    by-alike (holds c) items h = filter-alike (is_true f (elements root) c) (is_true g (elements root) c) items (λ k d within. true-alike c (get_or items k d) (h k d within))
+
+    true-alike : (c : Condition) (e : Element) → In root e → is_true f (elements root) c e ≡ is_true g (elements root) c e
+    true-alike (or_of cs) e there = some-alike cs e there
+    true-alike (and_of cs) e there = each-alike cs e there
+    true-alike (not_of c) e there = ap not (true-alike c e there)
+    true-alike (attribute name value) e there = refl
+    true-alike (exists s) e there = ap some_element (led-alike s (e ∷ []) (one e there))
+    true-alike (contains s selection) e there =
+        let found = led g (elements root) s (e ∷ []) in
+        ap (list_any (f selection)) (led-alike s (e ∷ []) (one e there))
+        ∙ list_any-alike (f selection) (g selection) found
+        (λ i d within. All-contains (λ x. (k : ℕ) → f k x ≡ g k x) (elements root) (get_or found i d) same (led-in s (e ∷ []) (one e there) i d within) selection)
+
+    some-alike : (cs : Conditions) (e : Element) → In root e → some_true f (elements root) cs e ≡ some_true g (elements root) cs e
+    some-alike no_conditions e there = refl
+    some-alike (condition_then c cs) e there = ap (λ b. b || some_true f (elements root) cs e) (true-alike c e there) ∙ ap (λ b. is_true g (elements root) c e || b) (some-alike cs e there)
+
+    each-alike : (cs : Conditions) (e : Element) → In root e → each_true f (elements root) cs e ≡ each_true g (elements root) cs e
+    each-alike no_conditions e there = refl
+    each-alike (condition_then c cs) e there = ap (λ b. b && each_true f (elements root) cs e) (true-alike c e there) ∙ ap (λ b. is_true g (elements root) c e && b) (each-alike cs e there)
+
+  pub led-from-alike : (s : Steps) (e : Element) → In root e → led f (elements root) s (e ∷ []) ≡ led g (elements root) s (e ∷ [])
+  led-from-alike s e there = led-alike s (e ∷ []) (one e there)
+
+  pub selected-alike : (s : Steps) → selected f s root ≡ selected g s root
+  unfolding selected
+  selected-alike no_steps = refl
+  selected-alike (step_then first rest) =
+      ap (led f (elements root) rest) (stepped-alike first (document root ∷ []) (All-cons (ContextIn root) (document root) [] refl (All-nil (ContextIn root))))
+      ∙ led-alike rest (stepped g (elements root) first (document root ∷ [])) (stepped-in first (document root ∷ []))
