@@ -1,9 +1,9 @@
 //! What the steps, predicates and conditions of a path say of elements.
 
-ghost use Rattle.std.specs.Prelude.{◌≡◌, ◌∷◌, [], All, IfOk, filter, map};
+ghost use Rattle.std.specs.Prelude.{◌≡◌, ◌∷◌, [], ℕ, All, Bool, IfOk, filter, map};
 ghost use Rattle.std.specs.List.{list_any};
 ghost use Rattle.ordered_tree.specs.Numbered.{plain};
-ghost use Rattle.path_grammar.specs.Elements.{elements, is_in};
+ghost use Rattle.path_grammar.specs.Elements.{Element, elements, is_in};
 ghost use Rattle.path_grammar.specs.Form as form;
 ghost use Rattle.path_grammar.specs.Meaning as meaning;
 ghost use Rattle.path_grammar.specs.View as view;
@@ -11,7 +11,7 @@ ghost use Rattle.path_nodes.specs.Asked.{OfEach, OfStep, OfPredicate, OfConditio
 ghost use Rattle.path_nodes.specs.Kept as spec;
 ghost use Rattle.path_nodes.specs.Listed.{HaveSame};
 ghost use Rattle.path_nodes.specs.References.{IsElement, element_of};
-ghost use Rattle.path_nodes.specs.Says.{satisfied};
+ghost use Rattle.path_nodes.specs.Says.{Agrees, satisfied};
 ghost use Rattle.path_nodes.specs.Within.{AtOrBelow};
 
 use crate::attributes::has_attribute;
@@ -236,6 +236,7 @@ pub fn led_from<T: TextTest>(
     requires item { IsElement tree.now.root item }
     requires asked { OfEach (MayAsk tree.now.root (T.meaning test.old)) (form.steps (map view.step steps.now)) }
     ensures elements { IfOk result (λ found. map (element_of tree.now.root) found ≡ meaning.led (satisfied tree.now.root (T.meaning test.old)) (elements (plain tree.now.root)) (form.steps (map view.step steps.now)) (element_of tree.now.root item ∷ [])) }
+    ensures agrees { (satisfies : ℕ → Element → Bool) → Agrees tree.now.root (T.meaning test.old) satisfies → IfOk result (λ found. map (element_of tree.now.root) found ≡ meaning.led satisfies (elements (plain tree.now.root)) (form.steps (map view.step steps.now)) (element_of tree.now.root item ∷ [])) }
     ensures there { IfOk result (All (IsElement tree.now.root)) }
     ensures meaning { T.meaning test.new ≡ T.meaning test.old }
 {

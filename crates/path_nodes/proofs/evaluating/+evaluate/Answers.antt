@@ -18,12 +18,14 @@ use Rattle.path_nodes.specs.Regions.{below}
 use Rattle.path_nodes.specs.Says.{satisfied}
 use Rattle.path_nodes.specs.Ways.{LeadTo}
 use Rattle.path_nodes.specs.Within.{AtOrBelow}
+use Rattle.path_nodes.proofs.AlikeLemmas.{led-from-alike}
 use Rattle.path_nodes.proofs.AskedLemmas.{step-is, of-or, of-and, of-not, of-exists, of-contains, of-holds, of-step, nth-step, nth-predicate, nth-condition}
 use Rattle.path_nodes.proofs.MeaningLemmas.{led-next, led-none, filtered-next, filtered-none, some-next, some-none, each-next, each-none, by-number, by-condition, true-or, true-and, true-not, true-attribute, true-exists, true-contains, emptied}
-use Rattle.path_nodes.proofs.ChosenLemmas.{within-base, below-base, parents-inside, all-refs, stepped-is}
+use Rattle.path_nodes.proofs.ChosenLemmas.{within-base, below-base, of-document, parents-inside, all-refs, stepped-is}
 use Rattle.path_nodes.proofs.FrontLemmas.{front-itself}
 use Rattle.path_nodes.proofs.ListedLemmas.{or-cases, same-offered, same-inside}
 use Rattle.path_nodes.proofs.ListLemmas.{any-more-of}
+use Rattle.path_nodes.proofs.NamedLemmas.{agrees-there}
 use Rattle.path_nodes.proofs.SpotLemmas.{of_number}
 use Rattle.path_nodes.proofs.WayLemmas.{lead-kept}
 use Rattle.path_nodes.proofs.evaluating.+evaluate.Goals as goal
@@ -136,6 +138,18 @@ led_from-led-requires g t c κs within =
         ),
       ),
     )
+
+pub led_from-returns-clause-agrees : goal.led_from-returns-clause-agrees
+led_from-returns-clause-agrees g t c = λ satisfies agree.
+    let root = c.args.tree.now.root in
+    let m = g.T.TextTest.meaning c.args.test.now in
+    let item = c.args.item in
+    let s = form.steps (map view.step c.args.steps.now) in
+    subst (λ es. IfOk c.led.result (λ found. map (element_of root) found ≡ es))
+    (ap (λ l. meaning.led (satisfied root m) (elements (plain root)) (form.steps (map view.step l)) (map (element_of root) c.in_ok-from.from)) c.as_slice.ensures
+    ∙ ap (λ l. meaning.led (satisfied root m) (elements (plain root)) s (map (element_of root) l)) c.in_ok-from.ensures
+    ∙ led-from-alike (satisfied root m) satisfies (plain root) (agrees-there root c.requires.item.apart c.requires.item.single m satisfies agree) s (element_of root item) (of-document root item c.requires.item))
+    c.led.ensures.elements
 
 -- ---- stepped
 
