@@ -1,22 +1,17 @@
 -- What is right by the grammar is what symbols are read as.
-use Rattle.std.proofs.Common.{◌≡◌, ℕ, true, false, List, [], ◌∷◌, ◌++◌, length, take, map, Option, Some, None, Result, Ok, Err, refl, sym, ◌∙◌, ap, subst, append_assoc, append-nil, arith}
-use Rattle.std.proofs.Math.Seq.{take-append_seam, drop-append_seam}
-use Rattle.std.proofs.lemmas.List.{length-append, map-append}
+use Rattle.std.proofs.Common.{◌≡◌, ℕ, true, false, List, [], ◌∷◌, ◌++◌, length, map, Option, Some, None, Result, Ok, Err, refl, sym, ◌∙◌, ap, subst, append_assoc, append-nil}
+use Rattle.std.proofs.lemmas.List.{map-append}
 use Rattle.std.proofs.lemmas.List.Elements.{All-nil, All-cons, All-head, All-tail, All-append}
 use Rattle.std.specs.List.{All}
-use Rattle.std.specs.Option.{is_some}
 use Rattle.ft_base.specs.Selection.{Form}
 use Rattle.ft_base.specs.declared.fault.QueryFault.{QueryFault}
 use Rattle.query_grammar.specs.declared.symbol.Placed.{Placed}
 use Rattle.query_grammar.specs.Machine as selection
 use Rattle.query_grammar.specs.Shapes.{Shape}
 use Rattle.query_grammar.specs.Tree.{Tree}
-use Rattle.query_grammar.proofs.Laws as laws
-use Rattle.ft_parser.specs.Answer.{symbols_read, symbols_with}
-use Rattle.ft_parser.specs.Prefix.{is_whole, run_length, with_number, counted, run_read}
+use Rattle.ft_parser.specs.Prefix.{run_read}
 use Rattle.ft_parser.specs.Selected.{Selects}
 use Rattle.ft_parser.specs.Symbols.{symbols_of}
-use Rattle.ft_parser.proofs.Runs.{run_is, run_suffices}
 use Rattle.ft_parser.proofs.SelectedExact.{selects_read}
 use Rattle.ft_parser.proofs.SelectedLaws.{rest_read}
 use Rattle.path_grammar.specs.declared.path.PathRoot.{PathRoot}
@@ -37,6 +32,8 @@ use Rattle.path_subset.specs.Spelled as E
 use Rattle.path_subset.specs.Spelled.{Each, SpellsPath}
 use Rattle.path_subset.proofs.Everywhere.{with_all, with_these, joint_same, advance_same}
 use Rattle.path_subset.proofs.Refused.{refused}
+use Rattle.path_subset.proofs.RunLaws.{run_of, run_selects, misread_read}
+use Rattle.path_subset.proofs.RefusedExact.{outside_behind, refuses_read}
 use Rattle.path_subset.proofs.Spelled.{spelled}
 
 -- the selections so far stay, and further ones come behind them
@@ -166,19 +163,6 @@ middle : (a b : List Inside) (i : Inside) → All Readable (a ++ i ∷ b) → Re
 middle [] b i h = All-head Readable i b h
 middle (j ∷ a) b i h = middle a b i (All-tail Readable j (a ++ i ∷ b) h)
 
--- the run of symbols that are such a selection, where none behind them leads on
-run_selects : (front back : List Placed) (shape : Shape selection.State) (tree : Tree) (x : Form) (bad : Option ℕ) (size : ℕ) → selection.read front ≡ Some shape
-    → ((q : Placed) (z : List Placed) → back ≡ q ∷ z → selection.advance shape q ≡ None) → selection.finished_at shape ≡ Some tree → Selects front None x → run_read (front ++ back) bad size ≡ Ok (x, length front)
-unfolding counted
-run_selects front back shape tree x bad size r stops f s =
-    let taken : take (length front) (front ++ back) ≡ front = take-append_seam front back in
-    let long : run_length (front ++ back) ≡ length front =
-    run_is (front ++ back) (length front) shape (omega (arith, length-append front back)) (ap selection.read taken ∙ r)
-    (λ p z h. ap (λ w. selection.read (w ++ p ∷ [])) taken ∙ laws.read-append front (p ∷ []) ∙ ap (λ o. selection.run_on o (p ∷ [])) r ∙ ap (λ o. selection.run_on o []) (stops p z (sym (drop-append_seam front back) ∙ h))) in
-    let whole : is_whole (take (length front) (front ++ back)) ≡ true = ap is_whole taken ∙ ap (λ o. is_some (selection.finished o)) r ∙ ap is_some f in
-    (run_suffices (front ++ back) (length front) true long whole).comes bad size
-    ∙ ap (λ w. with_number (length front) (symbols_read (symbols_with w None) size)) taken ∙ ap (with_number (length front)) (selects_read front None size x s)
-
 -- a path that is whole is refused for nothing
 path_begins : (u v : List Placed) (value : form.Path) (insides : List Inside) → Path (u ++ v) value insides → Begins u
 path_begins u v value insides h = (v, value, insides, h)
@@ -200,15 +184,15 @@ module _ (text : List ℕ) (value : PathForm) (h : SpellsPath text value) where
       by (x, runs, f) =
           let p = passed root frames joint all xs x value.path h.insides f rest [] (Shape.whole selection.start) runs in
           let one : Readable (inside p.front p.tree) = middle p.first p.last (inside p.front p.tree) (subst (All Readable) p.found (readable h.selections)) in
-          let is : run_read rest bad size ≡ Ok (one.0, length p.front) = ap (λ z. run_read z bad size) p.parts ∙ run_selects p.front p.back p.shape p.tree one.0 bad size p.runs p.stops p.ends one.1 in
+          let is : run_read rest bad size ≡ Ok (one.0, length p.front) = ap (λ z. run_read z bad size) p.parts ∙ run_selects p.front p.back one.0 bad size (run_of p.front p.back p.shape p.runs p.stops) one.1 in
           let two : ◌≡◌ {A = Result (Form × ℕ) QueryFault} (Err fault) (Ok (one.0, length p.front)) = sym k ∙ is in cc
 
-  pub not_refused : (size : ℕ) (fault : QueryFault) → Refuses symbols (symbols_of text).bad size fault → ⊥
-  not_refused size fault (Refuses.limit before p rest s e b r g l) = let two : true ≡ false = sym l ∙ h.limits before p rest s e r g in cc
-  not_refused size fault (Refuses.symbol before p rest s e b r l none) = none (path_begins (before ++ p ∷ []) rest value.path h.insides (subst (λ z. Path z value.path h.insides) (e ∙ sym (append_assoc before (p ∷ []) rest)) h.spells))
-  not_refused size fault (Refuses.misread before rest f e b want k) = not_misread before rest (symbols_of text).bad size f e want k
-  not_refused size fault (Refuses.character at e b) = let two : Some at ≡ None = sym e ∙ h.all in cc
-  not_refused size fault (Refuses.end e b none) = none value.path h.insides h.spells
+  not_refused : (size : ℕ) (fault : QueryFault) → Refuses symbols (symbols_of text).bad size fault → ⊥
+  not_refused size fault (Refuses.limit before p rest s e may r l) = let two : true ≡ false = sym l ∙ h.limits before p rest s e r (outside_behind before p rest s may r) in cc
+  not_refused size fault (Refuses.symbol before p rest s e may r l none) = none (path_begins (before ++ p ∷ []) rest value.path h.insides (subst (λ z. Path z value.path h.insides) (e ∙ sym (append_assoc before (p ∷ []) rest)) h.spells))
+  not_refused size fault (Refuses.misread before p rest f e may want k) = not_misread (before ++ p ∷ []) rest (symbols_of text).bad size f (e ∙ sym (append_assoc before (p ∷ []) rest)) want (misread_read rest (symbols_of text).bad size f k)
+  not_refused size fault (Refuses.character at e may) = let two : Some at ≡ None = sym e ∙ h.all in cc
+  not_refused size fault (Refuses.end e may none) = none value.path h.insides h.spells
 
 -- the selections inside have one form and one place each
 abbrev told : PlacedForm → Result Form QueryFault × Extent
@@ -255,9 +239,6 @@ exact text value h = by (path_read text) refl
     by (Ok other) e = ap Ok (one_value text other value (spelled text other e) h)
     by (Err fault) e = absurd (not_refused text value h (length text) fault (refused text fault e))
 
-pub is_refused : (text : List ℕ) (fault : QueryFault) → IsFaultOf text fault → (first : QueryFault) × (path_read text ≡ Err first)
-is_refused text fault h = by (path_read text) refl
-  where
-    by : (r : Result PathForm QueryFault) → path_read text ≡ r → (first : QueryFault) × (path_read text ≡ Err first)
-    by (Ok value) e = absurd (not_refused text value (spelled text value e) (length text) fault h)
-    by (Err first) e = (first, e)
+pub cause_read : (text : List ℕ) (fault : QueryFault) → IsFaultOf text fault → path_read text ≡ Err fault
+unfolding path_read
+cause_read text fault h = refuses_read (symbols_of text).placed (symbols_of text).bad (length text) fault h

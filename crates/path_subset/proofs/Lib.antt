@@ -4,6 +4,11 @@ pub mod Skipped
 pub mod Extents
 pub mod Everywhere
 pub mod Runs
+pub mod RunLaws
 pub mod Spelled
+pub mod Depths
+pub mod MayStand
+pub mod Arrived
+pub mod RefusedExact
 pub mod Refused
 pub mod Exact

@@ -1,5 +1,5 @@
 -- What is read behind a symbol, and behind the symbols that were read with it.
-use Rattle.std.proofs.Common.{◌≡◌, ◌<◌, ◌+◌, ℕ, zero, suc, false, cond, List, [], ◌∷◌, length, drop, get_or, Option, Result, Ok, Err, refl, sym, ◌∙◌, ap}
+use Rattle.std.proofs.Common.{◌≡◌, ◌<◌, ◌+◌, ℕ, zero, suc, true, false, cond, List, [], ◌∷◌, length, drop, get_or, Option, Result, Ok, Err, refl, sym, ◌∙◌, ap}
 use Rattle.std.proofs.lemmas.List.{drop-drop, drop_more}
 use Rattle.ft_base.specs.declared.fault.QueryFault.{QueryFault}
 use Rattle.ft_base.specs.declared.fault.QueryFault.TheVariants as Q
@@ -18,7 +18,7 @@ skipped s found (suc count) [] bad size = refl
 skipped s found (suc count) (p ∷ rest) bad size = skipped s found count rest bad size
 
 -- one symbol on
-first : (s : State) (found : List PlacedForm) (p : Placed) (rest : List Placed) (bad : Option ℕ) (size : ℕ)
+pub first : (s : State) (found : List PlacedForm) (p : Placed) (rest : List Placed) (bad : Option ℕ) (size : ℕ)
     → read_from s found 0 (p ∷ rest) bad size ≡ further (turned s found p rest bad size) (λ l. read_from l.state l.selections l.count rest bad size)
 unfolding read_from
 first s found p rest bad size = refl
@@ -56,7 +56,7 @@ stops view other x y (Q.BadWildcard at) on h = on (Q.BadWildcard at) h
 stops view other x y (Q.MildNotExclude at) on h = on (Q.MildNotExclude at) h
 stops view other x y (Q.InsideFilter at) on h = on (Q.InsideFilter at) h
 
-nothing_left : (s : State) (found : List PlacedForm) (bad : Option ℕ) (size : ℕ) → read_from s found 0 [] bad size ≡ ended_by bad size found (finished_path s)
+pub nothing_left : (s : State) (found : List PlacedForm) (bad : Option ℕ) (size : ℕ) → read_from s found 0 [] bad size ≡ ended_by bad size found (finished_path s)
 unfolding read_from
 nothing_left s found bad size = refl
 
@@ -69,3 +69,9 @@ pub turned_within : (s : State) (found : List PlacedForm) (p : Placed) (rest : L
     → led_by p (advance s p) found rest bad size ≡ turned s found p rest bad size
 unfolding turned
 turned_within s found p rest bad size h = sym (ap (λ b. cond b (Err (limit_fault p)) (led_by p (advance s p) found rest bad size)) h)
+
+-- and where one is
+pub turned_past : (s : State) (found : List PlacedForm) (p : Placed) (rest : List Placed) (bad : Option ℕ) (size : ℕ) → passes (open_count s) p.symbol ≡ true
+    → turned s found p rest bad size ≡ Err (limit_fault p)
+unfolding turned
+turned_past s found p rest bad size h = ap (λ b. cond b (Err (limit_fault p)) (led_by p (advance s p) found rest bad size)) h

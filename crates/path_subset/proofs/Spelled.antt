@@ -141,7 +141,7 @@ outside s real p rest all (Stands.at_root r u) = refl
 outside s real p rest all (Stands.along root frames joint some these stage u h) = outside_at stage p h
 outside s real p rest all (Stands.ended root frames joint some these before w x shape u h stops) = ap is_some (stops p rest refl)
 
-none_within : (s : m.State) → WithinFrom s []
+pub none_within : (s : m.State) → WithinFrom s []
 none_within s [] p rest t e r g = cc
 none_within s (q ∷ before) p rest t e r g = cc
 
@@ -165,7 +165,7 @@ symbol_within root frames joint all before p v b w x r (Some y) k e again =
     (λ g. let two : true ≡ false = sym (ap is_some k) ∙ g in cc)
     (again y e)
 
-selection_within : (root : PathRoot) (frames : List Frame) (joint : Joint) (all : List Inside) (before : List form.Step) (v b w : List Placed) (x r : Shape selection.State) → selection.run_on (Some x) v ≡ Some r
+pub selection_within : (root : PathRoot) (frames : List Frame) (joint : Joint) (all : List Inside) (before : List form.Step) (v b w : List Placed) (x r : Shape selection.State) → selection.run_on (Some x) v ≡ Some r
     → WithinFrom (m.along root (stand frames joint all (m.selecting before (w ++ v) r))) b → WithinFrom (m.along root (stand frames joint all (m.selecting before w x))) (v ++ b)
 selection_within root frames joint all before [] b w x r e within =
     let same : x ≡ r = cc in

@@ -5,4 +5,5 @@ pub mod Paths
 pub mod Answer
 pub mod Reading
 pub mod Spelled
+pub mod Runs
 pub mod Refused

@@ -1,5 +1,5 @@
 -- The limits of a path outside its selections: how great numbers are, and how many brackets and parentheses are open at once.
-use Rattle.std.specs.Prelude.{◌≡◌, ℕ, Bool, true, false, nat_lt, nat_le, if◌then◌else◌, List, ◌∷◌, ◌++◌, Some}
+use Rattle.std.specs.Prelude.{◌≡◌, ◌≤◌, ℕ, Bool, true, false, nat_lt, nat_le, if◌then◌else◌, List, ◌∷◌, ◌++◌, Some}
 use Rattle.std.specs.Option.{is_some}
 use Rattle.ft_base.specs.declared.fault.QueryFault.{QueryFault}
 use Rattle.ft_base.specs.declared.fault.QueryFault.TheVariants as Q
@@ -40,3 +40,7 @@ WithinFrom s symbols = (before : List Placed) (p : Placed) (rest : List Placed) 
 
 abbrev pub Within : List Placed → Type 0
 Within symbols = (before : List Placed) (p : Placed) (rest : List Placed) (t : State) → symbols ≡ before ++ p ∷ rest → read before ≡ Some t → goes_on t p ≡ false → passes (open_count t) p.symbol ≡ false
+
+-- Outside of all selections no number is over a million.
+abbrev pub AreNumbersWithin : List Placed → Type 0
+AreNumbersWithin symbols = (before : List Placed) (p : Placed) (rest : List Placed) (t : State) (n : ℕ) → symbols ≡ before ++ p ∷ rest → read before ≡ Some t → goes_on t p ≡ false → p.symbol ≡ S.Number n → n ≤ 1000000

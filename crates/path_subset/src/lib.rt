@@ -16,5 +16,5 @@ mod tests;
 mod turn;
 
 pub use path::{Extent, ReadPath};
-pub use path_laws::{refused_law, spelled_law};
+pub use path_laws::{depth_law, refused_law, spelled_law};
 pub use read::read_path;
