@@ -4,6 +4,8 @@
 mod building;
 mod closing;
 mod conditions;
+#[cfg(test)]
+mod fault_tests;
 mod heads;
 mod limits;
 mod path;

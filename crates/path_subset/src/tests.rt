@@ -1,35 +1,9 @@
-//! Paths that are read, with their selections, and the faults of texts that are none.
+//! Paths that are read, with their selections.
 
 use super::*;
-use ft_base::QueryFault;
 use ft_syntax::print_selection;
-use path_grammar::{Condition, NameTest, PathRoot, Predicate, Predicates, Step};
+use path_grammar::{Condition, NameTest, PathRoot, Predicate, Predicates, Step, Steps};
 use std::test::Fail;
-
-/// The fault of a text, if it has one.
-fn fault_in(rt: HostRuntime, text: &str) -> Option<QueryFault> {
-    match read_path(rt.alloc(), text) {
-        Ok(_) => None,
-        Err(fault) => Some(fault),
-    }
-}
-
-/// A text with a piece that stands so many times.
-fn repeated(
-    rt: HostRuntime,
-    before: &str,
-    count: u8,
-    piece: &str,
-    behind: &str,
-) -> Result<String, Fail> {
-    let mut text = String::new(rt.alloc());
-    text.push_str(before)?;
-    for _ in 0..count {
-        text.push_str(piece)?;
-    }
-    text.push_str(behind)?;
-    Ok(text)
-}
 
 /// What kind of root a path has, and how the document is called.
 fn root_name(root: &PathRoot) -> &str {
@@ -70,6 +44,44 @@ fn kind(condition: &Condition) -> &str {
     }
 }
 
+/// The name of the first step of a condition, where it begins with one.
+fn first_name(condition: &Condition) -> &str {
+    match condition {
+        Condition::Exists(steps) => name_of_first(steps),
+        Condition::Contains { steps, .. } => name_of_first(steps),
+        _ => "no step",
+    }
+}
+
+fn name_of_first(steps: &Steps) -> &str {
+    if steps.is_empty() {
+        return ".";
+    }
+    step_name(steps.get(0))
+}
+
+/// The name with which the first of some predicates begins, where it is a condition.
+fn condition_name(predicates: &Predicates) -> &str {
+    if predicates.is_empty() {
+        return "no predicate";
+    }
+    match predicates.get(0) {
+        Predicate::Number(_) => "a place",
+        Predicate::Holds(condition) => first_name(condition),
+    }
+}
+
+/// The place for which the first of some predicates asks.
+fn place(predicates: &Predicates) -> Option<u32> {
+    if predicates.is_empty() {
+        return None;
+    }
+    match predicates.get(0) {
+        Predicate::Number(number) => Some(*number),
+        Predicate::Holds(_) => None,
+    }
+}
+
 #[test]
 fn reads_roots_and_first_steps(rt: HostRuntime) -> Result<(), Fail> {
     let texts = [
@@ -81,6 +93,7 @@ fn reads_roots_and_first_steps(rt: HostRuntime) -> Result<(), Fail> {
             "the second",
         ),
         ("doc(\"x\")/a", "x", false, "a", "none"),
+        ("doc(\"\")/x-1", "", false, "x-1", "none"),
         ("doc('')/*", "", false, "*", "none"),
         (
             "collection ( ) / a [0]",
@@ -98,7 +111,7 @@ fn reads_roots_and_first_steps(rt: HostRuntime) -> Result<(), Fail> {
             "exists",
         ),
         (
-            "collection()/a[not (a)]",
+            "collection()/a[not (@k)]",
             "every document",
             false,
             "a",
@@ -254,108 +267,43 @@ fn numbers_the_selections_in_the_order_of_the_text(rt: HostRuntime) -> Result<()
 }
 
 #[test]
-fn names_the_first_symbol_that_cannot_stand(rt: HostRuntime) -> Result<(), Fail> {
+fn names_elements_and_places_in_predicates(rt: HostRuntime) -> Result<(), Fail> {
     let texts = [
-        ("", 0),
-        ("foo()/a", 0),
-        ("doc()/a", 4),
-        ("collection()", 12),
-        ("collection()/a[", 15),
-        ("collection()/a[foo (", 19),
-        ("collection()/a[. contains text \"a\" not(@k)]", 38),
-        ("collection()/a[. contains text \"a\" at]", 37),
-        ("collection()/a[. contains text \"a\" (\"b\")]", 35),
-        ("collection()/a[. contains text", 30),
-        ("collection()/a[. contains text]", 30),
-        ("collection()/a[. contains \"a\"]", 26),
-        ("collection()/a contains text \"a\"", 15),
-        ("collection()/a[.[1]]", 16),
-        ("collection()/a[1.]", 15),
-        ("collection()/a[1x]", 15),
-        ("collection()/a[(1)]", 16),
-        ("collection()/a[1 or b]", 17),
-        ("collection()/a[b)]", 16),
-        ("collection()/a[(b]]", 17),
-        ("collection()/a]", 14),
-        ("collection()/a[@k = \"v]", 20),
-        ("doc(\"x)/a", 4),
-        ("collection()/a ?", 15),
-        ("collection()/a[. contains text \"a\" ?]", 35),
-        ("collection()//1000000", 14),
+        ("collection()/a[a. contains text \"x\"]", "a.", None),
+        ("collection()/a[. contains text \"x\"]", ".", None),
+        ("collection()/a[x-1]", "x-1", None),
+        ("collection()/a[not]", "not", None),
+        ("collection()/a[not/a]", "not", None),
+        ("collection()/a[0]", "a place", Some(0)),
+        ("collection()/a[0001000000]", "a place", Some(1_000_000)),
     ];
-    for (text, at) in &texts {
-        assert_eq!(rt; fault_in(rt, *text), Some(QueryFault::Syntax { at: *at }));
+    for (text, name, number) in &texts {
+        let path = read_path(rt.alloc(), *text)?;
+        let steps = path.steps();
+        assert_eq!(rt; steps.len(), 1);
+        assert_eq!(rt; condition_name(&steps.get(0).predicates), *name);
+        assert_eq!(rt; place(&steps.get(0).predicates), *number);
     }
     Ok(())
 }
 
 #[test]
-fn names_numbers_over_a_million(rt: HostRuntime) -> Result<(), Fail> {
+fn reads_selections_as_long_as_can_be(rt: HostRuntime) -> Result<(), Fail> {
     let texts = [
-        ("collection()//1000001", 14),
-        ("collection()/a[1000001]", 15),
-        ("1000001", 0),
-        ("collection()/a[. contains text \"a\" 1000001]", 35),
-        (
-            "collection()/a[. contains text \"a\" window 1000001 words]",
-            42,
-        ),
+        "\"a\" using thesaurus at \"t\" at least 1 levels",
+        "\"a\" using thesaurus at \"t\" at start",
+        "\"a\" using thesaurus at \"t\" at end",
+        "\"a\" using thesaurus at \"t\" at most 2 levels at start",
+        "\"a\u{1}\u{7f}b\"",
     ];
-    for (text, at) in &texts {
-        assert_eq!(rt; fault_in(rt, *text), Some(QueryFault::Number { at: *at }));
-    }
-    assert_eq!(rt; fault_in(rt, "collection()/a[0001000000]"), None);
-    Ok(())
-}
-
-#[test]
-fn opens_64_levels(rt: HostRuntime) -> Result<(), Fail> {
-    let deep = Some(QueryFault::Deep { at: 142 });
-    let open = repeated(rt, "collection()/", 64, "a[", "")?;
-    let closed = repeated(rt, "1", 64, "]", "")?;
-    let whole = repeated(rt, open.as_str(), 1, closed.as_str(), "")?;
-    assert_eq!(rt; fault_in(rt, whole.as_str()), None);
-    let too_many = repeated(rt, open.as_str(), 1, "a[", "")?;
-    assert_eq!(rt; fault_in(rt, too_many.as_str()), deep);
-    let misplaced = repeated(rt, open.as_str(), 1, "@(", "")?;
-    assert_eq!(rt; fault_in(rt, misplaced.as_str()), deep);
-    let inside = repeated(rt, open.as_str(), 1, ". contains text (((\"a\")))", "")?;
-    let whole = repeated(rt, inside.as_str(), 64, "]", "")?;
-    assert_eq!(rt; fault_in(rt, whole.as_str()), None);
-    Ok(())
-}
-
-#[test]
-fn a_fault_of_a_selection_comes_before_what_stands_behind_it(rt: HostRuntime) -> Result<(), Fail> {
-    let twice = Some(QueryFault::OptionTwice { at: 56 });
-    let texts = [
-        (
-            "collection()/a[. contains text \"a\" using case sensitive using case sensitive]",
-            twice,
-        ),
-        (
-            "collection()/a[. contains text \"a\" using case sensitive using case sensitive]/]",
-            twice,
-        ),
-        (
-            "collection()/a[. contains text \"a\" using case sensitive using case sensitive ?",
-            twice,
-        ),
-        (
-            "collection()/a[. contains text \"a\" using case sensitive using case sensitive or . contains text]",
-            twice,
-        ),
-        (
-            "collection()/a[. contains text \"a\" using case sensitive using case sensitive at]",
-            Some(QueryFault::Syntax { at: 79 }),
-        ),
-        (
-            "collection()/a[. contains text \"a\" not in \"b\" occurs at least 1 times or . contains text \"c\" using language \"x\" using language \"y\"]",
-            Some(QueryFault::MildNotExclude { at: 46 }),
-        ),
-    ];
-    for (text, fault) in &texts {
-        assert_eq!(rt; fault_in(rt, *text), *fault);
+    for printed in &texts {
+        let text = format!(in rt.alloc(); "collection()/a[. contains text {} and b]", *printed)?;
+        let path = read_path(rt.alloc(), text.as_str())?;
+        assert_eq!(rt; path.selection_count(), 1);
+        assert_eq!(rt;
+            print_selection(rt.alloc(), path.selection(0))?.as_str(),
+            *printed
+        );
     }
     Ok(())
 }
