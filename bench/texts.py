@@ -79,3 +79,19 @@ def archive(bytes_wanted, seed=20261128):
         parts.append(text)
         size += len(text)
     return ("<archive>\n" + "".join(parts) + "</archive>").encode("utf-8")
+
+
+def hollow(bytes_wanted):
+    """One element with as many empty ones in it as so many bytes hold."""
+    return b"<r>" + b"<a/>" * (bytes_wanted // 4 - 2) + b"</r>"
+
+
+def paragraphs(bytes_wanted, seed=20261129):
+    """One element with paragraphs of about 300 bytes each."""
+    words = Words(seed)
+    parts, size = [], 0
+    while size < bytes_wanted:
+        text = " ".join(words.take(60))[:292]
+        parts.append(f"<p>{text}</p>\n")
+        size += len(parts[-1])
+    return ("<r>" + "".join(parts) + "</r>").encode("utf-8")

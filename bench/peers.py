@@ -1,0 +1,89 @@
+"""The programs beside which ftq is measured, each where it is installed: xmllint, SQLite's FTS5 and BaseX."""
+
+import os
+import re
+import shutil
+import sqlite3
+import subprocess
+import time
+import xml.etree.ElementTree as ElementTree
+
+
+def missing():
+    """The names of the peers that aren't installed, with what brings them."""
+    names = []
+    if not shutil.which("xmllint"):
+        names.append("xmllint (Debian: libxml2-utils)")
+    if not has_fts5():
+        names.append("SQLite FTS5")
+    if not shutil.which("basex"):
+        names.append("BaseX (Debian: basex)")
+    return names
+
+
+def has_fts5():
+    try:
+        sqlite3.connect(":memory:").execute("create virtual table p using fts5(text)")
+    except sqlite3.OperationalError:
+        return False
+    return True
+
+
+def paragraphs_of(documents):
+    """The text of each paragraph of the documents."""
+    for document in documents:
+        for paragraph in ElementTree.fromstring(document).iter("p"):
+            yield "".join(paragraph.itertext())
+
+
+class Fts5:
+    """The paragraphs of documents in a table of SQLite's, in memory."""
+
+    name = "SQLite FTS5"
+
+    def __init__(self, documents):
+        self.connection = sqlite3.connect(":memory:")
+        self.connection.execute("create virtual table p using fts5(text)")
+        rows = [(text,) for text in paragraphs_of(documents)]
+        start = time.perf_counter()
+        self.connection.executemany("insert into p values (?)", rows)
+        self.connection.commit()
+        self.index_seconds = time.perf_counter() - start
+
+    def count(self, match, repeated):
+        """How many paragraphs match, and the seconds that it takes to count them."""
+        start = time.perf_counter()
+        for _ in range(repeated):
+            found = self.connection.execute("select count(*) from p where p match ?", (match,)).fetchone()[0]
+        return found, (time.perf_counter() - start) / repeated
+
+
+class BaseX:
+    """The documents in a database of BaseX's with a full-text index, made and asked in one run of the program."""
+
+    name = "BaseX"
+
+    def __init__(self, folder, paths, queries, repeated):
+        home = os.path.join(folder, "basex")
+        os.makedirs(os.path.join(home, "documents"))
+        for path in paths:
+            shutil.copy(path, os.path.join(home, "documents"))
+        # Each query is asked twice: the first time the program gets warm.
+        asked = [line for query in queries for line in [f"XQUERY count({query})"] * 2]
+        commands = ["SET FTINDEX true", f"CREATE DB bench {home}/documents", f"SET RUNS {repeated}", "SET QUERYINFO true", *asked]
+        script = os.path.join(home, "bench.bxs")
+        with open(script, "w", encoding="utf-8") as file:
+            file.write("\n".join(commands) + "\n")
+        environment = {**os.environ, "JAVA_ARGS": f"-Dorg.basex.path={home}"}
+        ran = subprocess.run(["basex", "-V", script], capture_output=True, text=True, env=environment, check=True)
+        created = re.search(r"created in ([\d.]+) ms", ran.stdout)
+        self.index_seconds = float(created[1]) / 1000
+        counts = [int(found) for found in re.findall(r"^(\d+)$", ran.stdout, re.MULTILINE)]
+        seconds = [float(found) / 1000 for found in re.findall(r"^Total Time: ([\d.]+) ms", ran.stdout, re.MULTILINE)]
+        if len(counts) != len(asked) or len(seconds) != len(asked):
+            raise ValueError(f"BaseX answered {len(counts)} of {len(asked)} queries: {ran.stdout[-400:]}")
+        self.answers = dict(zip(queries, zip(counts[1::2], seconds[1::2])))
+
+    def count(self, query, _repeated):
+        """How many elements the query finds, and the seconds that it takes to count them."""
+        return self.answers[query]
