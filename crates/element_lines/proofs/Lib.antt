@@ -1,0 +1,5 @@
+pub mod ChildLemmas
+pub mod FewLemmas
+pub mod NumberLemmas
+pub mod StepLemmas
+pub mod TextLemmas

@@ -1,0 +1,5 @@
+pub mod Counts
+pub mod Examples
+pub mod Lines
+pub mod Numbers
+pub mod Steps

@@ -1,0 +1,14 @@
+//! The lines of a reply to a query: those that name elements, and those that are their printed forms.
+#![tactic(auto)]
+
+mod counts;
+mod examples;
+mod names;
+mod numbers;
+mod printed;
+#[cfg(test)]
+mod tests;
+
+pub use examples::{lines_of_steps, steps_of_places};
+pub use names::push_names;
+pub use printed::push_printed;
