@@ -16,3 +16,5 @@ pub mod AboveLemmas
 pub mod WayLemmas
 pub mod NamedLemmas
 pub mod AlikeLemmas
+pub mod PriceLemmas
+pub mod SpentLemmas

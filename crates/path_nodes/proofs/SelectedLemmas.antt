@@ -160,10 +160,10 @@ alone-is (text bytes) e rest is h = cc
 -- ---- a step from the document by the root's reference
 
 module _ (root : Numbered) (m : Meaning) (s : Step) (deep : Bool) (test : _) (ps : Predicates) (is : s ≡ step deep test ps) (r : NodeRef) (x : IsElement root r) (first : element_of root r ≡ placed [] (plain root)) where
-  all-of : elements (plain root) ≡ element_of root r ∷ below (element_of root r)
+  pub all-of : elements (plain root) ≡ element_of root r ∷ below (element_of root r)
   all-of = ap at_or_below (sym first) ∙ opened root r x
 
-  alone-of : el.element_at [] (plain root) ≡ element_of root r ∷ []
+  pub alone-of : el.element_at [] (plain root) ≡ element_of root r ∷ []
   alone-of = alone-is (plain root) (element_of root r) (below (element_of root r)) first all-of
 
   pub one-step : deep ≡ false → kept root m s (element_of root r ∷ []) ≡ stepped (satisfied root m) (elements (plain root)) s (document (plain root) ∷ [])

@@ -7,3 +7,5 @@ pub mod Says
 pub mod Asked
 pub mod Kept
 pub mod Listed
+pub mod Tests
+pub mod Prices

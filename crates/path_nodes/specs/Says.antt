@@ -6,10 +6,12 @@ use Rattle.ordered_tree.specs.declared.node_ref.NodeRef.{NodeRef}
 use Rattle.path_grammar.specs.Elements.{Element}
 use Rattle.path_nodes.specs.References.{IsElement, element_of}
 
--- What a test is: the pairs of a selection's number and a node that it may be asked for, and what it says of each.
+-- What a test is: the pairs of a selection's number and a node that it may be asked for, what it says of each, and what it
+-- spends at most to say it.
 pub record Meaning : Type 0 where
   pub may_ask : ℕ → NodeRef → Bool
   pub says : ℕ → NodeRef → Bool
+  pub price : ℕ → NodeRef → ℕ
 
 abbrev pub reference_or : NodeRef → Option Numbered → NodeRef
 reference_or other None = other

@@ -1,6 +1,6 @@
 //! What the steps, predicates and conditions of a path say of elements.
 
-ghost use Rattle.std.specs.Prelude.{◌≡◌, ◌∷◌, [], ℕ, All, Bool, IfOk, filter, map};
+ghost use Rattle.std.specs.Prelude.{◌≡◌, ◌≤◌, ◌+◌, ◌∷◌, [], ℕ, All, Bool, IfOk, filter, map, sum_by};
 ghost use Rattle.std.specs.List.{list_any};
 ghost use Rattle.ordered_tree.specs.Numbered.{plain};
 ghost use Rattle.path_grammar.specs.Elements.{Element, elements, is_in};
@@ -10,8 +10,11 @@ ghost use Rattle.path_grammar.specs.View as view;
 ghost use Rattle.path_nodes.specs.Asked.{OfEach, OfStep, OfPredicate, OfCondition, OfConditions, MayAsk};
 ghost use Rattle.path_nodes.specs.Kept as spec;
 ghost use Rattle.path_nodes.specs.Listed.{HaveSame};
+ghost use Rattle.path_nodes.specs.Prices as price;
+ghost use Rattle.path_nodes.specs.Prices.{AreAmong};
 ghost use Rattle.path_nodes.specs.References.{IsElement, element_of};
 ghost use Rattle.path_nodes.specs.Says.{Agrees, satisfied};
+ghost use Rattle.path_nodes.specs.Tests.{each_tested};
 ghost use Rattle.path_nodes.specs.Within.{AtOrBelow};
 
 use crate::attributes::has_attribute;
@@ -44,6 +47,7 @@ pub(crate) fn led<T: TextTest>(
     ensures elements { IfOk result (λ found. map (element_of tree.now.root) found ≡ meaning.led (satisfied tree.now.root (T.meaning test.old)) (elements (plain tree.now.root)) (form.steps (map view.step steps.now)) (map (element_of tree.now.root) from)) }
     ensures there { IfOk result (All (IsElement tree.now.root)) }
     ensures meaning { T.meaning test.new ≡ T.meaning test.old }
+    ensures spent { T.spent test.new ≤ T.spent test.old + price.steps_price tree.now.root (T.meaning test.old) (form.steps (map view.step steps.now)) (map (element_of tree.now.root) from) }
 {
     let mut items = from;
     for step in steps {
@@ -70,6 +74,7 @@ fn stepped<T: TextTest>(
     ensures there { IfOk result (All (IsElement tree.now.root)) }
     ensures inside { IfOk result (All (λ r. AtOrBelow (element_of tree.now.root base) (element_of tree.now.root r))) }
     ensures meaning { T.meaning test.new ≡ T.meaning test.old }
+    ensures spent { T.spent test.new ≤ T.spent test.old + price.step_price tree.now.root (T.meaning test.old) (view.step step.now) (map meaning.item (map (element_of tree.now.root) contexts)) }
 {
     let parents = parents_of(alloc, tree, step.deep, contexts)?;
     chosen(alloc, tree, step, base, &parents, test)
@@ -84,6 +89,7 @@ pub(crate) fn parents_of(
 ) -> Result<Nodes, Memory>
     requires { All (IsElement tree.now.root) contexts }
     ensures members { IfOk result (λ found. HaveSame (map (element_of tree.now.root) found) (spec.parents deep (map (element_of tree.now.root) contexts))) }
+    ensures once { IfOk result (λ found. AreAmong (map (element_of tree.now.root) found) (spec.parents deep (map (element_of tree.now.root) contexts))) }
     ensures there { IfOk result (All (IsElement tree.now.root)) }
 {
     if deep {
@@ -111,6 +117,7 @@ pub(crate) fn chosen<T: TextTest>(
     ensures there { IfOk result (All (IsElement tree.now.root)) }
     ensures inside { IfOk result (All (λ r. AtOrBelow (element_of tree.now.root base) (element_of tree.now.root r))) }
     ensures meaning { T.meaning test.new ≡ T.meaning test.old }
+    ensures spent { T.spent test.new ≤ T.spent test.old + sum_by (price.children_price tree.now.root (T.meaning test.old) (view.step step.now)) (map (element_of tree.now.root) parents.now) }
 {
     let mut marks = Marks::new(alloc);
     let mut ways = Marks::new(alloc);
@@ -139,6 +146,7 @@ pub(crate) fn kept<T: TextTest>(
     ensures elements { IfOk result (λ kept. map (element_of tree.now.root) kept ≡ spec.kept tree.now.root (T.meaning test.old) (view.step step.now) (map (element_of tree.now.root) items.now)) }
     ensures there { IfOk result (All (IsElement tree.now.root)) }
     ensures meaning { T.meaning test.new ≡ T.meaning test.old }
+    ensures spent { T.spent test.new ≤ T.spent test.old + price.list_price tree.now.root (T.meaning test.old) (view.step step.now) (map (element_of tree.now.root) items.now) }
 {
     let mut kept = named(alloc, tree, &step.test, items)?;
     for predicate in step.predicates.as_slice() {
@@ -161,6 +169,7 @@ fn filtered<T: TextTest>(
     ensures elements { IfOk result (λ kept. map (element_of tree.now.root) kept ≡ meaning.filtered_by (satisfied tree.now.root (T.meaning test.old)) (elements (plain tree.now.root)) (view.predicate predicate.now) (map (element_of tree.now.root) items)) }
     ensures there { IfOk result (All (IsElement tree.now.root)) }
     ensures meaning { T.meaning test.new ≡ T.meaning test.old }
+    ensures spent { T.spent test.new ≤ T.spent test.old + price.predicate_price tree.now.root (T.meaning test.old) (view.predicate predicate.now) (map (element_of tree.now.root) items) }
 {
     match predicate {
         Predicate::Number(number) => numbered(alloc, tree, *number, &items),
@@ -182,6 +191,7 @@ fn satisfying<T: TextTest>(
     ensures elements { IfOk result (λ kept. map (element_of tree.now.root) kept ≡ filter (meaning.is_true (satisfied tree.now.root (T.meaning test.old)) (elements (plain tree.now.root)) (view.condition condition.now)) (map (element_of tree.now.root) items)) }
     ensures there { IfOk result (All (IsElement tree.now.root)) }
     ensures meaning { T.meaning test.new ≡ T.meaning test.old }
+    ensures spent { T.spent test.new ≤ T.spent test.old + sum_by (price.condition_price tree.now.root (T.meaning test.old) (view.condition condition.now)) (map (element_of tree.now.root) items) }
 {
     let mut kept = Nodes::new(alloc);
     for item in items.as_slice() {
@@ -204,6 +214,7 @@ fn is_true<T: TextTest>(
     requires asked { OfCondition (MayAsk tree.now.root (T.meaning test.old)) (view.condition condition.now) }
     ensures truth { IfOk result (λ truth. truth ≡ meaning.is_true (satisfied tree.now.root (T.meaning test.old)) (elements (plain tree.now.root)) (view.condition condition.now) (element_of tree.now.root item)) }
     ensures meaning { T.meaning test.new ≡ T.meaning test.old }
+    ensures spent { T.spent test.new ≤ T.spent test.old + price.condition_price tree.now.root (T.meaning test.old) (view.condition condition.now) (element_of tree.now.root item) }
 {
     match condition {
         Condition::Or(parts) => some_true(alloc, tree, parts, item, test),
@@ -239,6 +250,7 @@ pub fn led_from<T: TextTest>(
     ensures agrees { (satisfies : ℕ → Element → Bool) → Agrees tree.now.root (T.meaning test.old) satisfies → IfOk result (λ found. map (element_of tree.now.root) found ≡ meaning.led satisfies (elements (plain tree.now.root)) (form.steps (map view.step steps.now)) (element_of tree.now.root item ∷ [])) }
     ensures there { IfOk result (All (IsElement tree.now.root)) }
     ensures meaning { T.meaning test.new ≡ T.meaning test.old }
+    ensures spent { T.spent test.new ≤ T.spent test.old + price.steps_price tree.now.root (T.meaning test.old) (form.steps (map view.step steps.now)) (element_of tree.now.root item ∷ []) }
 {
     let from = Nodes::from_slice(alloc, &[item])?;
     led(alloc, tree, steps.as_slice(), item, from, test)
@@ -257,6 +269,7 @@ fn some_true<T: TextTest>(
     requires asked { OfConditions (MayAsk tree.now.root (T.meaning test.old)) (form.conditions (map view.condition conditions.now)) }
     ensures truth { IfOk result (λ truth. truth ≡ meaning.some_true (satisfied tree.now.root (T.meaning test.old)) (elements (plain tree.now.root)) (form.conditions (map view.condition conditions.now)) (element_of tree.now.root item)) }
     ensures meaning { T.meaning test.new ≡ T.meaning test.old }
+    ensures spent { T.spent test.new ≤ T.spent test.old + price.conditions_price tree.now.root (T.meaning test.old) (form.conditions (map view.condition conditions.now)) (element_of tree.now.root item) }
 {
     for condition in conditions.as_slice() {
         if is_true(alloc, tree, condition, item, test)? {
@@ -279,6 +292,7 @@ fn each_true<T: TextTest>(
     requires asked { OfConditions (MayAsk tree.now.root (T.meaning test.old)) (form.conditions (map view.condition conditions.now)) }
     ensures truth { IfOk result (λ truth. truth ≡ meaning.each_true (satisfied tree.now.root (T.meaning test.old)) (elements (plain tree.now.root)) (form.conditions (map view.condition conditions.now)) (element_of tree.now.root item)) }
     ensures meaning { T.meaning test.new ≡ T.meaning test.old }
+    ensures spent { T.spent test.new ≤ T.spent test.old + price.conditions_price tree.now.root (T.meaning test.old) (form.conditions (map view.condition conditions.now)) (element_of tree.now.root item) }
 {
     for condition in conditions.as_slice() {
         if !is_true(alloc, tree, condition, item, test)? {
@@ -299,6 +313,7 @@ fn some_contains<T: TextTest>(
     requires asked { MayAsk tree.now.root (T.meaning test.old) selection }
     ensures truth { IfOk result (λ truth. truth ≡ list_any (satisfied tree.now.root (T.meaning test.old) selection) (map (element_of tree.now.root) nodes.now)) }
     ensures meaning { T.meaning test.new ≡ T.meaning test.old }
+    ensures spent { T.spent test.new ≤ T.spent test.old + price.price_of tree.now.root (T.meaning test.old) (each_tested selection (map (element_of tree.now.root) nodes.now)) }
 {
     let _root = tree.root();
     for node in nodes.as_slice() {

@@ -1,12 +1,14 @@
-ghost use Rattle.std.specs.Prelude.{◌≡◌, ◌∷◌, [], ℕ, All, Bool, IfOk, map, true};
+ghost use Rattle.std.specs.Prelude.{◌≡◌, ◌≤◌, ◌+◌, ◌∷◌, [], ℕ, All, Bool, IfOk, map, true};
 ghost use Rattle.ordered_tree.specs.Numbered.{is_element, plain};
 ghost use Rattle.path_grammar.specs.Elements.{Element, elements, placed};
 ghost use Rattle.path_grammar.specs.Form as form;
 ghost use Rattle.path_grammar.specs.Meaning as meaning;
 ghost use Rattle.path_grammar.specs.View as view;
 ghost use Rattle.path_nodes.specs.Asked.{OfEach, OfStep, MayAsk};
+ghost use Rattle.path_nodes.specs.Prices.{price_of, step_price};
 ghost use Rattle.path_nodes.specs.References.{HasSingleAttributes, IsElement, element_of};
 ghost use Rattle.path_nodes.specs.Says.{Agrees, satisfied};
+ghost use Rattle.path_nodes.specs.Tests.{selected_tests};
 
 use crate::evaluating::{chosen, kept, led, parents_of};
 use crate::kept::append;
@@ -33,6 +35,7 @@ pub fn nodes<T: TextTest>(
     ensures agrees { (satisfies : ℕ → Element → Bool) → Agrees tree.now.root (T.meaning test.old) satisfies → IfOk result (λ found. map (element_of tree.now.root) found.items ≡ meaning.selected satisfies (form.steps (map view.step steps.now)) (plain tree.now.root)) }
     ensures there { IfOk result (λ found. All (IsElement tree.now.root) found.items) }
     ensures meaning { T.meaning test.new ≡ T.meaning test.old }
+    ensures spent { T.spent test.new ≤ T.spent test.old + price_of tree.now.root (T.meaning test.old) (selected_tests (satisfied tree.now.root (T.meaning test.old)) (form.steps (map view.step steps.now)) (plain tree.now.root)) }
 {
     let root = tree.root();
     if steps.is_empty() {
@@ -57,6 +60,7 @@ fn from_document<T: TextTest>(
     ensures elements { IfOk result (λ found. map (element_of tree.now.root) found ≡ meaning.stepped (satisfied tree.now.root (T.meaning test.old)) (elements (plain tree.now.root)) (view.step step.now) (meaning.document (plain tree.now.root) ∷ [])) }
     ensures there { IfOk result (All (IsElement tree.now.root)) }
     ensures meaning { T.meaning test.new ≡ T.meaning test.old }
+    ensures spent { T.spent test.new ≤ T.spent test.old + step_price tree.now.root (T.meaning test.old) (view.step step.now) (meaning.document (plain tree.now.root) ∷ []) }
 {
     let only = Nodes::from_slice(alloc, &[root])?;
     let mut found = kept(alloc, tree, step, &only, test)?;

@@ -11,7 +11,7 @@ use std::alloc::Global;
 use std::test::Fail;
 use tokenizer::tokens_of;
 
-/// A test that is true of some nodes and counts how often it is asked.
+/// A test that is true of some nodes and counts how often it is asked; each time costs 1.
 #[derive(Drop)]
 struct Listed {
     nodes: Vec<u32>,
@@ -22,7 +22,9 @@ impl TextTest for Listed {
     ghost use Rattle.std.specs.Prelude.{◌==◌, true};
     ghost use Rattle.std.specs.List.{list_any};
 
-    ghost meaning = { λ test. record { may_ask = λ selection r. true; says = λ selection r. list_any (λ n. n == r.0) test.nodes.items } };
+    ghost meaning = { λ test. record { may_ask = λ selection r. true; says = λ selection r. list_any (λ n. n == r.0) test.nodes.items; price = λ selection r. 1 } };
+
+    ghost spent = { λ test. test.asked };
 
     fn contains(&mut self, _selection: usize, node: NodeRef) -> Result<bool, Memory> {
         self.asked = self.asked.saturating_add(1);
@@ -190,5 +192,17 @@ fn a_test_is_asked_until_the_truth_is_known(rt: HostRuntime) -> Result<(), Fail>
     let found = numbers(alloc, LETTERS, &path, &mut test)?;
     assert!(rt; found.as_slice() == [0].as_slice());
     assert_eq!(rt; test.asked, 1);
+    Ok(())
+}
+
+#[test]
+fn nested_contexts_ask_once(rt: HostRuntime) -> Result<(), Fail> {
+    let alloc = rt.alloc();
+    let mut path = steps(alloc, &["/a"])?;
+    path.push(filtered(alloc, true, "b", contains(Steps::new(alloc)))?)?;
+    let mut test = true_of(alloc, &[4, 10])?;
+    let found = numbers(alloc, NESTED, &path, &mut test)?;
+    assert!(rt; found.as_slice() == [4, 10].as_slice());
+    assert_eq!(rt; test.asked, 5);
     Ok(())
 }

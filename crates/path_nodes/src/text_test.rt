@@ -1,4 +1,4 @@
-ghost use Rattle.std.specs.Prelude.{◌≡◌, IfOk, IsTrue};
+ghost use Rattle.std.specs.Prelude.{◌≡◌, ◌≤◌, ◌+◌, ℕ, IfOk, IsTrue};
 ghost use Rattle.path_nodes.specs.Says.{Meaning};
 
 use ft_base::Memory;
@@ -6,13 +6,17 @@ use ordered_tree::NodeRef;
 
 /// What answers `contains text`.
 pub trait TextTest {
-    /// For which pairs of a selection's number and a node it may be asked, and what it says of each. It never changes.
+    /// For which pairs of a selection's number and a node it may be asked, what it says of each, and its price. It never changes.
     ghost meaning: { Self → Meaning };
 
+    /// What was spent so far.
+    ghost spent: { Self → ℕ };
+
     /// Whether the node satisfies the selection of this number. The selections of a path are numbered from 0 in the
-    /// order of its text. Answers `Memory` for want of memory alone.
+    /// order of its text. It spends at most the price. Answers `Memory` for want of memory alone.
     fn contains(&mut self, selection: usize, node: NodeRef) -> Result<bool, Memory>
         requires { IsTrue ((meaning self.old).may_ask selection node) }
         ensures says { IfOk result (λ is. is ≡ (meaning self.old).says selection node) }
-        ensures meaning { meaning self.new ≡ meaning self.old };
+        ensures meaning { meaning self.new ≡ meaning self.old }
+        ensures spent { spent self.new ≤ spent self.old + (meaning self.old).price selection node };
 }

@@ -1,9 +1,10 @@
-ghost use Rattle.std.specs.Prelude.{◌≡◌, ◌∷◌, [], ◌++◌, ◌||◌, All, Bool, IfOk, OnOk, filter, flat_map, map};
+ghost use Rattle.std.specs.Prelude.{◌≡◌, ◌≤◌, ◌+◌, ◌∷◌, [], ◌++◌, ◌||◌, ℕ, All, Bool, IfOk, OnOk, filter, flat_map, map, sum_by};
 ghost use Rattle.std.specs.List.{list_any};
 ghost use Rattle.ordered_tree.specs.declared.node_ref.NodeRef.{NodeRef};
 ghost use Rattle.path_grammar.specs.Elements.{Element};
 ghost use Rattle.path_nodes.specs.Listed.{AreListed, HaveSame};
 ghost use Rattle.path_nodes.specs.Marks.{is_marked};
+ghost use Rattle.path_nodes.specs.Prices.{AreAmong};
 ghost use Rattle.path_nodes.specs.References.{IsElement, element_of};
 ghost use Rattle.path_nodes.specs.Regions.{at_or_below, below};
 ghost use Rattle.path_nodes.specs.Ways.{LeadTo};
@@ -44,6 +45,7 @@ pub(crate) fn with_descendants(
 ) -> Result<Nodes, Memory>
     requires { All (IsElement tree.now.root) contexts.now }
     ensures members { IfOk result (λ found. HaveSame (map (element_of tree.now.root) found) (flat_map at_or_below (map (element_of tree.now.root) contexts.now))) }
+    ensures once { IfOk result (λ found. AreAmong (map (element_of tree.now.root) found) (flat_map at_or_below (map (element_of tree.now.root) contexts.now))) }
     ensures there { IfOk result (All (IsElement tree.now.root)) }
 {
     let mut listed = Marks::new(alloc);
@@ -66,6 +68,7 @@ fn add_unlisted(
     requires listed { AreListed tree.now.root listed.old (map (element_of tree.now.root) found.old) }
     requires found { All (IsElement tree.now.root) found.old }
     ensures members { OnOk result ((p : Element → Bool) → list_any p (map (element_of tree.now.root) found.new) ≡ (list_any p (map (element_of tree.now.root) found.old) || list_any p (at_or_below (element_of tree.now.root here)))) }
+    ensures once { OnOk result ((count : Element → ℕ) → sum_by count (map (element_of tree.now.root) found.new) ≤ sum_by count (map (element_of tree.now.root) found.old) + sum_by count (at_or_below (element_of tree.now.root here))) }
     ensures listed { OnOk result (AreListed tree.now.root listed.new (map (element_of tree.now.root) found.new)) }
     ensures there { OnOk result (All (IsElement tree.now.root) found.new) }
 {

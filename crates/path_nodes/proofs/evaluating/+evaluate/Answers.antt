@@ -1,5 +1,5 @@
 -- Each kind of condition and predicate, one more of each list.
-use Rattle.std.proofs.Common.{◌≡◌, ◌+◌, ◌≤◌, ◌||◌, ◌&&◌, not, [], ◌++◌, map, filter, take, drop, length, get_or, IfOk, sym, ap, ◌∙◌, subst, arith, rules}
+use Rattle.std.proofs.Common.{◌≡◌, ◌+◌, ◌≤◌, ◌||◌, ◌&&◌, not, [], ◌∷◌, ◌++◌, map, filter, take, drop, length, get_or, IfOk, refl, sym, ap, ◌∙◌, subst, arith, rules}
 use Rattle.std.specs.List.{All, list_any}
 use Rattle.std.proofs.lemmas.List.{take_all, drop_all}
 use Rattle.std.proofs.lemmas.List.Elements.{All-nil, All-cons, All-map, All-filter, All-get_or}
@@ -13,9 +13,11 @@ use Rattle.path_grammar.specs.View as view
 use Rattle.path_nodes.specs.Asked.{OfEach, OfStep, OfPredicates, OfPredicate, OfCondition, OfConditions, MayAsk}
 use Rattle.path_nodes.specs.Kept as spec
 use Rattle.path_nodes.specs.Marks.{is_marked}
+use Rattle.path_nodes.specs.Prices as price
 use Rattle.path_nodes.specs.References.{IsElement, element_of}
 use Rattle.path_nodes.specs.Regions.{below}
 use Rattle.path_nodes.specs.Says.{satisfied}
+use Rattle.path_nodes.specs.Tests.{each_tested}
 use Rattle.path_nodes.specs.Ways.{LeadTo}
 use Rattle.path_nodes.specs.Within.{AtOrBelow}
 use Rattle.path_nodes.proofs.AlikeLemmas.{led-from-alike}
@@ -24,8 +26,10 @@ use Rattle.path_nodes.proofs.MeaningLemmas.{led-next, led-none, filtered-next, f
 use Rattle.path_nodes.proofs.ChosenLemmas.{within-base, below-base, of-document, parents-inside, all-refs, stepped-is}
 use Rattle.path_nodes.proofs.FrontLemmas.{front-itself}
 use Rattle.path_nodes.proofs.ListedLemmas.{or-cases, same-offered, same-inside}
-use Rattle.path_nodes.proofs.ListLemmas.{any-more-of}
+use Rattle.path_nodes.proofs.ListLemmas.{any-more-of, filter-more, more-there}
 use Rattle.path_nodes.proofs.NamedLemmas.{agrees-there}
+use Rattle.path_nodes.proofs.PriceLemmas.{price-holds, price-or, price-and, price-not, price-exists, price-contains, step-price}
+use Rattle.path_nodes.proofs.SpentLemmas.{spent-within, at-first, at-price, at-most, step-spent, predicate-spent, condition-spent, first-spent, first-within, both-spent, first-part-spent}
 use Rattle.path_nodes.proofs.SpotLemmas.{of_number}
 use Rattle.path_nodes.proofs.WayLemmas.{lead-kept}
 use Rattle.path_nodes.proofs.evaluating.+evaluate.Goals as goal
@@ -284,6 +288,7 @@ some_true-loop-condition-preserved g t c =
     record {
       left = sym (some-next sat all items i d c.loop-condition-test.true e ∙ ap (λ b. b || rest) (sym says ∙ c.if-branch.false)) ∙ c.loop-condition.invariant.left;
       meaning = c.is_true.ensures.meaning ∙ c.loop-condition.invariant.meaning;
+      spent = condition-spent root m (g.T.TextTest.meaning c.loop-condition.test) c.loop-condition.invariant.meaning _ _ _ i items d c.loop-condition-test.true c.condition-item.is e c.is_true.ensures.spent c.loop-condition.invariant.spent;
     }
 
 pub some_true-returns-clause-truth : goal.some_true-returns-clause-truth
@@ -367,6 +372,7 @@ each_true-loop-condition-preserved g t c =
     record {
       left = sym (each-next sat all items i d c.loop-condition-test.true e ∙ ap (λ b. b && rest) (sym says ∙ c.if-not-branch.false)) ∙ c.loop-condition.invariant.left;
       meaning = c.is_true.ensures.meaning ∙ c.loop-condition.invariant.meaning;
+      spent = condition-spent root m (g.T.TextTest.meaning c.loop-condition.test) c.loop-condition.invariant.meaning _ _ _ i items d c.loop-condition-test.true c.condition-item.is e c.is_true.ensures.spent c.loop-condition.invariant.spent;
     }
 
 pub each_true-returns-clause-truth : goal.each_true-returns-clause-truth
@@ -430,6 +436,7 @@ led-loop-step-preserved g t c =
       there = c.in_ok-items.ensures.there;
       inside = c.in_ok-items.ensures.inside;
       meaning = c.stepped.ensures.meaning ∙ c.loop-step.invariant.meaning;
+      spent = step-spent root m (g.T.TextTest.meaning c.loop-step.test) c.loop-step.invariant.meaning _ _ _ i items d c.loop-step-test.true c.step-item.is (map (element_of root) c.loop-step.items) (map (element_of root) c.in_ok-items.items) now c.stepped.ensures.spent c.loop-step.invariant.spent;
     }
 
 pub led-returns-clause-elements : goal.led-returns-clause-elements
@@ -485,6 +492,7 @@ kept-loop-predicate-preserved g t c =
       left = filtered-next (satisfied root m) all items i d c.loop-predicate-test.true before (map (element_of root) c.in_ok-kept-2.kept) now ∙ c.loop-predicate.invariant.left;
       there = c.in_ok-kept-2.ensures.there;
       meaning = c.filtered.ensures.meaning ∙ c.loop-predicate.invariant.meaning;
+      spent = predicate-spent root m (g.T.TextTest.meaning c.loop-predicate.test) c.loop-predicate.invariant.meaning _ _ _ i items d c.loop-predicate-test.true c.predicate-item.is before (map (element_of root) c.in_ok-kept-2.kept) now c.filtered.ensures.spent c.loop-predicate.invariant.spent;
     }
 
 pub kept-returns-clause-elements : goal.kept-returns-clause-elements
@@ -530,6 +538,9 @@ chosen-loop-parent-preserved g t c =
           (lead-kept root m s q y c.mark_way_to.new.ways c.in_ok-mark_way_to.ensures.ways c.in_ok-kept.kept kept c.in_ok-mark_way_to.ensures.there r x e h)
           (λ before. c.in_ok-mark_way_to.ensures.more r (c.loop-parent.invariant.lead r x e h before));
       meaning = c.kept.ensures.meaning ∙ c.loop-parent.invariant.meaning;
+      spent = first-spent _ _ _ i (price.children_price root m s) (element_of root) items (of_number 0) c.loop-parent-test.true c.loop-parent.invariant.spent
+          (at-price _ _ _ _ c.kept.ensures.spent
+          (ap (λ n. price.list_price root n s (map (element_of root) c.in_ok-children.children)) c.loop-parent.invariant.meaning ∙ ap (price.list_price root m s) c.in_ok-children.ensures.elements));
     }
 
 pub chosen-returns-clause-elements : goal.chosen-returns-clause-elements
@@ -566,3 +577,241 @@ chosen-returns-clause-inside g t c =
     (subst (λ l. LeadTo root c.loop-parent.ways (is_in (map (spec.kept_children root m s) (map (element_of root) l)))) (take_all i items past ∙ c.as_slice-parent-items.ensures) c.loop-parent.invariant.lead)
     ∙ ap (λ l. map (element_of root) l ++ filter test (below base)) c.new-found.ensures in
     all-refs root (AtOrBelow base) c.add_marked.new.found (subst (All (AtOrBelow base)) (sym found) (All-filter test (AtOrBelow base) (below base) (below-base base)))
+
+-- ---- what was spent
+
+pub filtered-returns-in-Holds-clause-spent : goal.filtered-returns-in-Holds-clause-spent
+filtered-returns-in-Holds-clause-spent g t c =
+    let root = c.args.tree.now.root in
+    let m = g.T.TextTest.meaning c.args.test.now in
+    at-price _ _ _ _ c.satisfying.ensures.spent (price-holds root m c.args.predicate.now c.in-Holds.condition (map (element_of root) c.args.items) c.in-Holds.is)
+
+pub is_true-returns-in-Or-clause-spent : goal.is_true-returns-in-Or-clause-spent
+is_true-returns-in-Or-clause-spent g t c =
+    let root = c.args.tree.now.root in
+    let m = g.T.TextTest.meaning c.args.test.now in
+    let e = element_of root c.args.item in
+    at-price _ _ _ _ c.some_true.ensures.spent (price-or root m c.args.condition.now e c.in-Or.parts c.in-Or.is)
+
+pub is_true-returns-in-And-clause-spent : goal.is_true-returns-in-And-clause-spent
+is_true-returns-in-And-clause-spent g t c =
+    let root = c.args.tree.now.root in
+    let m = g.T.TextTest.meaning c.args.test.now in
+    let e = element_of root c.args.item in
+    at-price _ _ _ _ c.each_true.ensures.spent (price-and root m c.args.condition.now e c.in-And.parts c.in-And.is)
+
+pub is_true-returns-in_err-is_true-in-Not-clause-spent : goal.is_true-returns-in_err-is_true-in-Not-clause-spent
+is_true-returns-in_err-is_true-in-Not-clause-spent g t c =
+    let root = c.args.tree.now.root in
+    let m = g.T.TextTest.meaning c.args.test.now in
+    let e = element_of root c.args.item in
+    at-price _ _ _ _ c.is_true.ensures.spent (ap (λ x. price.condition_price root m (view.condition x) e) c.deref.ensures ∙ price-not root m c.args.condition.now e c.in-Not.operand c.in-Not.is)
+
+pub is_true-returns-in_ok-is_true-in-Not-clause-spent : goal.is_true-returns-in_ok-is_true-in-Not-clause-spent
+is_true-returns-in_ok-is_true-in-Not-clause-spent g t c =
+    let root = c.args.tree.now.root in
+    let m = g.T.TextTest.meaning c.args.test.now in
+    let e = element_of root c.args.item in
+    at-price _ _ _ _ c.is_true.ensures.spent (ap (λ x. price.condition_price root m (view.condition x) e) c.deref.ensures ∙ price-not root m c.args.condition.now e c.in-Not.operand c.in-Not.is)
+
+pub is_true-returns-in_err-nodes-in-Exists-clause-spent : goal.is_true-returns-in_err-nodes-in-Exists-clause-spent
+is_true-returns-in_err-nodes-in-Exists-clause-spent g t c =
+    let root = c.args.tree.now.root in
+    let m = g.T.TextTest.meaning c.args.test.now in
+    let e = element_of root c.args.item in
+    at-price _ _ _ _ c.in_err-nodes-in-Exists.ensures.spent (price-exists root m c.args.condition.now e c.in-Exists.steps c.in-Exists.is)
+
+pub is_true-returns-in_ok-nodes-in-Exists-clause-spent : goal.is_true-returns-in_ok-nodes-in-Exists-clause-spent
+is_true-returns-in_ok-nodes-in-Exists-clause-spent g t c =
+    let root = c.args.tree.now.root in
+    let m = g.T.TextTest.meaning c.args.test.now in
+    let e = element_of root c.args.item in
+    at-price _ _ _ _ c.in_ok-nodes-in-Exists.ensures.spent (price-exists root m c.args.condition.now e c.in-Exists.steps c.in-Exists.is)
+
+pub is_true-returns-in_err-nodes-in-Contains-clause-spent : goal.is_true-returns-in_err-nodes-in-Contains-clause-spent
+is_true-returns-in_err-nodes-in-Contains-clause-spent g t c =
+    let root = c.args.tree.now.root in
+    let m = g.T.TextTest.meaning c.args.test.now in
+    let e = element_of root c.args.item in
+    let steps = form.steps (map view.step c.in-Contains.steps) in
+    first-part-spent _ _ _ _ _ c.in_err-nodes-in-Contains.ensures.spent
+    (price-contains root m c.args.condition.now e c.in-Contains.steps c.in-Contains.selection c.in-Contains.is (meaning.led (satisfied root m) (elements (plain root)) steps (e ∷ [])) refl)
+
+pub is_true-returns-in_ok-nodes-in-Contains-clause-spent : goal.is_true-returns-in_ok-nodes-in-Contains-clause-spent
+is_true-returns-in_ok-nodes-in-Contains-clause-spent g t c =
+    let root = c.args.tree.now.root in
+    let m = g.T.TextTest.meaning c.args.test.now in
+    let e = element_of root c.args.item in
+    let found = map (element_of root) c.in_ok-nodes-in-Contains.nodes in
+    both-spent _ _ _ _ _ _ c.in_ok-nodes-in-Contains.ensures.spent
+    (at-first (λ n. price.price_of root n (each_tested c.in-Contains.selection found)) m _ _ _ c.in_ok-nodes-in-Contains.ensures.meaning c.some_contains.ensures.spent)
+    (price-contains root m c.args.condition.now e c.in-Contains.steps c.in-Contains.selection c.in-Contains.is found c.in_ok-nodes-in-Contains.ensures.elements)
+
+pub some_true-returns-in_err-is_true-clause-spent : goal.some_true-returns-in_err-is_true-clause-spent
+some_true-returns-in_err-is_true-clause-spent g t c =
+    let root = c.args.tree.now.root in
+    let m = g.T.TextTest.meaning c.args.test.now in
+    let e = element_of root c.args.item in
+    let items = c.as_slice-condition-items.result.now in
+    let i = c.loop-condition.condition-index in
+    let d = c.condition-item.result in
+    spent-within _ _ _
+    (condition-spent root m (g.T.TextTest.meaning c.loop-condition.test) c.loop-condition.invariant.meaning _ _ _ i items d c.loop-condition-test.true c.condition-item.is e c.is_true.ensures.spent c.loop-condition.invariant.spent)
+
+pub some_true-returns-then-branch-clause-spent : goal.some_true-returns-then-branch-clause-spent
+some_true-returns-then-branch-clause-spent g t c =
+    let root = c.args.tree.now.root in
+    let m = g.T.TextTest.meaning c.args.test.now in
+    let e = element_of root c.args.item in
+    let items = c.as_slice-condition-items.result.now in
+    let i = c.loop-condition.condition-index in
+    let d = c.condition-item.result in
+    spent-within _ _ _
+    (condition-spent root m (g.T.TextTest.meaning c.loop-condition.test) c.loop-condition.invariant.meaning _ _ _ i items d c.loop-condition-test.true c.condition-item.is e c.is_true.ensures.spent c.loop-condition.invariant.spent)
+
+pub each_true-returns-in_err-is_true-clause-spent : goal.each_true-returns-in_err-is_true-clause-spent
+each_true-returns-in_err-is_true-clause-spent g t c =
+    let root = c.args.tree.now.root in
+    let m = g.T.TextTest.meaning c.args.test.now in
+    let e = element_of root c.args.item in
+    let items = c.as_slice-condition-items.result.now in
+    let i = c.loop-condition.condition-index in
+    let d = c.condition-item.result in
+    spent-within _ _ _
+    (condition-spent root m (g.T.TextTest.meaning c.loop-condition.test) c.loop-condition.invariant.meaning _ _ _ i items d c.loop-condition-test.true c.condition-item.is e c.is_true.ensures.spent c.loop-condition.invariant.spent)
+
+pub each_true-returns-then-not-branch-clause-spent : goal.each_true-returns-then-not-branch-clause-spent
+each_true-returns-then-not-branch-clause-spent g t c =
+    let root = c.args.tree.now.root in
+    let m = g.T.TextTest.meaning c.args.test.now in
+    let e = element_of root c.args.item in
+    let items = c.as_slice-condition-items.result.now in
+    let i = c.loop-condition.condition-index in
+    let d = c.condition-item.result in
+    spent-within _ _ _
+    (condition-spent root m (g.T.TextTest.meaning c.loop-condition.test) c.loop-condition.invariant.meaning _ _ _ i items d c.loop-condition-test.true c.condition-item.is e c.is_true.ensures.spent c.loop-condition.invariant.spent)
+
+pub led-returns-in_err-items-clause-spent : goal.led-returns-in_err-items-clause-spent
+led-returns-in_err-items-clause-spent g t c =
+    let root = c.args.tree.now.root in
+    let m = g.T.TextTest.meaning c.args.test.now in
+    let items = c.args.steps.now in
+    let i = c.loop-step.step-index in
+    let d = c.step-item.result in
+    let from = map (element_of root) c.loop-step.items in
+    spent-within _ _ _
+    (step-spent root m (g.T.TextTest.meaning c.loop-step.test) c.loop-step.invariant.meaning _ _ _ i items d c.loop-step-test.true c.step-item.is from (meaning.stepped (satisfied root m) (elements (plain root)) (view.step (get_or items i d)) (map meaning.item from)) refl
+    c.stepped.ensures.spent c.loop-step.invariant.spent)
+
+pub kept-returns-in_err-kept-2-clause-spent : goal.kept-returns-in_err-kept-2-clause-spent
+kept-returns-in_err-kept-2-clause-spent g t c =
+    let root = c.args.tree.now.root in
+    let m = g.T.TextTest.meaning c.args.test.now in
+    let items = c.as_slice-predicate-items.result.now in
+    let i = c.loop-predicate.predicate-index in
+    let d = c.predicate-item.result in
+    let before = map (element_of root) c.loop-predicate.kept in
+    spent-within _ _ _
+    (predicate-spent root m (g.T.TextTest.meaning c.loop-predicate.test) c.loop-predicate.invariant.meaning _ _ _ i items d c.loop-predicate-test.true c.predicate-item.is before (meaning.filtered_by (satisfied root m) (elements (plain root)) (view.predicate (get_or items i d)) before) refl
+    c.filtered.ensures.spent c.loop-predicate.invariant.spent)
+
+pub satisfying-returns-in_err-wanted-clause-spent : goal.satisfying-returns-in_err-wanted-clause-spent
+satisfying-returns-in_err-wanted-clause-spent g t c =
+    let root = c.args.tree.now.root in
+    let m = g.T.TextTest.meaning c.args.test.now in
+    let items = c.as_slice-item-items.result.now in
+    let i = c.loop-item.item-index in
+    let q = get_or items i (of_number 0) in
+    let cost = price.condition_price root m (view.condition c.args.condition.now) in
+    first-within _ _ (i + 1) cost (element_of root) items c.args.items c.as_slice-item-items.ensures
+    (first-spent _ _ _ i cost (element_of root) items (of_number 0) c.loop-item-test.true c.loop-item.invariant.spent
+    (at-first (λ n. price.condition_price root n (view.condition c.args.condition.now) (element_of root q)) m _ _ _ c.loop-item.invariant.meaning c.is_true.ensures.spent))
+
+pub satisfying-returns-in_err-push_if-clause-spent : goal.satisfying-returns-in_err-push_if-clause-spent
+satisfying-returns-in_err-push_if-clause-spent g t c =
+    let root = c.args.tree.now.root in
+    let m = g.T.TextTest.meaning c.args.test.now in
+    let items = c.as_slice-item-items.result.now in
+    let i = c.loop-item.item-index in
+    let q = get_or items i (of_number 0) in
+    let cost = price.condition_price root m (view.condition c.args.condition.now) in
+    first-within _ _ (i + 1) cost (element_of root) items c.args.items c.as_slice-item-items.ensures
+    (first-spent _ _ _ i cost (element_of root) items (of_number 0) c.loop-item-test.true c.loop-item.invariant.spent
+    (at-first (λ n. price.condition_price root n (view.condition c.args.condition.now) (element_of root q)) m _ _ _ c.loop-item.invariant.meaning c.is_true.ensures.spent))
+
+pub satisfying-loop-item-preserved : goal.satisfying-loop-item-preserved
+satisfying-loop-item-preserved g t c =
+    let root = c.args.tree.now.root in
+    let m = g.T.TextTest.meaning c.args.test.now in
+    let items = c.as_slice-item-items.result.now in
+    let i = c.loop-item.item-index in
+    let q = get_or items i (of_number 0) in
+    let cost = price.condition_price root m (view.condition c.args.condition.now) in
+    let true-of = meaning.is_true (satisfied root m) (elements (plain root)) (view.condition c.args.condition.now) in
+    let all : All (IsElement root) items = subst (All (IsElement root)) (sym c.as_slice-item-items.ensures) c.requires.items in
+    record {
+      done = filter-more (element_of root) true-of items i (of_number 0) c.loop-item-test.true c.loop-item.kept c.push_if.new.nodes c.in_ok-wanted.wanted c.loop-item.invariant.done c.in_ok-push_if.ensures
+          (c.in_ok-wanted.ensures.truth ∙ ap (λ n. meaning.is_true (satisfied root n) (elements (plain root)) (view.condition c.args.condition.now) (element_of root q)) c.loop-item.invariant.meaning);
+      there = more-there (IsElement root) c.loop-item.kept c.push_if.new.nodes q c.in_ok-wanted.wanted c.in_ok-push_if.ensures (All-get_or (IsElement root) items i (of_number 0) c.loop-item-test.true all) c.loop-item.invariant.there;
+      meaning = c.is_true.ensures.meaning ∙ c.loop-item.invariant.meaning;
+      spent = first-spent _ _ _ i cost (element_of root) items (of_number 0) c.loop-item-test.true c.loop-item.invariant.spent
+          (at-first (λ n. price.condition_price root n (view.condition c.args.condition.now) (element_of root q)) m _ _ _ c.loop-item.invariant.meaning c.is_true.ensures.spent);
+    }
+
+pub chosen-returns-in_err-children-clause-spent : goal.chosen-returns-in_err-children-clause-spent
+chosen-returns-in_err-children-clause-spent g t c =
+    let root = c.args.tree.now.root in
+    let m = g.T.TextTest.meaning c.args.test.now in
+    let s = view.step c.args.step.now in
+    let items = c.as_slice-parent-items.result.now in
+    let i = c.loop-parent.parent-index in
+    let cost = price.children_price root m s in
+    first-within _ _ i cost (element_of root) items c.args.parents.now c.as_slice-parent-items.ensures c.loop-parent.invariant.spent
+
+pub chosen-returns-in_err-kept-clause-spent : goal.chosen-returns-in_err-kept-clause-spent
+chosen-returns-in_err-kept-clause-spent g t c =
+    let root = c.args.tree.now.root in
+    let m = g.T.TextTest.meaning c.args.test.now in
+    let s = view.step c.args.step.now in
+    let items = c.as_slice-parent-items.result.now in
+    let i = c.loop-parent.parent-index in
+    let cost = price.children_price root m s in
+    first-within _ _ (i + 1) cost (element_of root) items c.args.parents.now c.as_slice-parent-items.ensures
+    (first-spent _ _ _ i cost (element_of root) items (of_number 0) c.loop-parent-test.true c.loop-parent.invariant.spent
+    (at-price _ _ _ _ c.kept.ensures.spent
+    (ap (λ n. price.list_price root n s (map (element_of root) c.in_ok-children.children)) c.loop-parent.invariant.meaning ∙ ap (price.list_price root m s) c.in_ok-children.ensures.elements)))
+
+pub chosen-returns-in_err-mark_all-clause-spent : goal.chosen-returns-in_err-mark_all-clause-spent
+chosen-returns-in_err-mark_all-clause-spent g t c =
+    let root = c.args.tree.now.root in
+    let m = g.T.TextTest.meaning c.args.test.now in
+    let s = view.step c.args.step.now in
+    let items = c.as_slice-parent-items.result.now in
+    let i = c.loop-parent.parent-index in
+    let cost = price.children_price root m s in
+    first-within _ _ (i + 1) cost (element_of root) items c.args.parents.now c.as_slice-parent-items.ensures
+    (first-spent _ _ _ i cost (element_of root) items (of_number 0) c.loop-parent-test.true c.loop-parent.invariant.spent
+    (at-price _ _ _ _ c.kept.ensures.spent
+    (ap (λ n. price.list_price root n s (map (element_of root) c.in_ok-children.children)) c.loop-parent.invariant.meaning ∙ ap (price.list_price root m s) c.in_ok-children.ensures.elements)))
+
+pub chosen-returns-in_err-mark_way_to-clause-spent : goal.chosen-returns-in_err-mark_way_to-clause-spent
+chosen-returns-in_err-mark_way_to-clause-spent g t c =
+    let root = c.args.tree.now.root in
+    let m = g.T.TextTest.meaning c.args.test.now in
+    let s = view.step c.args.step.now in
+    let items = c.as_slice-parent-items.result.now in
+    let i = c.loop-parent.parent-index in
+    let cost = price.children_price root m s in
+    first-within _ _ (i + 1) cost (element_of root) items c.args.parents.now c.as_slice-parent-items.ensures
+    (first-spent _ _ _ i cost (element_of root) items (of_number 0) c.loop-parent-test.true c.loop-parent.invariant.spent
+    (at-price _ _ _ _ c.kept.ensures.spent
+    (ap (λ n. price.list_price root n s (map (element_of root) c.in_ok-children.children)) c.loop-parent.invariant.meaning ∙ ap (price.list_price root m s) c.in_ok-children.ensures.elements)))
+
+pub stepped-returns-clause-spent : goal.stepped-returns-clause-spent
+stepped-returns-clause-spent g t c =
+    let root = c.args.tree.now.root in
+    let m = g.T.TextTest.meaning c.args.test.now in
+    let s = c.args.step.now in
+    let contexts = map (element_of root) c.args.contexts in
+    at-most _ _ _ _ _ c.chosen.ensures.spent (c.in_ok-parents.ensures.once (price.children_price root m (view.step s)))
+    (step-price root m (view.step s) s.deep s.test (form.predicates (map view.predicate s.predicates)) contexts (step-is s))

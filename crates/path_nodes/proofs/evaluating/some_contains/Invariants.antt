@@ -1,8 +1,10 @@
--- None of the first ones satisfies the selection.
-use Rattle.std.proofs.Common.{◌≡◌, map, drop}
+-- None of the first ones satisfies the selection; what was spent, and what the rest costs, is no more than what all cost.
+use Rattle.std.proofs.Common.{◌≡◌, ◌≤◌, ◌+◌, map, drop}
 use Rattle.std.specs.List.{list_any}
+use Rattle.path_nodes.specs.Prices.{price_of}
 use Rattle.path_nodes.specs.References.{element_of}
 use Rattle.path_nodes.specs.Says.{satisfied}
+use Rattle.path_nodes.specs.Tests.{each_tested}
 use Rattle.path_nodes.proofs.evaluating.some_contains.Given as goal
 
 abbrev pub invariant-loop-node : goal.invariant-loop-node
@@ -10,4 +12,6 @@ invariant-loop-node g l = record {
   left : list_any (satisfied l.tree.root (g.T.TextTest.meaning l.fn.test) l.selection) (map (element_of l.tree.root) (drop l.node-index l.node-items))
       ≡ list_any (satisfied l.tree.root (g.T.TextTest.meaning l.fn.test) l.selection) (map (element_of l.tree.root) l.fn.nodes);
   meaning : g.T.TextTest.meaning l.test ≡ g.T.TextTest.meaning l.fn.test;
+  spent : g.T.TextTest.spent l.test + price_of l.tree.root (g.T.TextTest.meaning l.fn.test) (each_tested l.selection (map (element_of l.tree.root) (drop l.node-index l.node-items)))
+      ≤ g.T.TextTest.spent l.fn.test + price_of l.tree.root (g.T.TextTest.meaning l.fn.test) (each_tested l.selection (map (element_of l.tree.root) l.fn.nodes));
 }

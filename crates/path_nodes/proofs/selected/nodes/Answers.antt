@@ -1,5 +1,5 @@
 -- The first step leads from the document, the others from what it leads to.
-use Rattle.std.proofs.Common.{◌-◌, [], ◌∷◌, map, take, drop, length, sym, ap, ◌∙◌, subst}
+use Rattle.std.proofs.Common.{◌≤◌, ◌+◌, ◌-◌, [], ◌∷◌, map, take, drop, length, get_or, refl, sym, ap, ◌∙◌, subst}
 use Rattle.std.proofs.lemmas.List.{take_rest}
 use Rattle.ordered_tree.specs.Numbered.{plain}
 use Rattle.path_grammar.specs.Elements.{elements}
@@ -7,6 +7,7 @@ use Rattle.path_grammar.specs.Form as form
 use Rattle.path_grammar.specs.Meaning as meaning
 use Rattle.path_grammar.specs.View as view
 use Rattle.path_nodes.specs.Asked.{OfEach, OfStep, MayAsk}
+use Rattle.path_nodes.specs.Prices.{steps_price, step_price}
 use Rattle.path_nodes.specs.References.{element_of}
 use Rattle.path_nodes.specs.Says.{satisfied}
 use Rattle.path_nodes.specs.Within.{AtOrBelow}
@@ -14,7 +15,9 @@ use Rattle.path_nodes.proofs.AlikeLemmas.{selected-alike}
 use Rattle.path_nodes.proofs.AskedLemmas.{nth-step}
 use Rattle.path_nodes.proofs.ChosenLemmas.{all-refs}
 use Rattle.path_nodes.proofs.NamedLemmas.{agrees-there}
+use Rattle.path_nodes.proofs.PriceLemmas.{selected-price}
 use Rattle.path_nodes.proofs.SelectedLemmas.{root-there, root-placed, below-root, selected-none, selected-next, later-steps, not-empty}
+use Rattle.path_nodes.proofs.SpentLemmas.{at-first, at-price, both-spent, first-part-spent}
 use Rattle.path_nodes.proofs.selected.nodes.Goals as goal
 
 pub returns-then-is_empty-clause-elements : goal.returns-then-is_empty-clause-elements
@@ -86,3 +89,49 @@ returns-clause-agrees g c = λ satisfies agree.
     returns-clause-elements g c
     ∙ selected-alike (satisfied root (g.T.TextTest.meaning c.args.test.now)) satisfies (plain root)
     (agrees-there root c.root-root.ensures.apart c.requires.attributes (g.T.TextTest.meaning c.args.test.now) satisfies agree) (form.steps (map view.step c.args.steps.now))
+
+pub returns-in_err-first-clause-spent : goal.returns-in_err-first-clause-spent
+returns-in_err-first-clause-spent g c =
+    let root = c.args.tree.now.root in
+    let m = g.T.TextTest.meaning c.args.test.now in
+    let items = c.args.steps.now in
+    let d = c.get.result.now in
+    let some = not-empty items c.is_empty.result c.is_empty.ensures.1 c.if-is_empty.false in
+    let first-one : g.T.TextTest.spent c.from_document.new.test ≤ g.T.TextTest.spent c.args.test.now + step_price root m (view.step (get_or items 0 d)) (meaning.document (plain root) ∷ []) =
+    at-price _ _ _ _ c.from_document.ensures.spent (ap (λ s. step_price root m (view.step s) (meaning.document (plain root) ∷ [])) c.get.ensures) in
+    first-part-spent _ _ _ _ _ first-one
+    (selected-price root m items d some (meaning.stepped (satisfied root m) (elements (plain root)) (view.step (get_or items 0 d)) (meaning.document (plain root) ∷ [])) refl)
+
+pub returns-in_err-found-clause-spent : goal.returns-in_err-found-clause-spent
+returns-in_err-found-clause-spent g c =
+    let root = c.args.tree.now.root in
+    let m = g.T.TextTest.meaning c.args.test.now in
+    let items = c.args.steps.now in
+    let d = c.get.result.now in
+    let some = not-empty items c.is_empty.result c.is_empty.ensures.1 c.if-is_empty.false in
+    let first-one : g.T.TextTest.spent c.from_document.new.test ≤ g.T.TextTest.spent c.args.test.now + step_price root m (view.step (get_or items 0 d)) (meaning.document (plain root) ∷ []) =
+    at-price _ _ _ _ c.from_document.ensures.spent (ap (λ s. step_price root m (view.step s) (meaning.document (plain root) ∷ [])) c.get.ensures) in
+    let steps = c.as_slice.result.now in
+    let first = map (element_of root) c.in_ok-first.first in
+    both-spent _ _ _ _ _ _ first-one
+    (at-price _ _ _ _ (at-first (λ n. steps_price root n (form.steps (map view.step (take (length steps - 1) (drop 1 steps)))) first) m _ _ _ c.in_ok-first.ensures.meaning c.led.ensures.spent)
+    (ap (λ l. steps_price root m (form.steps (map view.step l)) first) (take_rest steps 1 ∙ ap (drop 1) c.as_slice.ensures)))
+    (selected-price root m items d some first
+    (c.in_ok-first.ensures.elements ∙ ap (λ s. meaning.stepped (satisfied root m) (elements (plain root)) (view.step s) (meaning.document (plain root) ∷ [])) c.get.ensures))
+
+pub returns-clause-spent : goal.returns-clause-spent
+returns-clause-spent g c =
+    let root = c.args.tree.now.root in
+    let m = g.T.TextTest.meaning c.args.test.now in
+    let items = c.args.steps.now in
+    let d = c.get.result.now in
+    let some = not-empty items c.is_empty.result c.is_empty.ensures.1 c.if-is_empty.false in
+    let first-one : g.T.TextTest.spent c.from_document.new.test ≤ g.T.TextTest.spent c.args.test.now + step_price root m (view.step (get_or items 0 d)) (meaning.document (plain root) ∷ []) =
+    at-price _ _ _ _ c.from_document.ensures.spent (ap (λ s. step_price root m (view.step s) (meaning.document (plain root) ∷ [])) c.get.ensures) in
+    let steps = c.as_slice.result.now in
+    let first = map (element_of root) c.in_ok-first.first in
+    both-spent _ _ _ _ _ _ first-one
+    (at-price _ _ _ _ (at-first (λ n. steps_price root n (form.steps (map view.step (take (length steps - 1) (drop 1 steps)))) first) m _ _ _ c.in_ok-first.ensures.meaning c.led.ensures.spent)
+    (ap (λ l. steps_price root m (form.steps (map view.step l)) first) (take_rest steps 1 ∙ ap (drop 1) c.as_slice.ensures)))
+    (selected-price root m items d some first
+    (c.in_ok-first.ensures.elements ∙ ap (λ s. meaning.stepped (satisfied root m) (elements (plain root)) (view.step s) (meaning.document (plain root) ∷ [])) c.get.ensures))
