@@ -4,7 +4,7 @@ ghost use Rattle.path_nodes.specs.References.{HasSingleAttributes, IsElement};
 
 use crate::{push_names, push_printed};
 use doc_profile::read_doc;
-use ft_base::Lines;
+use ft_base::{Lines, Memory};
 use ordered_tree::{DocTree, NodeRef};
 use path_grammar::{NameTest, Predicates, Step, Steps};
 use path_nodes::{TextTest, nodes};
@@ -19,10 +19,12 @@ struct Never;
 impl TextTest for Never {
     ghost use Rattle.std.specs.Prelude.{false, true};
 
-    ghost meaning = { λ test. record { may_ask = λ selection r. true; says = λ selection r. false } };
+    ghost meaning = { λ test. record { may_ask = λ selection r. true; says = λ selection r. false; price = λ selection r. 0 } };
 
-    fn contains(&mut self, _selection: usize, _node: NodeRef) -> bool {
-        false
+    ghost spent = { λ test. 0 };
+
+    fn contains(&mut self, _selection: usize, _node: NodeRef) -> Result<bool, Memory> {
+        Ok(false)
     }
 }
 
