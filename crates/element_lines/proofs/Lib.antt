@@ -1,5 +1,6 @@
 pub mod ChildLemmas
 pub mod FewLemmas
 pub mod NumberLemmas
+pub mod OneElementLemmas
 pub mod StepLemmas
 pub mod TextLemmas

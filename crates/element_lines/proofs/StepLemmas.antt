@@ -40,7 +40,7 @@ child-zero : (ns : Children) (n : Numbered) → places.child zero ns ≡ Some n 
 child-zero no_children n is = cc
 child-zero (child_then m ms) n is = cc
 
-child-some : (k : ℕ) (ns : Children) (n : Numbered) → places.child k ns ≡ Some n → 0 < k
+pub child-some : (k : ℕ) (ns : Children) (n : Numbered) → places.child k ns ≡ Some n → 0 < k
 child-some zero ns n is = absurd (child-zero ns n is)
 child-some (suc k) ns n is = omega arith
 
@@ -71,12 +71,12 @@ child-number (suc k) n m is =
     let f = ap length (children-plain n) in
     omega arith
 
-record Between (place : List ℕ) (o : Option Numbered) (m : Numbered) : Type 0 where
-  n : Numbered
-  is : o ≡ Some n
-  leads : at_place place n ≡ Some m
+pub record Between (place : List ℕ) (o : Option Numbered) (m : Numbered) : Type 0 where
+  pub n : Numbered
+  pub is : o ≡ Some n
+  pub leads : at_place place n ≡ Some m
 
-between : (place : List ℕ) (o : Option Numbered) (m : Numbered) → option_and_then (at_place place) o ≡ Some m → Between place o m
+pub between : (place : List ℕ) (o : Option Numbered) (m : Numbered) → option_and_then (at_place place) o ≡ Some m → Between place o m
 between place None m is = cc
 between place (Some n) m is = record { n = n; is = refl; leads = is }
 
@@ -102,7 +102,7 @@ above-child (j ∷ place) k n m is =
 
 -- ---- elements and their parents
 
-same-node : (m n : Numbered) → Some m ≡ Some n → m ≡ n
+pub same-node : (m n : Numbered) → Some m ≡ Some n → m ≡ n
 same-node m n h = cc
 
 -- the numbers of children count from 1 to that of all children

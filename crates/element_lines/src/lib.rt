@@ -3,6 +3,7 @@
 
 mod counts;
 mod examples;
+mod laws;
 mod names;
 mod numbers;
 mod printed;
@@ -10,5 +11,6 @@ mod printed;
 mod tests;
 
 pub use examples::{lines_of_steps, steps_of_places};
+pub use laws::one_element_law;
 pub use names::push_names;
 pub use printed::push_printed;

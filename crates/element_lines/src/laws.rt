@@ -1,0 +1,11 @@
+ghost use Rattle.std.specs.Prelude.{◌≡◌};
+ghost use Rattle.element_lines.specs.Steps.{steps_to};
+ghost use Rattle.ordered_tree.specs.Numbered.{Numbered, plain};
+ghost use Rattle.ordered_tree.specs.declared.node_ref.NodeRef.{NodeRef};
+ghost use Rattle.path_nodes.specs.References.{IsElement, element_of};
+
+/// No two elements of a document have the same steps.
+pub fn one_element_law()
+    ensures { (root : Numbered) (r q : NodeRef) → IsElement root r → IsElement root q
+        → steps_to (plain root) (element_of root r).place ≡ steps_to (plain root) (element_of root q).place → r ≡ q }
+{}
