@@ -3,7 +3,8 @@ use Rattle.std.proofs.Common.{◌≡◌, ◌∙◌, sym, ap, refl, ℕ, ◌+◌,
 use Rattle.std.specs.Prelude.{Option, Some, None}
 use Rattle.std.proofs.lemmas.List.{append-nil, at_drop_more}
 use Rattle.session_text.specs.declared.command.Command.{Command}
-use Rattle.ft_session.specs.Step.{State, replies, state_after, step}
+use Rattle.ft_session.specs.State.{State}
+use Rattle.ft_session.specs.Step.{replies, state_after, step}
 use Rattle.ft_session.specs.Run.{TookFront, with_text}
 use Rattle.ft_session.proofs.WrittenLemmas.{with_text_twice}
 

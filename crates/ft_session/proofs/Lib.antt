@@ -1,10 +1,11 @@
 pub mod AnswerLemmas
 pub mod ListLemmas
-pub mod PlaceLemmas
+pub mod NamedLemmas
+pub mod PathLemmas
 pub mod ProgressLemmas
-pub mod QueryLemmas
 pub mod ReadLemmas
+pub mod SelectionNumbers
+pub mod SelectionTestLemmas
 pub mod SessionLemmas
 pub mod StoppedLemmas
-pub mod TokenCounts
 pub mod WrittenLemmas

@@ -14,7 +14,8 @@ use Rattle.ft_session.specs.declared.answering.AnswerError.{AnswerError}
 use Rattle.ft_session.specs.Output.{texts_of, replies_to, replies_to_whole, output, output_of_whole, has_refusal}
 use Rattle.ft_session.specs.Pieces.{Answered}
 use Rattle.ft_session.specs.Run.{BeginsWith, TookFront, with_text}
-use Rattle.ft_session.specs.Step.{State, opening, replies, state_after, step}
+use Rattle.ft_session.specs.State.{State, opening}
+use Rattle.ft_session.specs.Step.{replies, state_after, step}
 use Rattle.ft_session.proofs.AnswerLemmas.{front_nothing, with_nothing}
 use Rattle.ft_session.proofs.ReadLemmas.{told_front_grows}
 use Rattle.ft_session.proofs.WrittenLemmas.{with_text_twice}

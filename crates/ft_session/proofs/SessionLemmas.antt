@@ -6,6 +6,12 @@ use Rattle.std.specs.Map.{lookup, remove_entry}
 use Rattle.std.specs.Str.{bytes_eq}
 use Rattle.doc_profile.specs.declared.fault.DocFault.{DocFault}
 use Rattle.doc_profile.specs.declared.fault.DocFault.TheVariants as faults
+use Rattle.doc_grammar.specs.Limits.{node_count}
+use Rattle.ordered_tree.specs.Numbered.{plain}
+use Rattle.ordered_tree.specs.Numbering.{numbered}
+use Rattle.ordered_tree.specs.Stored.{Stored}
+use Rattle.ordered_tree.proofs.BuildingLemmas.{plain-numbered}
+use Rattle.path_grammar.specs.Collection.{Named}
 use Rattle.plain_tree.specs.Document.{Node}
 use Rattle.session_text.specs.declared.reply.FullOf.TheVariants.{Documents}
 use Rattle.session_text.specs.declared.reply.Refusal.{Refusal}
@@ -17,7 +23,8 @@ use Rattle.tokenizer.specs.Tokens.{tokens}
 use Rattle.doc_profile.specs.Readings.{Faults, document_of}
 use Rattle.ft_session.specs.declared.loaded.Loaded.{Loaded}
 use Rattle.ft_session.specs.Limits.{max_documents, max_tokens}
-use Rattle.ft_session.specs.Step.{Document, added, dropped, has_name, loadable, loaded, to_document, with_few_tokens, without}
+use Rattle.ft_session.specs.State.{has_name, to_document}
+use Rattle.ft_session.specs.Step.{added, dropped, loadable, loaded, with_few_tokens, without}
 
 -- a name is taken where a look-up finds it
 pub has_name-lookup : (name : List ℕ) (entries : List (List ℕ × Loaded)) → has_name name (map to_document entries) ≡ is_some (lookup (bytes_eq name) entries)
@@ -27,13 +34,13 @@ has_name-lookup name (e ∷ es) =
     [ true ↦ refl | false ↦ has_name-lookup name es ]
 
 -- the two tests decide, before the block is looked at
-pub loaded-tests : (documents : List Document) (name : List ℕ) (read : Result Node Refusal) (taken full : Bool) → has_name name documents ≡ taken → nat_le max_documents (length documents) ≡ full
+pub loaded-tests : (documents : List Named) (name : List ℕ) (read : Result Node Refusal) (taken full : Bool) → has_name name documents ≡ taken → nat_le max_documents (length documents) ≡ full
     → loaded documents name read ≡ cond taken (documents, Refused (NameTaken name)) (cond full (documents, Refused (Full Documents)) (added documents name read))
 loaded-tests documents name read taken full has long =
     ap (λ t. cond t (documents, Refused (NameTaken name)) (cond (nat_le max_documents (length documents)) (documents, Refused (Full Documents)) (added documents name read))) has
     ∙ ap (λ t. cond taken (documents, Refused (NameTaken name)) (cond t (documents, Refused (Full Documents)) (added documents name read))) long
 
-pub dropped-test : (documents : List Document) (name : List ℕ) (there : Bool) → has_name name documents ≡ there
+pub dropped-test : (documents : List Named) (name : List ℕ) (there : Bool) → has_name name documents ≡ there
     → dropped documents name ≡ cond there (without name documents, Done) (documents, Refused (NoSuchName name))
 dropped-test documents name there has = ap (λ t. cond t (without name documents, Done) (documents, Refused (NoSuchName name))) has
 
@@ -54,7 +61,7 @@ test_true a b h = grind (arith, nat_tests)
 test_false : (a b : ℕ) → b ≤ a → nat_lt a b ≡ false
 test_false a b h = grind (arith, nat_tests)
 
-abbrev pub with_reply : List Document → Reply → List Document × Reply
+abbrev pub with_reply : List Named → Reply → List Named × Reply
 with_reply state reply = (state, reply)
 
 -- a block's fault, too many tokens, or its document
@@ -78,3 +85,14 @@ module _ (block : List ℕ) where
   loadable-refused (faults.Depth at) why h other is = ap Err is ∙ sym (loadable-fault (faults.Depth at) h)
   loadable-refused (faults.Nodes at) why h other is = ap Err is ∙ sym (loadable-fault (faults.Nodes at) h)
   loadable-refused faults.Memory why h other is = absurd (other refl)
+
+-- what a test of two numbers says
+pub at-most : {a b : ℕ} (test : Bool) → test ≡ nat_le a b → test ≡ true → a ≤ b
+at-most {a = a} {b = b} test is holds = grind (arith, nat_tests)
+
+pub greater : {a b : ℕ} (test : Bool) → test ≡ nat_le a b → test ≡ false → b < a
+greater {a = a} {b = b} test is fails = grind (arith, nat_tests)
+
+-- the document of a tree that was made of it
+pub tree-is : (tree : Stored) (document : Node) → tree ≡ record { root = numbered 0 document; slots = node_count document } → plain tree.root ≡ document
+tree-is tree document made = ap (λ (t : Stored). plain t.root) made ∙ plain-numbered document 0

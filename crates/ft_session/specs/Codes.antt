@@ -1,6 +1,7 @@
 -- How states are stored, by which proofs tell them apart.
 use Rattle.std.specs.Prelude.{ℕ, List, refl}
 use Rattle.std.specs.Coded.{Coded, code_by, coded×, coded_list, coded_ℕ}
+use Rattle.path_grammar.specs.Collection.{Named}
 use Rattle.plain_tree.specs.Document.{Node}
 use Rattle.plain_tree.specs.View.{node_code}
 use Rattle.plan_compiler.specs.NamedLists.{NamedLists}
@@ -8,12 +9,12 @@ use Rattle.thesaurus_file.specs.Links.{Links}
 use Rattle.thesaurus_file.specs.Phrases.{Phrase}
 use Rattle.thesaurus_file.specs.declared.link.Link.{Link}
 use Rattle.word_lists.specs.Stems.{Stem}
-use Rattle.ft_session.specs.Step.{Document, State}
+use Rattle.ft_session.specs.State.{State}
 
 abbrev bytes_code : Coded (List ℕ)
 bytes_code = coded_list coded_ℕ
 
-abbrev document_code : Coded Document
+abbrev document_code : Coded Named
 document_code = code_by (List ℕ × Node) (coded× bytes_code node_code) (λ d. (d.name, d.root)) (λ p. record { name = p.0; root = p.1 }) (λ _. refl)
 
 abbrev link_code : Coded Link
@@ -29,5 +30,5 @@ lists_code =
 
 abbrev pub state_code : Coded State
 state_code =
-    code_by (List Document × NamedLists) (coded× (coded_list document_code) lists_code)
+    code_by (List Named × NamedLists) (coded× (coded_list document_code) lists_code)
     (λ s. (s.documents, s.lists)) (λ p. record { documents = p.0; lists = p.1 }) (λ _. refl)

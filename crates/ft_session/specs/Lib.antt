@@ -1,8 +1,10 @@
 pub mod Status
 pub mod Limits
+pub mod State
+pub mod StateView
 pub mod Paths
-pub mod Query
-pub mod QueryView
+pub mod PlannedPaths
+pub mod SelectionTests
 pub mod Lists
 pub mod Step
 pub mod Codes

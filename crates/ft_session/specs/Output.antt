@@ -4,7 +4,8 @@ use Rattle.std.specs.List.{flat_map, list_any}
 use Rattle.session_text.specs.declared.reply.Reply.{Reply}
 use Rattle.session_text.specs.Commands.{commands, whole}
 use Rattle.session_text.specs.Replies.{reply_text, is_refusal}
-use Rattle.ft_session.specs.Step.{opening, replies}
+use Rattle.ft_session.specs.State.{opening}
+use Rattle.ft_session.specs.Step.{replies}
 
 -- the texts of replies, one after the other
 abbrev pub texts_of : List Reply → List ℕ

@@ -1,76 +1,91 @@
--- Which path is a query that is carried out, and what its parts are.
-use Rattle.std.specs.Prelude.{ℕ, ◌+◌, Bool, true, false, ◌&&◌, ◌==◌, nat_eq, if◌then◌else◌, List, [], ◌∷◌, ◌++◌, length, drop, codes, chars, Option, Some, None}
-use Rattle.std.specs.List.{before_first, list_all, starts_with}
-use Rattle.std.specs.Str.{bytes_eq, is_utf8}
-use Rattle.ft_base.specs.Characters.{is_name_start, is_name_char}
+-- The reply to a path: the elements that it selects, or why it is refused.
+use Rattle.std.specs.Prelude.{ℕ, zero, suc, Bool, false, if◌then◌else◌, List, [], ◌∷◌, map, flat_map, Option, Some, None, Result, Ok, Err}
+use Rattle.std.specs.List.{list_all}
+use Rattle.all_matches.specs.Meaning.{sat}
+use Rattle.element_lines.specs.Lines.{element_line, printed_line}
+use Rattle.ft_base.specs.Selection.{Form}
 use Rattle.ft_base.specs.declared.fault.QueryFault.{QueryFault}
-use Rattle.ft_base.specs.declared.fault.QueryFault.TheVariants as Q
-use Rattle.session_text.specs.Blocks.{without_last}
+use Rattle.path_grammar.specs.Collection.{Named, documents}
+use Rattle.path_grammar.specs.Elements.{Element}
+use Rattle.path_grammar.specs.Meaning.{selected}
+use Rattle.path_grammar.specs.declared.path.PathRoot.{PathRoot}
+use Rattle.path_grammar.specs.declared.path.PathRoot.TheVariants.{Collection, Doc}
+use Rattle.path_subset.specs.Answer.{path_read}
+use Rattle.path_subset.specs.Paths.{PathForm}
+use Rattle.plain_tree.specs.Document.{Node}
+use Rattle.plan_compiler.specs.Decided.{is_decided}
+use Rattle.plan_compiler.specs.Lexicon.{lexicon}
+use Rattle.plan_compiler.specs.Missing.{missing_among, names}
+use Rattle.plan_compiler.specs.NamedLists.{NamedLists}
+use Rattle.session_text.specs.declared.reply.Refusal.TheVariants as refusal
+use Rattle.session_text.specs.declared.reply.Reply.{Reply}
+use Rattle.session_text.specs.declared.reply.Reply.TheVariants as reply
+use Rattle.session_text.specs.declared.reply.Reply.TheVariants.{Refused}
+use Rattle.tokenizer.specs.Tokens.{tokens}
+use Rattle.ft_session.specs.declared.shown.Shown.{Shown}
+use Rattle.ft_session.specs.declared.shown.Shown.TheVariants.{Names, Texts}
+use Rattle.ft_session.specs.State.{State, has_name}
 
--- a query as it is written: whether elements at any depth are looked at, and not the roots alone; their name; and a selection
-pub record Written : Type 0 where
-  pub deep : Bool
-  pub name : List ℕ
-  pub selection : List ℕ
+-- ---- which elements are selected
 
--- what stands before the name
-abbrev pub steps : Bool → List ℕ
-steps deep = if deep then codes "collection()//" else codes "collection()/"
+-- the selections of a path, in the order of its text
+abbrev pub selections_of : PathForm → List Form
+selections_of p = map (λ s. s.form) p.selections
 
--- what stands between the name and the selection
-abbrev pub predicate_front : List ℕ
-predicate_front = codes "[. contains text "
+-- whether an element's tokens satisfy the selection of that number, under these lists. They don't satisfy one that isn't there
+unfoldable pub satisfies : NamedLists → List Form → ℕ → Element → Bool
+satisfies lists [] k e = false
+satisfies lists (first ∷ rest) zero e = sat (lexicon lists) first (tokens e.node)
+satisfies lists (first ∷ rest) (suc k) e = satisfies lists rest k e
 
--- what stands before the selection
-abbrev pub query_front : Bool → List ℕ → List ℕ
-query_front deep name = steps deep ++ (name ++ predicate_front)
+-- the elements of a document that a path selects
+abbrev pub selected_in : NamedLists → PathForm → Node → List Element
+selected_in lists p root = selected (satisfies lists (selections_of p)) p.path.steps root
 
-abbrev pub query_text : Written → List ℕ
-query_text w = query_front w.deep w.name ++ (w.selection ++ codes "]")
+-- ---- how they are shown
 
-abbrev pub written_as : Bool → List ℕ → List ℕ → Written
-written_as deep name selection = record { deep = deep; name = name; selection = selection }
+-- the lines of a document's elements: those that name them, or their printed forms
+abbrev pub lines_of : Shown → List ℕ → Node → List Element → List (List ℕ)
+lines_of Names name root found = map (element_line name root) found
+lines_of Texts name root found = map (λ e. printed_line e.node) found
 
--- whether two slashes stand before the name
-abbrev pub is_deep : List ℕ → Bool
-is_deep path = starts_with nat_eq path (steps true)
+-- the lines for a path, document by document in the order of loading
+abbrev pub lines_for : Shown → State → PathForm → List (List ℕ)
+lines_for shown state p =
+    flat_map (λ d. lines_of shown d.name d.root (selected_in state.lists p d.root)) (documents p.path.root state.documents)
 
--- the only way in which a path could be a query: its name ends at the bracket, its selection before the last byte
-abbrev pub name_guess : Bool → List ℕ → List ℕ
-name_guess deep path = before_first (λ byte. byte == 91) (drop (length (steps deep)) path)
+abbrev pub reply_with : Shown → List (List ℕ) → Reply
+reply_with Names lines = reply.Nodes lines
+reply_with Texts lines = reply.Texts lines
 
-abbrev pub selection_guess : ℕ → List ℕ → List ℕ
-selection_guess front path = without_last (drop front path)
+-- ---- what is refused, in the order in which it is tried
 
-abbrev pub query_guess : List ℕ → Written
-query_guess path =
-    let deep = is_deep path in
-    let name = name_guess deep path in
-    written_as deep name (selection_guess (length (query_front deep name)) path)
+-- the document with which a path begins, if there is none of that name
+abbrev pub missing_document : PathRoot → List Named → Option (List ℕ)
+missing_document Collection all = None
+missing_document (Doc name) all = if has_name name all then None else Some name
 
--- a name of the query grammar (XML 1.0, production 5; a colon is a character of a name)
-abbrev pub names_element : List ℕ → Bool
-names_element [] = false
-names_element (c ∷ rest) = is_name_start c && list_all is_name_char rest
+-- the first list that isn't there, in the order of the selections and of what each is printed as
+abbrev pub missing_list : NamedLists → List Form → Option (List ℕ)
+missing_list lists selections = missing_among lists (flat_map names selections)
 
-abbrev pub is_name : List ℕ → Bool
-is_name bytes = is_utf8 bytes && names_element (chars bytes)
+-- Selections that plans don't decide aren't carried out yet.
+abbrev pub answer_decided : Shown → State → PathForm → Reply
+answer_decided shown state p =
+    if list_all is_decided (selections_of p) then reply_with shown (lines_for shown state p) else Refused refusal.NotYet
 
-abbrev pub is_query : List ℕ → Written → Bool
-is_query path w = is_name w.name && bytes_eq path (query_text w) && is_utf8 w.selection
+abbrev pub answer_listed : Shown → State → PathForm → Option (List ℕ) → Reply
+answer_listed shown state p (Some missing) = Refused (refusal.NoSuchList missing)
+answer_listed shown state p None = answer_decided shown state p
 
--- the query that a path is
-unfoldable pub query_of_path : List ℕ → Option Written
-query_of_path path = if is_query path (query_guess path) then Some (query_guess path) else None
+abbrev pub answer_rooted : Shown → State → PathForm → Option (List ℕ) → Reply
+answer_rooted shown state p (Some missing) = Refused (refusal.NoSuchDoc missing)
+answer_rooted shown state p None = answer_listed shown state p (missing_list state.lists (selections_of p))
 
--- the place of a fault in the whole path, where so many bytes stand before the selection
-abbrev pub behind : ℕ → QueryFault → QueryFault
-behind front (Q.Syntax at) = Q.Syntax (front + at)
-behind front (Q.Deep at) = Q.Deep (front + at)
-behind front (Q.Number at) = Q.Number (front + at)
-behind front (Q.Phrases at) = Q.Phrases (front + at)
-behind front (Q.OptionTwice at) = Q.OptionTwice (front + at)
-behind front (Q.BadWildcard at) = Q.BadWildcard (front + at)
-behind front (Q.MildNotExclude at) = Q.MildNotExclude (front + at)
-behind front (Q.InsideFilter at) = Q.InsideFilter (front + at)
-behind front Q.Memory = Q.Memory
+abbrev pub answer_read : Shown → State → Result PathForm QueryFault → Reply
+answer_read shown state (Err fault) = Refused (refusal.Query fault)
+answer_read shown state (Ok p) = answer_rooted shown state p (missing_document p.path.root state.documents)
+
+-- the reply to a path
+abbrev pub answer : Shown → State → List ℕ → Reply
+answer shown state text = answer_read shown state (path_read text)

@@ -10,7 +10,8 @@ use Rattle.ft_session.specs.declared.pieces.Stopped.{Stopped}
 use Rattle.ft_session.specs.declared.pieces.Stopped.TheVariants as stops
 use Rattle.ft_session.specs.Output.{texts_of}
 use Rattle.ft_session.specs.Run.{with_text}
-use Rattle.ft_session.specs.Step.{State, replies, state_after}
+use Rattle.ft_session.specs.State.{State}
+use Rattle.ft_session.specs.Step.{replies, state_after}
 
 -- A piece is answered: the commands that became whole with it were carried out and their replies written. What the reader
 -- leaves is what it had left, without these commands.

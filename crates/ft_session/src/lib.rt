@@ -8,14 +8,19 @@ mod list_tests;
 mod lists;
 mod loaded;
 mod loading;
+#[cfg(test)]
+mod path_tests;
 mod paths;
 mod pieces;
-mod query;
+mod planned;
 #[cfg(test)]
 mod query_tests;
 mod reading;
 mod running;
+mod selected;
+mod selection_test;
 mod session;
+mod shown;
 mod status;
 #[cfg(test)]
 mod tests;

@@ -1,10 +1,14 @@
-ghost use Rattle.std.specs.Prelude.{◌≡◌, ◌≢◌, IfOk, OnOk};
+ghost use Rattle.std.specs.Prelude.{◌≡◌, ◌≢◌, IfOk, OnOk, length, nat_le};
+ghost use Rattle.tokenizer.specs.Tokens.{tokens};
+ghost use Rattle.ft_session.specs.Limits.{max_tokens};
 ghost use Rattle.ft_session.specs.Step.{loadable};
 ghost use Rattle.ft_session.specs.LoadView.{outcome};
 
 use crate::loaded::Loaded;
 use doc_profile::{DocFault, read_doc};
 use ft_base::Memory;
+use ordered_tree::DocTree;
+use plain_tree::PlainDoc;
 use session_text::Refusal;
 use std::alloc::Global;
 use tokenizer::{TokenFault, tokens_of};
@@ -35,9 +39,20 @@ pub(crate) fn read_document(alloc: Global, block: &[u8]) -> Result<Outcome, Memo
         Ok(document) => document,
         Err(fault) => return Ok(Outcome::Refused(refuse(fault)?)),
     };
-    match tokens_of(alloc, &document) {
-        Ok(_) => Ok(Outcome::Document(Loaded { document })),
-        Err(TokenFault::Tokens) => Ok(Outcome::Refused(Refusal::TooManyTokens)),
+    if !has_few_tokens(alloc, &document)? {
+        return Ok(Outcome::Refused(Refusal::TooManyTokens));
+    }
+    let tree = DocTree::from_doc(alloc, &document)?;
+    Ok(Outcome::Document(Loaded { tree }))
+}
+
+/// Whether the document has no more tokens than a document may have.
+fn has_few_tokens(alloc: Global, document: &PlainDoc) -> Result<bool, Memory>
+    ensures { IfOk result (λ few. few ≡ nat_le (length (tokens document.now)) max_tokens) }
+{
+    match tokens_of(alloc, document) {
+        Ok(_) => Ok(true),
+        Err(TokenFault::Tokens) => Ok(false),
         Err(TokenFault::Memory) => Err(Memory),
     }
 }

@@ -1,222 +1,120 @@
-//! Which path is a query that is carried out, and where its faults are.
+//! The reply to a path: the elements that it selects, or why it is refused.
 
-ghost use Rattle.std.specs.Prelude.{◌≡◌, ◌≢◌, ◌+◌, ◌≤◌, ◌==◌, true, false, drop, length, IfNone, IfOk, IfSome, MatchOption, OnOk};
-ghost use Rattle.std.specs.List.{before_first, list_all, position_or_len};
-ghost use Rattle.std.specs.Option.{option_map};
-ghost use Rattle.std.specs.Str.{is_utf8};
-ghost use Rattle.ft_base.specs.Characters as chars;
-ghost use Rattle.ft_base.specs.declared.fault.QueryFault.TheVariants as Fault;
-ghost use Rattle.session_text.specs.Blocks.{without_last};
+ghost use Rattle.std.specs.Prelude.{◌≡◌, ◌≢◌, IfOk, Ok, OnOk, length, map};
+ghost use Rattle.std.specs.List.{list_all};
+ghost use Rattle.std.specs.Option.{option_copied};
+ghost use Rattle.plan_compiler.specs.Decided.{is_decided};
+ghost use Rattle.path_subset.specs.Paths.{read_form};
 ghost use Rattle.ft_session.specs.Paths as paths;
-ghost use Rattle.ft_session.specs.QueryView.{guessed, written};
+ghost use Rattle.ft_session.specs.PlannedPaths.{AskBelow};
+ghost use Rattle.ft_session.specs.State.{to_document};
+ghost use Rattle.ft_session.specs.StateView.{state_of};
 
-use ft_base::{Memory, QueryFault, is_name_char, is_name_start, letters_of};
+use crate::loaded::Loaded;
+use crate::planned::compile_path;
+use crate::selected::collect_lines;
+use crate::shown::{Shown, reply_with};
+use ft_base::{Line, Memory, QueryFault};
+use indexmap::IndexMap;
+use path_grammar::PathRoot;
+use path_subset::{ReadPath, read_path};
+use plan_compiler::{Lists, is_decided, missing_list};
+use session_text::{Refusal, Reply};
 use std::alloc::Global;
 
-/// A query as it is written: whether elements at any depth are looked at, and not the roots alone; their name; and a selection.
-#[derive(Clone, Copy)]
-pub(crate) struct WrittenQuery<'a> {
-    pub(crate) deep: bool,
-    pub(crate) name: &'a str,
-    pub(crate) selection: &'a str,
-}
-
-/// What a path would be as a query.
-#[derive(Clone, Copy)]
-struct Guess<'a> {
-    deep: bool,
-    name: &'a [u8],
-    selection: &'a [u8],
-}
-
-/// The query that a path is, or nothing where it isn't one.
-pub(crate) fn read_query_path<'a>(
+/// The reply to a path, by the documents and the lists that are there.
+pub(crate) fn answer_path(
     alloc: Global,
-    path: &'a [u8],
-) -> Result<Option<WrittenQuery<'a>>, Memory>
-    ensures { IfOk result (λ query. option_map written query ≡ paths.query_of_path path.now) }
+    documents: &IndexMap<Line, Loaded>,
+    lists: &Lists,
+    shown: Shown,
+    text: &str,
+) -> Result<Reply, Memory>
+    ensures { IfOk result (λ reply. reply ≡ paths.answer shown (state_of documents.now lists.now) text.now) }
 {
-    let guess = guess_of(path);
-    if path != spell(alloc, guess.deep, guess.name, guess.selection)?.as_slice() {
-        return Ok(None);
-    }
-    let name = match element_name(alloc, guess.name)? {
-        Some(name) => name,
-        None => return Ok(None),
-    };
-    let selection = match text_of(guess.selection) {
-        Some(selection) => selection,
-        None => return Ok(None),
-    };
-    Ok(Some(WrittenQuery {
-        deep: guess.deep,
-        name,
-        selection,
-    }))
-}
-
-/// The only query that the path could be.
-fn guess_of(path: &[u8]) -> Guess<'_>
-    ensures { guessed result ≡ paths.query_guess path.now }
-{
-    let deep = path.starts_with(steps(true));
-    let name = before(b'[', behind(path, steps(deep).len()));
-    let selection = without_last(behind(path, front_len(deep, name)));
-    Guess {
-        deep,
-        name,
-        selection,
+    match read_path(alloc, text) {
+        Ok(path) => answer_read(alloc, documents, lists, shown, &path),
+        Err(fault) => refuse(fault),
     }
 }
 
-/// What stands before the name.
-fn steps(deep: bool) -> &'static [u8]
-    ensures { result.now ≡ paths.steps deep }
-{
-    if deep {
-        b"collection()//"
-    } else {
-        b"collection()/"
-    }
-}
-
-/// What stands between the name and the selection.
-fn predicate_front() -> &'static [u8]
-    ensures { result.now ≡ paths.predicate_front }
-{
-    b"[. contains text "
-}
-
-/// The bytes before the selection.
-pub(crate) fn front_len(deep: bool, name: &[u8]) -> usize
-    ensures { result ≡ length (paths.query_front deep name.now) }
-{
-    steps(deep).len() + name.len() + predicate_front().len()
-}
-
-/// What stands behind the first bytes.
-fn behind(bytes: &[u8], count: usize) -> &[u8]
-    ensures { result.now ≡ drop count bytes.now }
-{
-    &bytes[count.min(bytes.len())..]
-}
-
-fn without_last(bytes: &[u8]) -> &[u8]
-    ensures { result.now ≡ without_last bytes.now }
-{
-    &bytes[..bytes.len().saturating_sub(1)]
-}
-
-/// Where the byte first stands, or the length.
-fn position_of(byte: u8, bytes: &[u8]) -> usize
-    ensures within { result ≤ length bytes.now }
-    ensures first { result ≡ position_or_len (λ other. other == byte) bytes.now }
-{
-    let mut at = 0;
-    while at < bytes.len() && bytes[at] != byte {
-        at += 1;
-    }
-    at
-}
-
-/// What stands before the first such byte.
-fn before(byte: u8, bytes: &[u8]) -> &[u8]
-    ensures { result.now ≡ before_first (λ other. other == byte) bytes.now }
-{
-    &bytes[..position_of(byte, bytes)]
-}
-
-/// How a query is written.
-fn spell(alloc: Global, deep: bool, name: &[u8], selection: &[u8]) -> Result<Vec<u8>, Memory>
-    ensures { IfOk result (λ text. text.items ≡ paths.query_text (paths.written_as deep name.now selection.now)) }
-{
-    let mut text = Vec::new(alloc);
-    text.extend_from_slice(steps(deep))?;
-    text.extend_from_slice(name)?;
-    text.extend_from_slice(predicate_front())?;
-    text.extend_from_slice(selection)?;
-    text.extend_from_slice(b"]")?;
-    Ok(text)
-}
-
-/// The bytes as a text, if they are one.
-fn text_of(bytes: &[u8]) -> Option<&str>
-    ensures text { IfSome result (λ text. (is_utf8 bytes.now ≡ true) × (text.now ≡ bytes.now)) }
-    ensures none { IfNone result (is_utf8 bytes.now ≡ false) }
-{
-    match std::str::from_utf8(bytes) {
-        Ok(text) => Some(text),
-        Err(_) => None,
-    }
-}
-
-/// The bytes as the name of an element, if they are one.
-fn element_name(alloc: Global, bytes: &[u8]) -> Result<Option<&str>, Memory>
-    ensures { IfOk result (λ name. MatchOption name (paths.is_name bytes.now ≡ false)
-        (λ text. (paths.is_name bytes.now ≡ true) × (text.now ≡ bytes.now))) }
-{
-    let Some(text) = text_of(bytes) else {
-        return Ok(None);
-    };
-    let letters = letters_of(alloc, text)?;
-    if names_element(&letters) {
-        Ok(Some(text))
-    } else {
-        Ok(None)
-    }
-}
-
-fn names_element(letters: &[char]) -> bool
-    ensures { result ≡ paths.names_element letters.now }
-{
-    if letters.is_empty() {
-        return false;
-    }
-    is_name_start(letters[0]) && has_only_name_characters(&letters[1..])
-}
-
-fn has_only_name_characters(letters: &[char]) -> bool
-    ensures { result ≡ list_all chars.is_name_char letters.now }
-{
-    letters.iter().all(|letter| is_name_char(*letter))
-}
-
-/// The fault at its place in the whole path, where so many bytes stand before the selection.
-pub(crate) fn fault_behind(front: usize, fault: QueryFault) -> Result<QueryFault, Memory>
-    ensures place { IfOk result (λ behind. behind ≡ paths.behind front fault) }
-    ensures known { OnOk result (fault ≢ Fault.Memory) }
+/// The refusal of a path with that fault. Want of memory is none.
+fn refuse(fault: QueryFault) -> Result<Reply, Memory>
+    ensures refusal { IfOk result (λ reply. reply ≡ Reply.Refused (Refusal.Query fault)) }
+    ensures known { OnOk result (fault ≢ QueryFault.Memory) }
 {
     match fault {
-        QueryFault::Syntax { at } => Ok(QueryFault::Syntax {
-            at: place_behind(front, at)?,
-        }),
-        QueryFault::Deep { at } => Ok(QueryFault::Deep {
-            at: place_behind(front, at)?,
-        }),
-        QueryFault::Number { at } => Ok(QueryFault::Number {
-            at: place_behind(front, at)?,
-        }),
-        QueryFault::Phrases { at } => Ok(QueryFault::Phrases {
-            at: place_behind(front, at)?,
-        }),
-        QueryFault::OptionTwice { at } => Ok(QueryFault::OptionTwice {
-            at: place_behind(front, at)?,
-        }),
-        QueryFault::BadWildcard { at } => Ok(QueryFault::BadWildcard {
-            at: place_behind(front, at)?,
-        }),
-        QueryFault::MildNotExclude { at } => Ok(QueryFault::MildNotExclude {
-            at: place_behind(front, at)?,
-        }),
-        QueryFault::InsideFilter { at } => Ok(QueryFault::InsideFilter {
-            at: place_behind(front, at)?,
-        }),
         QueryFault::Memory => Err(Memory),
+        _ => Ok(Reply::Refused(Refusal::Query(fault))),
     }
 }
 
-fn place_behind(front: usize, at: usize) -> Result<usize, Memory>
-    ensures { IfOk result (λ place. place ≡ front + at) }
+/// The reply to a path that was read.
+fn answer_read(
+    alloc: Global,
+    documents: &IndexMap<Line, Loaded>,
+    lists: &Lists,
+    shown: Shown,
+    path: &ReadPath,
+) -> Result<Reply, Memory>
+    requires { AskBelow (length (read_form path.now).selections) (read_form path.now).path.steps }
+    ensures { IfOk result (λ reply. reply ≡ paths.answer_read shown (state_of documents.now lists.now) (Ok (read_form path.now))) }
 {
-    front.checked_add(at).ok_or(Memory)
+    if let Some(name) = missing_document(documents, path.root()) {
+        let name = Line::read(alloc, name)?;
+        return Ok(Reply::Refused(Refusal::NoSuchDoc { name }));
+    }
+    if let Some(name) = missing_list_of(path, lists) {
+        let name = Line::read(alloc, name)?;
+        return Ok(Reply::Refused(Refusal::NoSuchList { name }));
+    }
+    if !are_decided(path) {
+        return Ok(Reply::Refused(Refusal::NotYet));
+    }
+    let planned = compile_path(alloc, path, lists)?;
+    let lines = collect_lines(alloc, documents, shown, &planned)?;
+    Ok(reply_with(shown, lines))
+}
+
+/// The name of the document with which a path begins, if there is none of that name.
+fn missing_document<'a>(
+    documents: &IndexMap<Line, Loaded>,
+    root: &'a PathRoot,
+) -> Option<&'a str>
+    ensures { option_copied result ≡ paths.missing_document root.now (map to_document documents.now.entries) }
+{
+    match root {
+        PathRoot::Collection => None,
+        PathRoot::Doc(name) => {
+            if documents.contains_key(name) {
+                None
+            } else {
+                Some(name.as_str())
+            }
+        }
+    }
+}
+
+/// The name of the first list that a selection of the path names and that isn't there.
+fn missing_list_of<'a>(path: &'a ReadPath, lists: &Lists) -> Option<&'a str>
+    ensures { option_copied result ≡ paths.missing_list lists.now (paths.selections_of (read_form path.now)) }
+{
+    for number in 0..path.selection_count() {
+        if let Some(name) = missing_list(path.selection(number), lists) {
+            return Some(name);
+        }
+    }
+    None
+}
+
+/// Whether plans decide each selection of the path.
+fn are_decided(path: &ReadPath) -> bool
+    ensures { result ≡ list_all is_decided (paths.selections_of (read_form path.now)) }
+{
+    for number in 0..path.selection_count() {
+        if !is_decided(path.selection(number)) {
+            return false;
+        }
+    }
+    true
 }

@@ -208,7 +208,7 @@ fn faults_of_selections_have_their_places_in_the_path(rt: HostRuntime) -> Result
             "7 query: number at 52",
         ),
         ("\"a\"\"", "7 query: syntax at 32"),
-        ("\"a\" and \"b\"", "7 query: syntax at 36"),
+        ("\"a\" and \"b\"", "7 query: syntax at 40"),
         ("", "7 query: syntax at 32"),
         ("\"a\" ordered", "14 not yet"),
         ("\"a\" not in \"b\"", "14 not yet"),

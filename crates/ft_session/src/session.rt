@@ -1,21 +1,16 @@
 ghost use Rattle.std.specs.Prelude.{◌≡◌, map, IfOk, OnErr};
-ghost use Rattle.ft_parser.specs.Answer.{selection_read};
-ghost use Rattle.ft_syntax.specs.View.{form};
-ghost use Rattle.plan_compiler.specs.Missing.{first_missing};
-ghost use Rattle.ft_session.specs.Paths.{query_of_path};
-ghost use Rattle.ft_session.specs.QueryView.{asked, written};
-ghost use Rattle.ft_session.specs.Step.{answer, answer_lists, answer_read, dropped, lines_asked, loadable, loaded, opening, step, to_document, with_documents};
+ghost use Rattle.ft_session.specs.Paths.{answer};
+ghost use Rattle.ft_session.specs.State.{opening, to_document};
+ghost use Rattle.ft_session.specs.Step.{dropped, loadable, loaded, step, with_documents};
 
 use crate::lists::{put_stems, put_stop_list, put_thesaurus};
 use crate::loaded::Loaded;
 use crate::loading::{Outcome, read_document};
-use crate::paths::{WrittenQuery, fault_behind, front_len, read_query_path};
-use crate::query::{AskedElements, collect_lines};
-use ft_base::{Line, Lines, MAX_DOCUMENTS, Memory, Steps};
-use ft_parser::read_selection;
-use ft_syntax::Selection;
+use crate::paths::answer_path;
+use crate::shown::Shown;
+use ft_base::{Line, MAX_DOCUMENTS, Memory, Steps};
 use indexmap::IndexMap;
-use plan_compiler::{CompileFault, Lists, Plan, is_decided, missing_list};
+use plan_compiler::Lists;
 use session_text::{Command, FullOf, Refusal, Reply};
 use std::alloc::Global;
 use std::marker::Model;
@@ -32,7 +27,7 @@ pub struct Session {
 impl Model for Session {
     ghost use Rattle.std.specs.Prelude.{map};
     ghost use Rattle.ft_session.specs.Codes.{state_code};
-    ghost use Rattle.ft_session.specs.Step.{State, to_document};
+    ghost use Rattle.ft_session.specs.State.{State, to_document};
 
     ghost Value = { State };
 
@@ -77,7 +72,8 @@ impl Session {
             Command::Thesaurus { name, block } => {
                 put_thesaurus(self.alloc, &mut self.lists, name.as_str(), block.as_slice())
             }
-            Command::Query { path } => self.query(path.as_str()),
+            Command::Query { path } => self.show(Shown::Names, path.as_str()),
+            Command::Print { path } => self.show(Shown::Texts, path.as_str()),
             Command::BadCommand { line } => {
                 Ok(Reply::Refused(Refusal::BadCommand { line: *line }))
             }
@@ -94,61 +90,19 @@ impl Session {
         load_document(self.alloc, &mut self.documents, name, block)
     }
 
+    /// The reply to a path, of whose elements this is shown.
+    fn show(&self, shown: Shown, path: &str) -> Result<Reply, Memory>
+        ensures { IfOk result (λ reply. reply ≡ answer shown self.now path.now) }
+    {
+        answer_path(self.alloc, &self.documents, &self.lists, shown, path)
+    }
+
     /// Takes the document of the name out.
     fn remove(&mut self, name: &Line) -> Result<Reply, Memory>
         ensures answer { IfOk result (λ reply. (self.new, reply) ≡ with_documents self.old (dropped self.old.documents name.now)) }
         ensures err { OnErr result (self.new ≡ self.old) }
     {
         drop_document(self.alloc, &mut self.documents, name)
-    }
-
-    /// The answer to a query with that path.
-    fn query(&self, path: &str) -> Result<Reply, Memory>
-        ensures { IfOk result (λ reply. reply ≡ answer self.now (query_of_path path.now)) }
-    {
-        match read_query_path(self.alloc, path.as_bytes())? {
-            None => Ok(Reply::Refused(Refusal::NotYet)),
-            Some(query) => self.select(&query),
-        }
-    }
-
-    /// The lines of the elements that the query selects, or the fault of its selection.
-    fn select(&self, query: &WrittenQuery<'_>) -> Result<Reply, Memory>
-        ensures { IfOk result (λ reply. reply ≡ answer_read self.now (written query.now) (selection_read query.now.selection.now)) }
-    {
-        match read_selection(self.alloc, query.selection) {
-            Ok(selection) => self.select_by(query, &selection),
-            Err(fault) => {
-                let front = front_len(query.deep, query.name.as_bytes());
-                let fault = fault_behind(front, fault)?;
-                Ok(Reply::Refused(Refusal::Query(fault)))
-            }
-        }
-    }
-
-    /// The lines of the elements whose text satisfies the selection, or the name of a list that it names and that isn't there.
-    /// A selection that plans don't decide isn't carried out yet.
-    fn select_by(&self, query: &WrittenQuery<'_>, selection: &Selection) -> Result<Reply, Memory>
-        ensures { IfOk result (λ reply. reply ≡ answer_lists self.now (written query.now) (form selection.now) (first_missing self.now.lists (form selection.now))) }
-    {
-        if let Some(name) = missing_list(selection, &self.lists) {
-            let name = Line::read(self.alloc, name)?;
-            return Ok(Reply::Refused(Refusal::NoSuchList { name }));
-        }
-        if !is_decided(selection) {
-            return Ok(Reply::Refused(Refusal::NotYet));
-        }
-        let plan = match Plan::compile(self.alloc, selection, &self.lists) {
-            Ok(plan) => plan,
-            Err(CompileFault::NoSuchList { .. }) => unreachable!(),
-            Err(CompileFault::Memory) => return Err(Memory),
-        };
-        let asked = AskedElements {
-            deep: query.deep,
-            name: query.name,
-            plan,
-        };
-        Ok(Reply::Nodes(collect_all(self.alloc, &asked, &self.documents)?))
     }
 }
 
@@ -196,25 +150,4 @@ fn drop_document(
         Some(_) => Ok(Reply::Done),
         None => Ok(Reply::Refused(Refusal::NoSuchName { name })),
     }
-}
-
-/// The lines of the asked elements of all documents, in their order.
-fn collect_all(
-    alloc: Global,
-    query: &AskedElements<'_>,
-    documents: &IndexMap<Line, Loaded>,
-) -> Result<Lines, Memory>
-    ensures { IfOk result (λ found. found ≡ lines_asked (map to_document documents.now.entries) (asked query.now)) }
-{
-    let mut found = Lines::new(alloc);
-    for (name, document) in documents.iter() {
-        collect_lines(
-            alloc,
-            query,
-            name.as_str(),
-            document.document.root(),
-            &mut found,
-        )?;
-    }
-    Ok(found)
 }

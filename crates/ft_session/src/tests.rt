@@ -133,18 +133,10 @@ fn what_is_not_there_yet_is_refused(rt: HostRuntime) -> Result<(), Fail> {
         "replace //a\n<b/>\n.",
         "delete //a",
         "query at m //a",
-        "print collection()//a",
         "mark m",
         "unmark m",
         "explain \"a\"",
         "stats",
-        "query collection()//a",
-        "query collection()//[. contains text \"a\"]",
-        "query collection()//a[.  contains text \"a\"]",
-        "query collection()//1a[. contains text \"a\"]",
-        "query collection()///a[. contains text \"a\"]",
-        "query doc(\"x\")//a[. contains text \"a\"]",
-        "query collection()//a[. contains text \"a\"] ]x",
     ] {
         let session = format!(in rt.alloc(); "{command}\n")?;
         expect(

@@ -5,7 +5,8 @@ use Rattle.std.specs.Map.{lookup}
 use Rattle.std.specs.Str.{bytes_eq}
 use Rattle.session_text.specs.declared.reply.Refusal.TheVariants.{NoSuchName}
 use Rattle.session_text.specs.declared.reply.Reply.TheVariants.{Done, Refused}
-use Rattle.ft_session.specs.Step.{has_name, to_document, without}
+use Rattle.ft_session.specs.State.{has_name, to_document}
+use Rattle.ft_session.specs.Step.{without}
 use Rattle.ft_session.proofs.SessionLemmas.{dropped-test, has_name-lookup, with_reply, without-removed}
 use Rattle.ft_session.proofs.session.drop_document.Goals as goal
 

@@ -1,0 +1,50 @@
+-- The documents of a name are the one that a look-up finds.
+use Rattle.std.proofs.Common.{◌≡◌, ◌∙◌, sym, ap, refl, ℕ, Bool, true, false, cond, List, [], ◌∷◌, map}
+use Rattle.std.specs.Prelude.{Option, Some, None, filter}
+use Rattle.std.specs.List.{AllByRecursion, IsDistinct}
+use Rattle.std.specs.Map.{keys_of, lookup}
+use Rattle.std.specs.Str.{bytes_eq}
+use Rattle.std.proofs.lemmas.Slice.Eq.{bytes_eq-Decides}
+use Rattle.path_grammar.specs.Collection.{Named}
+use Rattle.ft_session.specs.declared.loaded.Loaded.{Loaded}
+use Rattle.ft_session.specs.State.{to_document}
+
+abbrev Entry : Type 0
+Entry = List ℕ × Loaded
+
+abbrev of_name : List ℕ → List Entry → List Named
+of_name name entries = filter (λ d. bytes_eq name d.name) (map to_document entries)
+
+-- the first document, by the test of its name
+of_name-first : (name : List ℕ) (e : Entry) (es : List Entry) (test : Bool) → bytes_eq name e.0 ≡ test → of_name name (e ∷ es) ≡ cond test (to_document e ∷ of_name name es) (of_name name es)
+of_name-first name e es test is = ap (λ t. cond t (to_document e ∷ of_name name es) (of_name name es)) is
+
+lookup-first : (name : List ℕ) (e : Entry) (es : List Entry) (test : Bool) → bytes_eq name e.0 ≡ test → lookup (bytes_eq name) (e ∷ es) ≡ cond test (Some e.1) (lookup (bytes_eq name) es)
+lookup-first name e es test is = ap (λ t. cond t (Some e.1) (lookup (bytes_eq name) es)) is
+
+pub none-named : (name : List ℕ) (es : List Entry) → lookup (bytes_eq name) es ≡ None → of_name name es ≡ []
+none-named name [] h = refl
+none-named name (e ∷ es) h = by (none-named name es) (bytes_eq name e.0) refl
+  where
+    by : (lookup (bytes_eq name) es ≡ None → of_name name es ≡ []) → (test : Bool) → bytes_eq name e.0 ≡ test → of_name name (e ∷ es) ≡ []
+    by rest true is = let both : Some e.1 ≡ None = sym (lookup-first name e es true is) ∙ h in let no : ⊥ = cc in absurd no
+    by rest false is = of_name-first name e es false is ∙ rest (sym (lookup-first name e es false is) ∙ h)
+
+others : (name : List ℕ) (es : List Entry) → AllByRecursion (λ other. bytes_eq name other ≡ false) (keys_of es) → of_name name es ≡ []
+others name [] h = refl
+others name (e ∷ es) h = of_name-first name e es false h.0 ∙ others name es h.1
+
+pub one-named : (name : List ℕ) (es : List Entry) (found : Loaded) → IsDistinct bytes_eq (keys_of es) → lookup (bytes_eq name) es ≡ Some found → of_name name es ≡ to_document (name, found) ∷ []
+unfolding IsDistinct
+one-named name [] found apart h = let no : ⊥ = cc in absurd no
+one-named name (e ∷ es) found apart h = by (λ is. one-named name es found apart.1 is) (bytes_eq name e.0) refl
+  where
+    by : (lookup (bytes_eq name) es ≡ Some found → of_name name es ≡ to_document (name, found) ∷ []) → (test : Bool) → bytes_eq name e.0 ≡ test → of_name name (e ∷ es) ≡ to_document (name, found) ∷ []
+    by rest true is =
+        let same : name ≡ e.0 = (bytes_eq-Decides name e.0).0 is in
+        let both : Some e.1 ≡ Some found = sym (lookup-first name e es true is) ∙ h in
+        let value : e.1 ≡ found = cc in
+        of_name-first name e es true is
+        ∙ (ap (λ ds. to_document e ∷ ds) (ap (λ n. of_name n es) same ∙ others e.0 es apart.0)
+        ∙ (ap (λ n. to_document (n, e.1) ∷ []) (sym same) ∙ ap (λ v. to_document (name, v) ∷ []) value))
+    by rest false is = of_name-first name e es false is ∙ rest (sym (lookup-first name e es false is) ∙ h)

@@ -1,0 +1,162 @@
+-- Which elements plans select, and when a path is refused.
+use Rattle.std.proofs.Common.{◌≡◌, ◌≢◌, ◌∙◌, sym, ap, refl, ℕ, zero, suc, ◌+◌, ◌<◌, Bool, true, false, not, cond, ◌&&◌, List, [], ◌∷◌, ◌++◌, length, map, take, drop, get_or, arith}
+use Rattle.std.specs.Prelude.{Option, Some, None, Result, Ok, Err, flat_map}
+use Rattle.std.specs.Option.{option_or}
+use Rattle.std.proofs.lemmas.List.{at_drop_more, map_push, take_more}
+use Rattle.std.specs.List.{list_all, list_any}
+use Rattle.std.specs.Map.{lookup}
+use Rattle.std.specs.Str.{bytes_eq}
+use Rattle.all_matches.specs.Meaning.{sat}
+use Rattle.element_lines.specs.Lines.{element_line, printed_line}
+use Rattle.ft_base.specs.Selection.{Form}
+use Rattle.ft_base.specs.declared.fault.QueryFault.{QueryFault}
+use Rattle.ft_base.specs.declared.fault.QueryFault.TheVariants as Q
+use Rattle.ft_parser.specs.Answer.{Answered}
+use Rattle.ordered_tree.specs.Numbered.{Numbered, plain}
+use Rattle.ordered_tree.specs.declared.node_ref.NodeRef.{NodeRef}
+use Rattle.path_grammar.specs.Collection.{Named, documents}
+use Rattle.path_grammar.specs.Elements.{Element}
+use Rattle.path_grammar.specs.Form.{Steps, no_steps, step_then, Step, step, Predicates, no_predicates, predicate_then, Predicate, number, holds, Condition, or_of, and_of, not_of, attribute, exists, contains, Conditions, no_conditions, condition_then}
+use Rattle.path_grammar.specs.declared.path.PathRoot.{PathRoot}
+use Rattle.path_grammar.specs.declared.path.PathRoot.TheVariants.{Doc}
+use Rattle.path_grammar.specs.Meaning.{selected}
+use Rattle.path_nodes.specs.Asked.{OfEach, OfStep, OfPredicates, OfPredicate, OfCondition, OfConditions}
+use Rattle.path_nodes.specs.References.{element_of}
+use Rattle.path_subset.specs.Paths.{PathForm}
+use Rattle.plan_compiler.specs.Decided.{is_decided}
+use Rattle.plan_compiler.specs.Lexicon.{lexicon}
+use Rattle.plan_compiler.specs.Missing.{first_missing, names}
+use Rattle.plan_compiler.proofs.MissingLemmas.{missing_append}
+use Rattle.plan_compiler.specs.NamedLists.{NamedLists}
+use Rattle.plan_compiler.specs.declared.plan.Plan.{Plan}
+use Rattle.session_text.specs.declared.reply.Refusal.TheVariants.{NotYet}
+use Rattle.session_text.specs.declared.reply.Reply.TheVariants.{Refused}
+use Rattle.tokenizer.specs.Tokens.{tokens}
+use Rattle.ft_session.specs.Paths.{answer_listed, answer_read, answer_rooted, lines_for, lines_of, missing_document, missing_list, reply_with, satisfies, selections_of}
+use Rattle.ft_session.specs.PlannedPaths.{is_planned, meant, planned_lines, under, IsPlanOf}
+use Rattle.ft_session.specs.State.{State, has_name}
+use Rattle.ft_session.specs.declared.planned.PlannedPath.{PlannedPath}
+use Rattle.ft_session.specs.declared.shown.Shown.{Shown}
+use Rattle.ft_session.specs.declared.shown.Shown.TheVariants.{Names, Texts}
+
+first-none : {A : Type 0} (a b : Option A) → option_or a b ≡ None → a ≡ None
+first-none None b h = refl
+first-none (Some x) b h = h
+
+second-none : {A : Type 0} (a b : Option A) → option_or a b ≡ None → b ≡ None
+second-none None b h = h
+second-none (Some x) b h = let no : ⊥ = cc in absurd no
+
+first-true : (a b : Bool) → (a && b) ≡ true → a ≡ true
+first-true true b h = refl
+first-true false b h = h
+
+second-true : (a b : Bool) → (a && b) ≡ true → b ≡ true
+second-true true b h = h
+second-true false b h = let no : ⊥ = cc in absurd no
+
+-- the document with which a path begins is there or missing
+pub missing-document : (root : PathRoot) (name : List ℕ) (documents : List Named) (there : Bool) → root ≡ Doc name → has_name name documents ≡ there → missing_document root documents ≡ cond there None (Some name)
+missing-document root name documents there is has = ap (λ r. missing_document r documents) is ∙ ap (λ t. cond t None (Some name)) has
+
+-- what each plan says, its selection says
+pub planned-as : (lists : NamedLists) (plans : List Plan) (forms : List Form) → map meant plans ≡ map (under lists) forms → is_planned plans ≡ satisfies lists forms
+unfolding is_planned satisfies
+planned-as lists plans forms same = (λ i k e. by plans forms k same e i)
+  where
+    by : (plans : List Plan) (forms : List Form) (k : ℕ) → map meant plans ≡ map (under lists) forms → (e : Element) → is_planned plans k e ≡ satisfies lists forms k e
+    by [] [] k same e = refl
+    by [] (form ∷ forms) k same e = let no : ⊥ = cc in absurd no
+    by (plan ∷ plans) [] k same e = let no : ⊥ = cc in absurd no
+    by (plan ∷ plans) (form ∷ forms) zero same e = let one : meant plan ≡ under lists form = cc in ap (λ m. sat (lexicon m.0) m.1 (tokens e.node)) one
+    by (plan ∷ plans) (form ∷ forms) (suc k) same e = by plans forms k (let rest : map meant plans ≡ map (under lists) forms = cc in rest) e
+
+-- what holds of each number for which steps ask, and is more than something else
+mutual
+  unfolding OfEach OfStep OfPredicates OfPredicate OfCondition OfConditions
+
+  pub asked-weaker : (P R : ℕ → Type 0) → ((k : ℕ) → P k → R k) → (s : Steps) → OfEach P s → OfEach R s
+  asked-weaker P R w no_steps h = tt
+  asked-weaker P R w (step_then s rest) h = (step-weaker P R w s h.0, asked-weaker P R w rest h.1)
+
+  step-weaker : (P R : ℕ → Type 0) → ((k : ℕ) → P k → R k) → (s : Step) → OfStep P s → OfStep R s
+  step-weaker P R w (step deep test ps) h = predicates-weaker P R w ps h
+
+  predicates-weaker : (P R : ℕ → Type 0) → ((k : ℕ) → P k → R k) → (ps : Predicates) → OfPredicates P ps → OfPredicates R ps
+  predicates-weaker P R w no_predicates h = tt
+  predicates-weaker P R w (predicate_then p rest) h = (predicate-weaker P R w p h.0, predicates-weaker P R w rest h.1)
+
+  predicate-weaker : (P R : ℕ → Type 0) → ((k : ℕ) → P k → R k) → (p : Predicate) → OfPredicate P p → OfPredicate R p
+  predicate-weaker P R w (number k) h = tt
+  predicate-weaker P R w (holds c) h = condition-weaker P R w c h
+
+  condition-weaker : (P R : ℕ → Type 0) → ((k : ℕ) → P k → R k) → (c : Condition) → OfCondition P c → OfCondition R c
+  condition-weaker P R w (or_of cs) h = conditions-weaker P R w cs h
+  condition-weaker P R w (and_of cs) h = conditions-weaker P R w cs h
+  condition-weaker P R w (not_of c) h = condition-weaker P R w c h
+  condition-weaker P R w (attribute name value) h = tt
+  condition-weaker P R w (exists s) h = asked-weaker P R w s h
+  condition-weaker P R w (contains s k) h = (asked-weaker P R w s h.0, w k h.1)
+
+  conditions-weaker : (P R : ℕ → Type 0) → ((k : ℕ) → P k → R k) → (cs : Conditions) → OfConditions P cs → OfConditions R cs
+  conditions-weaker P R w no_conditions h = tt
+  conditions-weaker P R w (condition_then c rest) h = (condition-weaker P R w c h.0, conditions-weaker P R w rest h.1)
+
+-- a fault that isn't want of memory is the one that is expected
+pub answered_fault : {A B : Type 0} (view : A → B) (expected : Result B QueryFault) (fault : QueryFault) → Answered view expected (Err fault) → fault ≢ Q.Memory → expected ≡ Err fault
+answered_fault view expected (Q.Syntax at) h other = sym h
+answered_fault view expected (Q.Deep at) h other = sym h
+answered_fault view expected (Q.Number at) h other = sym h
+answered_fault view expected (Q.Phrases at) h other = sym h
+answered_fault view expected (Q.OptionTwice at) h other = sym h
+answered_fault view expected (Q.BadWildcard at) h other = sym h
+answered_fault view expected (Q.MildNotExclude at) h other = sym h
+answered_fault view expected (Q.InsideFilter at) h other = sym h
+answered_fault view expected Q.Memory h other = absurd (other refl)
+
+-- a selection among others, the lists that it names, and whether plans decide it
+module _ (forms : List Form) (k : ℕ) (form : Form) (within : k < length forms) (is : form ≡ get_or forms k form) where
+  pub missing-more : (lists : NamedLists) → missing_list lists (drop k forms) ≡ option_or (first_missing lists form) (missing_list lists (drop (k + 1) forms))
+  missing-more lists =
+      at_drop_more (missing_list lists) forms k form within
+      ∙ (ap (λ f. missing_list lists (f ∷ drop (k + 1) forms)) (sym is) ∙ missing_append lists (names form) (flat_map names (drop (k + 1) forms)))
+
+  pub decided-more : list_all is_decided (drop k forms) ≡ (is_decided form && list_all is_decided (drop (k + 1) forms))
+  decided-more = at_drop_more (list_all is_decided) forms k form within ∙ ap (λ f. is_decided f && list_all is_decided (drop (k + 1) forms)) (sym is)
+
+pub none-missing : (lists : NamedLists) (forms : List Form) (k : ℕ) (form : Form) → k < length forms → form ≡ get_or forms k form → missing_list lists forms ≡ None → first_missing lists form ≡ None
+none-missing lists [] k form within is none = absurd (omega (arith, within))
+none-missing lists (f ∷ forms) zero form within is none =
+    ap (first_missing lists) is ∙ first-none (first_missing lists f) (missing_list lists forms) (sym (missing_append lists (names f) (flat_map names forms)) ∙ none)
+none-missing lists (f ∷ forms) (suc k) form within is none =
+    none-missing lists forms k form (omega (arith, within)) is (second-none (first_missing lists f) (missing_list lists forms) (sym (missing_append lists (names f) (flat_map names forms)) ∙ none))
+
+pub all-decided : (forms : List Form) (k : ℕ) (form : Form) → k < length forms → form ≡ get_or forms k form → list_all is_decided forms ≡ true → is_decided form ≡ true
+all-decided [] k form within is all = absurd (omega (arith, within))
+all-decided (f ∷ forms) zero form within is all = ap is_decided is ∙ first-true (is_decided f) (list_all is_decided forms) all
+all-decided (f ∷ forms) (suc k) form within is all = all-decided forms k form (omega (arith, within)) is (second-true (is_decided f) (list_all is_decided forms) all)
+
+map-map : {A B C : Type 0} (xs : List A) (f : A → B) (g : B → C) → map (λ x. g (f x)) xs ≡ map g (map f xs)
+map-map [] f g = refl
+map-map (x ∷ xs) f g = ap (λ ys. g (f x) ∷ ys) (map-map xs f g)
+
+-- the lines of elements, by their references
+pub lines-of-names : (document : List ℕ) (root : Numbered) (found : List NodeRef) (elements : List Element) → map (element_of root) found ≡ elements
+    → map (λ r. element_line document (plain root) (element_of root r)) found ≡ lines_of Names document (plain root) elements
+lines-of-names document root found elements is = map-map found (element_of root) (element_line document (plain root)) ∙ ap (map (element_line document (plain root))) is
+
+pub lines-of-texts : (document : List ℕ) (root : Numbered) (found : List NodeRef) (elements : List Element) → map (element_of root) found ≡ elements
+    → map (λ r. printed_line (element_of root r).node) found ≡ lines_of Texts document (plain root) elements
+lines-of-texts document root found elements is = map-map found (element_of root) (λ (e : Element). printed_line e.node) ∙ ap (map (λ (e : Element). printed_line e.node)) is
+
+-- what plans select is what the path selects
+pub planned-lines : (lists : NamedLists) (all : List Named) (p : PathForm) (planned : PlannedPath) (shown : Shown) → IsPlanOf lists p planned
+    → flat_map (planned_lines shown planned) (documents planned.root.now all) ≡ lines_for shown (record { documents = all; lists = lists }) p
+planned-lines lists all p planned shown plan =
+    (λ i. flat_map (λ d. lines_of shown d.name d.root (selected (planned-as lists planned.plans.items (selections_of p) plan.plans i) (plan.steps i) d.root)) (documents (plan.root i) all))
+
+-- the reply to a path whose document and lists are there, and which plans decide
+pub answer-lines : (shown : Shown) (state : State) (p : PathForm) → missing_document p.path.root state.documents ≡ None → missing_list state.lists (selections_of p) ≡ None
+    → list_all is_decided (selections_of p) ≡ true → answer_read shown state (Ok p) ≡ reply_with shown (lines_for shown state p)
+answer-lines shown state p document lists decided =
+    ap (answer_rooted shown state p) document ∙ (ap (answer_listed shown state p) lists ∙ ap (λ t. cond t (reply_with shown (lines_for shown state p)) (Refused NotYet)) decided)

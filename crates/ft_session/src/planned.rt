@@ -1,0 +1,59 @@
+//! Paths with a plan for each of their selections.
+
+ghost use Rattle.std.specs.Prelude.{◌≡◌, IfOk, IsTrue, None, length, map};
+ghost use Rattle.std.specs.List.{list_all};
+ghost use Rattle.path_subset.specs.Paths.{read_form};
+ghost use Rattle.plan_compiler.specs.Decided.{is_decided};
+ghost use Rattle.ft_session.specs.Paths.{missing_list, selections_of};
+ghost use Rattle.ft_session.specs.PlannedPaths.{meant, under, AskBelow, HasItsPlans, IsPlanOf};
+
+use ft_base::Memory;
+use path_grammar::{PathRoot, Steps};
+use path_subset::ReadPath;
+use plan_compiler::{CompileFault, Lists, Plan};
+use std::alloc::Global;
+
+/// A path with a plan for each of its selections, by their numbers.
+#[derive(Drop)]
+pub(crate) struct PlannedPath<'a> {
+    pub(crate) root: &'a PathRoot,
+    pub(crate) steps: &'a Steps,
+    pub(crate) plans: Vec<Plan>,
+}
+
+/// Compiles the selections of a path under the lists.
+pub(crate) fn compile_path<'a>(
+    alloc: Global,
+    path: &'a ReadPath,
+    lists: &Lists,
+) -> Result<PlannedPath<'a>, Memory>
+    requires decided { IsTrue (list_all is_decided (selections_of (read_form path.now))) }
+    requires lists { missing_list lists.now (selections_of (read_form path.now)) ≡ None }
+    requires numbered { AskBelow (length (read_form path.now).selections) (read_form path.now).path.steps }
+    ensures plans { IfOk result (IsPlanOf lists.now (read_form path.now)) }
+    ensures numbered { IfOk result HasItsPlans }
+{
+    let plans = compile_all(alloc, path, lists)?;
+    Ok(PlannedPath {
+        root: path.root(),
+        steps: path.steps(),
+        plans,
+    })
+}
+
+/// A plan for each selection of a path.
+fn compile_all(alloc: Global, path: &ReadPath, lists: &Lists) -> Result<Vec<Plan>, Memory>
+    requires decided { IsTrue (list_all is_decided (selections_of (read_form path.now))) }
+    requires lists { missing_list lists.now (selections_of (read_form path.now)) ≡ None }
+    ensures { IfOk result (λ plans. map meant plans.items ≡ map (under lists.now) (selections_of (read_form path.now))) }
+{
+    let mut plans = Vec::new(alloc);
+    for number in 0..path.selection_count() {
+        match Plan::compile(alloc, path.selection(number), lists) {
+            Ok(plan) => plans.push(plan)?,
+            Err(CompileFault::NoSuchList { .. }) => unreachable!(),
+            Err(CompileFault::Memory) => return Err(Memory),
+        }
+    }
+    Ok(plans)
+}
