@@ -29,7 +29,9 @@ pub(crate) struct SelectionTest<'a> {
 impl<'a> TextTest for SelectionTest<'a> {
     ghost use Rattle.ft_session.specs.SelectionTests.{may_ask, says};
 
-    ghost meaning = { λ test. record { may_ask = may_ask test.plans.now test.tree.now.root; says = says test.plans.now test.tree.now.root } };
+    ghost meaning = { λ test. record { may_ask = may_ask test.plans.now test.tree.now.root; says = says test.plans.now test.tree.now.root; price = λ selection node. 0 } };
+
+    ghost spent = { λ test. 0 };
 
     fn contains(&mut self, selection: usize, node: NodeRef) -> Result<bool, Memory> {
         let tree = self.tree.to_tree(node)?;
