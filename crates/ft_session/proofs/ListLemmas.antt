@@ -1,6 +1,6 @@
 -- When a list is put under a name, and when that is refused.
-use Rattle.std.proofs.Common.{◌≡◌, ◌∙◌, sym, ap, ℕ, Bool, true, false, not, cond, ◌&&◌, List, length}
-use Rattle.std.specs.Prelude.{Result, Err, nat_le}
+use Rattle.std.proofs.Common.{◌≡◌, ◌∙◌, sym, ap, ℕ, Bool, cond, List}
+use Rattle.std.specs.Prelude.{Result}
 use Rattle.ft_base.specs.declared.fault.ListFault.{ListFault}
 use Rattle.ft_base.specs.declared.fault.ListFault.TheVariants.{BadLine, Memory}
 use Rattle.plan_compiler.specs.NamedLists.{NamedLists, with_stop_list, with_thesaurus}

@@ -1,6 +1,6 @@
 -- The documents of a name are the one that a look-up finds.
 use Rattle.std.proofs.Common.{◌≡◌, ◌∙◌, sym, ap, refl, ℕ, Bool, true, false, cond, List, [], ◌∷◌, map}
-use Rattle.std.specs.Prelude.{Option, Some, None, filter}
+use Rattle.std.specs.Prelude.{Some, None, filter}
 use Rattle.std.specs.List.{AllByRecursion, IsDistinct}
 use Rattle.std.specs.Map.{keys_of, lookup}
 use Rattle.std.specs.Str.{bytes_eq}

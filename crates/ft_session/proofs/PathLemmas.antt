@@ -1,11 +1,9 @@
 -- Which elements plans select, and when a path is refused.
-use Rattle.std.proofs.Common.{◌≡◌, ◌≢◌, ◌∙◌, sym, ap, refl, ℕ, zero, suc, ◌+◌, ◌<◌, Bool, true, false, not, cond, ◌&&◌, List, [], ◌∷◌, ◌++◌, length, map, take, drop, get_or, arith}
+use Rattle.std.proofs.Common.{◌≡◌, ◌≢◌, ◌∙◌, sym, ap, refl, ℕ, zero, suc, ◌+◌, ◌<◌, Bool, true, false, cond, ◌&&◌, List, [], ◌∷◌, length, map, drop, get_or, arith}
 use Rattle.std.specs.Prelude.{Option, Some, None, Result, Ok, Err, flat_map}
 use Rattle.std.specs.Option.{option_or}
-use Rattle.std.proofs.lemmas.List.{at_drop_more, map_push, take_more}
-use Rattle.std.specs.List.{list_all, list_any}
-use Rattle.std.specs.Map.{lookup}
-use Rattle.std.specs.Str.{bytes_eq}
+use Rattle.std.proofs.lemmas.List.{at_drop_more}
+use Rattle.std.specs.List.{list_all}
 use Rattle.all_matches.specs.Meaning.{sat}
 use Rattle.element_lines.specs.Lines.{element_line, printed_line}
 use Rattle.ft_base.specs.Selection.{Form}

@@ -6,7 +6,7 @@ use Rattle.path_grammar.specs.Grammar.{Inside, Step, Steps, Predicate, Predicate
 use Rattle.query_grammar.specs.declared.symbol.Placed.{Placed}
 use Rattle.path_subset.specs.Answer.{path_read}
 use Rattle.path_subset.specs.Paths.{PathForm, PlacedForm, placed_form}
-use Rattle.path_subset.specs.Spelled.{Each, SpellsPath}
+use Rattle.path_subset.specs.Spelled.{Each}
 use Rattle.path_subset.proofs.Spelled.{spelled}
 use Rattle.path_nodes.specs.Asked.{OfEach, OfStep, OfPredicates, OfPredicate, OfCondition, OfConditions}
 

@@ -1,13 +1,13 @@
 -- The node that a test is asked for, and the plan by which it answers.
 use Rattle.std.proofs.Common.{◌≡◌, ◌∙◌, sym, ap, refl, subst, ℕ, zero, suc, ◌+◌, ◌<◌, ◌≤◌, ◌==◌, Bool, true, false, ◌&&◌, ◌||◌, cond, List, [], ◌∷◌, length, get_or, arith, IsTrue}
 use Rattle.std.specs.Prelude.{nat_lt}
-use Rattle.std.specs.List.{list_any, All, Contains}
+use Rattle.std.specs.List.{list_any, Contains}
 use Rattle.std.proofs.lemmas.Bool.Decides.{nat_tests}
 use Rattle.std.proofs.lemmas.List.Elements.{All-contains}
 use Rattle.all_matches.specs.Meaning.{sat}
 use Rattle.ordered_tree.specs.Counts.{word_count}
-use Rattle.ordered_tree.specs.Numbered.{Numbered, plain, reference}
-use Rattle.ordered_tree.specs.Stands.{Stand, references, stands_in}
+use Rattle.ordered_tree.specs.Numbered.{Numbered, plain}
+use Rattle.ordered_tree.specs.Stands.{references, stands_in}
 use Rattle.ordered_tree.specs.declared.node_ref.NodeRef.{NodeRef}
 use Rattle.ordered_tree.proofs.ShiftLemmas.{length-tokens, stands-few}
 use Rattle.path_grammar.specs.Elements.{Element, placed}

@@ -1,5 +1,5 @@
 -- What a command does to what a session holds.
-use Rattle.std.specs.Prelude.{ℕ, Bool, nat_le, nat_lt, if◌then◌else◌, List, [], ◌∷◌, ◌++◌, length, Option, Some, None, Result, Ok, Err}
+use Rattle.std.specs.Prelude.{ℕ, nat_le, nat_lt, if◌then◌else◌, List, [], ◌∷◌, ◌++◌, length, Result, Ok, Err}
 use Rattle.std.specs.Str.{bytes_eq}
 use Rattle.plan_compiler.specs.NamedLists.{NamedLists}
 use Rattle.doc_profile.specs.declared.fault.DocFault.{DocFault}

@@ -32,7 +32,13 @@ fn expect_refusal(
 ) -> Result<(), Fail> {
     let session = format!(in alloc; "load x\n<a>x</a>\n.\n{command}\n")?;
     let output = format!(in alloc; "ok\n! {refusal}\n")?;
-    expect(rt, alloc, session.as_str(), output.as_str(), Status::SomeRefused)
+    expect(
+        rt,
+        alloc,
+        session.as_str(),
+        output.as_str(),
+        Status::SomeRefused,
+    )
 }
 
 const LETTERS: &str = "<a><b>x</b><b>y</b><c><b>x y</b></c></a>";
@@ -43,11 +49,7 @@ const LISTED: &str = "<r><e>a</e><e>b</e><e>a b</e><d><e>a</e><e>a b c</e></d></
 fn steps_and_predicates_select_elements(rt: HostRuntime) -> Result<(), Fail> {
     for (document, path, reply) in [
         (LETTERS, "collection()//b[2]", "= 1\ndoc(\"x\")/a[1]/b[2]"),
-        (
-            LETTERS,
-            "collection()//b[. contains text \"x\"][2]",
-            "= 0",
-        ),
+        (LETTERS, "collection()//b[. contains text \"x\"][2]", "= 0"),
         (
             LETTERS,
             "collection()/a[c/b contains text \"x y\" and not(@k)]",

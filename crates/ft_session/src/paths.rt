@@ -77,10 +77,7 @@ fn answer_read(
 }
 
 /// The name of the document with which a path begins, if there is none of that name.
-fn missing_document<'a>(
-    documents: &IndexMap<Line, Loaded>,
-    root: &'a PathRoot,
-) -> Option<&'a str>
+fn missing_document<'a>(documents: &IndexMap<Line, Loaded>, root: &'a PathRoot) -> Option<&'a str>
     ensures { option_copied result ≡ paths.missing_document root.now (map to_document documents.now.entries) }
 {
     match root {

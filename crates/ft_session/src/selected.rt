@@ -64,6 +64,7 @@ fn collect_one(
     requires { HasItsPlans path.now }
     ensures { IfOk result (λ lines. lines ≡ flat_map (planned_lines shown path.now) (documents_of (roots.Doc name.now) (map to_document documents.now.entries))) }
 {
+    // No two documents have one name, as the clauses of `iter` say.
     let _entries = documents.iter();
     match documents.get(name) {
         Some(document) => collect_from(alloc, name.as_str(), document, shown, path),
@@ -112,6 +113,7 @@ fn select(alloc: Global, document: &Loaded, path: &PlannedPath<'_>) -> Result<Ve
     ensures elements { IfOk result (λ found. map (element_of document.now.tree.root) found.items ≡ planned_in path.now (plain document.now.tree.root)) }
     ensures there { IfOk result (λ found. All (IsElement document.now.tree.root) found.items) }
 {
+    // The root is an element, as the clauses of `root` say.
     let _root = document.tree.root();
     let mut test = SelectionTest {
         alloc,

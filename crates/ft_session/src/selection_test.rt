@@ -27,9 +27,9 @@ pub(crate) struct SelectionTest<'a> {
 }
 
 impl<'a> TextTest for SelectionTest<'a> {
-    ghost use Rattle.ft_session.specs.SelectionTests.{may_ask, says};
+    ghost use Rattle.ft_session.specs.SelectionTests.{asked_of};
 
-    ghost meaning = { λ test. record { may_ask = may_ask test.plans.now test.tree.now.root; says = says test.plans.now test.tree.now.root; price = λ selection node. 0 } };
+    ghost meaning = { λ test. asked_of test.plans.now test.tree.now.root };
 
     ghost spent = { λ test. 0 };
 

@@ -1,5 +1,5 @@
 -- The first selection that names a list that isn't there tells its name.
-use Rattle.std.proofs.Common.{◌≡◌, ◌∙◌, sym, ap, ◌+◌, ◌<◌, drop, length, arith}
+use Rattle.std.proofs.Common.{◌∙◌, sym, ap, ◌+◌, ◌<◌, drop, length, arith}
 use Rattle.std.specs.Option.{option_copied, option_or}
 use Rattle.std.proofs.lemmas.List.{length-map}
 use Rattle.ft_syntax.specs.View.{form}

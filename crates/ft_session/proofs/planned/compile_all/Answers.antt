@@ -1,5 +1,5 @@
 -- Each selection is one that plans decide, and names lists that are there.
-use Rattle.std.proofs.Common.{◌≡◌, ◌∙◌, sym, ap, subst, ◌<◌, length, Some, arith}
+use Rattle.std.proofs.Common.{◌≡◌, subst, ◌<◌, length, Some, arith}
 use Rattle.std.proofs.lemmas.List.{length-map}
 use Rattle.ft_syntax.specs.View.{form}
 use Rattle.path_subset.specs.Paths.{PlacedForm, read_form}
