@@ -1,18 +1,17 @@
 -- What tests cost, one item further.
-use Rattle.std.proofs.Common.{◌≡◌, ◌+◌, ◌<◌, ◌≤◌, ℕ, Bool, true, false, List, [], ◌∷◌, ◌++◌, map, filter, flat_map, take, drop, length, get_or, Box, Global, refl, sym, ap, ◌∙◌, subst, arith, append-nil}
-use Rattle.std.specs.List.{All, Contains}
+use Rattle.std.proofs.Common.{◌≡◌, ◌+◌, ◌<◌, ◌≤◌, ℕ, Bool, true, false, List, [], ◌∷◌, ◌++◌, map, filter, flat_map, take, drop, length, get_or, Box, Global, refl, sym, ap, ◌∙◌, arith, append-nil}
 use Rattle.std.specs.Prelude.{sum_by}
 use Rattle.std.proofs.lemmas.List.{drop_more, map-append, take-append-drop}
 use Rattle.std.proofs.lemmas.List.Sums.{sum_by-cons, sum_by-append}
 use Rattle.path_grammar.specs.Elements as el
 use Rattle.path_grammar.specs.Elements.{Element, elements, element_children}
 use Rattle.path_grammar.specs.Form as form
-use Rattle.path_grammar.specs.Meaning.{Context, document, item, children, lists, is_named, led, stepped, filtered_by}
+use Rattle.path_grammar.specs.Meaning.{document, item, children, lists, is_named, led, stepped, filtered_by}
 use Rattle.path_grammar.specs.View.{step, predicate, condition}
 use Rattle.path_grammar.specs.declared.path.Step.{Step}
-use Rattle.path_grammar.specs.declared.path.Predicate.{Predicate, Number, Holds}
-use Rattle.path_grammar.specs.declared.path.Condition.{Condition, Or, And, Not, Attribute, Exists, Contains as Contains'}
-use Rattle.path_grammar.proofs.Views.{view_number, view_holds, view_or, view_and, view_not, view_exists, view_contains}
+use Rattle.path_grammar.specs.declared.path.Predicate.{Predicate, Holds}
+use Rattle.path_grammar.specs.declared.path.Condition.{Condition, Or, And, Not, Exists, Contains as Contains'}
+use Rattle.path_grammar.proofs.Views.{view_holds, view_or, view_and, view_not, view_exists, view_contains}
 use Rattle.ordered_tree.specs.Numbered.{Numbered, plain}
 use Rattle.ordered_tree.specs.declared.node_ref.NodeRef.{NodeRef}
 use Rattle.path_nodes.specs.Kept.{parents}
@@ -137,10 +136,6 @@ module _ (root : Numbered) (m : Meaning) where
 
   -- ---- a step, by its parents
 
-  pub list-price : (s : form.Step) (deep : Bool) (test : _) (ps : form.Predicates) (items : List Element) → s ≡ form.step deep test ps
-      → predicates_price root m ps (filter (λ e. is_named test e.node) items) ≡ list_price root m s items
-  list-price s deep test ps items is = ap (λ t. list_price root m t items) (sym is)
-
   pub step-price : (s : form.Step) (deep : Bool) (test : _) (ps : form.Predicates) (cs : List Element) → s ≡ form.step deep test ps
       → sum_by (children_price root m s) (parents deep cs) ≡ step_price root m s (map item cs)
   unfolding step_tests
@@ -190,6 +185,7 @@ module _ (root : Numbered) (m : Meaning) where
   own-price s false test ps e is alone = let h = document-price s test ps e is alone in omega (arith, h)
   own-price s true test ps e is alone = let h = deep-document-price s test ps e is alone in omega (arith, h)
 
+  -- the first step from the document, then the others
   pub selected-price : (xs : List Step) (d : Step) → 0 < length xs → (first : List Element) → first ≡ stepped (satisfied root m) (elements (plain root)) (step (get_or xs 0 d)) (document (plain root) ∷ [])
       → step_price root m (step (get_or xs 0 d)) (document (plain root) ∷ []) + steps_price root m (form.steps (map step (drop 1 xs))) first
       ≡ price_of root m (selected_tests (satisfied root m) (form.steps (map step xs)) (plain root))

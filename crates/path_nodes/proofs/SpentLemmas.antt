@@ -1,5 +1,5 @@
 -- What was spent on a part, and what the rest costs, is no more than what all cost.
-use Rattle.std.proofs.Common.{◌≡◌, ◌+◌, ◌<◌, ◌≤◌, ℕ, List, [], ◌∷◌, map, take, drop, length, get_or, refl, sym, ap, ◌∙◌, subst, arith}
+use Rattle.std.proofs.Common.{◌≡◌, ◌+◌, ◌<◌, ◌≤◌, ℕ, List, map, take, drop, length, get_or, ap, ◌∙◌, subst, arith}
 use Rattle.std.specs.Prelude.{sum_by}
 use Rattle.path_grammar.specs.Elements.{Element, elements}
 use Rattle.path_grammar.specs.Form as form
@@ -10,7 +10,7 @@ use Rattle.path_grammar.specs.declared.path.Predicate.{Predicate}
 use Rattle.path_grammar.specs.declared.path.Condition.{Condition}
 use Rattle.ordered_tree.specs.Numbered.{Numbered, plain}
 use Rattle.ordered_tree.specs.declared.node_ref.NodeRef.{NodeRef}
-use Rattle.path_nodes.specs.Prices.{price_of, steps_price, step_price, predicates_price, list_price, children_price, predicate_price, condition_price, conditions_price}
+use Rattle.path_nodes.specs.Prices.{price_of, steps_price, step_price, predicates_price, predicate_price, condition_price, conditions_price}
 use Rattle.path_nodes.specs.References.{IsElement, element_of}
 use Rattle.path_nodes.specs.Says.{Meaning, satisfied}
 use Rattle.path_nodes.specs.Tests.{each_tested}
