@@ -32,7 +32,8 @@ use Rattle.ft_session.specs.State.{State, has_name}
 abbrev pub selections_of : PathForm → List Form
 selections_of p = map (λ s. s.form) p.selections
 
--- whether an element's tokens satisfy the selection of that number, under these lists. They don't satisfy one that isn't there
+-- whether an element's tokens satisfy the selection of that number, under these lists (section 4.3, FTContainsExpr). They
+-- don't satisfy one that isn't there
 unfoldable pub satisfies : NamedLists → List Form → ℕ → Element → Bool
 satisfies lists [] k e = false
 satisfies lists (first ∷ rest) zero e = sat (lexicon lists) first (tokens e.node)
