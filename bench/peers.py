@@ -78,7 +78,7 @@ class BaseX:
         ran = subprocess.run(["basex", "-V", script], capture_output=True, text=True, env=environment, check=True)
         created = re.search(r"created in ([\d.]+) ms", ran.stdout)
         self.index_seconds = float(created[1]) / 1000
-        counts = [int(found) for found in re.findall(r"^(\d+)$", ran.stdout, re.MULTILINE)]
+        counts = [int(found) for found in re.findall(r"^(\d+)\nQuery:$", ran.stdout, re.MULTILINE)]
         seconds = [float(found) / 1000 for found in re.findall(r"^Total Time: ([\d.]+) ms", ran.stdout, re.MULTILINE)]
         if len(counts) != len(asked) or len(seconds) != len(asked):
             raise ValueError(f"BaseX answered {len(counts)} of {len(asked)} queries: {ran.stdout[-400:]}")
