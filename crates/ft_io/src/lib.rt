@@ -3,6 +3,8 @@
 #![tactic(auto)]
 
 mod failed;
+#[cfg(test)]
+mod fakes;
 mod file_shelf;
 mod memory_shelf;
 mod memory_sink;

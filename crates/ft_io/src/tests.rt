@@ -1,119 +1,200 @@
 // What no contract says: that memory suffices, and what the operating system's forms do.
-ghost use Rattle.std.specs.Prelude.{◌+◌, ◌^◌, ◌<◌};
+ghost use Rattle.std.specs.Prelude.{◌≡◌, ◌+◌, ◌<◌, ◌≤◌};
 
+use crate::fakes::{FakeFiles, FakeOutput};
 use crate::{Failed, FileShelf, MemoryShelf, MemorySink, Shelf, Sink, StdSink};
 use std::fs;
+use std::process::Abort;
+use std::rt::Files;
 use std::test::Fail;
 
-// Reads the file through the trait: as many bytes as the buffer has, once.
-fn read_once<S: Shelf>(shelf: &mut S, name: &str, at: u64, into: &mut [u8; 8]) -> Option<usize>
-    requires countable { S.faults shelf.old name.now + 1 < 2 ^ 64 }
-    requires small { at < 1000 }
+/// A read of that name at that place, and the bytes that it gives; no bytes where it fails.
+type Wanted = (&'static str, u16, Option<&'static [u8]>);
+
+// Whether a read that answered so gave those bytes.
+fn gave(answer: Result<usize, Failed>, into: &[u8; 8], bytes: Option<&[u8]>) -> bool {
+    match (answer, bytes) {
+        (Ok(count), Some(bytes)) => into.get(..count) == Some(bytes),
+        (Err(Failed), None) => true,
+        _ => false,
+    }
+}
+
+// Reads once, into a buffer of eight bytes.
+fn expect_file<R: Files + Drop>(rt: &impl Abort, shelf: &mut FileShelf<R>, wanted: Wanted)
+    requires faults { shelf.old.faults < 1000 }
+    ensures faults { shelf.new.faults ≤ shelf.old.faults + 1 }
 {
-    shelf.read_at(name, at, into).ok()
+    let (name, at, bytes) = wanted;
+    let mut into = [0u8; 8];
+    let answer = shelf.read_at(name, u64::from(at), &mut into);
+    assert!(rt; gave(answer, &into, bytes), "{name} at {at}");
 }
 
-// Writes through the trait, once.
-fn write_once<K: Sink>(sink: &mut K, text: &[u8; 4]) -> Option<usize>
-    requires { K.faults sink.old + 1 < 2 ^ 64 }
+#[test]
+fn a_file_of_the_system_is_read_piece_by_piece(rt: HostRuntime) {
+    let whole = FakeFiles {
+        piece: 100,
+        fault: 100,
+        seeks: true,
+    };
+    let pipe = FakeFiles {
+        piece: 3,
+        fault: 100,
+        seeks: false,
+    };
+    let broken = FakeFiles {
+        piece: 3,
+        fault: 5,
+        seeks: true,
+    };
+    let tables: [(FakeFiles, [Wanted; 4]); 5] = [
+        (
+            whole,
+            [
+                ("digits", 0, Some(b"01234567")),
+                ("digits", 8, Some(b"89")),
+                ("digits", 10, Some(b"")),
+                ("digits", 11, Some(b"")),
+            ],
+        ),
+        (
+            whole,
+            [
+                ("digits", 0, Some(b"01234567")),
+                ("letters", 8, Some(b"ij")),
+                ("digits", 8, Some(b"89")),
+                ("digits", 4, Some(b"456789")),
+            ],
+        ),
+        (
+            pipe,
+            [
+                ("digits", 0, Some(b"012")),
+                ("digits", 3, Some(b"345")),
+                ("digits", 6, Some(b"678")),
+                ("digits", 9, Some(b"9")),
+            ],
+        ),
+        (
+            pipe,
+            [
+                ("digits", 0, Some(b"012")),
+                ("letters", 0, Some(b"abc")),
+                ("letters", 3, Some(b"def")),
+                ("letters", 4, None),
+            ],
+        ),
+        (
+            broken,
+            [
+                ("digits", 0, Some(b"012")),
+                ("digits", 3, Some(b"34")),
+                ("digits", 5, None),
+                ("absent", 0, None),
+            ],
+        ),
+    ];
+    for (files, [first, second, third, fourth]) in tables {
+        let mut shelf = FileShelf::new(files, rt.alloc());
+        expect_file(&rt, &mut shelf, first);
+        expect_file(&rt, &mut shelf, second);
+        expect_file(&rt, &mut shelf, third);
+        expect_file(&rt, &mut shelf, fourth);
+    }
+}
+
+// Reads once, into a buffer of eight bytes.
+fn expect_memory(rt: &impl Abort, shelf: &mut MemoryShelf, wanted: Wanted)
+    requires faults { shelf.old.faults < 1000 }
+    ensures faults { shelf.new.faults ≤ shelf.old.faults + 1 }
 {
-    sink.write(text).ok()
-}
-
-#[test]
-fn a_file_in_memory_is_read_to_its_end(rt: HostRuntime) -> Result<(), Fail> {
-    let mut shelf = MemoryShelf::new(rt.alloc());
-    shelf.add("log", b"0123456789")?;
+    let (name, at, bytes) = wanted;
     let mut into = [0u8; 8];
-    assert_eq!(rt; shelf.read_at("log", 0, &mut into), Ok(8));
-    assert_eq!(rt; shelf.read_at("log", 8, &mut into), Ok(2));
-    assert_eq!(rt; into.as_slice(), b"89234567".as_slice());
-    assert_eq!(rt; shelf.read_at("log", 10, &mut into), Ok(0));
-    assert_eq!(rt; read_once(&mut shelf, "log", 11, &mut into), Some(0));
+    let answer = shelf.read_at(name, u64::from(at), &mut into);
+    assert!(rt; gave(answer, &into, bytes), "{name} at {at}");
+}
+
+#[test]
+fn a_file_in_memory_is_read(rt: HostRuntime) -> Result<(), Fail> {
+    let tables: [[Wanted; 3]; 3] = [
+        [
+            ("log", 0, Some(b"01234567")),
+            ("log", 8, None),
+            ("log", 8, Some(b"89")),
+        ],
+        [
+            ("log", 10, Some(b"")),
+            ("lo", 0, None),
+            ("log", 11, Some(b"")),
+        ],
+        [
+            ("a", 0, Some(b"new")),
+            ("log", 1, None),
+            ("a", 2, Some(b"w")),
+        ],
+    ];
+    for [first, second, third] in tables {
+        let mut shelf = MemoryShelf::new(rt.alloc());
+        shelf.add("a", b"first")?;
+        shelf.add("log", b"0123456789")?;
+        shelf.add("a", b"new")?;
+        shelf.fail_call(2);
+        expect_memory(&rt, &mut shelf, first);
+        expect_memory(&rt, &mut shelf, second);
+        expect_memory(&rt, &mut shelf, third);
+    }
     Ok(())
 }
 
 #[test]
-fn a_name_that_is_not_there_fails(rt: HostRuntime) -> Result<(), Fail> {
-    let mut shelf = MemoryShelf::new(rt.alloc());
-    shelf.add("log", b"text")?;
-    let mut into = [0u8; 8];
-    assert_eq!(rt; shelf.read_at("lo", 0, &mut into), Err(Failed));
-    assert_eq!(rt; shelf.read_at("log", 0, &mut into), Ok(4));
-    Ok(())
-}
-
-#[test]
-fn a_file_replaces_one_of_its_name(rt: HostRuntime) -> Result<(), Fail> {
-    let mut shelf = MemoryShelf::new(rt.alloc());
-    shelf.add("a", b"first")?;
-    shelf.add("b", b"other")?;
-    shelf.add("a", b"new")?;
-    let mut into = [0u8; 8];
-    assert_eq!(rt; shelf.read_at("a", 0, &mut into), Ok(3));
-    assert_eq!(rt; &into[..3], b"new".as_slice());
-    assert_eq!(rt; shelf.read_at("b", 1, &mut into), Ok(4));
-    assert_eq!(rt; &into[..4], b"ther".as_slice());
-    Ok(())
-}
-
-#[test]
-fn the_chosen_read_fails(rt: HostRuntime) -> Result<(), Fail> {
-    let mut shelf = MemoryShelf::new(rt.alloc());
-    shelf.add("log", b"text")?;
-    shelf.fail_call(2);
-    let mut into = [0u8; 2];
-    assert_eq!(rt; shelf.read_at("log", 0, &mut into), Ok(2));
-    assert_eq!(rt; shelf.read_at("log", 2, &mut into), Err(Failed));
-    assert_eq!(rt; shelf.read_at("log", 2, &mut into), Ok(2));
-    assert_eq!(rt; into.as_slice(), b"xt".as_slice());
-    Ok(())
-}
-
-#[test]
-fn a_sink_in_memory_takes_what_it_has_room_for(rt: HostRuntime) -> Result<(), Fail> {
-    let mut sink = MemorySink::new(rt.alloc(), 6)?;
-    assert_eq!(rt; sink.write(b"abcd"), Ok(4));
-    assert_eq!(rt; sink.write(b"efgh"), Ok(2));
-    assert_eq!(rt; write_once(&mut sink, b"ghij"), None);
-    assert_eq!(rt; sink.written(), b"abcdef".as_slice());
-    Ok(())
-}
-
-#[test]
-fn a_sink_in_memory_fails_at_its_total(rt: HostRuntime) -> Result<(), Fail> {
-    let mut sink = MemorySink::new(rt.alloc(), 100)?;
-    sink.fail_after(7);
-    assert_eq!(rt; sink.write(b"abcd"), Ok(4));
-    assert_eq!(rt; sink.write(b"efgh"), Ok(3));
-    assert_eq!(rt; sink.write(b"h"), Err(Failed));
-    sink.fail_after(2);
-    assert_eq!(rt; sink.write(b"h"), Err(Failed));
-    sink.fail_after(8);
-    assert_eq!(rt; sink.write(b"hi"), Ok(1));
-    assert_eq!(rt; sink.written(), b"abcdefgh".as_slice());
-    Ok(())
-}
-
-#[test]
-fn a_file_of_the_system_is_read(rt: HostRuntime) -> Result<(), Fail> {
+fn a_file_of_the_real_system_is_read(rt: HostRuntime) -> Result<(), Fail> {
     fs::write(&rt, "log.txt", b"0123456789")?;
-    let mut shelf = FileShelf::new(rt, rt.alloc());
-    let mut into = [0u8; 8];
-    assert_eq!(rt; shelf.read_at("absent.txt", 0, &mut into), Err(Failed));
-    assert_eq!(rt; shelf.read_at(".", 0, &mut into), Err(Failed));
-    assert_eq!(rt; shelf.read_at("log.txt", 0, &mut into), Ok(8));
-    assert_eq!(rt; shelf.read_at("log.txt", 8, &mut into), Ok(2));
-    assert_eq!(rt; into.as_slice(), b"89234567".as_slice());
-    assert_eq!(rt; shelf.read_at("log.txt", 10, &mut into), Ok(0));
-    assert_eq!(rt; shelf.read_at("log.txt", 4, &mut into), Ok(6));
-    assert_eq!(rt; into.as_slice(), b"45678967".as_slice());
+    let reads: [Wanted; 4] = [
+        ("absent.txt", 0, None),
+        (".", 0, None),
+        ("log.txt", 8, Some(b"89")),
+        ("log.txt", 4, Some(b"456789")),
+    ];
+    for wanted in reads {
+        let mut shelf = FileShelf::new(rt, rt.alloc());
+        expect_file(&rt, &mut shelf, wanted);
+    }
     fs::remove_file(&rt, "log.txt")?;
     Ok(())
 }
 
 #[test]
-fn standard_output_takes_bytes(rt: HostRuntime) {
-    let mut sink = StdSink::new(rt);
-    assert!(rt; write_once(&mut sink, b"text").is_some());
+fn a_sink_in_memory_fails_where_it_is_full(rt: HostRuntime) -> Result<(), Fail> {
+    let tables = [
+        (6, 100, [Ok(4), Ok(2), Err(Failed)], b"textte".as_slice()),
+        (100, 7, [Ok(4), Ok(3), Err(Failed)], b"texttex".as_slice()),
+        (100, 2, [Ok(2), Err(Failed), Err(Failed)], b"te".as_slice()),
+    ];
+    for (room, total, answers, written) in tables {
+        let mut sink = MemorySink::new(rt.alloc(), room)?;
+        sink.fail_after(total);
+        let [first, second, third] = answers;
+        assert!(rt; sink.write(b"text") == first);
+        assert!(rt; sink.write(b"text") == second);
+        assert!(rt; sink.write(b"text") == third);
+        assert!(rt; sink.written() == written);
+    }
+    Ok(())
+}
+
+#[test]
+fn standard_output_takes_what_the_system_takes(rt: HostRuntime) {
+    let table = [
+        (Some(1), Ok(1)),
+        (Some(3), Ok(3)),
+        (Some(9), Ok(4)),
+        (Some(0), Err(Failed)),
+        (None, Err(Failed)),
+    ];
+    for (takes, wanted) in table {
+        let mut sink = StdSink::new(FakeOutput { takes });
+        assert!(rt; sink.write(b"text") == wanted);
+    }
+    assert!(rt; StdSink::new(rt).write(b"text").is_ok());
 }
