@@ -1,6 +1,6 @@
 -- The number of the Matches of a value, and of the hits of a phrase.
-use Rattle.std.proofs.Common.{◌≡◌, refl, sym, ap, ◌∙◌, ℕ, zero, suc, ◌+◌, ◌-◌, ◌*◌, List, [], ◌∷◌, ◌++◌, Bool, true, false, ◌&&◌, ◌||◌, cond, length, take, drop, arith, length-append, sum, zero-add}
-use Rattle.std.specs.Prelude.{map, filter, flat_map, fold}
+use Rattle.std.proofs.Common.{◌≡◌, refl, sym, ap, ◌∙◌, ℕ, zero, suc, ◌+◌, ◌-◌, ◌*◌, List, [], ◌∷◌, ◌++◌, Bool, true, false, ◌&&◌, cond, length, take, drop, arith, length-append, sum, zero-add}
+use Rattle.std.specs.Prelude.{map, flat_map, fold}
 use Rattle.std.specs.List.{list_any, list_all, count_by, sum_by, range_with_len}
 use Rattle.std.proofs.Math.Nat.{suc-mul, mul_assoc, one-mul}
 use Rattle.std.proofs.lemmas.List.Sums.{length-filter, sum_by-cons, sum_by-append}

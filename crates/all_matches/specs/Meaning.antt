@@ -1,5 +1,5 @@
 -- The AllMatches of a selection (XQuery and XPath Full Text 3.0, sections 4.2 and 4.3), and whether a text satisfies it.
-use Rattle.std.specs.Prelude.{ℕ, ◌+◌, Bool, true, false, if◌then◌else◌, List, [], ◌∷◌, map, flat_map, length, None}
+use Rattle.std.specs.Prelude.{ℕ, ◌+◌, Bool, true, false, if◌then◌else◌, List, [], ◌∷◌, map, flat_map, length}
 use Rattle.std.specs.List.{list_all}
 use Rattle.std.specs.Option.{option_or}
 use Rattle.ft_base.specs.declared.token.Token.{Token}

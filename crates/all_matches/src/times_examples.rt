@@ -1,0 +1,22 @@
+//! `occurs` under filters on small texts, by computation.
+#![tactic(auto, unfolding(crate::specs::Meaning::sat_under, crate::specs::Meaning::all_matches, crate::specs::Meaning::phrase_count))]
+
+ghost use Rattle.std.specs.Prelude.{◌≡◌, true, false, [], ◌∷◌, codes, Some};
+ghost use Rattle.ft_base.specs.declared.filter.Filter.TheVariants as F;
+ghost use Rattle.ft_base.specs.declared.range.Range.TheVariants as R;
+ghost use Rattle.ft_base.specs.declared.unit.TextUnit.TheVariants as U;
+ghost use Rattle.ft_base.specs.declared.words.Mode.TheVariants as M;
+ghost use Rattle.ft_base.specs.Selection.{filtered};
+ghost use Rattle.all_matches.specs.Examples.{plain, text, value};
+ghost use Rattle.all_matches.specs.Meaning.{sat};
+
+/// The hits that are enough are includes, and those that would be too many are excludes.
+pub fn times_under_filters()
+    ensures enough_in_the_window { sat plain (filtered (value M.Any (Some (R.AtLeast 2)) (codes "a" ∷ [])) (F.Window 2 U.Words))
+        (text (codes "a x a a")) ≡ true }
+    ensures not_enough_in_the_window { sat plain (filtered (value M.Any (Some (R.AtLeast 2)) (codes "a" ∷ [])) (F.Window 2 U.Words))
+        (text (codes "a x a")) ≡ false }
+    ensures too_many_in_the_text { sat plain (filtered (value M.Any (Some (R.AtMost 1)) (codes "a" ∷ [])) (F.Window 2 U.Words)) (text (codes "a x a")) ≡ true }
+    ensures too_many_in_the_window { sat plain (filtered (value M.Any (Some (R.Exactly 1)) (codes "a" ∷ [])) (F.Window 1 U.Sentences))
+        (text (codes "a x a")) ≡ false }
+{}

@@ -1,0 +1,46 @@
+//! Windows on small texts, by computation. A period ends a sentence, `|` a paragraph.
+#![tactic(auto, unfolding(crate::specs::Meaning::sat_under, crate::specs::Meaning::all_matches, crate::specs::Meaning::phrase_count))]
+
+ghost use Rattle.std.specs.Prelude.{◌≡◌, ◌++◌, true, false, codes};
+ghost use Rattle.ft_base.specs.declared.filter.Filter.TheVariants as F;
+ghost use Rattle.ft_base.specs.declared.unit.TextUnit.TheVariants as U;
+ghost use Rattle.ft_base.specs.Selection.{filtered, not_of};
+ghost use Rattle.all_matches.specs.Examples.{plain, text, sentence, paragraph, quoted, two_and, three_and, but_not, word_a, word_b, word_c, word_x};
+ghost use Rattle.all_matches.specs.Meaning.{sat};
+
+/// A window holds all hits, in whichever order they stand in the query, and is told in words, sentences or paragraphs.
+pub fn hits_in_windows()
+    ensures against_the_query { sat plain (filtered (two_and word_b word_a) (F.Window 2 U.Words)) (text (codes "a x b")) ≡ false }
+    ensures the_last_of_three { sat plain (filtered (three_and word_a word_b word_c) (F.Window 2 U.Words)) (text (codes "a b c")) ≡ false }
+    ensures one_sentence { sat plain (filtered (two_and word_a word_b) (F.Window 1 U.Sentences)) (text (codes "a x b")) ≡ true }
+    ensures two_sentences { sat plain (filtered (two_and word_a word_b) (F.Window 1 U.Sentences)) (sentence 1 (codes "a") ++ sentence 2 (codes "b")) ≡ false }
+    ensures a_phrase_in_two_paragraphs { sat plain (filtered (quoted (codes "a b")) (F.Window 1 U.Paragraphs))
+        (paragraph 1 (codes "a") ++ paragraph 2 (codes "b")) ≡ false }
+    ensures two_paragraphs { sat plain (filtered (two_and word_a word_b) (F.Window 2 U.Paragraphs))
+        (paragraph 1 (codes "a") ++ paragraph 2 (codes "b")) ≡ true }
+    ensures sentences_of_a_paragraph { sat plain (filtered (two_and word_a word_b) (F.Window 1 U.Paragraphs))
+        (sentence 1 (codes "a") ++ sentence 2 (codes "b")) ≡ true }
+{}
+
+/// A window may begin in front of the text and end behind it. It begins no later, and ends no earlier, than the hits.
+pub fn places_of_windows()
+    ensures behind_the_text { sat plain (filtered (but_not (two_and word_a word_c) word_b) (F.Window 3 U.Words)) (text (codes "b a c")) ≡ true }
+    ensures in_front_of_the_text { sat plain (filtered (but_not (two_and word_a word_c) word_b) (F.Window 3 U.Words)) (text (codes "a c b")) ≡ true }
+    ensures no_room_to_begin_later { sat plain (filtered (but_not (two_and word_a word_c) (quoted (codes "a b"))) (F.Window 3 U.Words))
+        (text (codes "a b c")) ≡ false }
+    ensures no_room_to_end_earlier { sat plain (filtered (but_not (two_and word_a word_c) (quoted (codes "b c"))) (F.Window 3 U.Words))
+        (text (codes "a b c")) ≡ false }
+{}
+
+/// An exclude counts where it lies in the window as a whole.
+pub fn excludes_in_windows()
+    ensures begins_in_front { sat plain (filtered (but_not (two_and word_a word_c) (quoted (codes "x a"))) (F.Window 2 U.Words)) (text (codes "x a c")) ≡ true }
+    ensures ends_behind { sat plain (filtered (but_not (two_and word_a word_c) (quoted (codes "c x"))) (F.Window 2 U.Words)) (text (codes "a c x")) ≡ true }
+    ensures in_the_sentence { sat plain (filtered (but_not word_a word_b) (F.Window 1 U.Sentences)) (text (codes "a x x b")) ≡ false }
+    ensures in_another_sentence { sat plain (filtered (but_not word_a word_b) (F.Window 1 U.Sentences))
+        (sentence 1 (codes "a") ++ sentence 2 (codes "b")) ≡ true }
+    ensures in_the_paragraph { sat plain (filtered (but_not word_a word_b) (F.Window 1 U.Paragraphs))
+        (sentence 1 (codes "a") ++ sentence 2 (codes "b")) ≡ false }
+    ensures across_paragraphs { sat plain (filtered (but_not word_a (quoted (codes "a b"))) (F.Window 1 U.Paragraphs))
+        (paragraph 1 (codes "a") ++ paragraph 2 (codes "b")) ≡ true }
+{}
