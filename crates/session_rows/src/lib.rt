@@ -1,8 +1,47 @@
-//! Worked rows: sessions with the replies to their commands, and values of public calls with what these answer. Each file has
-//! one subject, and each of its tests one table in a loop.
+//! Worked rows: sessions with the replies to their commands, and public calls with their answers.
+//!
+//! Each file has one subject. A row is a line of a table, and each test tries one table in a loop.
 #![tactic(auto)]
 
 #[cfg(test)]
+mod commands;
+#[cfg(test)]
+mod cut_sessions;
+#[cfg(test)]
+mod documents;
+#[cfg(test)]
+mod failures;
+#[cfg(test)]
+mod limits;
+#[cfg(test)]
+mod lists;
+#[cfg(test)]
+mod options;
+#[cfg(test)]
+mod options_under_lists;
+#[cfg(test)]
+mod path_faults;
+#[cfg(test)]
+mod paths;
+#[cfg(test)]
+mod plans;
+#[cfg(test)]
+mod prefixes;
+#[cfg(test)]
+mod printed_forms;
+#[cfg(test)]
+mod query_faults;
+#[cfg(test)]
+mod read_paths;
+#[cfg(test)]
+mod replies;
+#[cfg(test)]
 mod rows;
 #[cfg(test)]
+mod selections;
+#[cfg(test)]
 mod sessions;
+#[cfg(test)]
+mod symbols;
+#[cfg(test)]
+mod words_found;

@@ -1,33 +1,126 @@
-// A row of a table, and how it is tried.
+// Rows of tables, and how each is tried.
+ghost use Rattle.std.specs.Prelude.{◌<◌, ◌^◌};
+
 use ft_io::{MemoryShelf, MemorySink};
 use ft_session::{Status, run};
-use std::alloc::Global;
+use std::alloc::{AllocError, Global};
 use std::process::Abort;
 use std::test::Fail;
 
-/// A session's bytes, the replies that it gets, and how it ends.
+/// A session, what it writes, and how it ends.
 pub(crate) type Row = (&'static str, &'static str, Status);
 
-/// Runs the session over a shelf and a sink in memory, and compares what is written and how it ends.
-pub(crate) fn expect_bytes(
-    rt: &impl Abort,
+/// A text, a selection, and whether the text satisfies it.
+pub(crate) type TruthRow = (&'static str, &'static str, bool);
+
+/// The number of a call, or a count of bytes, that is never reached.
+pub(crate) const NEVER: u64 = u64::MAX;
+
+/// The texts, one behind the other.
+pub(crate) fn joined(alloc: Global, parts: &[&str]) -> Result<String, AllocError> {
+    let mut text = String::new(alloc);
+    for part in parts {
+        text.push_str(part)?;
+    }
+    Ok(text)
+}
+
+/// The text between two others, so many times.
+pub(crate) fn repeated(
+    alloc: Global,
+    before: &str,
+    count: usize,
+    piece: &str,
+    behind: &str,
+) -> Result<String, AllocError> {
+    let mut text = String::from_str(alloc, before)?;
+    for _ in 0..count {
+        text.push_str(piece)?;
+    }
+    text.push_str(behind)?;
+    Ok(text)
+}
+
+/// Whether the bytes are these texts, one behind the other.
+fn are_parts(bytes: &[u8], parts: &[&str]) -> bool {
+    let mut rest = bytes;
+    for part in parts {
+        match rest.strip_prefix(part.as_bytes()) {
+            Some(behind) => rest = behind,
+            None => return false,
+        }
+    }
+    rest.is_empty()
+}
+
+/// Whether a run of the session writes these texts and ends so. The read of the given number fails, and the sink takes only so
+/// many bytes.
+pub(crate) fn is_answered(
     alloc: Global,
     session: &[u8],
-    output: &str,
+    failing_read: u64,
+    room: u64,
+    output: &[&str],
     status: Status,
-) -> Result<(), Fail> {
+) -> Result<bool, Fail> {
     let words = [String::from_str(alloc, "s")?];
     let mut shelf = MemoryShelf::new(alloc);
     shelf.add("s", session)?;
+    shelf.fail_call(failing_read);
     let mut sink = MemorySink::new(alloc, 65_536)?;
+    sink.fail_after(room);
     let ended = run(alloc, words.as_slice(), &mut shelf, &mut sink);
-    assert!(rt; sink.written() == output.as_bytes(), "{output}");
-    assert!(rt; ended == status, "{output}");
+    Ok(are_parts(sink.written(), output) && ended == status)
+}
+
+/// Runs a session where nothing fails, and compares what it writes and how it ends.
+pub(crate) fn expect_output(
+    rt: &impl Abort,
+    alloc: Global,
+    session: &str,
+    output: &[&str],
+    status: Status,
+) -> Result<(), Fail> {
+    let answered = is_answered(alloc, session.as_bytes(), NEVER, NEVER, output, status)?;
+    assert!(rt; answered, "{session}");
     Ok(())
 }
 
-/// The same for a row of text.
-pub(crate) fn expect(rt: &impl Abort, alloc: Global, row: &Row) -> Result<(), Fail> {
+/// The same for a row.
+pub(crate) fn expect(rt: &impl Abort, alloc: Global, row: Row) -> Result<(), Fail> {
     let (session, output, status) = row;
-    expect_bytes(rt, alloc, session.as_bytes(), output, *status)
+    expect_output(rt, alloc, session, &[output], status)
+}
+
+/// Carries out the commands, loads the text as the element `a` of document `x`, and compares whether it satisfies the selection.
+pub(crate) fn expect_truth_behind(
+    rt: &impl Abort,
+    alloc: Global,
+    commands: &str,
+    replies: &str,
+    row: TruthRow,
+) -> Result<(), Fail> {
+    let (text, selection, satisfied) = row;
+    let session = joined(
+        alloc,
+        &[
+            commands,
+            "load x\n<a>",
+            text,
+            "</a>\n.\nquery collection()/a[. contains text ",
+            selection,
+            "]\n",
+        ],
+    )?;
+    let found = if satisfied {
+        "ok\n= 1\ndoc(\"x\")/a[1]\n"
+    } else {
+        "ok\n= 0\n"
+    };
+    expect_output(rt, alloc, session.as_str(), &[replies, found], Status::Done)
+}
+
+/// The same with no commands before.
+pub(crate) fn expect_truth(rt: &impl Abort, alloc: Global, row: TruthRow) -> Result<(), Fail> {
+    expect_truth_behind(rt, alloc, "", "", row)
 }

@@ -1,0 +1,76 @@
+// Commands: how lines and blocks are divided, which lines are none, and which commands are not carried out yet.
+use crate::rows::{Row, expect, expect_output, joined};
+use ft_session::Status;
+use std::alloc::Global;
+use std::process::Abort;
+use std::test::Fail;
+
+pub(crate) const LINES: [Row; 5] = [
+    // a byte order mark, comments, blanks, carriage returns, and a last line that nothing ends
+    (
+        "\u{FEFF}# no command\r\n\n \t load\tone \r\n<a>\r\n.\r\n load two\n<a>x\n..\n</a>\n.\n\
+         query  collection()//a[. contains text \"x\"]",
+        "! 6 document: syntax at 4\nok\n= 1\ndoc(\"two\")/a[1]\n",
+        Status::SomeRefused,
+    ),
+    (
+        "load one\n.<a>x\n\n</a>\n.\r\nquery collection()//a[. contains text \"X\"]",
+        "ok\n= 1\ndoc(\"one\")/a[1]\n",
+        Status::Done,
+    ),
+    (
+        "load one\r\n<a>\r\nHello\r\n</a>\r\n.\r\nquery collection()//a[. contains text \"hello\"]\r\n",
+        "ok\n= 1\ndoc(\"one\")/a[1]\n",
+        Status::Done,
+    ),
+    // bad lines and names are refused first
+    (
+        "frobnicate\nload a b\nx\n.\nmark a/b\nload c",
+        "! 1 bad command at line 1\n! 1 bad command at line 2\n! 2 bad name at line 5\n! 1 bad command at line 6\n",
+        Status::SomeRefused,
+    ),
+    // a block is taken whatever else stands in its line
+    (
+        "stop /\nquery\n.\nstems x y\n.\nfrobnicate",
+        "! 2 bad name at line 1\n! 1 bad command at line 4\n! 1 bad command at line 6\n",
+        Status::SomeRefused,
+    ),
+];
+
+#[test]
+fn lines_and_blocks_are_divided_as_they_are_written(rt: HostRuntime) -> Result<(), Fail> {
+    for row in LINES {
+        expect(&rt, rt.alloc(), row)?;
+    }
+    Ok(())
+}
+
+const NOT_YET: [&str; 8] = [
+    "insert last //a\n<b/>\n.",
+    "replace //a\n<b/>\n.",
+    "delete //a",
+    "query at m //a",
+    "mark m",
+    "unmark m",
+    "explain \"a\"",
+    "stats",
+];
+
+fn expect_not_yet(rt: &impl Abort, alloc: Global, command: &str) -> Result<(), Fail> {
+    let session = joined(alloc, &[command, "\n"])?;
+    expect_output(
+        rt,
+        alloc,
+        session.as_str(),
+        &["! 14 not yet\n"],
+        Status::SomeRefused,
+    )
+}
+
+#[test]
+fn what_is_not_there_yet_is_refused(rt: HostRuntime) -> Result<(), Fail> {
+    for command in NOT_YET {
+        expect_not_yet(&rt, rt.alloc(), command)?;
+    }
+    Ok(())
+}

@@ -1,0 +1,250 @@
+// Sessions and their commands side by side, however the bytes are cut.
+ghost use Rattle.std.specs.Prelude.{◌≡◌, ◌+◌, ◌<◌, ◌^◌, length};
+
+use crate::commands::LINES;
+use crate::sessions::SESSIONS;
+use ft_base::{Bytes, Line};
+use session_text::{Command, Commands, How, Lines_};
+use std::alloc::{AllocError, Global};
+use std::process::Abort;
+use std::test::Fail;
+
+/// Adds a bar and the bytes.
+fn add(out: &mut Vec<u8>, bytes: &[u8]) -> Result<(), AllocError> {
+    out.push(b'|')?;
+    out.extend_from_slice(bytes)
+}
+
+/// Adds a command's word, and its name or text.
+fn named(out: &mut Vec<u8>, word: &str, text: &Line) -> Result<(), AllocError> {
+    add(out, word.as_bytes())?;
+    add(out, text.as_str().as_bytes())
+}
+
+/// The same, and its block.
+fn with_block(out: &mut Vec<u8>, word: &str, text: &Line, block: &Bytes) -> Result<(), AllocError> {
+    named(out, word, text)?;
+    add(out, block.as_slice())
+}
+
+/// Adds a fault, and the line's last digit.
+fn at_line(out: &mut Vec<u8>, word: &str, line: u64) -> Result<(), AllocError> {
+    add(out, word.as_bytes())?;
+    out.push(b'|')?;
+    out.push(b'0' + (line % 10) as u8)?;
+    Ok(())
+}
+
+fn inserted(how: How) -> &'static str {
+    match how {
+        How::First => "insert first",
+        How::Last => "insert last",
+        How::Before => "insert before",
+        How::After => "insert after",
+    }
+}
+
+/// Adds the command: its word, and what it holds.
+fn show(out: &mut Vec<u8>, command: &Command) -> Result<(), AllocError> {
+    match command {
+        Command::Load { name, block } => with_block(out, "load", name, block),
+        Command::Drop { name } => named(out, "drop", name),
+        Command::Insert { how, path, block } => with_block(out, inserted(*how), path, block),
+        Command::Replace { path, block } => with_block(out, "replace", path, block),
+        Command::Delete { path } => named(out, "delete", path),
+        Command::Stop { name, block } => with_block(out, "stop", name, block),
+        Command::Stems { block } => {
+            add(out, b"stems")?;
+            add(out, block.as_slice())
+        }
+        Command::Thesaurus { name, block } => with_block(out, "thesaurus", name, block),
+        Command::Query { path } => named(out, "query", path),
+        Command::QueryAt { name, path } => {
+            named(out, "query at", name)?;
+            add(out, path.as_str().as_bytes())
+        }
+        Command::Print { path } => named(out, "print", path),
+        Command::Mark { name } => named(out, "mark", name),
+        Command::Unmark { name } => named(out, "unmark", name),
+        Command::Explain { text } => named(out, "explain", text),
+        Command::Stats => add(out, b"stats"),
+        Command::BadCommand { line } => at_line(out, "bad command", *line),
+        Command::BadName { line } => at_line(out, "bad name", *line),
+    }
+}
+
+fn show_all(out: &mut Vec<u8>, commands: &Commands) -> Result<(), AllocError> {
+    for command in commands.as_slice() {
+        show(out, command)?;
+    }
+    Ok(())
+}
+
+/// Feeds a piece, and adds the commands that became whole with it.
+fn feed(out: &mut Vec<u8>, reader: &mut Lines_, piece: &[u8]) -> Result<(), Fail>
+    requires { reader.old.bytes + length piece.now < 2 ^ 63 }
+    ensures { reader.new.bytes ≡ reader.old.bytes + length piece.now }
+{
+    let commands = reader.feed(piece)?;
+    let shown = show_all(out, &commands);
+    std::mem::drop(commands);
+    shown?;
+    Ok(())
+}
+
+/// Ends the session, and adds the command that an unfinished line or block is then.
+fn finish(out: &mut Vec<u8>, reader: &mut Lines_) -> Result<(), Fail> {
+    let last = reader.end()?;
+    let shown = match &last {
+        Some(command) => show(out, command),
+        None => Ok(()),
+    };
+    std::mem::drop(last);
+    shown?;
+    Ok(())
+}
+
+/// Feeds the session in two pieces, and adds its commands.
+fn feed_cut(out: &mut Vec<u8>, reader: &mut Lines_, front: &[u8], back: &[u8]) -> Result<(), Fail>
+    requires fresh { reader.old.bytes ≡ 0 }
+    requires front { length front.now < 2 ^ 62 }
+    requires back { length back.now < 2 ^ 62 }
+{
+    feed(out, reader, front)?;
+    feed(out, reader, back)?;
+    finish(out, reader)
+}
+
+/// Feeds the session in pieces of so many bytes, the last of which may be shorter, and adds its commands.
+fn feed_pieces(
+    out: &mut Vec<u8>,
+    reader: &mut Lines_,
+    session: &[u8],
+    size: usize,
+) -> Result<(), Fail>
+    requires { reader.old.bytes + length session.now < 2 ^ 63 }
+{
+    let mut rest = session;
+    for turn in 0..session.len() {
+        let (piece, behind) = rest.split_at(size.min(rest.len()));
+        feed(out, reader, piece)?;
+        rest = behind;
+    }
+    finish(out, reader)
+}
+
+/// The commands of the session, fed in two pieces.
+fn read_cut(alloc: Global, front: &[u8], back: &[u8]) -> Result<Vec<u8>, Fail>
+    requires front { length front.now < 2 ^ 62 }
+    requires back { length back.now < 2 ^ 62 }
+{
+    let mut out = Vec::new(alloc);
+    let mut reader = Lines_::new(alloc);
+    let fed = feed_cut(&mut out, &mut reader, front, back);
+    std::mem::drop(reader);
+    fed?;
+    Ok(out)
+}
+
+/// The commands of the session, fed in pieces of so many bytes.
+fn read_pieces(alloc: Global, session: &[u8], size: usize) -> Result<Vec<u8>, Fail>
+    requires { length session.now < 2 ^ 62 }
+{
+    let mut out = Vec::new(alloc);
+    let mut reader = Lines_::new(alloc);
+    let fed = feed_pieces(&mut out, &mut reader, session, size);
+    std::mem::drop(reader);
+    fed?;
+    Ok(out)
+}
+
+/// A session, and its commands.
+type CutRow = (&'static [u8], &'static [u8]);
+
+const COMMANDS: [CutRow; 14] = [
+    (b"", b""),
+    (
+        b"frobnicate\nload a b\nx\n.\nmark a/b\nload c",
+        b"|bad command|1|bad command|2|bad name|5|bad command|6",
+    ),
+    (b"\xEF\xBB\xBFstats\nstats", b"|stats|stats"),
+    (b"\xEF\xBB\xBF", b""),
+    (
+        b"load a\r\n<x/>\r\n..y\r\n.\r\ndrop a\r",
+        b"|load|a|<x/>\r\n.y\r|drop|a",
+    ),
+    (
+        b"load a\n.\nload b\n\n.\nload c\nx\n. \n.",
+        b"|load|a||load|b||load|c|x\n ",
+    ),
+    (b" \t\n# note\n\r\n  drop \t a\t\n", b"|drop|a"),
+    (
+        b"query at a/b\nquery at m  //p[1] \nquery at m/ x\nquery\nquery //q",
+        b"|bad command|1|query at|m|//p[1]|bad name|3|bad command|4|query|//q",
+    ),
+    (
+        b"insert firstx p\n.\ninsert first  a b\nt\n.\ninsert after\n.\n",
+        b"|bad command|1|insert first|a b|t|bad command|6",
+    ),
+    (
+        b"load \"\" x\n.\nstats now\nstems\nrun ran\n.\nload a/b\n.\nstems x\n.\n",
+        b"|bad command|1|bad command|3|stems|run ran|bad name|7|bad command|9",
+    ),
+    (
+        b"drop \xFF\n#\xFF\nload \xFF\nx\xFF\n.\nload a\nx\xFF\n.\nunmark \xC3\xA9",
+        b"|bad command|1|bad command|3|load|a|x\xFF|bad name|9",
+    ),
+    (
+        b"replace //a\nx\n.\nstop s\nthe\n.\nthesaurus t\n.\ndelete //b\nprint //c\nmark m\nunmark m\nexplain \"a\"\n",
+        b"|replace|//a|x|stop|s|the|thesaurus|t||delete|//b|print|//c|mark|m|unmark|m|explain|\"a\"",
+    ),
+    (b"load a\nx\n..\n.", b"|load|a|x\n."),
+    (b"load a\nx\n.\r", b"|load|a|x"),
+];
+
+/// Cuts the session in two wherever it can be cut, and compares its commands.
+fn expect_commands(rt: &impl Abort, alloc: Global, row: CutRow) -> Result<(), Fail> {
+    let (session, commands) = row;
+    assert!(rt; session.len() < 1000);
+    for cut in 0..=session.len() {
+        let read = read_cut(alloc, &session[..cut], &session[cut..])?;
+        assert!(rt; read.as_slice() == commands, "{cut}");
+    }
+    Ok(())
+}
+
+#[test]
+fn sessions_are_read_however_they_are_cut_in_two(rt: HostRuntime) -> Result<(), Fail> {
+    for row in COMMANDS {
+        expect_commands(&rt, rt.alloc(), row)?;
+    }
+    Ok(())
+}
+
+/// How many bytes a piece has.
+const SIZES: [usize; 3] = [1, 2, 7];
+
+/// Compares the commands of a session that is fed in pieces of each size with those of the session at once.
+fn expect_same(rt: &impl Abort, alloc: Global, session: &[u8]) -> Result<(), Fail> {
+    assert!(rt; session.len() < 10_000);
+    let commands = read_cut(alloc, session, b"")?;
+    for size in SIZES {
+        let read = read_pieces(alloc, session, size)?;
+        assert!(rt; read.as_slice() == commands.as_slice(), "{size}");
+    }
+    Ok(())
+}
+
+#[test]
+fn sessions_are_read_in_pieces_as_they_are_at_once(rt: HostRuntime) -> Result<(), Fail> {
+    for (session, _commands) in COMMANDS {
+        expect_same(&rt, rt.alloc(), session)?;
+    }
+    for (session, _output, _status) in SESSIONS {
+        expect_same(&rt, rt.alloc(), session.as_bytes())?;
+    }
+    for (session, _output, _status) in LINES {
+        expect_same(&rt, rt.alloc(), session.as_bytes())?;
+    }
+    Ok(())
+}

@@ -1,0 +1,44 @@
+// Blocks that are no documents, with the fault of each and its place.
+use crate::rows::{NEVER, is_answered};
+use ft_session::Status;
+use std::alloc::Global;
+use std::process::Abort;
+use std::test::Fail;
+
+/// The bytes of a block, and its fault.
+type BlockRow = (&'static [u8], &'static str);
+
+const BLOCKS: [BlockRow; 7] = [
+    (b"<a><b>x</b>\n", "syntax at 11"),
+    (b"<a></b>\n", "syntax at 5"),
+    (b"<a x=\"1\" x=\"2\"/>\n", "syntax at 10"),
+    (b"<a><![CDATA[x]]></a>\n", "syntax at 5"),
+    (b"<!DOCTYPE a><a/>\n", "syntax at 2"),
+    (b"<a>\xFF</a>\n", "not utf-8 at 3"),
+    (b"", "syntax at 0"),
+];
+
+/// Compares the refusal of a block.
+fn expect_refusal(rt: &impl Abort, alloc: Global, block: &[u8], fault: &str) -> Result<(), Fail> {
+    let mut session = Vec::from_slice(alloc, b"load x\n")?;
+    session.extend_from_slice(block)?;
+    session.extend_from_slice(b".\n")?;
+    let answered = is_answered(
+        alloc,
+        session.as_slice(),
+        NEVER,
+        NEVER,
+        &["! 6 document: ", fault, "\n"],
+        Status::SomeRefused,
+    )?;
+    assert!(rt; answered, "{fault}");
+    Ok(())
+}
+
+#[test]
+fn blocks_that_are_no_documents_are_refused_with_the_place(rt: HostRuntime) -> Result<(), Fail> {
+    for (block, fault) in BLOCKS {
+        expect_refusal(&rt, rt.alloc(), block, fault)?;
+    }
+    Ok(())
+}
