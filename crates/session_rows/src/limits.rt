@@ -11,10 +11,14 @@ type LengthRow = (&'static str, &'static str, usize, &'static str, Status);
 const HELLO: &str =
     "load one\n<a>Hello world</a>\n.\nquery collection()//a[. contains text \"hello\"]\n";
 
-const LENGTHS: [LengthRow; 5] = [
+const LENGTHS: [LengthRow; 2] = [
     ("", "", 67_108_864, "", Status::Done),
     ("", "", 67_108_865, "", Status::TooLong),
-    // a session that is too long is answered so far
+];
+
+// A session that is too long is answered so far. A command that ends with the last byte that is read is whole, one that nothing ends
+// isn't.
+const TOO_LONG: [LengthRow; 3] = [
     (
         HELLO,
         "",
@@ -22,7 +26,6 @@ const LENGTHS: [LengthRow; 5] = [
         "ok\n= 1\ndoc(\"one\")/a[1]\n",
         Status::TooLong,
     ),
-    // a command that ends with the last byte that is read is whole, one that nothing ends isn't
     (
         "drop x\n",
         "drop y\n",
@@ -65,6 +68,14 @@ fn a_session_has_67108864_bytes_at_most(rt: HostRuntime) -> Result<(), Fail> {
     Ok(())
 }
 
+#[test]
+fn a_session_that_is_too_long_is_answered_so_far(rt: HostRuntime) -> Result<(), Fail> {
+    for row in TOO_LONG {
+        expect_length(&rt, rt.alloc(), row)?;
+    }
+    Ok(())
+}
+
 /// A text with a piece that stands so many times, what is written of it as a session, and how it ends.
 type RepeatedRow = (
     &'static str,
@@ -75,7 +86,47 @@ type RepeatedRow = (
     Status,
 );
 
-const REPEATED: [RepeatedRow; 15] = [
+// A document has 1,000,000 tokens at most.
+const TOKENS: [RepeatedRow; 2] = [
+    (
+        "load x\n<a>",
+        1_000_001,
+        "x ",
+        "</a>\n.\n",
+        "! 6 document: tokens\n",
+        Status::SomeRefused,
+    ),
+    (
+        "load x\n<a>",
+        1_000_000,
+        "x ",
+        "</a>\n.\nquery collection()//a[. contains text \"x\"]\n",
+        "ok\n= 1\ndoc(\"x\")/a[1]\n",
+        Status::Done,
+    ),
+];
+
+// A document has 1,000,000 nodes at most.
+const NODES: [RepeatedRow; 2] = [
+    (
+        "load x\n<a>",
+        1_000_000,
+        "<b/>",
+        "</a>\n.\n",
+        "! 6 document: nodes at 3999999\n",
+        Status::SomeRefused,
+    ),
+    (
+        "load x\n<a>",
+        999_999,
+        "<b/>",
+        "</a>\n.\n",
+        "ok\n",
+        Status::Done,
+    ),
+];
+
+const REPEATED: [RepeatedRow; 11] = [
     // a command line has 65,536 bytes at most, and a comment any number
     (
         "print ",
@@ -119,40 +170,6 @@ const REPEATED: [RepeatedRow; 15] = [
         "\r\n",
         "! 2 bad name at line 1\n",
         Status::SomeRefused,
-    ),
-    // a document has 1,000,000 tokens at most
-    (
-        "load x\n<a>",
-        1_000_001,
-        "x ",
-        "</a>\n.\n",
-        "! 6 document: tokens\n",
-        Status::SomeRefused,
-    ),
-    (
-        "load x\n<a>",
-        1_000_000,
-        "x ",
-        "</a>\n.\nquery collection()//a[. contains text \"x\"]\n",
-        "ok\n= 1\ndoc(\"x\")/a[1]\n",
-        Status::Done,
-    ),
-    // and 1,000,000 nodes
-    (
-        "load x\n<a>",
-        1_000_000,
-        "<b/>",
-        "</a>\n.\n",
-        "! 6 document: nodes at 3999999\n",
-        Status::SomeRefused,
-    ),
-    (
-        "load x\n<a>",
-        999_999,
-        "<b/>",
-        "</a>\n.\n",
-        "ok\n",
-        Status::Done,
     ),
     // a selection has 64 phrases at most, and 64 filters directly round one another
     (
@@ -198,8 +215,24 @@ fn expect_repeated(rt: &impl Abort, alloc: Global, row: RepeatedRow) -> Result<(
 }
 
 #[test]
-fn lines_names_documents_and_selections_have_a_longest(rt: HostRuntime) -> Result<(), Fail> {
+fn lines_names_and_selections_have_a_longest(rt: HostRuntime) -> Result<(), Fail> {
     for row in REPEATED {
+        expect_repeated(&rt, rt.alloc(), row)?;
+    }
+    Ok(())
+}
+
+#[test]
+fn a_document_has_a_million_tokens_at_most(rt: HostRuntime) -> Result<(), Fail> {
+    for row in TOKENS {
+        expect_repeated(&rt, rt.alloc(), row)?;
+    }
+    Ok(())
+}
+
+#[test]
+fn a_document_has_a_million_nodes_at_most(rt: HostRuntime) -> Result<(), Fail> {
+    for row in NODES {
         expect_repeated(&rt, rt.alloc(), row)?;
     }
     Ok(())

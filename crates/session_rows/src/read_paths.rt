@@ -11,7 +11,7 @@ use std::test::Fail;
 /// A path, and a list of what it has: its root, and for each step its slashes, its name and its predicates.
 type FormRow = (&'static str, &'static str);
 
-const FORMS: [FormRow; 22] = [
+const FORMS: [FormRow; 23] = [
     ("collection()//b[2]", "collection //b [2]"),
     (r#"doc("x")/a"#, "doc x /a"),
     (r#"doc("")/x-1"#, "doc  /x-1"),
@@ -45,6 +45,7 @@ const FORMS: [FormRow; 22] = [
     ),
     ("collection()/a[x-1]", "collection /a [exists x-1]"),
     ("collection()/a[not]", "collection /a [exists not]"),
+    ("collection()/a[0]", "collection /a [0]"),
     ("collection()/a[0001000000]", "collection /a [1000000]"),
 ];
 
