@@ -17,20 +17,14 @@ mod parts;
 mod plain_option;
 mod prefix;
 mod prefix_laws;
-#[cfg(test)]
-mod prefix_tests;
 mod read;
 mod scan;
 mod selection_examples;
 mod selection_laws;
-#[cfg(test)]
-mod selection_tests;
 mod state;
 mod stop_turns;
 mod symbol_examples;
 mod symbol_laws;
-#[cfg(test)]
-mod tests;
 mod thesaurus_turns;
 mod turn;
 mod value_turns;

@@ -3,18 +3,12 @@
 #![tactic(auto)]
 
 mod answering;
-#[cfg(test)]
-mod list_tests;
 mod lists;
 mod loaded;
 mod loading;
-#[cfg(test)]
-mod path_tests;
 mod paths;
 mod pieces;
 mod planned;
-#[cfg(test)]
-mod query_tests;
 mod reading;
 mod running;
 mod selected;
@@ -22,8 +16,6 @@ mod selection_test;
 mod session;
 mod shown;
 mod status;
-#[cfg(test)]
-mod tests;
 mod writing;
 
 pub use running::run;

@@ -4,8 +4,6 @@
 mod building;
 mod closing;
 mod conditions;
-#[cfg(test)]
-mod fault_tests;
 mod heads;
 mod limits;
 mod path;
@@ -13,8 +11,6 @@ mod path_laws;
 mod read;
 mod state;
 mod stepping;
-#[cfg(test)]
-mod tests;
 mod turn;
 
 pub use path::{Extent, ReadPath};

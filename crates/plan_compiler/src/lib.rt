@@ -11,8 +11,6 @@ mod decided;
 mod deciding;
 mod fault;
 mod item_test;
-#[cfg(test)]
-mod list_tests;
 mod lists;
 mod looks;
 mod missing;
@@ -21,8 +19,6 @@ mod phrase_plan;
 mod plan;
 mod reading;
 mod stops;
-#[cfg(test)]
-mod tests;
 mod text_word;
 mod variants;
 mod words_plan;

@@ -9,8 +9,6 @@ mod place;
 mod print;
 mod reader;
 mod reply;
-#[cfg(test)]
-mod tests;
 mod words;
 
 pub use command::{Command, Commands};
