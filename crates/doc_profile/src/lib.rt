@@ -12,8 +12,6 @@ mod read;
 mod reader;
 mod references;
 mod start_tags;
-#[cfg(test)]
-mod tests;
 mod values;
 
 pub use fault::DocFault;

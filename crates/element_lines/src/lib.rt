@@ -7,8 +7,6 @@ mod laws;
 mod names;
 mod numbers;
 mod printed;
-#[cfg(test)]
-mod tests;
 
 pub use examples::{lines_of_steps, steps_of_places};
 pub use laws::one_element_law;

@@ -9,8 +9,6 @@ mod printed_examples;
 mod printer;
 mod printing;
 mod selection;
-#[cfg(test)]
-mod tests;
 
 pub use copying::copy_selection;
 use ft_base::Items;

@@ -13,8 +13,6 @@ mod pattern_examples;
 mod pattern_laws;
 mod row;
 mod splitting;
-#[cfg(test)]
-mod tests;
 mod trying;
 mod wild;
 mod word_forms;

@@ -15,8 +15,6 @@ mod node_ref;
 mod plain;
 mod reading;
 mod slot;
-#[cfg(test)]
-mod tests;
 
 pub use doc_tree::DocTree;
 use ft_base::Items;

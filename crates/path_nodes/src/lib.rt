@@ -10,8 +10,6 @@ mod marks;
 mod names;
 mod numbers;
 mod selected;
-#[cfg(test)]
-mod tests;
 mod text_test;
 mod walks;
 

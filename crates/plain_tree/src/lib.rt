@@ -2,8 +2,6 @@
 #![tactic(auto)]
 
 mod document;
-#[cfg(test)]
-mod tests;
 mod tree;
 
 pub use document::PlainDoc;

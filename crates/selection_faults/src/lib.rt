@@ -9,8 +9,6 @@ mod options;
 mod placed_fault;
 mod selection;
 mod strings;
-#[cfg(test)]
-mod tests;
 
 pub use fault_examples::{excludes, options as option_groups, phrases, several, wildcards};
 pub use faults::first_fault;

@@ -6,13 +6,21 @@
 #[cfg(test)]
 mod commands;
 #[cfg(test)]
+mod compared_words;
+#[cfg(test)]
 mod cut_sessions;
 #[cfg(test)]
+mod document_texts;
+#[cfg(test)]
 mod documents;
+#[cfg(test)]
+mod elements;
 #[cfg(test)]
 mod failures;
 #[cfg(test)]
 mod limits;
+#[cfg(test)]
+mod list_files;
 #[cfg(test)]
 mod lists;
 #[cfg(test)]
@@ -23,6 +31,8 @@ mod options_under_lists;
 mod path_faults;
 #[cfg(test)]
 mod paths;
+#[cfg(test)]
+mod patterns;
 #[cfg(test)]
 mod plans;
 #[cfg(test)]
@@ -38,10 +48,20 @@ mod replies;
 #[cfg(test)]
 mod rows;
 #[cfg(test)]
+mod selection_texts;
+#[cfg(test)]
 mod selections;
 #[cfg(test)]
 mod sessions;
 #[cfg(test)]
 mod symbols;
+#[cfg(test)]
+mod thesauri;
+#[cfg(test)]
+mod tokens;
+#[cfg(test)]
+mod trees;
+#[cfg(test)]
+mod unicode_forms;
 #[cfg(test)]
 mod words_found;

@@ -4,8 +4,6 @@
 mod cases;
 mod forms;
 mod marks;
-#[cfg(test)]
-mod tests;
 
 pub use cases::{is_lower_only, is_upper_only};
 pub use forms::{exact, key, plain_case, plain_marks};

@@ -6,8 +6,6 @@ mod levels;
 mod link;
 mod parse;
 mod phrase;
-#[cfg(test)]
-mod tests;
 mod thesaurus;
 
 pub use ft_base::ListFault;

@@ -1,4 +1,3 @@
-pub mod DocumentsLemmas
 pub mod GapLemmas
 pub mod NumberingLemmas
 pub mod StartsLemmas

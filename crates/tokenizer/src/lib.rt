@@ -6,8 +6,6 @@ mod breaks;
 mod gap;
 mod numbering;
 mod starts;
-#[cfg(test)]
-mod tests;
 mod tokens;
 mod walk;
 mod words;

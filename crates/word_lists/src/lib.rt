@@ -3,8 +3,6 @@
 
 mod stems;
 mod stop_list;
-#[cfg(test)]
-mod tests;
 mod words;
 
 pub use ft_base::ListFault;

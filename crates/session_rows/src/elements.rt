@@ -1,0 +1,322 @@
+// The elements to which the steps of a path lead, how often a test of text is asked on the way, and the lines that name elements.
+ghost use Rattle.std.specs.Prelude.{◌≡◌, All, IfOk, true};
+ghost use Rattle.ordered_tree.specs.Numbered.{is_element};
+ghost use Rattle.path_nodes.specs.References.{HasSingleAttributes, IsElement};
+
+use crate::rows::{expect_output, joined};
+use doc_profile::read_doc;
+use element_lines::push_names;
+use ft_base::{Lines, Memory};
+use ft_session::Status;
+use ordered_tree::{DocTree, NodeRef};
+use path_nodes::{TextTest, nodes};
+use path_subset::read_path;
+use std::alloc::Global;
+use std::process::Abort;
+use std::test::Fail;
+use tokenizer::tokens_of;
+
+/// A document that is loaded as `x`, a command without its `collection()`, and the reply to it.
+type Asked = (&'static str, &'static str, &'static str, &'static str);
+
+/// Loads the document, and gives a command for the path.
+fn expect_elements(rt: &impl Abort, alloc: Global, row: &Asked) -> Result<(), Fail> {
+    let (document, command, path, replies) = row;
+    let session = joined(
+        alloc,
+        &[
+            "load x\n",
+            document,
+            "\n.\n",
+            command,
+            " collection()",
+            path,
+            "\n",
+        ],
+    )?;
+    expect_output(rt, alloc, session.as_str(), &[*replies], Status::Done)
+}
+
+const LETTERS: &str = "<a><b>x</b><b>y</b><c><b>x y</b></c></a>";
+
+const NESTED: &str = "<r><a><b/><a><b/><a/><b/></a><b/></a><x><a><b/></a></x><b/></r>";
+
+const STEPS: [Asked; 14] = [
+    (LETTERS, "query", "/a", "ok\n= 1\ndoc(\"x\")/a[1]\n"),
+    (LETTERS, "query", "/b", "ok\n= 0\n"),
+    (
+        LETTERS,
+        "query",
+        "/a/*",
+        "ok\n= 3\ndoc(\"x\")/a[1]/b[1]\ndoc(\"x\")/a[1]/b[2]\ndoc(\"x\")/a[1]/c[1]\n",
+    ),
+    (
+        LETTERS,
+        "query",
+        "//*",
+        "ok\n= 5\ndoc(\"x\")/a[1]\ndoc(\"x\")/a[1]/b[1]\ndoc(\"x\")/a[1]/b[2]\ndoc(\"x\")/a[1]/c[1]\ndoc(\"x\")/a[1]/c[1]/b[1]\n",
+    ),
+    (
+        LETTERS,
+        "query",
+        "//b",
+        "ok\n= 3\ndoc(\"x\")/a[1]/b[1]\ndoc(\"x\")/a[1]/b[2]\ndoc(\"x\")/a[1]/c[1]/b[1]\n",
+    ),
+    (
+        NESTED,
+        "query",
+        "//a//b",
+        "ok\n= 5\ndoc(\"x\")/r[1]/a[1]/b[1]\ndoc(\"x\")/r[1]/a[1]/a[1]/b[1]\ndoc(\"x\")/r[1]/a[1]/a[1]/b[2]\ndoc(\"x\")/r[1]/a[1]/b[2]\ndoc(\"x\")/r[1]/x[1]/a[1]/b[1]\n",
+    ),
+    (
+        NESTED,
+        "query",
+        "//a/b",
+        "ok\n= 5\ndoc(\"x\")/r[1]/a[1]/b[1]\ndoc(\"x\")/r[1]/a[1]/a[1]/b[1]\ndoc(\"x\")/r[1]/a[1]/a[1]/b[2]\ndoc(\"x\")/r[1]/a[1]/b[2]\ndoc(\"x\")/r[1]/x[1]/a[1]/b[1]\n",
+    ),
+    (
+        NESTED,
+        "query",
+        "//a/a",
+        "ok\n= 2\ndoc(\"x\")/r[1]/a[1]/a[1]\ndoc(\"x\")/r[1]/a[1]/a[1]/a[1]\n",
+    ),
+    (
+        NESTED,
+        "query",
+        "/r/x//b",
+        "ok\n= 1\ndoc(\"x\")/r[1]/x[1]/a[1]/b[1]\n",
+    ),
+    // numbers count in the list under each parent by itself
+    (
+        LETTERS,
+        "query",
+        "//b[2]",
+        "ok\n= 1\ndoc(\"x\")/a[1]/b[2]\n",
+    ),
+    (
+        LETTERS,
+        "query",
+        "//b[1]",
+        "ok\n= 2\ndoc(\"x\")/a[1]/b[1]\ndoc(\"x\")/a[1]/c[1]/b[1]\n",
+    ),
+    (LETTERS, "query", "//b[0]", "ok\n= 0\n"),
+    (LETTERS, "query", "//b[1000000]", "ok\n= 0\n"),
+    (
+        LETTERS,
+        "query",
+        "//b[. contains text \"y\"][1]",
+        "ok\n= 2\ndoc(\"x\")/a[1]/b[2]\ndoc(\"x\")/a[1]/c[1]/b[1]\n",
+    ),
+];
+
+#[test]
+fn steps_lead_in_document_order(rt: HostRuntime) -> Result<(), Fail> {
+    for row in STEPS {
+        expect_elements(&rt, rt.alloc(), &row)?;
+    }
+    Ok(())
+}
+
+const LINES: [Asked; 8] = [
+    ("<a/>", "query", "//*", "ok\n= 1\ndoc(\"x\")/a[1]\n"),
+    (
+        "<d><p>x</p><q/><p/></d>",
+        "query",
+        "//*",
+        "ok\n= 4\ndoc(\"x\")/d[1]\ndoc(\"x\")/d[1]/p[1]\ndoc(\"x\")/d[1]/q[1]\ndoc(\"x\")/d[1]/p[2]\n",
+    ),
+    (
+        "<a>x <b/> y <b/> z</a>",
+        "query",
+        "//*",
+        "ok\n= 3\ndoc(\"x\")/a[1]\ndoc(\"x\")/a[1]/b[1]\ndoc(\"x\")/a[1]/b[2]\n",
+    ),
+    (
+        "<a><a><a/><a/></a><b/><a><a/></a></a>",
+        "query",
+        "//*",
+        "ok\n= 7\ndoc(\"x\")/a[1]\ndoc(\"x\")/a[1]/a[1]\ndoc(\"x\")/a[1]/a[1]/a[1]\ndoc(\"x\")/a[1]/a[1]/a[2]\ndoc(\"x\")/a[1]/b[1]\ndoc(\"x\")/a[1]/a[2]\ndoc(\"x\")/a[1]/a[2]/a[1]\n",
+    ),
+    (
+        "<straße t=\"1\"><b t=\"2\"/></straße>",
+        "query",
+        "//*",
+        "ok\n= 2\ndoc(\"x\")/straße[1]\ndoc(\"x\")/straße[1]/b[1]\n",
+    ),
+    ("<a></a>", "print", "//*", "ok\n= 1\n<a/>\n"),
+    (
+        "<a t='1'>x <b u=\"&quot;\"/> 1 &lt; 2</a>",
+        "print",
+        "//*",
+        "ok\n= 2\n<a t=\"1\">x <b u=\"&quot;\"/> 1 &lt; 2</a>\n<b u=\"&quot;\"/>\n",
+    ),
+    (
+        "<a><b>x<c/></b><b>y</b></a>",
+        "print",
+        "//*",
+        "ok\n= 4\n<a><b>x<c/></b><b>y</b></a>\n<b>x<c/></b>\n<c/>\n<b>y</b>\n",
+    ),
+];
+
+#[test]
+fn a_line_names_each_step_or_prints_all_below(rt: HostRuntime) -> Result<(), Fail> {
+    for row in LINES {
+        expect_elements(&rt, rt.alloc(), &row)?;
+    }
+    Ok(())
+}
+
+/// A test that is true of the nodes of these numbers and counts how often it is asked; each time costs 1.
+#[derive(Drop)]
+struct Judge {
+    nodes: &'static [u32],
+    asked: usize,
+}
+
+impl TextTest for Judge {
+    ghost use Rattle.std.specs.Prelude.{◌==◌, true};
+    ghost use Rattle.std.specs.List.{list_any};
+
+    ghost meaning = { λ test. record { may_ask = λ selection r. true; says = λ selection r. list_any (λ n. n == r.0) test.nodes.now; price = λ selection r. 1 } };
+
+    ghost spent = { λ test. test.asked };
+
+    fn contains(&mut self, _selection: usize, node: NodeRef) -> Result<bool, Memory> {
+        self.asked = self.asked.saturating_add(1);
+        Ok(self.nodes.contains(&node.0))
+    }
+}
+
+/// The tree of the document that the text spells.
+fn tree_of(alloc: Global, text: &str) -> Result<DocTree, Fail>
+    ensures root { IfOk result (λ tree. is_element tree.root ≡ true) }
+    ensures attributes { IfOk result (λ tree. HasSingleAttributes tree.root) }
+{
+    let Ok(doc) = read_doc(alloc, text.as_bytes()) else {
+        return Err(Fail::from("no document"));
+    };
+    let _root = doc.root();
+    let Ok(_tokens) = tokens_of(alloc, &doc) else {
+        return Err(Fail::from("too many tokens"));
+    };
+    Ok(DocTree::from_doc(alloc, &doc)?)
+}
+
+/// The elements to which the steps of a path lead, whatever it begins with.
+fn led(alloc: Global, tree: &DocTree, path: &str, test: &mut Judge) -> Result<Vec<NodeRef>, Fail>
+    requires root { is_element tree.now.root ≡ true }
+    requires attributes { HasSingleAttributes tree.now.root }
+    ensures { IfOk result (λ found. All (IsElement tree.now.root) found.items) }
+{
+    match read_path(alloc, path) {
+        Ok(path) => Ok(nodes(alloc, path.steps(), tree, test)?),
+        Err(_) => Err(Fail::from("no path")),
+    }
+}
+
+/// A document, a path, the nodes of which the test of text is true, the nodes to which the path leads, and how often the test is asked.
+type Judged = (
+    &'static str,
+    &'static str,
+    &'static [u32],
+    &'static [u32],
+    usize,
+);
+
+fn expect_asked(rt: &impl Abort, alloc: Global, row: &Judged) -> Result<(), Fail> {
+    let (document, path, true_of, wanted, asked) = row;
+    let tree = tree_of(alloc, document)?;
+    let mut test = Judge {
+        nodes: *true_of,
+        asked: 0,
+    };
+    let found = led(alloc, &tree, path, &mut test)?;
+    assert!(rt;
+        found.iter().map(|node| node.0).eq(wanted.iter().copied()),
+        "{path}"
+    );
+    assert!(rt; test.asked == *asked, "{path}");
+    Ok(())
+}
+
+const ASKED: [Judged; 4] = [
+    (
+        LETTERS,
+        "collection()//b[. contains text \"s\"][2]",
+        &[1, 6],
+        &[],
+        3,
+    ),
+    (
+        LETTERS,
+        "collection()//b[. contains text \"s\"][1]",
+        &[3, 6],
+        &[3, 6],
+        3,
+    ),
+    (
+        LETTERS,
+        "collection()/a[b contains text \"s\" and not(@k)]",
+        &[1, 3],
+        &[0],
+        1,
+    ),
+    (
+        NESTED,
+        "collection()//a//b[. contains text \"s\"]",
+        &[4, 10],
+        &[4, 10],
+        5,
+    ),
+];
+
+#[test]
+fn a_test_is_asked_once_and_until_the_truth_is_known(rt: HostRuntime) -> Result<(), Fail> {
+    for row in ASKED {
+        expect_asked(&rt, rt.alloc(), &row)?;
+    }
+    Ok(())
+}
+
+/// Names all elements of the document, the last one first.
+fn expect_names_backwards(
+    rt: &impl Abort,
+    alloc: Global,
+    document: &str,
+    wanted: &[&str],
+) -> Result<(), Fail> {
+    let tree = tree_of(alloc, document)?;
+    let mut test = Judge {
+        nodes: &[],
+        asked: 0,
+    };
+    let mut found = led(alloc, &tree, "collection()//*", &mut test)?;
+    found.reverse();
+    let mut lines = Lines::new(alloc);
+    push_names(alloc, "x", &tree, &found, &mut lines)?;
+    assert!(rt; lines.len() == wanted.len(), "{document}");
+    for (line, text) in lines.as_slice().iter().zip(wanted) {
+        assert!(rt; line.as_str() == *text, "{document}");
+    }
+    Ok(())
+}
+
+const BACKWARDS: [(&str, &[&str]); 1] = [(
+    "<d><p>x</p><q/><p><q/><q/></p></d>",
+    &[
+        "doc(\"x\")/d[1]/p[2]/q[2]",
+        "doc(\"x\")/d[1]/p[2]/q[1]",
+        "doc(\"x\")/d[1]/p[2]",
+        "doc(\"x\")/d[1]/q[1]",
+        "doc(\"x\")/d[1]/p[1]",
+        "doc(\"x\")/d[1]",
+    ],
+)];
+
+#[test]
+fn elements_are_named_in_any_order(rt: HostRuntime) -> Result<(), Fail> {
+    for (document, wanted) in BACKWARDS {
+        expect_names_backwards(&rt, rt.alloc(), document, wanted)?;
+    }
+    Ok(())
+}
