@@ -3,7 +3,7 @@ use ft_base::{Bytes, Items, Line};
 
 /// A command of a session. A name is 1 to 64 letters, digits, periods, low lines and hyphens; a path or a selection is UTF-8
 /// that isn't empty, and is read where the command is carried out.
-#[derive(Debug, Drop)]
+#[derive(Drop)]
 pub enum Command {
     /// Load the document in the block under the name.
     Load { name: Line, block: Bytes },

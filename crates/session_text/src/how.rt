@@ -1,5 +1,5 @@
 /// Where an insertion puts its content: as the first or last children of a node, or as its siblings before or after it.
-#[derive(Clone, Copy, Debug, PartialEq, Eq)]
+#[derive(Clone, Copy, PartialEq, Eq)]
 pub enum How {
     First,
     Last,

@@ -4,6 +4,7 @@
 mod command;
 mod how;
 mod line;
+mod named;
 mod parse;
 mod place;
 mod print;

@@ -1,10 +1,14 @@
 ghost use Rattle.std.specs.Prelude.{◌≡◌, true, false, IfOk, IfSome, IfNone};
 ghost use Rattle.text_lines.specs.Lines.{is_skipped, trimmed_line};
-ghost use Rattle.session_text.specs.Commands.{block_command, command_of_block, command_of_line, how_of, insertion, line_command, list_command, name_command, name_in, opens_block as block_follows, query, query_at, text_in};
+ghost use Rattle.session_text.specs.Commands.{block_command, command_of_block, command_of_line, how_of, insertion, line_command, list_command, name_command, opens_block as block_follows, query, query_at};
 ghost use Rattle.session_text.specs.Words.{is_command_line};
 
 use crate::line::is_word;
-use crate::words::{can_name, is_single_word, split_word};
+use crate::named::{
+    read_delete, read_drop, read_explain, read_insert, read_load, read_mark, read_plain_query,
+    read_print, read_replace, read_stop, read_thesaurus, read_unmark,
+};
+use crate::words::{can_name, split_word};
 use crate::{Command, How};
 use ft_base::{Bytes, Line, Memory};
 use std::alloc::Global;
@@ -12,29 +16,6 @@ use text_lines::{drop_return, trim_line, word_end};
 
 /// The longest command line, in bytes, without its line end.
 const MAX_LINE_BYTES: usize = 65_536;
-
-/// What follows a command's word, where that is to be one name.
-fn read_name(alloc: Global, number: u64, rest: &str) -> Result<Result<Line, Command>, Memory>
-    ensures { IfOk result (λ read. read ≡ name_in number rest.now) }
-{
-    if !is_single_word(rest) {
-        return Ok(Err(Command::BadCommand { line: number }));
-    }
-    if !can_name(rest) {
-        return Ok(Err(Command::BadName { line: number }));
-    }
-    Ok(Ok(Line::read(alloc, rest)?))
-}
-
-/// What follows a command's word, where that is to be a path or a selection.
-fn read_text(alloc: Global, number: u64, rest: &str) -> Result<Result<Line, Command>, Memory>
-    ensures { IfOk result (λ read. read ≡ text_in number rest.now) }
-{
-    if rest.is_empty() {
-        return Ok(Err(Command::BadCommand { line: number }));
-    }
-    Ok(Ok(Line::read(alloc, rest)?))
-}
 
 /// Where an insertion puts its content.
 fn read_how(word: &str) -> Option<How>
@@ -63,10 +44,7 @@ fn read_insertion(
         Some(how) => how,
         None => return Ok(Command::BadCommand { line: number }),
     };
-    Ok(match read_text(alloc, number, path)? {
-        Ok(path) => Command::Insert { how, path, block },
-        Err(fault) => fault,
-    })
+    read_insert(alloc, number, how, path, block)
 }
 
 /// The command with that first word and that rest, and the block behind it.
@@ -80,20 +58,14 @@ fn read_block_command(
     ensures { IfOk result (λ command. command ≡ block_command number word.now rest.now block) }
 {
     if word == "load" {
-        return Ok(match read_name(alloc, number, rest)? {
-            Ok(name) => Command::Load { name, block },
-            Err(fault) => fault,
-        });
+        return read_load(alloc, number, rest, block);
     }
     if word == "insert" {
         let (how, path) = split_word(rest);
         return read_insertion(alloc, number, read_how(how), path, block);
     }
     if word == "replace" {
-        return Ok(match read_text(alloc, number, rest)? {
-            Ok(path) => Command::Replace { path, block },
-            Err(fault) => fault,
-        });
+        return read_replace(alloc, number, rest, block);
     }
     read_list_command(alloc, number, word, rest, block)
 }
@@ -109,10 +81,7 @@ fn read_list_command(
     ensures { IfOk result (λ command. command ≡ list_command number word.now rest.now block) }
 {
     if word == "stop" {
-        return Ok(match read_name(alloc, number, rest)? {
-            Ok(name) => Command::Stop { name, block },
-            Err(fault) => fault,
-        });
+        return read_stop(alloc, number, rest, block);
     }
     if word == "stems" {
         return Ok(if rest.is_empty() {
@@ -122,10 +91,7 @@ fn read_list_command(
         });
     }
     if word == "thesaurus" {
-        return Ok(match read_name(alloc, number, rest)? {
-            Ok(name) => Command::Thesaurus { name, block },
-            Err(fault) => fault,
-        });
+        return read_thesaurus(alloc, number, rest, block);
     }
     Ok(Command::BadCommand { line: number })
 }
@@ -155,10 +121,7 @@ fn read_query(alloc: Global, number: u64, rest: &str) -> Result<Command, Memory>
         let (name, path) = split_word(behind);
         return read_query_at(alloc, number, name, path);
     }
-    Ok(match read_text(alloc, number, rest)? {
-        Ok(path) => Command::Query { path },
-        Err(fault) => fault,
-    })
+    read_plain_query(alloc, number, rest)
 }
 
 /// The command with that first word and that rest, without a block.
@@ -166,22 +129,13 @@ fn read_name_command(alloc: Global, number: u64, word: &str, rest: &str) -> Resu
     ensures { IfOk result (λ command. command ≡ name_command number word.now rest.now) }
 {
     if word == "drop" {
-        return Ok(match read_name(alloc, number, rest)? {
-            Ok(name) => Command::Drop { name },
-            Err(fault) => fault,
-        });
+        return read_drop(alloc, number, rest);
     }
     if word == "mark" {
-        return Ok(match read_name(alloc, number, rest)? {
-            Ok(name) => Command::Mark { name },
-            Err(fault) => fault,
-        });
+        return read_mark(alloc, number, rest);
     }
     if word == "unmark" {
-        return Ok(match read_name(alloc, number, rest)? {
-            Ok(name) => Command::Unmark { name },
-            Err(fault) => fault,
-        });
+        return read_unmark(alloc, number, rest);
     }
     if word == "stats" && rest.is_empty() {
         return Ok(Command::Stats);
@@ -197,22 +151,13 @@ fn read_line_command(alloc: Global, number: u64, word: &str, rest: &str) -> Resu
         return read_query(alloc, number, rest);
     }
     if word == "print" {
-        return Ok(match read_text(alloc, number, rest)? {
-            Ok(path) => Command::Print { path },
-            Err(fault) => fault,
-        });
+        return read_print(alloc, number, rest);
     }
     if word == "explain" {
-        return Ok(match read_text(alloc, number, rest)? {
-            Ok(text) => Command::Explain { text },
-            Err(fault) => fault,
-        });
+        return read_explain(alloc, number, rest);
     }
     if word == "delete" {
-        return Ok(match read_text(alloc, number, rest)? {
-            Ok(path) => Command::Delete { path },
-            Err(fault) => fault,
-        });
+        return read_delete(alloc, number, rest);
     }
     read_name_command(alloc, number, word, rest)
 }

@@ -5,7 +5,7 @@ use doc_profile::DocFault;
 use ft_base::{Line, Lines, QueryFault};
 
 /// What a command is answered.
-#[derive(Debug, Drop)]
+#[derive(Drop)]
 pub enum Reply {
     /// The command did what it says.
     Done,
@@ -22,7 +22,7 @@ pub enum Reply {
 }
 
 /// How much a session holds: documents, their tokens, distinct token keys, marks, kept plans, and how often a kept plan was used.
-#[derive(Clone, Copy, Debug, PartialEq, Eq)]
+#[derive(Clone, Copy, PartialEq, Eq)]
 pub struct Counts {
     pub documents: u64,
     pub tokens: u64,
@@ -33,7 +33,7 @@ pub struct Counts {
 }
 
 /// What there are as many of as there may be.
-#[derive(Clone, Copy, Debug, PartialEq, Eq)]
+#[derive(Clone, Copy, PartialEq, Eq)]
 pub enum FullOf {
     Documents,
     Marks,
@@ -42,7 +42,7 @@ pub enum FullOf {
 }
 
 /// What a document would have too much of.
-#[derive(Clone, Copy, Debug, PartialEq, Eq)]
+#[derive(Clone, Copy, PartialEq, Eq)]
 pub enum LimitOf {
     Depth,
     Nodes,
@@ -50,7 +50,7 @@ pub enum LimitOf {
 }
 
 /// Why a command was refused. A line counts from 1, a place counts bytes from 0.
-#[derive(Debug, Drop)]
+#[derive(Drop)]
 pub enum Refusal {
     /// The line is no command, or its block is open at the session's end.
     BadCommand { line: u64 },

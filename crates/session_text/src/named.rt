@@ -1,0 +1,178 @@
+//! Commands that one name or one text behind their word makes.
+
+ghost use Rattle.std.specs.Prelude.{◌≡◌, IfOk};
+ghost use Rattle.session_text.specs.Commands.{name_in, named, text_in, with_text};
+
+use crate::words::{can_name, is_single_word};
+use crate::{Command, How};
+use ft_base::{Bytes, Line, Memory};
+use std::alloc::Global;
+
+/// What follows a command's word, where that is to be one name.
+fn read_name(alloc: Global, number: u64, rest: &str) -> Result<Result<Line, Command>, Memory>
+    ensures { IfOk result (λ read. read ≡ name_in number rest.now) }
+{
+    if !is_single_word(rest) {
+        return Ok(Err(Command::BadCommand { line: number }));
+    }
+    if !can_name(rest) {
+        return Ok(Err(Command::BadName { line: number }));
+    }
+    Ok(Ok(Line::read(alloc, rest)?))
+}
+
+/// What follows a command's word, where that is to be a path or a selection.
+fn read_text(alloc: Global, number: u64, rest: &str) -> Result<Result<Line, Command>, Memory>
+    ensures { IfOk result (λ read. read ≡ text_in number rest.now) }
+{
+    if rest.is_empty() {
+        return Ok(Err(Command::BadCommand { line: number }));
+    }
+    Ok(Ok(Line::read(alloc, rest)?))
+}
+
+/// `load NAME` and its block.
+pub(crate) fn read_load(
+    alloc: Global,
+    number: u64,
+    rest: &str,
+    block: Bytes,
+) -> Result<Command, Memory>
+    ensures { IfOk result (λ command. command ≡ named number rest.now (λ name. Command.Load name block)) }
+{
+    Ok(match read_name(alloc, number, rest)? {
+        Ok(name) => Command::Load { name, block },
+        Err(fault) => fault,
+    })
+}
+
+/// `replace PATH` and its block.
+pub(crate) fn read_replace(
+    alloc: Global,
+    number: u64,
+    rest: &str,
+    block: Bytes,
+) -> Result<Command, Memory>
+    ensures { IfOk result (λ command. command ≡ with_text number rest.now (λ path. Command.Replace path block)) }
+{
+    Ok(match read_text(alloc, number, rest)? {
+        Ok(path) => Command::Replace { path, block },
+        Err(fault) => fault,
+    })
+}
+
+/// `insert first PATH` and its block, and the like.
+pub(crate) fn read_insert(
+    alloc: Global,
+    number: u64,
+    how: How,
+    path: &str,
+    block: Bytes,
+) -> Result<Command, Memory>
+    ensures { IfOk result (λ command. command ≡ with_text number path.now (λ path. Command.Insert how path block)) }
+{
+    Ok(match read_text(alloc, number, path)? {
+        Ok(path) => Command::Insert { how, path, block },
+        Err(fault) => fault,
+    })
+}
+
+/// `stop NAME` and its block.
+pub(crate) fn read_stop(
+    alloc: Global,
+    number: u64,
+    rest: &str,
+    block: Bytes,
+) -> Result<Command, Memory>
+    ensures { IfOk result (λ command. command ≡ named number rest.now (λ name. Command.Stop name block)) }
+{
+    Ok(match read_name(alloc, number, rest)? {
+        Ok(name) => Command::Stop { name, block },
+        Err(fault) => fault,
+    })
+}
+
+/// `thesaurus NAME` and its block.
+pub(crate) fn read_thesaurus(
+    alloc: Global,
+    number: u64,
+    rest: &str,
+    block: Bytes,
+) -> Result<Command, Memory>
+    ensures { IfOk result (λ command. command ≡ named number rest.now (λ name. Command.Thesaurus name block)) }
+{
+    Ok(match read_name(alloc, number, rest)? {
+        Ok(name) => Command::Thesaurus { name, block },
+        Err(fault) => fault,
+    })
+}
+
+/// `drop NAME`.
+pub(crate) fn read_drop(alloc: Global, number: u64, rest: &str) -> Result<Command, Memory>
+    ensures { IfOk result (λ command. command ≡ named number rest.now (λ name. Command.Drop name)) }
+{
+    Ok(match read_name(alloc, number, rest)? {
+        Ok(name) => Command::Drop { name },
+        Err(fault) => fault,
+    })
+}
+
+/// `mark NAME`.
+pub(crate) fn read_mark(alloc: Global, number: u64, rest: &str) -> Result<Command, Memory>
+    ensures { IfOk result (λ command. command ≡ named number rest.now (λ name. Command.Mark name)) }
+{
+    Ok(match read_name(alloc, number, rest)? {
+        Ok(name) => Command::Mark { name },
+        Err(fault) => fault,
+    })
+}
+
+/// `unmark NAME`.
+pub(crate) fn read_unmark(alloc: Global, number: u64, rest: &str) -> Result<Command, Memory>
+    ensures { IfOk result (λ command. command ≡ named number rest.now (λ name. Command.Unmark name)) }
+{
+    Ok(match read_name(alloc, number, rest)? {
+        Ok(name) => Command::Unmark { name },
+        Err(fault) => fault,
+    })
+}
+
+/// `query PATH`.
+pub(crate) fn read_plain_query(alloc: Global, number: u64, rest: &str) -> Result<Command, Memory>
+    ensures { IfOk result (λ command. command ≡ with_text number rest.now (λ path. Command.Query path)) }
+{
+    Ok(match read_text(alloc, number, rest)? {
+        Ok(path) => Command::Query { path },
+        Err(fault) => fault,
+    })
+}
+
+/// `print PATH`.
+pub(crate) fn read_print(alloc: Global, number: u64, rest: &str) -> Result<Command, Memory>
+    ensures { IfOk result (λ command. command ≡ with_text number rest.now (λ path. Command.Print path)) }
+{
+    Ok(match read_text(alloc, number, rest)? {
+        Ok(path) => Command::Print { path },
+        Err(fault) => fault,
+    })
+}
+
+/// `explain TEXT`.
+pub(crate) fn read_explain(alloc: Global, number: u64, rest: &str) -> Result<Command, Memory>
+    ensures { IfOk result (λ command. command ≡ with_text number rest.now (λ text. Command.Explain text)) }
+{
+    Ok(match read_text(alloc, number, rest)? {
+        Ok(text) => Command::Explain { text },
+        Err(fault) => fault,
+    })
+}
+
+/// `delete PATH`.
+pub(crate) fn read_delete(alloc: Global, number: u64, rest: &str) -> Result<Command, Memory>
+    ensures { IfOk result (λ command. command ≡ with_text number rest.now (λ path. Command.Delete path)) }
+{
+    Ok(match read_text(alloc, number, rest)? {
+        Ok(path) => Command::Delete { path },
+        Err(fault) => fault,
+    })
+}
