@@ -2,6 +2,7 @@ pub mod AnswerLemmas
 pub mod ListLemmas
 pub mod NamedLemmas
 pub mod PathLemmas
+pub mod QueryLemmas
 pub mod ProgressLemmas
 pub mod ReadLemmas
 pub mod SelectionNumbers

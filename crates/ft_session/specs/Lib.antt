@@ -12,3 +12,4 @@ pub mod LoadView
 pub mod Output
 pub mod Run
 pub mod Pieces
+pub mod Queries

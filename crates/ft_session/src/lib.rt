@@ -9,6 +9,7 @@ mod loading;
 mod paths;
 mod pieces;
 mod planned;
+mod query_laws;
 mod reading;
 mod running;
 mod selected;
@@ -18,6 +19,7 @@ mod shown;
 mod status;
 mod writing;
 
+pub use query_laws::{query_law, selected_law};
 pub use running::run;
 pub use session::Session;
 pub use status::{Status, exit_of, line_of};
