@@ -116,34 +116,20 @@ fn expect_memory(rt: &impl Abort, shelf: &mut MemoryShelf, wanted: Wanted)
 }
 
 #[test]
-fn a_file_in_memory_is_read(rt: HostRuntime) -> Result<(), Fail> {
-    let tables: [[Wanted; 3]; 3] = [
-        [
-            ("log", 0, Some(b"01234567")),
-            ("log", 8, None),
-            ("log", 8, Some(b"89")),
-        ],
-        [
-            ("log", 10, Some(b"")),
-            ("lo", 0, None),
-            ("log", 11, Some(b"")),
-        ],
-        [
-            ("a", 0, Some(b"new")),
-            ("log", 1, None),
-            ("a", 2, Some(b"w")),
-        ],
-    ];
-    for [first, second, third] in tables {
-        let mut shelf = MemoryShelf::new(rt.alloc());
-        shelf.add("a", b"first")?;
-        shelf.add("log", b"0123456789")?;
-        shelf.add("a", b"new")?;
-        shelf.fail_call(2);
-        expect_memory(&rt, &mut shelf, first);
-        expect_memory(&rt, &mut shelf, second);
-        expect_memory(&rt, &mut shelf, third);
-    }
+fn the_forms_in_memory_find_room(rt: HostRuntime) -> Result<(), Fail> {
+    let mut shelf = MemoryShelf::new(rt.alloc());
+    shelf.add("log", b"first")?;
+    shelf.add("log", b"0123456789")?;
+    shelf.fail_call(2);
+    expect_memory(&rt, &mut shelf, ("log", 4, Some(b"456789")));
+    expect_memory(&rt, &mut shelf, ("log", 4, None));
+    expect_memory(&rt, &mut shelf, ("lo", 0, None));
+
+    let mut sink = MemorySink::new(rt.alloc(), 6)?;
+    sink.fail_after(3);
+    assert!(rt; sink.write(b"text") == Ok(3));
+    assert!(rt; sink.write(b"text") == Err(Failed));
+    assert!(rt; sink.written() == b"tex".as_slice());
     Ok(())
 }
 
@@ -165,25 +151,6 @@ fn a_file_of_the_real_system_is_read(rt: HostRuntime) -> Result<(), Fail> {
 }
 
 #[test]
-fn a_sink_in_memory_fails_where_it_is_full(rt: HostRuntime) -> Result<(), Fail> {
-    let tables = [
-        (6, 100, [Ok(4), Ok(2), Err(Failed)], b"textte".as_slice()),
-        (100, 7, [Ok(4), Ok(3), Err(Failed)], b"texttex".as_slice()),
-        (100, 2, [Ok(2), Err(Failed), Err(Failed)], b"te".as_slice()),
-    ];
-    for (room, total, answers, written) in tables {
-        let mut sink = MemorySink::new(rt.alloc(), room)?;
-        sink.fail_after(total);
-        let [first, second, third] = answers;
-        assert!(rt; sink.write(b"text") == first);
-        assert!(rt; sink.write(b"text") == second);
-        assert!(rt; sink.write(b"text") == third);
-        assert!(rt; sink.written() == written);
-    }
-    Ok(())
-}
-
-#[test]
 fn standard_output_takes_what_the_system_takes(rt: HostRuntime) {
     let table = [
         (Some(1), Ok(1)),
@@ -194,7 +161,7 @@ fn standard_output_takes_what_the_system_takes(rt: HostRuntime) {
     ];
     for (takes, wanted) in table {
         let mut sink = StdSink::new(FakeOutput { takes });
-        assert!(rt; sink.write(b"text") == wanted);
+        assert!(rt; sink.write(b"text") == wanted, "{takes:?}");
     }
     assert!(rt; StdSink::new(rt).write(b"text").is_ok());
 }
