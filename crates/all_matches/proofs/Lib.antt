@@ -6,6 +6,9 @@ pub mod Numbering
 pub mod Compositional
 pub mod Counting
 pub mod VariantPlaces
+pub mod SortedHits
 pub mod Choices
 pub mod BareWays
 pub mod WayLaws
+pub mod OperatorMatches
+pub mod PlainOperators

@@ -1,4 +1,3 @@
-pub mod Tokens
 pub mod Variants
 pub mod Hits
 pub mod Boolean
@@ -14,4 +13,8 @@ pub mod Meaning
 pub mod Compositional
 pub mod Counting
 pub mod Ways
+pub mod Sorting
+pub mod Chain
+pub mod Operators
+pub mod Allowed
 pub mod Examples

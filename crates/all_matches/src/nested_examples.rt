@@ -37,6 +37,8 @@ pub fn joined_hits()
         (paragraph 1 (codes "a b") ++ paragraph 2 (codes "c")) ≡ false }
     ensures beside_another { sat plain (filtered (two_and (filtered (two_and word_a word_b) (F.Window 2 U.Words)) word_c) F.SameSentence)
         (sentence 1 (codes "a b") ++ sentence 2 (codes "c")) ≡ false }
+    ensures number_behind_another { sat plain (filtered (two_and word_x (filtered (two_and word_a word_b) (F.Window 2 U.Words))) F.Ordered)
+        (text (codes "a b x")) ≡ false }
     ensures number_of_the_first { sat plain (filtered (filtered (three_and word_a (not_of word_x) word_b) (F.Window 3 U.Words)) F.Ordered)
         (text (codes "a x b")) ≡ false }
 {}

@@ -36,5 +36,6 @@ pub fn excludes_under_order()
     ensures in_order { sat plain (filtered (but_not word_a word_b) F.Ordered) (text (codes "a b")) ≡ false }
     ensures against_order { sat plain (filtered (but_not word_a word_b) F.Ordered) (text (codes "b a")) ≡ true }
     ensures against_one_include { sat plain (filtered (but_not (two_and word_a word_c) word_b) F.Ordered) (text (codes "a b c")) ≡ true }
+    ensures at_the_same_word { sat plain (filtered (but_not word_a (quoted (codes "a b"))) F.Ordered) (text (codes "a b")) ≡ false }
     ensures without_includes { sat plain (filtered (not_of word_a) F.Ordered) (text (codes "a")) ≡ false }
 {}

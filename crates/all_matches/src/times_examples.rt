@@ -19,4 +19,5 @@ pub fn times_under_filters()
     ensures too_many_in_the_text { sat plain (filtered (value M.Any (Some (R.AtMost 1)) (codes "a" ∷ [])) (F.Window 2 U.Words)) (text (codes "a x a")) ≡ true }
     ensures too_many_in_the_window { sat plain (filtered (value M.Any (Some (R.Exactly 1)) (codes "a" ∷ [])) (F.Window 1 U.Sentences))
         (text (codes "a x a")) ≡ false }
+    ensures too_many_in_order { sat plain (filtered (value M.Any (Some (R.Exactly 1)) (codes "a" ∷ [])) F.Ordered) (text (codes "a a")) ≡ false }
 {}
