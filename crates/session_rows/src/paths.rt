@@ -54,7 +54,12 @@ const LISTED_ROWS: [PathRow; 5] = [
 ];
 
 /// Loads the text as document `x`, and compares the reply to a query.
-fn expect_query(rt: &impl Abort, alloc: Global, document: &str, row: PathRow) -> Result<(), Fail> {
+fn expect_query(
+    rt: &impl Abort,
+    alloc: Global,
+    document: &'static str,
+    row: PathRow,
+) -> Result<(), Fail> {
     let (path, reply) = row;
     let session = joined(alloc, &["load x\n", document, "\n.\nquery ", path, "\n"])?;
     expect_output(rt, alloc, session.as_str(), &["ok\n", reply], Status::Done)

@@ -96,8 +96,8 @@ pub(crate) fn expect(rt: &impl Abort, alloc: Global, row: Row) -> Result<(), Fai
 pub(crate) fn expect_truth_behind(
     rt: &impl Abort,
     alloc: Global,
-    commands: &str,
-    replies: &str,
+    commands: &'static str,
+    replies: &'static str,
     row: TruthRow,
 ) -> Result<(), Fail> {
     let (text, selection, satisfied) = row;
