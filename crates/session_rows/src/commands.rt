@@ -1,5 +1,5 @@
 // Commands: how lines and blocks are divided, which lines are none, and which commands are not carried out yet.
-use crate::rows::{Row, expect, expect_output, joined};
+use crate::rows::{Row, expect_output, expect_rows, joined};
 use ft_session::Status;
 use std::alloc::Global;
 use std::process::Abort;
@@ -39,10 +39,7 @@ pub(crate) const LINES: [Row; 5] = [
 
 #[test]
 fn lines_and_blocks_are_divided_as_they_are_written(rt: HostRuntime) -> Result<(), Fail> {
-    for row in LINES {
-        expect(&rt, rt.alloc(), row)?;
-    }
-    Ok(())
+    expect_rows(&rt, rt.alloc(), &LINES)
 }
 
 const NOT_YET: [&str; 8] = [
@@ -69,7 +66,7 @@ fn expect_not_yet(rt: &impl Abort, alloc: Global, command: &str) -> Result<(), F
 
 #[test]
 fn what_is_not_there_yet_is_refused(rt: HostRuntime) -> Result<(), Fail> {
-    for command in NOT_YET {
+    for command in &NOT_YET {
         expect_not_yet(&rt, rt.alloc(), command)?;
     }
     Ok(())

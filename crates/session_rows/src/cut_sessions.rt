@@ -215,8 +215,8 @@ fn expect_commands(rt: &impl Abort, alloc: Global, row: CutRow) -> Result<(), Fa
 
 #[test]
 fn sessions_are_read_however_they_are_cut_in_two(rt: HostRuntime) -> Result<(), Fail> {
-    for row in COMMANDS {
-        expect_commands(&rt, rt.alloc(), row)?;
+    for row in &COMMANDS {
+        expect_commands(&rt, rt.alloc(), *row)?;
     }
     Ok(())
 }
@@ -228,8 +228,8 @@ const SIZES: [usize; 3] = [1, 2, 7];
 fn expect_same(rt: &impl Abort, alloc: Global, session: &[u8]) -> Result<(), Fail> {
     assert!(rt; session.len() < 10_000);
     let commands = read_cut(alloc, session, b"")?;
-    for size in SIZES {
-        let read = read_pieces(alloc, session, size)?;
+    for size in &SIZES {
+        let read = read_pieces(alloc, session, *size)?;
         assert!(rt; read.as_slice() == commands.as_slice(), "{size}");
     }
     Ok(())
@@ -237,13 +237,16 @@ fn expect_same(rt: &impl Abort, alloc: Global, session: &[u8]) -> Result<(), Fai
 
 #[test]
 fn sessions_are_read_in_pieces_as_they_are_at_once(rt: HostRuntime) -> Result<(), Fail> {
-    for (session, _commands) in COMMANDS {
+    for row in &COMMANDS {
+        let (session, _commands) = *row;
         expect_same(&rt, rt.alloc(), session)?;
     }
-    for (session, _output, _status) in SESSIONS {
+    for row in &SESSIONS {
+        let (session, _output, _status) = *row;
         expect_same(&rt, rt.alloc(), session.as_bytes())?;
     }
-    for (session, _output, _status) in LINES {
+    for row in &LINES {
+        let (session, _output, _status) = *row;
         expect_same(&rt, rt.alloc(), session.as_bytes())?;
     }
     Ok(())

@@ -37,7 +37,8 @@ fn expect_refusal(rt: &impl Abort, alloc: Global, block: &[u8], fault: &str) -> 
 
 #[test]
 fn blocks_that_are_no_documents_are_refused_with_the_place(rt: HostRuntime) -> Result<(), Fail> {
-    for (block, fault) in BLOCKS {
+    for row in &BLOCKS {
+        let (block, fault) = *row;
         expect_refusal(&rt, rt.alloc(), block, fault)?;
     }
     Ok(())

@@ -57,8 +57,8 @@ fn expect_failure(rt: &impl Abort, alloc: Global, row: FailureRow) -> Result<(),
 
 #[test]
 fn what_was_answered_before_a_fault_stays(rt: HostRuntime) -> Result<(), Fail> {
-    for row in FAILURES {
-        expect_failure(&rt, rt.alloc(), row)?;
+    for row in &FAILURES {
+        expect_failure(&rt, rt.alloc(), *row)?;
     }
     Ok(())
 }
@@ -100,8 +100,8 @@ fn expect_call(rt: &impl Abort, alloc: Global, row: CallRow) -> Result<(), Fail>
 
 #[test]
 fn calls_that_name_no_file_are_refused(rt: HostRuntime) -> Result<(), Fail> {
-    for row in CALLS {
-        expect_call(&rt, rt.alloc(), row)?;
+    for row in &CALLS {
+        expect_call(&rt, rt.alloc(), *row)?;
     }
     Ok(())
 }
@@ -121,7 +121,8 @@ const STATUSES: [StatusRow; 7] = [
 
 #[test]
 fn each_status_has_its_number_and_line(rt: HostRuntime) -> Result<(), Fail> {
-    for (status, number, line) in STATUSES {
+    for row in &STATUSES {
+        let (status, number, line) = *row;
         assert!(rt; exit_of(&status) == number, "{number}");
         assert!(rt; line_of(&status) == line, "{number}");
     }

@@ -62,16 +62,16 @@ fn expect_length(rt: &impl Abort, alloc: Global, row: LengthRow) -> Result<(), F
 
 #[test]
 fn a_session_has_67108864_bytes_at_most(rt: HostRuntime) -> Result<(), Fail> {
-    for row in LENGTHS {
-        expect_length(&rt, rt.alloc(), row)?;
+    for row in &LENGTHS {
+        expect_length(&rt, rt.alloc(), *row)?;
     }
     Ok(())
 }
 
 #[test]
 fn a_session_that_is_too_long_is_answered_so_far(rt: HostRuntime) -> Result<(), Fail> {
-    for row in TOO_LONG {
-        expect_length(&rt, rt.alloc(), row)?;
+    for row in &TOO_LONG {
+        expect_length(&rt, rt.alloc(), *row)?;
     }
     Ok(())
 }
@@ -216,24 +216,24 @@ fn expect_repeated(rt: &impl Abort, alloc: Global, row: RepeatedRow) -> Result<(
 
 #[test]
 fn lines_names_and_selections_have_a_longest(rt: HostRuntime) -> Result<(), Fail> {
-    for row in REPEATED {
-        expect_repeated(&rt, rt.alloc(), row)?;
+    for row in &REPEATED {
+        expect_repeated(&rt, rt.alloc(), *row)?;
     }
     Ok(())
 }
 
 #[test]
 fn a_document_has_a_million_tokens_at_most(rt: HostRuntime) -> Result<(), Fail> {
-    for row in TOKENS {
-        expect_repeated(&rt, rt.alloc(), row)?;
+    for row in &TOKENS {
+        expect_repeated(&rt, rt.alloc(), *row)?;
     }
     Ok(())
 }
 
 #[test]
 fn a_document_has_a_million_nodes_at_most(rt: HostRuntime) -> Result<(), Fail> {
-    for row in NODES {
-        expect_repeated(&rt, rt.alloc(), row)?;
+    for row in &NODES {
+        expect_repeated(&rt, rt.alloc(), *row)?;
     }
     Ok(())
 }
@@ -297,8 +297,8 @@ fn expect_nested(rt: &impl Abort, alloc: Global, row: NestedRow) -> Result<(), F
 
 #[test]
 fn elements_and_parentheses_have_a_deepest_level(rt: HostRuntime) -> Result<(), Fail> {
-    for row in LEVELS {
-        expect_nested(&rt, rt.alloc(), row)?;
+    for row in &LEVELS {
+        expect_nested(&rt, rt.alloc(), *row)?;
     }
     Ok(())
 }
@@ -374,8 +374,8 @@ fn expect_full(rt: &impl Abort, alloc: Global, row: FullRow) -> Result<(), Fail>
 
 #[test]
 fn documents_and_lists_are_no_more_than_there_may_be(rt: HostRuntime) -> Result<(), Fail> {
-    for row in FULL {
-        expect_full(&rt, rt.alloc(), row)?;
+    for row in &FULL {
+        expect_full(&rt, rt.alloc(), *row)?;
     }
     Ok(())
 }

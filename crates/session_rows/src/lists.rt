@@ -1,5 +1,5 @@
 // Lists that sessions bring: which are read, replaced and missed.
-use crate::rows::{Row, expect, expect_output, joined};
+use crate::rows::{Row, expect_output, expect_rows, joined};
 use ft_session::Status;
 use std::alloc::{AllocError, Global};
 use std::process::Abort;
@@ -200,16 +200,13 @@ fn expect_missing(rt: &impl Abort, alloc: Global, row: MissingRow) -> Result<(),
 
 #[test]
 fn lists_are_read_and_replaced(rt: HostRuntime) -> Result<(), Fail> {
-    for row in LIST_SESSIONS {
-        expect(&rt, rt.alloc(), row)?;
-    }
-    Ok(())
+    expect_rows(&rt, rt.alloc(), &LIST_SESSIONS)
 }
 
 #[test]
 fn the_first_missing_list_is_named(rt: HostRuntime) -> Result<(), Fail> {
-    for row in MISSING_ROWS {
-        expect_missing(&rt, rt.alloc(), row)?;
+    for row in &MISSING_ROWS {
+        expect_missing(&rt, rt.alloc(), *row)?;
     }
     Ok(())
 }

@@ -1,5 +1,5 @@
 // Options that are written in a selection: when words are the same under them.
-use crate::rows::{TruthRow, expect_truth};
+use crate::rows::{TruthRow, expect_truths};
 use std::test::Fail;
 
 const CASE_AND_DIACRITICS_ROWS: [TruthRow; 18] = [
@@ -154,32 +154,20 @@ const NESTED_ROWS: [TruthRow; 5] = [
 
 #[test]
 fn case_and_diacritics_are_compared(rt: HostRuntime) -> Result<(), Fail> {
-    for row in CASE_AND_DIACRITICS_ROWS {
-        expect_truth(&rt, rt.alloc(), row)?;
-    }
-    Ok(())
+    expect_truths(&rt, rt.alloc(), &CASE_AND_DIACRITICS_ROWS)
 }
 
 #[test]
 fn patterns_stand_for_words(rt: HostRuntime) -> Result<(), Fail> {
-    for row in WILDCARD_ROWS {
-        expect_truth(&rt, rt.alloc(), row)?;
-    }
-    Ok(())
+    expect_truths(&rt, rt.alloc(), &WILDCARD_ROWS)
 }
 
 #[test]
 fn stop_words_stand_for_any_word(rt: HostRuntime) -> Result<(), Fail> {
-    for row in STOP_WORD_ROWS {
-        expect_truth(&rt, rt.alloc(), row)?;
-    }
-    Ok(())
+    expect_truths(&rt, rt.alloc(), &STOP_WORD_ROWS)
 }
 
 #[test]
 fn the_inner_option_holds(rt: HostRuntime) -> Result<(), Fail> {
-    for row in NESTED_ROWS {
-        expect_truth(&rt, rt.alloc(), row)?;
-    }
-    Ok(())
+    expect_truths(&rt, rt.alloc(), &NESTED_ROWS)
 }

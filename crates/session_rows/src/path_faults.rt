@@ -147,7 +147,8 @@ fn expect_fault(rt: &impl Abort, alloc: Global, path: &str, fault: &str) -> Resu
 
 #[test]
 fn the_first_symbol_that_cannot_stand_has_its_place(rt: HostRuntime) -> Result<(), Fail> {
-    for (path, fault) in SYNTAX {
+    for row in &SYNTAX {
+        let (path, fault) = *row;
         expect_fault(&rt, rt.alloc(), path, fault)?;
     }
     Ok(())
@@ -155,7 +156,8 @@ fn the_first_symbol_that_cannot_stand_has_its_place(rt: HostRuntime) -> Result<(
 
 #[test]
 fn numbers_and_faults_of_selections_have_their_places(rt: HostRuntime) -> Result<(), Fail> {
-    for (path, fault) in FURTHER {
+    for row in &FURTHER {
+        let (path, fault) = *row;
         expect_fault(&rt, rt.alloc(), path, fault)?;
     }
     Ok(())
@@ -177,7 +179,7 @@ const OPENINGS: [&str; 4] = ["a[", "@(", "@[", "b["];
 
 #[test]
 fn the_65th_level_has_its_place(rt: HostRuntime) -> Result<(), Fail> {
-    for opening in OPENINGS {
+    for opening in &OPENINGS {
         let path = repeated(rt.alloc(), "collection()/", 64, "a[", opening)?;
         expect_fault(&rt, rt.alloc(), path.as_str(), "deep at 142")?;
     }
@@ -189,7 +191,7 @@ const INSIDES: [&str; 2] = ["1", r#". contains text ((("a")))"#];
 
 #[test]
 fn a_path_has_64_levels(rt: HostRuntime) -> Result<(), Fail> {
-    for inside in INSIDES {
+    for inside in &INSIDES {
         let session = repeated(rt.alloc(), "query collection()/", 64, "a[", inside)?;
         let session = repeated(rt.alloc(), session.as_str(), 64, "]", "\n")?;
         expect_output(&rt, rt.alloc(), session.as_str(), &["= 0\n"], Status::Done)?;
@@ -282,7 +284,8 @@ fn expect_refusal(rt: &impl Abort, alloc: Global, command: &str, reply: &str) ->
 
 #[test]
 fn refusals_are_tried_in_order(rt: HostRuntime) -> Result<(), Fail> {
-    for (command, reply) in REFUSALS {
+    for row in &REFUSALS {
+        let (command, reply) = *row;
         expect_refusal(&rt, rt.alloc(), command, reply)?;
     }
     Ok(())

@@ -67,16 +67,16 @@ fn expect_query(
 
 #[test]
 fn steps_select_elements(rt: HostRuntime) -> Result<(), Fail> {
-    for row in LETTER_ROWS {
-        expect_query(&rt, rt.alloc(), LETTERS, row)?;
+    for row in &LETTER_ROWS {
+        expect_query(&rt, rt.alloc(), LETTERS, *row)?;
     }
     Ok(())
 }
 
 #[test]
 fn predicates_filter_lists(rt: HostRuntime) -> Result<(), Fail> {
-    for row in LISTED_ROWS {
-        expect_query(&rt, rt.alloc(), LISTED, row)?;
+    for row in &LISTED_ROWS {
+        expect_query(&rt, rt.alloc(), LISTED, *row)?;
     }
     Ok(())
 }

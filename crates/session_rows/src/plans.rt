@@ -153,8 +153,8 @@ fn expect_missing(
 
 fn expect_all_missing(rt: &impl Abort, alloc: Global, lists: &mut Lists) -> Result<(), Fail> {
     put_lists(alloc, lists)?;
-    for row in MISSING_ROWS {
-        expect_missing(rt, alloc, lists, row)?;
+    for row in &MISSING_ROWS {
+        expect_missing(rt, alloc, lists, *row)?;
     }
     Ok(())
 }

@@ -158,7 +158,8 @@ fn expect_prefix(
 
 #[test]
 fn the_longest_front_is_read(rt: HostRuntime) -> Result<(), Fail> {
-    for (text, from, expected) in READ {
+    for row in &READ {
+        let (text, from, expected) = *row;
         expect_prefix(&rt, rt.alloc(), text, from, expected)?;
     }
     Ok(())
@@ -166,7 +167,8 @@ fn the_longest_front_is_read(rt: HostRuntime) -> Result<(), Fail> {
 
 #[test]
 fn fronts_that_are_no_selections_are_refused(rt: HostRuntime) -> Result<(), Fail> {
-    for (text, from, expected) in REFUSED {
+    for row in &REFUSED {
+        let (text, from, expected) = *row;
         expect_prefix(&rt, rt.alloc(), text, from, expected)?;
     }
     Ok(())
@@ -174,7 +176,8 @@ fn fronts_that_are_no_selections_are_refused(rt: HostRuntime) -> Result<(), Fail
 
 #[test]
 fn what_is_limited_in_a_front_has_its_place(rt: HostRuntime) -> Result<(), Fail> {
-    for (before, count, piece, behind, from, expected) in DEEP {
+    for row in &DEEP {
+        let (before, count, piece, behind, from, expected) = *row;
         let text = repeated(rt.alloc(), before, count, piece, behind)?;
         expect_prefix(&rt, rt.alloc(), text.as_str(), from, expected)?;
     }

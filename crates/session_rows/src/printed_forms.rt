@@ -104,7 +104,7 @@ fn expect_read(rt: &impl Abort, alloc: Global, text: &str) {
 
 #[test]
 fn a_printed_selection_is_read_as_it_was(rt: HostRuntime) -> Result<(), Fail> {
-    for text in PRINTED {
+    for text in &PRINTED {
         expect_printed(&rt, rt.alloc(), text, text)?;
     }
     Ok(())
@@ -112,7 +112,8 @@ fn a_printed_selection_is_read_as_it_was(rt: HostRuntime) -> Result<(), Fail> {
 
 #[test]
 fn how_a_selection_was_written_is_forgotten(rt: HostRuntime) -> Result<(), Fail> {
-    for (text, printed) in REWRITTEN {
+    for row in &REWRITTEN {
+        let (text, printed) = *row;
         expect_printed(&rt, rt.alloc(), text, printed)?;
     }
     Ok(())
@@ -120,7 +121,8 @@ fn how_a_selection_was_written_is_forgotten(rt: HostRuntime) -> Result<(), Fail>
 
 #[test]
 fn up_to_64_filters_are_read(rt: HostRuntime) -> Result<(), Fail> {
-    for (before, count, piece, behind) in READ {
+    for row in &READ {
+        let (before, count, piece, behind) = *row;
         let text = repeated(rt.alloc(), before, count, piece, behind)?;
         expect_read(&rt, rt.alloc(), text.as_str());
     }
@@ -129,7 +131,8 @@ fn up_to_64_filters_are_read(rt: HostRuntime) -> Result<(), Fail> {
 
 #[test]
 fn up_to_64_levels_are_read(rt: HostRuntime) -> Result<(), Fail> {
-    for (count, inside, behind) in READ_IN_PARENTHESES {
+    for row in &READ_IN_PARENTHESES {
+        let (count, inside, behind) = *row;
         let front = repeated(rt.alloc(), "", count, "(", inside)?;
         let text = repeated(rt.alloc(), front.as_str(), count, ")", behind)?;
         expect_read(&rt, rt.alloc(), text.as_str());

@@ -188,7 +188,8 @@ fn expect_fault(
 
 #[test]
 fn faults_have_their_places(rt: HostRuntime) -> Result<(), Fail> {
-    for (text, words, place) in FAULTS {
+    for row in &FAULTS {
+        let (text, words, place) = *row;
         expect_fault(&rt, rt.alloc(), text, words, place)?;
     }
     Ok(())
@@ -196,7 +197,8 @@ fn faults_have_their_places(rt: HostRuntime) -> Result<(), Fail> {
 
 #[test]
 fn faults_of_texts_alone_have_their_places(rt: HostRuntime) -> Result<(), Fail> {
-    for (text, words, place) in FAULTS_ALONE {
+    for row in &FAULTS_ALONE {
+        let (text, words, place) = *row;
         expect_fault_alone(&rt, rt.alloc(), text, words, place)?;
     }
     Ok(())
@@ -204,7 +206,8 @@ fn faults_of_texts_alone_have_their_places(rt: HostRuntime) -> Result<(), Fail> 
 
 #[test]
 fn faults_in_paths_have_their_places(rt: HostRuntime) -> Result<(), Fail> {
-    for (text, words, place) in FAULTS_IN_PATH {
+    for row in &FAULTS_IN_PATH {
+        let (text, words, place) = *row;
         expect_fault_in_path(&rt, rt.alloc(), text, words, place)?;
     }
     Ok(())
@@ -219,8 +222,8 @@ fn expect_repeated(rt: &impl Abort, alloc: Global, row: RepeatedRow) -> Result<(
 
 #[test]
 fn what_is_limited_has_its_place(rt: HostRuntime) -> Result<(), Fail> {
-    for row in REPEATED_FAULTS {
-        expect_repeated(&rt, rt.alloc(), row)?;
+    for row in &REPEATED_FAULTS {
+        expect_repeated(&rt, rt.alloc(), *row)?;
     }
     Ok(())
 }

@@ -147,8 +147,8 @@ fn expect_form(rt: &impl Abort, alloc: Global, row: FormRow) -> Result<(), Fail>
 
 #[test]
 fn roots_steps_and_predicates_are_read(rt: HostRuntime) -> Result<(), Fail> {
-    for row in FORMS {
-        expect_form(&rt, rt.alloc(), row)?;
+    for row in &FORMS {
+        expect_form(&rt, rt.alloc(), *row)?;
     }
     Ok(())
 }
@@ -237,8 +237,8 @@ fn expect_selection(rt: &impl Abort, alloc: Global, row: SelectionRow) -> Result
 
 #[test]
 fn selections_are_numbered_in_the_order_of_the_text(rt: HostRuntime) -> Result<(), Fail> {
-    for row in SELECTIONS {
-        expect_selection(&rt, rt.alloc(), row)?;
+    for row in &SELECTIONS {
+        expect_selection(&rt, rt.alloc(), *row)?;
     }
     Ok(())
 }
@@ -268,7 +268,7 @@ fn expect_longest(rt: &impl Abort, alloc: Global, printed: &str) -> Result<(), F
 
 #[test]
 fn selections_are_read_as_long_as_can_be(rt: HostRuntime) -> Result<(), Fail> {
-    for printed in LONGEST {
+    for printed in &LONGEST {
         expect_longest(&rt, rt.alloc(), printed)?;
     }
     Ok(())

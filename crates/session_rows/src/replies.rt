@@ -77,7 +77,8 @@ const LIMITS: [(LimitOf, &str); 3] = [
 
 #[test]
 fn limits_of_edits_have_their_texts(rt: HostRuntime) -> Result<(), Fail> {
-    for (what, text) in LIMITS {
+    for row in &LIMITS {
+        let (what, text) = *row;
         expect_text(
             &rt,
             rt.alloc(),

@@ -87,13 +87,21 @@ pub(crate) fn expect_output(
 }
 
 /// The same for a row.
-pub(crate) fn expect(rt: &impl Abort, alloc: Global, row: Row) -> Result<(), Fail> {
+fn expect(rt: &impl Abort, alloc: Global, row: Row) -> Result<(), Fail> {
     let (session, output, status) = row;
     expect_output(rt, alloc, session, &[output], status)
 }
 
+/// Tries rows one after the other.
+pub(crate) fn expect_rows(rt: &impl Abort, alloc: Global, rows: &[Row]) -> Result<(), Fail> {
+    for row in rows {
+        expect(rt, alloc, *row)?;
+    }
+    Ok(())
+}
+
 /// Carries out the commands, loads the text as the element `a` of document `x`, and compares whether it satisfies the selection.
-pub(crate) fn expect_truth_behind(
+fn expect_truth_behind(
     rt: &impl Abort,
     alloc: Global,
     commands: &'static str,
@@ -120,7 +128,21 @@ pub(crate) fn expect_truth_behind(
     expect_output(rt, alloc, session.as_str(), &[replies, found], Status::Done)
 }
 
+/// Tries rows one after the other, each behind the commands.
+pub(crate) fn expect_truths_behind(
+    rt: &impl Abort,
+    alloc: Global,
+    commands: &'static str,
+    replies: &'static str,
+    rows: &[TruthRow],
+) -> Result<(), Fail> {
+    for row in rows {
+        expect_truth_behind(rt, alloc, commands, replies, *row)?;
+    }
+    Ok(())
+}
+
 /// The same with no commands before.
-pub(crate) fn expect_truth(rt: &impl Abort, alloc: Global, row: TruthRow) -> Result<(), Fail> {
-    expect_truth_behind(rt, alloc, "", "", row)
+pub(crate) fn expect_truths(rt: &impl Abort, alloc: Global, rows: &[TruthRow]) -> Result<(), Fail> {
+    expect_truths_behind(rt, alloc, "", "", rows)
 }

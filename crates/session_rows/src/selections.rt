@@ -1,5 +1,5 @@
 // Selections, decided by truth values and counts.
-use crate::rows::{TruthRow, expect_truth};
+use crate::rows::{TruthRow, expect_truths};
 use std::test::Fail;
 
 const BOOLEAN_ROWS: [TruthRow; 9] = [
@@ -53,24 +53,15 @@ const COUNT_ROWS: [TruthRow; 10] = [
 
 #[test]
 fn parts_are_joined_by_truth_values(rt: HostRuntime) -> Result<(), Fail> {
-    for row in BOOLEAN_ROWS {
-        expect_truth(&rt, rt.alloc(), row)?;
-    }
-    Ok(())
+    expect_truths(&rt, rt.alloc(), &BOOLEAN_ROWS)
 }
 
 #[test]
 fn strings_make_phrases_by_their_mode(rt: HostRuntime) -> Result<(), Fail> {
-    for row in MODE_ROWS {
-        expect_truth(&rt, rt.alloc(), row)?;
-    }
-    Ok(())
+    expect_truths(&rt, rt.alloc(), &MODE_ROWS)
 }
 
 #[test]
 fn occurrences_are_counted(rt: HostRuntime) -> Result<(), Fail> {
-    for row in COUNT_ROWS {
-        expect_truth(&rt, rt.alloc(), row)?;
-    }
-    Ok(())
+    expect_truths(&rt, rt.alloc(), &COUNT_ROWS)
 }

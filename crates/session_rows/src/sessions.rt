@@ -1,5 +1,5 @@
 // Whole sessions: documents that are loaded, asked, printed and taken out.
-use crate::rows::{Row, expect};
+use crate::rows::{Row, expect_rows};
 use ft_session::Status;
 use std::test::Fail;
 
@@ -330,8 +330,5 @@ doc("moby")/book[1]/chapter[1]/p[2]
 
 #[test]
 fn sessions_are_answered(rt: HostRuntime) -> Result<(), Fail> {
-    for row in SESSIONS {
-        expect(&rt, rt.alloc(), row)?;
-    }
-    Ok(())
+    expect_rows(&rt, rt.alloc(), &SESSIONS)
 }

@@ -72,8 +72,8 @@ fn expect_symbols(rt: &impl Abort, alloc: Global, row: SymbolRow) -> Result<(), 
 
 #[test]
 fn symbols_have_their_places(rt: HostRuntime) -> Result<(), Fail> {
-    for row in ROWS {
-        expect_symbols(&rt, rt.alloc(), row)?;
+    for row in &ROWS {
+        expect_symbols(&rt, rt.alloc(), *row)?;
     }
     Ok(())
 }

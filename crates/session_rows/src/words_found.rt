@@ -1,5 +1,5 @@
 // Words that a text has, compared by their keys: without case and diacritics.
-use crate::rows::{TruthRow, expect_truth};
+use crate::rows::{TruthRow, expect_truths};
 use std::test::Fail;
 
 const WORDS: [TruthRow; 14] = [
@@ -21,8 +21,5 @@ const WORDS: [TruthRow; 14] = [
 
 #[test]
 fn words_are_compared_by_their_keys(rt: HostRuntime) -> Result<(), Fail> {
-    for row in WORDS {
-        expect_truth(&rt, rt.alloc(), row)?;
-    }
-    Ok(())
+    expect_truths(&rt, rt.alloc(), &WORDS)
 }
