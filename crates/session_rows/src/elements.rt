@@ -16,8 +16,13 @@ use std::process::Abort;
 use std::test::Fail;
 use tokenizer::tokens_of;
 
-/// A document that is loaded as `x`, a command without its `collection()`, and the reply to it.
-type Asked = (&'static str, &'static str, &'static str, &'static str);
+/// A document that is loaded as `x`, a command and a path without its `collection()`, and the replies, in parts.
+type Asked = (
+    &'static str,
+    &'static str,
+    &'static str,
+    &'static [&'static str],
+);
 
 /// Loads the document, and gives a command for the path.
 fn expect_elements(rt: &impl Abort, alloc: Global, row: &Asked) -> Result<(), Fail> {
@@ -34,7 +39,7 @@ fn expect_elements(rt: &impl Abort, alloc: Global, row: &Asked) -> Result<(), Fa
             "\n",
         ],
     )?;
-    expect_output(rt, alloc, session.as_str(), &[*replies], Status::Done)
+    expect_output(rt, alloc, session.as_str(), *replies, Status::Done)
 }
 
 const LETTERS: &str = "<a><b>x</b><b>y</b><c><b>x y</b></c></a>";
@@ -42,70 +47,81 @@ const LETTERS: &str = "<a><b>x</b><b>y</b><c><b>x y</b></c></a>";
 const NESTED: &str = "<r><a><b/><a><b/><a/><b/></a><b/></a><x><a><b/></a></x><b/></r>";
 
 const STEPS: [Asked; 14] = [
-    (LETTERS, "query", "/a", "ok\n= 1\ndoc(\"x\")/a[1]\n"),
-    (LETTERS, "query", "/b", "ok\n= 0\n"),
+    (LETTERS, "query", "/a", &["ok\n= 1\ndoc(\"x\")/a[1]\n"]),
+    (LETTERS, "query", "/b", &["ok\n= 0\n"]),
     (
         LETTERS,
         "query",
         "/a/*",
-        "ok\n= 3\ndoc(\"x\")/a[1]/b[1]\ndoc(\"x\")/a[1]/b[2]\ndoc(\"x\")/a[1]/c[1]\n",
+        &["ok\n= 3\ndoc(\"x\")/a[1]/b[1]\ndoc(\"x\")/a[1]/b[2]\ndoc(\"x\")/a[1]/c[1]\n"],
     ),
     (
         LETTERS,
         "query",
         "//*",
-        "ok\n= 5\ndoc(\"x\")/a[1]\ndoc(\"x\")/a[1]/b[1]\ndoc(\"x\")/a[1]/b[2]\ndoc(\"x\")/a[1]/c[1]\ndoc(\"x\")/a[1]/c[1]/b[1]\n",
+        &[
+            "ok\n= 5\ndoc(\"x\")/a[1]\ndoc(\"x\")/a[1]/b[1]\ndoc(\"x\")/a[1]/b[2]\n",
+            "doc(\"x\")/a[1]/c[1]\ndoc(\"x\")/a[1]/c[1]/b[1]\n",
+        ],
     ),
     (
         LETTERS,
         "query",
         "//b",
-        "ok\n= 3\ndoc(\"x\")/a[1]/b[1]\ndoc(\"x\")/a[1]/b[2]\ndoc(\"x\")/a[1]/c[1]/b[1]\n",
+        &["ok\n= 3\ndoc(\"x\")/a[1]/b[1]\ndoc(\"x\")/a[1]/b[2]\ndoc(\"x\")/a[1]/c[1]/b[1]\n"],
     ),
     (
         NESTED,
         "query",
         "//a//b",
-        "ok\n= 5\ndoc(\"x\")/r[1]/a[1]/b[1]\ndoc(\"x\")/r[1]/a[1]/a[1]/b[1]\ndoc(\"x\")/r[1]/a[1]/a[1]/b[2]\ndoc(\"x\")/r[1]/a[1]/b[2]\ndoc(\"x\")/r[1]/x[1]/a[1]/b[1]\n",
+        &[
+            "ok\n= 5\ndoc(\"x\")/r[1]/a[1]/b[1]\ndoc(\"x\")/r[1]/a[1]/a[1]/b[1]\n",
+            "doc(\"x\")/r[1]/a[1]/a[1]/b[2]\ndoc(\"x\")/r[1]/a[1]/b[2]\n",
+            "doc(\"x\")/r[1]/x[1]/a[1]/b[1]\n",
+        ],
     ),
     (
         NESTED,
         "query",
         "//a/b",
-        "ok\n= 5\ndoc(\"x\")/r[1]/a[1]/b[1]\ndoc(\"x\")/r[1]/a[1]/a[1]/b[1]\ndoc(\"x\")/r[1]/a[1]/a[1]/b[2]\ndoc(\"x\")/r[1]/a[1]/b[2]\ndoc(\"x\")/r[1]/x[1]/a[1]/b[1]\n",
+        &[
+            "ok\n= 5\ndoc(\"x\")/r[1]/a[1]/b[1]\ndoc(\"x\")/r[1]/a[1]/a[1]/b[1]\n",
+            "doc(\"x\")/r[1]/a[1]/a[1]/b[2]\ndoc(\"x\")/r[1]/a[1]/b[2]\n",
+            "doc(\"x\")/r[1]/x[1]/a[1]/b[1]\n",
+        ],
     ),
     (
         NESTED,
         "query",
         "//a/a",
-        "ok\n= 2\ndoc(\"x\")/r[1]/a[1]/a[1]\ndoc(\"x\")/r[1]/a[1]/a[1]/a[1]\n",
+        &["ok\n= 2\ndoc(\"x\")/r[1]/a[1]/a[1]\ndoc(\"x\")/r[1]/a[1]/a[1]/a[1]\n"],
     ),
     (
         NESTED,
         "query",
         "/r/x//b",
-        "ok\n= 1\ndoc(\"x\")/r[1]/x[1]/a[1]/b[1]\n",
+        &["ok\n= 1\ndoc(\"x\")/r[1]/x[1]/a[1]/b[1]\n"],
     ),
     // numbers count in the list under each parent by itself
     (
         LETTERS,
         "query",
         "//b[2]",
-        "ok\n= 1\ndoc(\"x\")/a[1]/b[2]\n",
+        &["ok\n= 1\ndoc(\"x\")/a[1]/b[2]\n"],
     ),
     (
         LETTERS,
         "query",
         "//b[1]",
-        "ok\n= 2\ndoc(\"x\")/a[1]/b[1]\ndoc(\"x\")/a[1]/c[1]/b[1]\n",
+        &["ok\n= 2\ndoc(\"x\")/a[1]/b[1]\ndoc(\"x\")/a[1]/c[1]/b[1]\n"],
     ),
-    (LETTERS, "query", "//b[0]", "ok\n= 0\n"),
-    (LETTERS, "query", "//b[1000000]", "ok\n= 0\n"),
+    (LETTERS, "query", "//b[0]", &["ok\n= 0\n"]),
+    (LETTERS, "query", "//b[1000000]", &["ok\n= 0\n"]),
     (
         LETTERS,
         "query",
         "//b[. contains text \"y\"][1]",
-        "ok\n= 2\ndoc(\"x\")/a[1]/b[2]\ndoc(\"x\")/a[1]/c[1]/b[1]\n",
+        &["ok\n= 2\ndoc(\"x\")/a[1]/b[2]\ndoc(\"x\")/a[1]/c[1]/b[1]\n"],
     ),
 ];
 
@@ -118,43 +134,50 @@ fn steps_lead_in_document_order(rt: HostRuntime) -> Result<(), Fail> {
 }
 
 const LINES: [Asked; 8] = [
-    ("<a/>", "query", "//*", "ok\n= 1\ndoc(\"x\")/a[1]\n"),
+    ("<a/>", "query", "//*", &["ok\n= 1\ndoc(\"x\")/a[1]\n"]),
     (
         "<d><p>x</p><q/><p/></d>",
         "query",
         "//*",
-        "ok\n= 4\ndoc(\"x\")/d[1]\ndoc(\"x\")/d[1]/p[1]\ndoc(\"x\")/d[1]/q[1]\ndoc(\"x\")/d[1]/p[2]\n",
+        &[
+            "ok\n= 4\ndoc(\"x\")/d[1]\ndoc(\"x\")/d[1]/p[1]\ndoc(\"x\")/d[1]/q[1]\n",
+            "doc(\"x\")/d[1]/p[2]\n",
+        ],
     ),
     (
         "<a>x <b/> y <b/> z</a>",
         "query",
         "//*",
-        "ok\n= 3\ndoc(\"x\")/a[1]\ndoc(\"x\")/a[1]/b[1]\ndoc(\"x\")/a[1]/b[2]\n",
+        &["ok\n= 3\ndoc(\"x\")/a[1]\ndoc(\"x\")/a[1]/b[1]\ndoc(\"x\")/a[1]/b[2]\n"],
     ),
     (
         "<a><a><a/><a/></a><b/><a><a/></a></a>",
         "query",
         "//*",
-        "ok\n= 7\ndoc(\"x\")/a[1]\ndoc(\"x\")/a[1]/a[1]\ndoc(\"x\")/a[1]/a[1]/a[1]\ndoc(\"x\")/a[1]/a[1]/a[2]\ndoc(\"x\")/a[1]/b[1]\ndoc(\"x\")/a[1]/a[2]\ndoc(\"x\")/a[1]/a[2]/a[1]\n",
+        &[
+            "ok\n= 7\ndoc(\"x\")/a[1]\ndoc(\"x\")/a[1]/a[1]\ndoc(\"x\")/a[1]/a[1]/a[1]\n",
+            "doc(\"x\")/a[1]/a[1]/a[2]\ndoc(\"x\")/a[1]/b[1]\ndoc(\"x\")/a[1]/a[2]\n",
+            "doc(\"x\")/a[1]/a[2]/a[1]\n",
+        ],
     ),
     (
         "<straße t=\"1\"><b t=\"2\"/></straße>",
         "query",
         "//*",
-        "ok\n= 2\ndoc(\"x\")/straße[1]\ndoc(\"x\")/straße[1]/b[1]\n",
+        &["ok\n= 2\ndoc(\"x\")/straße[1]\ndoc(\"x\")/straße[1]/b[1]\n"],
     ),
-    ("<a></a>", "print", "//*", "ok\n= 1\n<a/>\n"),
+    ("<a></a>", "print", "//*", &["ok\n= 1\n<a/>\n"]),
     (
         "<a t='1'>x <b u=\"&quot;\"/> 1 &lt; 2</a>",
         "print",
         "//*",
-        "ok\n= 2\n<a t=\"1\">x <b u=\"&quot;\"/> 1 &lt; 2</a>\n<b u=\"&quot;\"/>\n",
+        &["ok\n= 2\n<a t=\"1\">x <b u=\"&quot;\"/> 1 &lt; 2</a>\n<b u=\"&quot;\"/>\n"],
     ),
     (
         "<a><b>x<c/></b><b>y</b></a>",
         "print",
         "//*",
-        "ok\n= 4\n<a><b>x<c/></b><b>y</b></a>\n<b>x<c/></b>\n<c/>\n<b>y</b>\n",
+        &["ok\n= 4\n<a><b>x<c/></b><b>y</b></a>\n<b>x<c/></b>\n<c/>\n<b>y</b>\n"],
     ),
 ];
 
@@ -177,7 +200,11 @@ impl TextTest for Judge {
     ghost use Rattle.std.specs.Prelude.{◌==◌, true};
     ghost use Rattle.std.specs.List.{list_any};
 
-    ghost meaning = { λ test. record { may_ask = λ selection r. true; says = λ selection r. list_any (λ n. n == r.0) test.nodes.now; price = λ selection r. 1 } };
+    ghost meaning = { λ test. record {
+      may_ask = λ selection r. true;
+      says = λ selection r. list_any (λ n. n == r.0) test.nodes.now;
+      price = λ selection r. 1;
+    } };
 
     ghost spent = { λ test. test.asked };
 
