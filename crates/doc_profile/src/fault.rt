@@ -1,7 +1,7 @@
 use ft_base::Memory;
 
 /// Why bytes were not read as a document or a fragment. A place counts the bytes before it.
-#[derive(Clone, Copy, Debug, PartialEq, Eq)]
+#[derive(Clone, Copy, PartialEq, Eq)]
 pub enum DocFault {
     /// The bytes are not UTF-8: the first byte of the first sequence that is none.
     NotUtf8 { at: usize },

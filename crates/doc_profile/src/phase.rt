@@ -1,5 +1,5 @@
 /// One of the five named references.
-#[derive(Clone, Copy, Debug, PartialEq, Eq)]
+#[derive(Clone, Copy, PartialEq, Eq)]
 pub enum Entity {
     Less,
     Greater,
@@ -9,7 +9,7 @@ pub enum Entity {
 }
 
 /// How far a reference has come.
-#[derive(Clone, Copy, Debug, PartialEq, Eq)]
+#[derive(Clone, Copy, PartialEq, Eq)]
 pub enum Refer {
     /// Behind the `&`.
     Begun,
@@ -26,7 +26,7 @@ pub enum Refer {
 }
 
 /// Which part of the markup is under way.
-#[derive(Clone, Copy, Debug, PartialEq, Eq)]
+#[derive(Clone, Copy, PartialEq, Eq)]
 pub enum Phase {
     /// Between two items.
     Ready,

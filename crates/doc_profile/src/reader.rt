@@ -9,7 +9,7 @@ use std::alloc::Global;
 use std::mem;
 
 /// An open element, with the content that stands before it in the element round it.
-#[derive(Debug, Drop)]
+#[derive(Drop)]
 pub struct Level {
     pub name: String,
     pub attrs: Vec<Attr>,
@@ -18,7 +18,7 @@ pub struct Level {
 }
 
 /// What is read of a document or a fragment.
-#[derive(Debug, Drop)]
+#[derive(Drop)]
 pub struct Reader {
     pub alloc: Global,
     /// Whether a fragment is read.

@@ -8,7 +8,7 @@ use crate::reader::Reader;
 use ft_base::{Memory, is_char};
 
 /// What a character makes of a reference.
-#[derive(Clone, Copy, Debug, PartialEq, Eq)]
+#[derive(Clone, Copy, PartialEq, Eq)]
 pub enum Judged {
     /// It can't stand there.
     Refused,

@@ -24,7 +24,7 @@ pub enum QueryFault {
 }
 
 /// Why a stop list, a dictionary of stems or a thesaurus is not read.
-#[derive(Clone, Copy, Debug, PartialEq, Eq)]
+#[derive(Clone, Copy, PartialEq, Eq)]
 pub enum ListFault {
     /// The line of that number, counted from 1, is the first that is none of such a list.
     BadLine { line: usize },

@@ -2,7 +2,7 @@ use crate::Range;
 use crate::unit::TextUnit;
 
 /// A positional filter (the standard's FTPosFilter).
-#[derive(Clone, Copy, Debug, PartialEq, Eq)]
+#[derive(Clone, Copy, PartialEq, Eq)]
 pub enum Filter {
     /// `ordered`
     Ordered,

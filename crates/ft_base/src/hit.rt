@@ -3,7 +3,7 @@ use crate::Items;
 /// A place in a text where a phrase of a query stands (the standard's StringMatch).
 ///
 /// Positions of words, sentences and paragraphs count from 1, and the last one belongs to the hit.
-#[derive(Clone, Copy, Debug, PartialEq, Eq)]
+#[derive(Clone, Copy, PartialEq, Eq)]
 pub struct Hit {
     /// The number of the phrase in its selection, from 1.
     pub query: u32,
@@ -25,7 +25,7 @@ pub struct Hit {
 
 /// One way in which a text may satisfy a selection (the standard's Match): it needs all the includes
 /// (StringIncludes), and no exclude (StringExclude) may be left.
-#[derive(Debug, Drop)]
+#[derive(Drop)]
 pub struct Match {
     pub includes: Items<Hit>,
     pub excludes: Items<Hit>,

@@ -6,7 +6,7 @@ use std::marker::Model;
 
 /// A growing list, which contracts see as the plain list of its items: two of them are equal where their items are,
 /// wherever they lie in memory.
-#[derive(Debug, Drop)]
+#[derive(Drop)]
 pub struct Items<T> {
     items: Vec<T>,
 }

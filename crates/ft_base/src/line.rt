@@ -11,7 +11,7 @@ use std::hash::{Hash, Hasher};
 use std::marker::Model;
 
 /// A text, which contracts see as the list of its UTF-8 bytes.
-#[derive(Debug, Drop)]
+#[derive(Drop)]
 pub struct Line {
     text: String,
 }

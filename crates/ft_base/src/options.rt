@@ -4,7 +4,7 @@ ghost use Rattle.ft_base.specs.Selection.{no_options};
 use crate::{Items, Line, Lines, Range};
 
 /// A case option (the standard's FTCaseOption).
-#[derive(Clone, Copy, Debug, PartialEq, Eq)]
+#[derive(Clone, Copy, PartialEq, Eq)]
 pub enum Case {
     /// `case insensitive`
     Insensitive,
@@ -17,7 +17,7 @@ pub enum Case {
 }
 
 /// The match options that were written, at most one of each group (the standard's FTMatchOptions).
-#[derive(Debug, Drop)]
+#[derive(Drop)]
 pub struct Options {
     pub case: Option<Case>,
     pub diacritics_sensitive: Option<bool>,
@@ -46,7 +46,7 @@ impl Options {
 }
 
 /// A stop word option (the standard's FTStopWordOption).
-#[derive(Debug, Drop)]
+#[derive(Drop)]
 pub enum StopChoice {
     /// `no stop words`
     No,
@@ -55,7 +55,7 @@ pub enum StopChoice {
 }
 
 /// A term of a stop word option: words that are added to the set, or taken out of it.
-#[derive(Debug, Drop)]
+#[derive(Drop)]
 pub struct StopTerm {
     /// Whether `except` stands before it, and not `union`. The first term has neither.
     pub except: bool,
@@ -63,7 +63,7 @@ pub struct StopTerm {
 }
 
 /// Where the words of a term stand.
-#[derive(Debug, Drop)]
+#[derive(Drop)]
 pub enum StopSource {
     /// `at "NAME"`: the stop list of that name
     At(Line),
@@ -72,7 +72,7 @@ pub enum StopSource {
 }
 
 /// A thesaurus option (the standard's FTThesaurusOption).
-#[derive(Debug, Drop)]
+#[derive(Drop)]
 pub enum ThesaurusChoice {
     /// `no thesaurus`
     No,
@@ -81,7 +81,7 @@ pub enum ThesaurusChoice {
 }
 
 /// One choice of a thesaurus option (the standard's FTThesaurusID).
-#[derive(Debug, Drop)]
+#[derive(Drop)]
 pub struct ThesaurusUse {
     pub name: Line,
     pub relationship: Option<Line>,

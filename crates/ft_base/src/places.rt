@@ -7,7 +7,7 @@ use std::alloc::Global;
 use std::marker::Model;
 
 /// An ascending list of places, counted from 1.
-#[derive(Debug, Drop)]
+#[derive(Drop)]
 pub struct Places {
     places: Vec<u32>,
 }
@@ -75,7 +75,7 @@ impl Places {
 }
 
 /// Where the sentences and the paragraphs of a document start: the places of their first tokens.
-#[derive(Debug, Drop)]
+#[derive(Drop)]
 pub struct Breaks {
     pub sentences: Places,
     pub paragraphs: Places,

@@ -1,5 +1,5 @@
 /// A range of numbers (the standard's FTRange).
-#[derive(Clone, Copy, Debug, PartialEq, Eq)]
+#[derive(Clone, Copy, PartialEq, Eq)]
 pub enum Range {
     /// `exactly n`
     Exactly(u32),

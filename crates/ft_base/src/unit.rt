@@ -1,5 +1,5 @@
 /// What a window or a distance counts (the standard's FTUnit).
-#[derive(Clone, Copy, Debug, PartialEq, Eq)]
+#[derive(Clone, Copy, PartialEq, Eq)]
 pub enum TextUnit {
     Words,
     Sentences,

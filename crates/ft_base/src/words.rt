@@ -1,7 +1,7 @@
 use crate::{Lines, Options, Range};
 
 /// How the strings of a value make phrases (the standard's FTAnyallOption).
-#[derive(Clone, Copy, Debug, PartialEq, Eq)]
+#[derive(Clone, Copy, PartialEq, Eq)]
 pub enum Mode {
     /// `any`: one of the strings
     Any,
@@ -16,7 +16,7 @@ pub enum Mode {
 }
 
 /// Words of a selection, with what is written behind them (the standard's FTWords and FTTimes).
-#[derive(Debug, Drop)]
+#[derive(Drop)]
 pub struct Words {
     pub values: Lines,
     pub mode: Mode,

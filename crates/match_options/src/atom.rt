@@ -1,5 +1,5 @@
 /// An atom of a pattern.
-#[derive(Clone, Copy, Debug, PartialEq, Eq)]
+#[derive(Clone, Copy, PartialEq, Eq)]
 pub(crate) enum Atom {
     /// A character that stands for itself.
     Letter(char),
@@ -8,14 +8,14 @@ pub(crate) enum Atom {
 }
 
 /// An atom at the front of a pattern, and the number of its characters there.
-#[derive(Clone, Copy, Debug)]
+#[derive(Clone, Copy)]
 pub(crate) struct SizedAtom {
     pub(crate) atom: Atom,
     pub(crate) size: usize,
 }
 
 /// A number between braces, and the number of its characters with what closes it.
-#[derive(Clone, Copy, Debug)]
+#[derive(Clone, Copy)]
 pub(crate) struct Number {
     pub(crate) value: u32,
     pub(crate) size: usize,

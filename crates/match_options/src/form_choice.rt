@@ -5,7 +5,7 @@ use crate::comparing::{case_of, is_on};
 use ft_base::{Case, Options};
 
 /// The form in which words are compared, as case and diacritics choose it.
-#[derive(Clone, Copy, Debug, PartialEq, Eq)]
+#[derive(Clone, Copy, PartialEq, Eq)]
 pub struct FormChoice {
     pub case: Case,
     pub diacritics_sensitive: bool,

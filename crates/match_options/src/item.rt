@@ -12,7 +12,7 @@ use std::alloc::Global;
 use tokenizer::words_of;
 
 /// What one token of a text has to be.
-#[derive(Debug, Drop)]
+#[derive(Drop)]
 pub enum QueryItem {
     /// A word of the query.
     Word(Line),

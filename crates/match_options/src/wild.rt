@@ -14,14 +14,14 @@ use std::alloc::{AllocFailed, Global};
 use text_forms::{exact, key, plain_case, plain_marks};
 
 /// A pattern, its literals in the form that the options choose.
-#[derive(Debug, Drop)]
+#[derive(Drop)]
 pub struct Wild {
     alloc: Global,
     atoms: Vec<Atom>,
 }
 
 /// Why a pattern isn't read.
-#[derive(Clone, Copy, Debug, PartialEq, Eq)]
+#[derive(Clone, Copy, PartialEq, Eq)]
 pub enum WildFault {
     /// It is badly formed.
     BadWildcard,

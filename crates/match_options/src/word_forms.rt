@@ -1,7 +1,7 @@
 use ft_base::Line;
 
 /// The forms of a word under which it is compared.
-#[derive(Debug, Drop)]
+#[derive(Drop)]
 pub struct Forms {
     /// Without case and without diacritics.
     pub key: Line,

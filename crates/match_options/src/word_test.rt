@@ -15,7 +15,7 @@ use std::alloc::Global;
 use text_forms::key;
 
 /// What a word of a text has to be.
-#[derive(Debug, Drop)]
+#[derive(Drop)]
 pub enum WordTest {
     /// Any word.
     Any,

@@ -3,7 +3,7 @@ ghost use Rattle.std.specs.Prelude.{◌≡◌, ◌+◌, ◌<◌, ◌^◌, Option
 use crate::NodeRef;
 
 /// What stands round a node.
-#[derive(Clone, Copy, Debug)]
+#[derive(Clone, Copy)]
 pub(crate) struct Around {
     pub(crate) parent: Option<NodeRef>,
     /// The siblings beside it.

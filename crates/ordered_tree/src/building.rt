@@ -19,7 +19,7 @@ use std::alloc::Global;
 use tokenizer::count_words;
 
 /// What is known of a node that was added.
-#[derive(Clone, Copy, Debug)]
+#[derive(Clone, Copy)]
 pub(crate) struct Added {
     pub(crate) words: u32,
     /// How many elements stand in one another.
@@ -27,7 +27,7 @@ pub(crate) struct Added {
 }
 
 /// What is known of all children of an element.
-#[derive(Clone, Copy, Debug)]
+#[derive(Clone, Copy)]
 struct Row {
     last: Option<NodeRef>,
     words: u32,

@@ -13,7 +13,7 @@ use std::alloc::Global;
 use std::marker::Model;
 
 /// A document in one vector of slots: each node has a reference, which is the number of its slot.
-#[derive(Debug, Drop)]
+#[derive(Drop)]
 pub struct DocTree {
     alloc: Global,
     slots: Vec<Slot>,

@@ -4,7 +4,7 @@ use ft_base::Line;
 use plain_tree::Attrs;
 
 /// What a slot holds.
-#[derive(Debug, Drop)]
+#[derive(Drop)]
 pub(crate) enum Held {
     Element { name: Line, attrs: Attrs },
     Text { text: Line },
@@ -13,7 +13,7 @@ pub(crate) enum Held {
 }
 
 /// A slot for a node. A free slot has only the next free one.
-#[derive(Debug, Drop)]
+#[derive(Drop)]
 pub(crate) struct Slot {
     pub(crate) held: Held,
     pub(crate) around: Around,

@@ -1,7 +1,7 @@
 use ft_base::{Items, Line};
 
 /// Where a path begins.
-#[derive(Debug, Drop)]
+#[derive(Drop)]
 pub enum PathRoot {
     /// Each document, in the order of loading
     Collection,
@@ -17,7 +17,7 @@ pub struct Path {
 }
 
 /// Which names an element may have.
-#[derive(Debug, Drop)]
+#[derive(Drop)]
 pub enum NameTest {
     /// `*`
     Any,

@@ -6,7 +6,7 @@ use crate::tree::Tree;
 use std::marker::Model;
 
 /// A document: its root is an element, no text in it is empty, and no two texts stand side by side.
-#[derive(Debug, Drop)]
+#[derive(Drop)]
 pub struct PlainDoc {
     root: Tree,
 }

@@ -1,7 +1,7 @@
 use ft_base::{Items, Line};
 
 /// An attribute of an element.
-#[derive(Debug, Drop)]
+#[derive(Drop)]
 pub struct Attr {
     pub name: Line,
     pub value: Line,
@@ -14,7 +14,7 @@ pub type Attrs = Items<Attr>;
 pub type Kids = Items<Tree>;
 
 /// A node of a document, with all that is below it.
-#[derive(Debug, Drop)]
+#[derive(Drop)]
 pub enum Tree {
     /// An element with its name, its attributes and its children.
     Elem {

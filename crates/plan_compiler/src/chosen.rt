@@ -6,7 +6,7 @@ ghost use Rattle.plan_compiler.specs.ChosenMeant.{options_of};
 use ft_base::{Case, Line, Options, StopChoice, ThesaurusChoice};
 
 /// The options that hold at a place of a selection.
-#[derive(Clone, Copy, Debug)]
+#[derive(Clone, Copy)]
 pub(crate) struct Chosen<'a> {
     pub(crate) case: Option<Case>,
     pub(crate) diacritics_sensitive: Option<bool>,

@@ -1,7 +1,7 @@
 use ft_base::{Line, Memory};
 
 /// Why a selection isn't compiled.
-#[derive(Debug, Drop)]
+#[derive(Drop)]
 pub enum CompileFault {
     /// The selection names a stop list or a thesaurus that isn't there. The name is the first such one in its printed form.
     NoSuchList { name: Line },

@@ -9,7 +9,7 @@ use ft_base::{Case, Line};
 use match_options::{Forms, WordTest};
 
 /// What a word of a text has to be.
-#[derive(Debug, Drop)]
+#[derive(Drop)]
 pub(crate) enum ItemTest {
     /// A word that passes by its forms.
     ByForms(WordTest),

@@ -17,7 +17,7 @@ use match_options::QueryItem;
 use std::alloc::Global;
 
 /// A phrase of a query with all that it stands for.
-#[derive(Debug, Drop)]
+#[derive(Drop)]
 pub(crate) struct PhrasePlan {
     /// What the words of each variant have to be, the variants of one length together.
     pub(crate) groups: Items<Items<Items<ItemTest>>>,

@@ -11,7 +11,7 @@ use match_options::{Forms, forms_as};
 use std::alloc::Global;
 
 /// A word of a text.
-#[derive(Debug, Drop)]
+#[derive(Drop)]
 pub(crate) struct TextWord {
     pub(crate) forms: Forms,
     /// The stem of its key, or empty where no stem is looked at.

@@ -2,7 +2,7 @@ use crate::phrase_plan::PhrasePlan;
 use ft_base::{Items, Range};
 
 /// The words of a selection, ready to be counted.
-#[derive(Debug, Drop)]
+#[derive(Drop)]
 pub(crate) struct WordsPlan {
     pub(crate) phrases: Items<PhrasePlan>,
     /// Whether a hit of each phrase is wanted, and not of one of them.

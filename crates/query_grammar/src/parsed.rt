@@ -1,14 +1,14 @@
 use ft_base::{Case, Filter, Items, Line, Mode, Range, StopChoice, ThesaurusChoice};
 
 /// A string of a value, with the place of its opening quote.
-#[derive(Debug, Drop)]
+#[derive(Drop)]
 pub struct PlacedString {
     pub at: usize,
     pub text: Line,
 }
 
 /// A match option (the standard's FTMatchOption).
-#[derive(Debug, Drop)]
+#[derive(Drop)]
 pub enum MatchOption {
     Case(Case),
     /// Whether diacritics count.
@@ -21,21 +21,21 @@ pub enum MatchOption {
 }
 
 /// A match option, with the place of its `using`.
-#[derive(Debug, Drop)]
+#[derive(Drop)]
 pub struct PlacedOption {
     pub at: usize,
     pub option: MatchOption,
 }
 
 /// A range of times, with the place of its `occurs`.
-#[derive(Clone, Copy, Debug, PartialEq, Eq)]
+#[derive(Clone, Copy, PartialEq, Eq)]
 pub struct PlacedTimes {
     pub at: usize,
     pub range: Range,
 }
 
 /// Words of a selection as they were read.
-#[derive(Debug, Drop)]
+#[derive(Drop)]
 pub struct ParsedWords {
     pub strings: Items<PlacedString>,
     pub mode: Mode,

@@ -1,7 +1,7 @@
 use ft_base::{Items, Line};
 
 /// A symbol of a query.
-#[derive(Debug, Drop)]
+#[derive(Drop)]
 pub enum Symbol {
     /// The longest run of name characters.
     Name(Line),
@@ -25,7 +25,7 @@ pub enum Symbol {
 }
 
 /// A symbol with its place in the text.
-#[derive(Debug, Drop)]
+#[derive(Drop)]
 pub struct Placed {
     pub symbol: Symbol,
     /// The number of bytes before it.
@@ -35,7 +35,7 @@ pub struct Placed {
 }
 
 /// The symbols of a text, up to its first character that begins none.
-#[derive(Debug, Drop)]
+#[derive(Drop)]
 pub struct Symbols {
     pub placed: Items<Placed>,
     /// The place of that character, where there is one.

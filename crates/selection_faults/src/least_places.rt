@@ -9,7 +9,7 @@ use ft_base::Items;
 use query_grammar::{Parsed, ParsedWords, PlacedOption};
 
 /// The least place in a selection, or in several, of each of these.
-#[derive(Clone, Copy, Debug)]
+#[derive(Clone, Copy)]
 pub(crate) struct LeastPlaces {
     /// `ftnot`
     pub nots: Option<usize>,

@@ -18,7 +18,7 @@ use std::alloc::Global;
 const MAX_PHRASES: usize = 64;
 
 /// What is known of the strings of a selection that were passed.
-#[derive(Clone, Copy, Debug)]
+#[derive(Clone, Copy)]
 pub(crate) struct StringWalk {
     /// How many phrases they make, up to 64.
     pub phrases: usize,

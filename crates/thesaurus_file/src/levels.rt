@@ -2,7 +2,7 @@ ghost use Rattle.std.specs.Prelude.{◌≡◌, ◌<◌, ◌≤◌, ℕ, false};
 ghost use Rattle.thesaurus_file.specs.Levels.{in_range, is_up_to};
 
 /// A range of levels: from `from` to `to`, both included, or without an end.
-#[derive(Clone, Copy, Debug, PartialEq, Eq)]
+#[derive(Clone, Copy, PartialEq, Eq)]
 pub struct Levels {
     pub from: u32,
     pub to: Option<u32>,

@@ -9,7 +9,7 @@ use std::cmp::Ordering;
 use std::marker::Model;
 
 /// A phrase: the keys of its words, in order, which contracts see as the list of their bytes.
-#[derive(Debug, Drop)]
+#[derive(Drop)]
 pub struct Phrase {
     keys: Vec<String>,
 }

@@ -5,7 +5,7 @@ ghost use Rattle.tokenizer.specs.GapSteps.{after_character, after_characters, af
 use crate::blocks::is_block_element;
 
 /// What is known of the gap behind a word, as far as it was seen.
-#[derive(Clone, Copy, Debug)]
+#[derive(Clone, Copy)]
 pub(crate) struct Gap {
     /// A mark that ends sentences was seen.
     pub(crate) sentence_ends: bool,

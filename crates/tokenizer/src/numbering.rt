@@ -6,7 +6,7 @@ ghost use Rattle.tokenizer.specs.Tokens.{raised, tokens_from};
 use crate::gap::Gap;
 
 /// The numbers of the last token's sentence and paragraph, and what is known of the gap behind it.
-#[derive(Clone, Copy, Debug)]
+#[derive(Clone, Copy)]
 pub(crate) struct Numbering {
     pub(crate) sentence: u32,
     pub(crate) paragraph: u32,

@@ -9,7 +9,7 @@ use ft_base::{Breaks, Memory, Places};
 use std::alloc::Global;
 
 /// The places at which sentences and paragraphs start, as far as the document was seen, and how many words were.
-#[derive(Debug, Drop)]
+#[derive(Drop)]
 pub(crate) struct Starts {
     breaks: Breaks,
     last: Numbering,

@@ -14,7 +14,7 @@ use std::alloc::{AllocFailed, Global};
 use unicode::segmentation::UnicodeSegmentation;
 
 /// Why a document's tokens are not given.
-#[derive(Clone, Copy, Debug, PartialEq, Eq)]
+#[derive(Clone, Copy, PartialEq, Eq)]
 pub enum TokenFault {
     /// The document has more than `MAX_TOKENS` tokens.
     Tokens,

@@ -8,7 +8,7 @@ use plain_tree::{Kids, Tree};
 use std::alloc::Global;
 
 /// A tag or a text.
-#[derive(Clone, Copy, Debug)]
+#[derive(Clone, Copy)]
 pub(crate) enum Event<'a> {
     /// A start tag or an end tag, by its element's name.
     Tag(&'a str),
@@ -16,7 +16,7 @@ pub(crate) enum Event<'a> {
 }
 
 /// An element whose start tag was passed, and the number of its children that were begun.
-#[derive(Debug, Drop)]
+#[derive(Drop)]
 pub(crate) struct Open<'a> {
     name: &'a Line,
     kids: &'a Kids,
@@ -25,7 +25,7 @@ pub(crate) struct Open<'a> {
 
 /// A walk over the tags and texts of a tree, in the order in which it is written. It keeps the open elements on a stack
 /// of its own, so that a deep tree takes no more of the program's stack than a flat one.
-#[derive(Debug, Drop)]
+#[derive(Drop)]
 pub(crate) struct Walk<'a> {
     root: Option<&'a Tree>,
     elements: Vec<Open<'a>>,

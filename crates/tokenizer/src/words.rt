@@ -8,7 +8,7 @@ use unicode::properties::{GeneralCategory, GeneralCategoryGroup};
 use unicode::segmentation::UnicodeSegmentation;
 
 /// The part of a text from the byte place `from` up to the byte place `to`, counted from 0.
-#[derive(Clone, Copy, Debug, PartialEq, Eq)]
+#[derive(Clone, Copy, PartialEq, Eq)]
 pub struct Piece {
     pub from: usize,
     pub to: usize,
