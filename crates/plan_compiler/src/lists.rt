@@ -55,12 +55,21 @@ impl Lists {
     pub fn copy(&self) -> Result<Lists, Memory>
         ensures { IfOk result (λ copy. copy ≡ self.now) }
     {
-        Ok(Lists {
-            alloc: self.alloc,
-            stops: copy_lists(&self.stops)?,
-            thesauri: copy_lists(&self.thesauri)?,
-            stems: copy_stems(&self.stems)?,
-        })
+        let stems = copy_stems(&self.stems)?;
+        let stops = copy_lists(&self.stops)?;
+        match copy_lists(&self.thesauri) {
+            Ok(thesauri) => Ok(Lists {
+                alloc: self.alloc,
+                stops,
+                thesauri,
+                stems,
+            }),
+            Err(memory) => {
+                drop(stops);
+                drop(stems);
+                Err(memory)
+            }
+        }
     }
 
     /// Puts a stop list under a name, in the place of the one that has it, or behind the others. Where memory runs out, the lists

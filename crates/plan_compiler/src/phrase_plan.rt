@@ -1,6 +1,6 @@
 //! Phrases, ready to be counted.
 
-ghost use Rattle.std.specs.Prelude.{◌≡◌, map, length, nat_eq, IfOk, OnOk};
+ghost use Rattle.std.specs.Prelude.{◌≡◌, [], map, length, nat_eq, IfOk, OnOk};
 ghost use Rattle.std.specs.Map.{lookup};
 ghost use Rattle.all_matches.specs.Counting.{by_length, with_variant};
 ghost use Rattle.match_options.specs.Items.{item};
@@ -47,11 +47,30 @@ fn by_length(
     ensures { IfOk result (λ groups. map group_tests groups.entries ≡ by_length (map (map (spec.item_test reading.now)) (map (map item) phrases.now))) }
 {
     let mut groups = IndexMap::new(alloc);
+    match add_variants(alloc, reading, phrases, &mut groups) {
+        Ok(()) => Ok(groups),
+        Err(memory) => {
+            drop(groups);
+            Err(memory)
+        }
+    }
+}
+
+/// Puts the tests of each phrase to those of their number.
+fn add_variants(
+    alloc: Global,
+    reading: &Reading<'_>,
+    phrases: &[Items<QueryItem>],
+    groups: &mut IndexMap<usize, Items<Items<ItemTest>>>,
+) -> Result<(), Memory>
+    requires { groups.old.entries ≡ [] }
+    ensures { OnOk result (map group_tests groups.new.entries ≡ by_length (map (map (spec.item_test reading.now)) (map (map item) phrases.now))) }
+{
     for phrase in phrases {
         let tests = phrase_tests(alloc, reading, phrase.as_slice())?;
-        add_variant(alloc, &mut groups, tests)?;
+        add_variant(alloc, groups, tests)?;
     }
-    Ok(groups)
+    Ok(())
 }
 
 /// Puts the tests to those of their number; a phrase without words stands nowhere.

@@ -60,15 +60,19 @@ impl Plan {
         }
         let looks = looks_of(selection);
         let root = compile(alloc, lists, looks, &none_chosen(), selection)?;
-        let selection = copy_selection(alloc, selection)?;
-        let lists = lists.copy()?;
-        Ok(Plan {
-            alloc,
-            selection,
-            lists,
-            looks,
-            root,
-        })
+        match copies_of(alloc, selection, lists) {
+            Ok((selection, lists)) => Ok(Plan {
+                alloc,
+                selection,
+                lists,
+                looks,
+                root,
+            }),
+            Err(_memory) => {
+                drop(root);
+                Err(CompileFault::Memory)
+            }
+        }
     }
 
     /// Whether a text with these tokens satisfies the plan's selection.
@@ -77,6 +81,25 @@ impl Plan {
     {
         let words = text_words(self.alloc, self.looks, &self.lists, tokens.as_slice())?;
         Ok(holds(&self.root, words.as_slice()))
+    }
+}
+
+/// A copy of the selection, and one of the lists, which shares the lists themselves.
+fn copies_of(
+    alloc: Global,
+    selection: &Selection,
+    lists: &Lists,
+) -> Result<(Selection, Lists), Memory>
+    ensures selection { IfOk result (λ copies. form copies.0 ≡ form selection.now) }
+    ensures lists { IfOk result (λ copies. copies.1 ≡ lists.now) }
+{
+    let lists = lists.copy()?;
+    match copy_selection(alloc, selection) {
+        Ok(selection) => Ok((selection, lists)),
+        Err(memory) => {
+            drop(lists);
+            Err(memory)
+        }
     }
 }
 

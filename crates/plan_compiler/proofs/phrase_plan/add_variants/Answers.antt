@@ -6,7 +6,10 @@ use Rattle.plan_compiler.specs.GroupsMeant.{group_tests}
 use Rattle.plan_compiler.specs.ItemTests.{passes}
 use Rattle.plan_compiler.specs.WordsMeant as spec
 use Rattle.plan_compiler.proofs.GroupLemmas.{fold_more, with_variant-map}
-use Rattle.plan_compiler.proofs.phrase_plan.by_length.Goals as goal
+use Rattle.plan_compiler.proofs.phrase_plan.add_variants.Goals as goal
+
+pub loop-phrase-init : goal.loop-phrase-init
+loop-phrase-init c = ap (map group_tests) c.requires
 
 pub loop-phrase-preserved : goal.loop-phrase-preserved
 loop-phrase-preserved c =
