@@ -61,7 +61,13 @@ pub(crate) fn mild_with(
 {
     match mild {
         None => Ok(right),
-        Some(left) => Ok(Parsed::MildNot(Box::new(alloc, left)?, Box::new(alloc, right)?)),
+        Some(left) => {
+            let Ok(left) = Box::new(alloc, left) else {
+                drop(right);
+                return Err(Memory);
+            };
+            Ok(Parsed::MildNot(left, Box::new(alloc, right)?))
+        }
     }
 }
 

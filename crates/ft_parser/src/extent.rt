@@ -14,7 +14,7 @@ use query_grammar::Placed;
 use std::alloc::Global;
 
 /// How many symbols are read, and whether they are a whole selection.
-#[derive(Clone, Copy, Debug)]
+#[derive(Clone, Copy)]
 pub(crate) struct Extent {
     pub(crate) count: usize,
     pub(crate) is_all: bool,
@@ -93,13 +93,15 @@ fn all_read(count: usize, state: State) -> Extent
     ensures { result ≡ spec.all_read count (state_of state) }
 {
     let is_all = may_end(&state);
+    drop(state);
     Extent { count, is_all }
 }
 
 /// So many symbols, which are no whole selection within the limits and leave the reader there.
-fn part(count: usize, _there: State) -> Extent
+fn part(count: usize, there: State) -> Extent
     ensures { result ≡ spec.part count }
 {
+    drop(there);
     Extent {
         count,
         is_all: false,

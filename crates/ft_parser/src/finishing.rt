@@ -19,6 +19,7 @@ pub(crate) fn finish(alloc: Global, state: State) -> Result<Option<Parsed>, Memo
 {
     let State { outer, left, stage } = state;
     if !outer.is_empty() {
+        drop((outer, left, stage));
         return Ok(None);
     }
     selection_at(alloc, left, stage)
@@ -28,25 +29,49 @@ fn selection_at(alloc: Global, left: Left, stage: Stage) -> Result<Option<Parsed
     ensures { IfOk result (λ o. option_map tree o ≡ m.selection_at (left_of left) (stage_of stage)) }
 {
     match stage {
-        Stage::Wanted(_) => Ok(None),
-        Stage::InBraces(_, _) => Ok(None),
+        Stage::Wanted(_) => {
+            drop(left);
+            Ok(None)
+        }
+        Stage::InBraces(_, strings) => {
+            drop((left, strings));
+            Ok(None)
+        }
         Stage::Valued(n, strings) => phrases(alloc, left, n, strings, Mode::Any),
         Stage::AnyOf(n, strings) => phrases(alloc, left, n, strings, Mode::Any),
         Stage::AllOf(n, strings) => phrases(alloc, left, n, strings, Mode::All),
         Stage::Moded(n, strings, mode) => phrases(alloc, left, n, strings, mode),
         Stage::Given(operand) => Ok(Some(ended(alloc, left, operand)?)),
         Stage::StopTerms(stops) => {
-            let operand = with_stops(stops)?;
+            let Ok(operand) = with_stops(stops) else {
+                drop(left);
+                return Err(Memory);
+            };
             Ok(Some(ended(alloc, left, operand)?))
         }
-        Stage::StopStrings(_, _, _) => Ok(None),
+        Stage::StopStrings(stops, _, strings) => {
+            drop((left, stops, strings));
+            Ok(None)
+        }
         Stage::Thesaurus(last) => {
-            let operand = with_one_use(alloc, last, None)?;
+            let Ok(operand) = with_one_use(alloc, last, None) else {
+                drop(left);
+                return Err(Memory);
+            };
             Ok(Some(ended(alloc, left, operand)?))
         }
-        Stage::ThesaurusIn(_, _) => Ok(None),
-        Stage::ThesauriIn(_, _, _) => Ok(None),
-        Stage::WithFilter(parsed) => Ok(Some(parsed)),
+        Stage::ThesaurusIn(last, uses) => {
+            drop((left, last, uses));
+            Ok(None)
+        }
+        Stage::ThesauriIn(operand, _, uses) => {
+            drop((left, operand, uses));
+            Ok(None)
+        }
+        Stage::WithFilter(parsed) => {
+            drop(left);
+            Ok(Some(parsed))
+        }
     }
 }
 

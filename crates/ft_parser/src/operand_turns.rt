@@ -71,11 +71,18 @@ fn operand(
 ) -> Result<(State, usize), Halt>
     ensures { Answers state_of result (reading (m.operand_next (frames_of outer.items) (left_of left) negation) symbols.now next) }
 {
-    match text_at(alloc, symbols, next)? {
-        None => enclosed(alloc, symbols, next, outer, left, negation),
-        Some(text) => {
+    match text_at(alloc, symbols, next) {
+        Err(_) => {
+            drop((outer, left));
+            Err(Halt::Memory)
+        }
+        Ok(None) => enclosed(alloc, symbols, next, outer, left, negation),
+        Ok(Some(text)) => {
             let at = place_at(symbols, next);
-            let strings = one_string(alloc, PlacedString { at, text })?;
+            let Ok(strings) = one_string(alloc, PlacedString { at, text }) else {
+                drop((outer, left));
+                return Err(Halt::Memory);
+            };
             let stage = Stage::Valued(negation, strings);
             Ok((State { outer, left, stage }, next + 1))
         }
@@ -99,6 +106,7 @@ fn enclosed(
         let inside = opened(alloc, outer, left, negation)?;
         Ok((inside, next + 1))
     } else {
+        drop((outer, left));
         Err(Halt::Stuck(next))
     }
 }
@@ -113,11 +121,21 @@ fn first_in_braces(
 ) -> Result<(State, usize), Halt>
     ensures { Answers state_of result (reading (m.first_in_braces (frames_of outer.items) (left_of left) negation) symbols.now next) }
 {
-    match text_at(alloc, symbols, next)? {
-        None => Err(Halt::Stuck(next)),
-        Some(text) => {
+    match text_at(alloc, symbols, next) {
+        Err(_) => {
+            drop((outer, left));
+            Err(Halt::Memory)
+        }
+        Ok(None) => {
+            drop((outer, left));
+            Err(Halt::Stuck(next))
+        }
+        Ok(Some(text)) => {
             let at = place_at(symbols, next);
-            let strings = one_string(alloc, PlacedString { at, text })?;
+            let Ok(strings) = one_string(alloc, PlacedString { at, text }) else {
+                drop((outer, left));
+                return Err(Halt::Memory);
+            };
             let stage = Stage::InBraces(negation, strings);
             Ok((State { outer, left, stage }, next + 1))
         }
@@ -161,6 +179,7 @@ pub(crate) fn in_braces(
         let stage = Stage::Valued(negation, strings);
         Ok((State { outer, left, stage }, next + 1))
     } else {
+        drop((outer, left, strings));
         Err(Halt::Stuck(next))
     }
 }
@@ -176,12 +195,22 @@ fn more_in_braces(
 ) -> Result<(State, usize), Halt>
     ensures { Answers state_of result (reading (m.further_string (λ xs. stands (frames_of outer.items) (left_of left) (m.in_braces negation xs)) strings) symbols.now next) }
 {
-    match text_at(alloc, symbols, next)? {
-        None => Err(Halt::Stuck(next)),
-        Some(text) => {
+    match text_at(alloc, symbols, next) {
+        Err(_) => {
+            drop((outer, left, strings));
+            Err(Halt::Memory)
+        }
+        Ok(None) => {
+            drop((outer, left, strings));
+            Err(Halt::Stuck(next))
+        }
+        Ok(Some(text)) => {
             let at = place_at(symbols, next);
             let mut more = strings;
-            more.push(PlacedString { at, text })?;
+            if more.push(PlacedString { at, text }).is_err() {
+                drop((outer, left, more));
+                return Err(Halt::Memory);
+            }
             let stage = Stage::InBraces(negation, more);
             Ok((State { outer, left, stage }, next + 1))
         }
@@ -201,9 +230,13 @@ pub(crate) fn close(
 {
     let mut frames = outer;
     match frames.pop() {
-        None => Err(Halt::Stuck(next)),
+        None => {
+            drop((frames, selection));
+            Err(Halt::Stuck(next))
+        }
         Some(frame) => {
             if !closes_parenthesis(symbols, next) {
+                drop((frames, frame, selection));
                 return Err(Halt::Stuck(next));
             }
             Ok((closed(alloc, frames, frame, selection), next + 1))
@@ -245,6 +278,7 @@ pub(crate) fn joint(
         Ok((state, next + 1))
     } else if is_word(symbols, next, "not") {
         if !is_word(symbols, next + 1, "in") {
+            drop((outer, left, operand));
             return Err(Halt::Stuck(next + 1));
         }
         let state = behind_mild(alloc, outer, left, operand)?;

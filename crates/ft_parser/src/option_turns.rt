@@ -32,7 +32,10 @@ fn behind_filter(
     ensures { Answers state_of result (turns.filtered_turn (frames_of outer.items) (tree selection) read) }
 {
     match read {
-        Err(stuck) => Err(Halt::Stuck(stuck)),
+        Err(stuck) => {
+            drop((outer, selection));
+            Err(Halt::Stuck(stuck))
+        }
         Ok((filter, end)) => {
             let state = filtered_state(alloc, outer, selection, filter)?;
             Ok((state, end))
@@ -76,7 +79,10 @@ pub(crate) fn with_filter(
 pub(crate) fn ended(alloc: Global, left: Left, operand: Operand) -> Result<Parsed, Memory>
     ensures { IfOk result (λ parsed. tree parsed ≡ m.selection_with (left_of left) (m.operand_of operand.negation (primary_of operand.primary) operand.options)) }
 {
-    let parsed = operand_tree(alloc, operand)?;
+    let Ok(parsed) = operand_tree(alloc, operand) else {
+        drop(left);
+        return Err(Memory);
+    };
     selection_with(alloc, left, parsed)
 }
 
@@ -116,7 +122,10 @@ fn unfiltered(
         let at = place_at(symbols, next);
         using(alloc, symbols, next + 1, outer, left, operand, at)
     } else {
-        let parsed = operand_tree(alloc, operand)?;
+        let Ok(parsed) = operand_tree(alloc, operand) else {
+            drop((outer, left));
+            return Err(Halt::Memory);
+        };
         joint(alloc, symbols, next, outer, left, parsed)
     }
 }
@@ -160,6 +169,7 @@ fn stop_words(
         let stops = Stops { operand, at, terms };
         term(alloc, symbols, next + 1, outer, left, stops, false)
     } else {
+        drop((outer, left, operand));
         Err(Halt::Stuck(next))
     }
 }
@@ -177,9 +187,16 @@ fn plain(
     ensures { Answers state_of result (further (reading (keywords.plain_option at) symbols.now next) (λ o k. Ok (turns.stands (frames_of outer.items) (left_of left) (m.given_options operand.negation (primary_of operand.primary) (operand.options ++ o ∷ [])), k))) }
 {
     match plain_option(alloc, symbols, next, at) {
-        Err(halt) => Err(halt),
+        Err(halt) => {
+            drop((outer, left, operand));
+            Err(halt)
+        }
         Ok((option, end)) => {
-            let stage = Stage::Given(with_option(operand, option)?);
+            let Ok(more) = with_option(operand, option) else {
+                drop((outer, left));
+                return Err(Halt::Memory);
+            };
+            let stage = Stage::Given(more);
             Ok((State { outer, left, stage }, end))
         }
     }
@@ -194,7 +211,10 @@ fn with_option(operand: Operand, option: PlacedOption) -> Result<Operand, Memory
         options,
     } = operand;
     let mut options = options;
-    options.push(option)?;
+    if options.push(option).is_err() {
+        drop((primary, options));
+        return Err(Memory);
+    }
     Ok(Operand {
         negation,
         primary,
@@ -219,7 +239,10 @@ pub(crate) fn stop_terms(
     } else if is_word(symbols, next, "except") {
         term(alloc, symbols, next + 1, outer, left, stops, true)
     } else {
-        let operand = with_stops(stops)?;
+        let Ok(operand) = with_stops(stops) else {
+            drop((outer, left));
+            return Err(Halt::Memory);
+        };
         given(alloc, symbols, next, outer, left, operand)
     }
 }
@@ -291,7 +314,10 @@ fn levels(
     ensures { Answers state_of result (turns.levels_turn (turns.with_levels (frames_of outer.items) (left_of left) last.operand.negation (primary_of last.operand.primary) last.operand.options last.at last.name last.relationship) symbols.now read) }
 {
     match read {
-        Err(stuck) => Err(Halt::Stuck(stuck)),
+        Err(stuck) => {
+            drop((outer, left, last));
+            Err(Halt::Stuck(stuck))
+        }
         Ok((range, end)) => levels_outside(alloc, symbols, end, outer, left, last, range),
     }
 }
@@ -311,7 +337,10 @@ fn behind_at(
     if is_word(symbols, next, "least") || is_word(symbols, next, "most") {
         levels(alloc, symbols, outer, left, last, bound(symbols, next))
     } else {
-        let operand = with_one_use(alloc, last, None)?;
+        let Ok(operand) = with_one_use(alloc, last, None) else {
+            drop((outer, left));
+            return Err(Halt::Memory);
+        };
         let selection = ended(alloc, left, operand)?;
         behind_filter(alloc, outer, selection, side(symbols, next))
     }
@@ -329,7 +358,10 @@ fn behind_thesaurus(
 ) -> Result<(State, usize), Halt>
     ensures { Answers state_of result (turns.behind_thesaurus_turn (frames_of outer.items) (left_of left) last.operand.negation (primary_of last.operand.primary) last.operand.options last.at last.name last.relationship symbols.now next) }
 {
-    let operand = with_one_use(alloc, last, None)?;
+    let Ok(operand) = with_one_use(alloc, last, None) else {
+        drop((outer, left));
+        return Err(Halt::Memory);
+    };
     if begins_other_filter(symbols, next) {
         let selection = ended(alloc, left, operand)?;
         behind_filter(alloc, outer, selection, other_filter(symbols, next))

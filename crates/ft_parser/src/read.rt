@@ -39,7 +39,8 @@ pub(crate) fn read_placed(
     match limit_at(placed) {
         None => ended(alloc, bad, size, parsed(alloc, placed)?),
         Some(number) => {
-            parsed(alloc, &placed[..number])?;
+            let read = parsed(alloc, &placed[..number])?;
+            drop(read);
             Err(limit_fault(&placed[number]))
         }
     }
@@ -66,6 +67,7 @@ fn ended(
     ensures { Answered form (spec.ended bad size (option_map tree whole)) result }
 {
     if let Some(at) = bad {
+        drop(whole);
         return Err(QueryFault::Syntax { at });
     }
     match whole {
@@ -79,8 +81,14 @@ fn faultless(alloc: Global, parsed: Parsed) -> Result<Selection, QueryFault>
     ensures { Answered form (spec.faultless (tree parsed) (fault_of (tree parsed))) result }
 {
     match first_fault(alloc, &parsed) {
-        Err(_) => Err(QueryFault::Memory),
-        Ok(Some(fault)) => Err(fault),
+        Err(_) => {
+            drop(parsed);
+            Err(QueryFault::Memory)
+        }
+        Ok(Some(fault)) => {
+            drop(parsed);
+            Err(fault)
+        }
         Ok(None) => match selection_of(alloc, parsed) {
             Ok(selection) => Ok(selection),
             Err(_) => Err(QueryFault::Memory),

@@ -33,6 +33,7 @@ pub(crate) fn scan_symbols(alloc: Global, symbols: &[Placed]) -> Result<Scan, Me
     while next < symbols.len() {
         if begins_deep_filter(symbols, next, &state) {
             let at = symbols[next].from;
+            drop(state);
             return Ok(Scan::Refused(QueryFault::Deep { at }));
         }
         match turn(alloc, symbols, next, state) {

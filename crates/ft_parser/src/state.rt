@@ -90,7 +90,7 @@ pub(crate) struct State {
 }
 
 /// Why reading stops.
-#[derive(Clone, Copy, Debug, PartialEq, Eq)]
+#[derive(Clone, Copy)]
 pub(crate) enum Halt {
     /// The symbol of that number can't stand there.
     Stuck(usize),

@@ -40,6 +40,7 @@ pub(crate) fn term(
     } else if opens_parenthesis(symbols, next) {
         written(alloc, symbols, next + 1, outer, left, stops, except)
     } else {
+        drop((outer, left, stops));
         Err(Halt::Stuck(next))
     }
 }
@@ -55,11 +56,21 @@ fn listed(
 ) -> Result<(State, usize), Halt>
     ensures { Answers state_of result (reading (m.listed_term (frames_of outer.items) (left_of left) stops.operand.negation (primary_of stops.operand.primary) stops.operand.options stops.at stops.terms except) symbols.now next) }
 {
-    match text_at(alloc, symbols, next)? {
-        None => Err(Halt::Stuck(next)),
-        Some(name) => {
+    match text_at(alloc, symbols, next) {
+        Err(_) => {
+            drop((outer, left, stops));
+            Err(Halt::Memory)
+        }
+        Ok(None) => {
+            drop((outer, left, stops));
+            Err(Halt::Stuck(next))
+        }
+        Ok(Some(name)) => {
             let Stops { operand, at, terms } = stops;
-            let terms = with_term(terms, except, StopSource::At(name))?;
+            let Ok(terms) = with_term(terms, except, StopSource::At(name)) else {
+                drop((outer, left, operand));
+                return Err(Halt::Memory);
+            };
             let stage = Stage::StopTerms(Stops { operand, at, terms });
             Ok((State { outer, left, stage }, next + 1))
         }
@@ -77,11 +88,21 @@ fn written(
 ) -> Result<(State, usize), Halt>
     ensures { Answers state_of result (reading (m.written_term (frames_of outer.items) (left_of left) stops.operand.negation (primary_of stops.operand.primary) stops.operand.options stops.at stops.terms except) symbols.now next) }
 {
-    match text_at(alloc, symbols, next)? {
-        None => Err(Halt::Stuck(next)),
-        Some(text) => {
+    match text_at(alloc, symbols, next) {
+        Err(_) => {
+            drop((outer, left, stops));
+            Err(Halt::Memory)
+        }
+        Ok(None) => {
+            drop((outer, left, stops));
+            Err(Halt::Stuck(next))
+        }
+        Ok(Some(text)) => {
             let at = place_at(symbols, next);
-            let strings = one_string(alloc, PlacedString { at, text })?;
+            let Ok(strings) = one_string(alloc, PlacedString { at, text }) else {
+                drop((outer, left, stops));
+                return Err(Halt::Memory);
+            };
             let stage = Stage::StopStrings(stops, except, strings);
             Ok((State { outer, left, stage }, next + 1))
         }
@@ -124,11 +145,19 @@ pub(crate) fn stop_strings(
         )
     } else if closes_parenthesis(symbols, next) {
         let Stops { operand, at, terms } = stops;
-        let source = StopSource::Written(texts(alloc, &strings)?);
-        let terms = with_term(terms, except, source)?;
+        let Ok(texts) = texts(alloc, &strings) else {
+            drop((outer, left, operand, terms, strings));
+            return Err(Halt::Memory);
+        };
+        drop(strings);
+        let Ok(terms) = with_term(terms, except, StopSource::Written(texts)) else {
+            drop((outer, left, operand));
+            return Err(Halt::Memory);
+        };
         let stage = Stage::StopTerms(Stops { operand, at, terms });
         Ok((State { outer, left, stage }, next + 1))
     } else {
+        drop((outer, left, stops, strings));
         Err(Halt::Stuck(next))
     }
 }
@@ -145,12 +174,22 @@ fn more_strings(
 ) -> Result<(State, usize), Halt>
     ensures { Answers state_of result (reading (m.further_string (λ xs. stands (frames_of outer.items) (left_of left) (m.stop_strings stops.operand.negation (primary_of stops.operand.primary) stops.operand.options stops.at stops.terms except xs)) strings) symbols.now next) }
 {
-    match text_at(alloc, symbols, next)? {
-        None => Err(Halt::Stuck(next)),
-        Some(text) => {
+    match text_at(alloc, symbols, next) {
+        Err(_) => {
+            drop((outer, left, stops, strings));
+            Err(Halt::Memory)
+        }
+        Ok(None) => {
+            drop((outer, left, stops, strings));
+            Err(Halt::Stuck(next))
+        }
+        Ok(Some(text)) => {
             let at = place_at(symbols, next);
             let mut more = strings;
-            more.push(PlacedString { at, text })?;
+            if more.push(PlacedString { at, text }).is_err() {
+                drop((outer, left, stops, more));
+                return Err(Halt::Memory);
+            }
             let stage = Stage::StopStrings(stops, except, more);
             Ok((State { outer, left, stage }, next + 1))
         }

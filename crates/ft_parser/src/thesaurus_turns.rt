@@ -34,6 +34,7 @@ pub(crate) fn thesaurus_first(
         let uses = Items::new(alloc);
         named_inside(alloc, symbols, next + 1, outer, left, operand, at, uses)
     } else {
+        drop((outer, left, operand));
         Err(Halt::Stuck(next))
     }
 }
@@ -49,9 +50,16 @@ fn name_outside(
 ) -> Result<(State, usize), Halt>
     ensures { Answers state_of result (reading (m.thesaurus_name (frames_of outer.items) (left_of left) operand.negation (primary_of operand.primary) operand.options at) symbols.now next) }
 {
-    match text_at(alloc, symbols, next)? {
-        None => Err(Halt::Stuck(next)),
-        Some(name) => {
+    match text_at(alloc, symbols, next) {
+        Err(_) => {
+            drop((outer, left, operand));
+            Err(Halt::Memory)
+        }
+        Ok(None) => {
+            drop((outer, left, operand));
+            Err(Halt::Stuck(next))
+        }
+        Ok(Some(name)) => {
             let uses = Uses {
                 operand,
                 at,
@@ -80,6 +88,7 @@ fn named_inside(
     if is_word(symbols, next, "at") {
         name_inside(alloc, symbols, next + 1, outer, left, operand, at, uses)
     } else {
+        drop((outer, left, operand, uses));
         Err(Halt::Stuck(next))
     }
 }
@@ -96,9 +105,16 @@ fn name_inside(
 ) -> Result<(State, usize), Halt>
     ensures { Answers state_of result (reading (m.thesaurus_name_in (frames_of outer.items) (left_of left) operand.negation (primary_of operand.primary) operand.options at uses) symbols.now next) }
 {
-    match text_at(alloc, symbols, next)? {
-        None => Err(Halt::Stuck(next)),
-        Some(name) => {
+    match text_at(alloc, symbols, next) {
+        Err(_) => {
+            drop((outer, left, operand, uses));
+            Err(Halt::Memory)
+        }
+        Ok(None) => {
+            drop((outer, left, operand, uses));
+            Err(Halt::Stuck(next))
+        }
+        Ok(Some(name)) => {
             let last = Uses {
                 operand,
                 at,
@@ -127,10 +143,14 @@ pub(crate) fn thesauri_in(
     if is_comma(symbols, next) {
         named_inside(alloc, symbols, next + 1, outer, left, operand, at, uses)
     } else if closes_parenthesis(symbols, next) {
-        let operand = with_uses(operand, at, uses)?;
+        let Ok(operand) = with_uses(operand, at, uses) else {
+            drop((outer, left));
+            return Err(Halt::Memory);
+        };
         let stage = Stage::Given(operand);
         Ok((State { outer, left, stage }, next + 1))
     } else {
+        drop((outer, left, operand, uses));
         Err(Halt::Stuck(next))
     }
 }
@@ -146,7 +166,10 @@ pub(crate) fn with_uses(operand: Operand, at: usize, uses: ThesaurusUses) -> Res
     } = operand;
     let mut options = options;
     let option = MatchOption::Thesaurus(ThesaurusChoice::Uses(uses));
-    options.push(PlacedOption { at, option })?;
+    if options.push(PlacedOption { at, option }).is_err() {
+        drop((primary, options));
+        return Err(Memory);
+    }
     Ok(Operand {
         negation,
         primary,
@@ -185,9 +208,16 @@ fn related_in(
 ) -> Result<(State, usize), Halt>
     ensures { Answers state_of result (reading (m.relationship_name (λ r. stands (frames_of outer.items) (left_of left) (m.thesaurus_in last.operand.negation (primary_of last.operand.primary) last.operand.options last.at uses last.name (Some r)))) symbols.now next) }
 {
-    match text_at(alloc, symbols, next)? {
-        None => Err(Halt::Stuck(next)),
-        Some(text) => {
+    match text_at(alloc, symbols, next) {
+        Err(_) => {
+            drop((outer, left, last, uses));
+            Err(Halt::Memory)
+        }
+        Ok(None) => {
+            drop((outer, left, last, uses));
+            Err(Halt::Stuck(next))
+        }
+        Ok(Some(text)) => {
             let last = Uses {
                 operand: last.operand,
                 at: last.at,
@@ -252,13 +282,23 @@ fn with_last(
 ) -> Result<(Operand, ThesaurusUses), Memory>
     ensures { IfOk result (λ r. r ≡ (last.operand, uses ++ m.thesaurus_use last.name last.relationship levels ∷ [])) }
 {
+    let Uses {
+        operand,
+        at: _,
+        name,
+        relationship,
+    } = last;
     let mut more = uses;
-    more.push(ThesaurusUse {
-        name: last.name,
-        relationship: last.relationship,
+    let further = ThesaurusUse {
+        name,
+        relationship,
         levels,
-    })?;
-    Ok((last.operand, more))
+    };
+    if more.push(further).is_err() {
+        drop((operand, more));
+        return Err(Memory);
+    }
+    Ok((operand, more))
 }
 
 fn levels_in(
@@ -272,13 +312,20 @@ fn levels_in(
     ensures { Answers state_of result (levels_turn (in_levels (frames_of outer.items) (left_of left) last.operand.negation (primary_of last.operand.primary) last.operand.options last.at uses last.name last.relationship) symbols.now (reading keywords.range symbols.now next)) }
 {
     match range(symbols, next) {
-        Err(stuck) => Err(Halt::Stuck(stuck)),
+        Err(stuck) => {
+            drop((outer, left, last, uses));
+            Err(Halt::Stuck(stuck))
+        }
         Ok((range, end)) => {
             if !is_word(symbols, end, "levels") {
+                drop((outer, left, last, uses));
                 return Err(Halt::Stuck(end));
             }
             let at = last.at;
-            let (operand, uses) = with_last(last, uses, Some(range))?;
+            let Ok((operand, uses)) = with_last(last, uses, Some(range)) else {
+                drop((outer, left));
+                return Err(Halt::Memory);
+            };
             let stage = Stage::ThesauriIn(operand, at, uses);
             Ok((State { outer, left, stage }, end + 1))
         }
@@ -296,9 +343,16 @@ pub(crate) fn related(
 ) -> Result<(State, usize), Halt>
     ensures { Answers state_of result (reading (m.relationship_name (λ r. stands (frames_of outer.items) (left_of left) (m.thesaurus last.operand.negation (primary_of last.operand.primary) last.operand.options last.at last.name (Some r)))) symbols.now next) }
 {
-    match text_at(alloc, symbols, next)? {
-        None => Err(Halt::Stuck(next)),
-        Some(text) => {
+    match text_at(alloc, symbols, next) {
+        Err(_) => {
+            drop((outer, left, last));
+            Err(Halt::Memory)
+        }
+        Ok(None) => {
+            drop((outer, left, last));
+            Err(Halt::Stuck(next))
+        }
+        Ok(Some(text)) => {
             let last = Uses {
                 operand: last.operand,
                 at: last.at,
@@ -337,9 +391,13 @@ pub(crate) fn levels_outside(
     ensures { Answers state_of result (before_word (codes "levels") (with_levels (frames_of outer.items) (left_of left) last.operand.negation (primary_of last.operand.primary) last.operand.options last.at last.name last.relationship (Some range)) symbols.now end) }
 {
     if !is_word(symbols, end, "levels") {
+        drop((outer, left, last));
         return Err(Halt::Stuck(end));
     }
-    let operand = with_one_use(alloc, last, Some(range))?;
+    let Ok(operand) = with_one_use(alloc, last, Some(range)) else {
+        drop((outer, left));
+        return Err(Halt::Memory);
+    };
     let stage = Stage::Given(operand);
     Ok((State { outer, left, stage }, end + 1))
 }

@@ -124,7 +124,10 @@ pub(crate) fn moded(
     if is_word(symbols, next, "occurs") {
         let at = place_at(symbols, next);
         match times(symbols, next + 1, at) {
-            Err(stuck) => Err(Halt::Stuck(stuck)),
+            Err(stuck) => {
+                drop((outer, left, strings));
+                Err(Halt::Stuck(stuck))
+            }
             Ok((times, end)) => {
                 let stage = Stage::Given(Operand {
                     negation,
