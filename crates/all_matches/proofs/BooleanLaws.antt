@@ -55,7 +55,7 @@ turned_exclude (hit ∷ hits) is ms =
     absorbed false true = refl
     absorbed false false = refl
 
-neither : (a b : Bool) → (not a && not b) ≡ not (a || b)
+pub neither : (a b : Bool) → (not a && not b) ≡ not (a || b)
 neither true b = refl
 neither false b = refl
 

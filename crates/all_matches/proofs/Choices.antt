@@ -7,6 +7,7 @@ use Rattle.std.proofs.lemmas.List.Folds.{list_any-append}
 use Rattle.ft_base.specs.declared.hit.Hit.{Hit}
 use Rattle.ft_base.specs.declared.hit.Match.{Match}
 use Rattle.all_matches.specs.Boolean.{with_include, with_exclude, ft_not, is_clean, survives}
+use Rattle.all_matches.proofs.BooleanLaws.{neither}
 use Rattle.all_matches.proofs.ListTests.{list_any-alike, list_any-map, list_any-flat_map, list_any-and, list_any-and_first}
 
 some_fails : (kept : Hit → Bool) (hits : List Hit) → list_any (λ hit. not (kept hit)) hits ≡ not (list_all kept hits)
@@ -16,10 +17,6 @@ some_fails kept (hit ∷ rest) = ap (λ b. not (kept hit) || b) (some_fails kept
     not_both : (a b : Bool) → (not a || not b) ≡ not (a && b)
     not_both true b = refl
     not_both false b = refl
-
-neither : (a b : Bool) → (not a && not b) ≡ not (a || b)
-neither true b = refl
-neither false b = refl
 
 -- the choices of one include of a Match, each with the choices of the rest
 turned : (kept : Hit → Bool) (hits : List Hit) (ms : List Match) → list_any (survives kept) (flat_map (λ hit. map (with_exclude hit) ms) hits) ≡ (not (list_all kept hits) && list_any (survives kept) ms)

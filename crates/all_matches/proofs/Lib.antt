@@ -12,3 +12,5 @@ pub mod BareWays
 pub mod WayLaws
 pub mod OperatorMatches
 pub mod PlainOperators
+pub mod SomeWindow
+pub mod AllowedForms

@@ -1,5 +1,6 @@
 -- The hits of a phrase with several variants, counted by the places at which variants of one length begin.
 use Rattle.std.proofs.Common.{◌≡◌, refl, sym, ap, ◌∙◌, ℕ, zero, suc, ◌+◌, ◌<◌, ◌≤◌, ◌==◌, Bool, true, false, ◌&&◌, ◌||◌, List, [], ◌∷◌, ◌++◌, map, sum, fold, cond, length, take, arith}
+use Rattle.std.proofs.Math.Bool.{or_assoc}
 use Rattle.std.specs.Prelude.{⊤}
 use Rattle.std.specs.List.{list_any, range_with_len, count_by}
 use Rattle.std.proofs.lemmas.Bool.Decides.{nat_tests}
@@ -28,10 +29,6 @@ regrouped false true true = refl
 regrouped false true false = refl
 regrouped false false true = refl
 regrouped false false false = refl
-
-joined : (a b c : Bool) → (a || (b || c)) ≡ ((a || b) || c)
-joined true b c = refl
-joined false b c = refl
 
 nothing_first : (b : Bool) → ((b || false) || false) ≡ (false || b)
 nothing_first true = refl
@@ -111,7 +108,7 @@ module _ {X : Type 0} where
         or_nothing : (b : Bool) → (b || false) ≡ (false || b)
         or_nothing true = refl
         or_nothing false = refl
-    any_behind (first ∷ rest) items = ap (λ b. test first || b) (any_behind rest items) ∙ joined (test first) (list_any test rest) (test items)
+    any_behind (first ∷ rest) items = ap (λ b. test first || b) (any_behind rest items) ∙ sym (or_assoc (test first) (list_any test rest) (test items))
 
     put_any : (groups : List (ℕ × List (List X))) (items : List X) → some_group (put_variant items groups) ≡ (some_group groups || test items)
     unfolding some_group
@@ -119,7 +116,7 @@ module _ {X : Type 0} where
     put_any (group ∷ groups) items =
         elim (length items == group.0) as (λ t. some_group (cond t ((group.0, group.1 ++ items ∷ []) ∷ groups) (group ∷ put_variant items groups)) ≡ (some_group (group ∷ groups) || test items)) [
           | true ↦ ap (λ b. b || some_group groups) (any_behind group.1 items) ∙ regrouped (list_any test group.1) (test items) (some_group groups)
-          | false ↦ ap (λ b. list_any test group.1 || b) (put_any groups items) ∙ joined (list_any test group.1) (some_group groups) (test items)
+          | false ↦ ap (λ b. list_any test group.1 || b) (put_any groups items) ∙ sym (or_assoc (list_any test group.1) (some_group groups) (test items))
         ]
 
     all_any : test [] ≡ false → (groups : List (ℕ × List (List X))) (lists : List (List X)) → some_group (fold with_variant groups lists) ≡ (some_group groups || list_any test lists)
@@ -132,7 +129,7 @@ module _ {X : Type 0} where
     all_any none groups ((item ∷ items) ∷ lists) =
         all_any none (put_variant (item ∷ items) groups) lists
         ∙ ap (λ b. b || list_any test lists) (put_any groups (item ∷ items))
-        ∙ sym (joined (some_group groups) (test (item ∷ items)) (list_any test lists))
+        ∙ or_assoc (some_group groups) (test (item ∷ items)) (list_any test lists)
 
 -- ---- one length at a time
 

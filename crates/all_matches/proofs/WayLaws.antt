@@ -3,6 +3,7 @@ use Rattle.std.proofs.Common.{◌≡◌, refl, ap, sym, ◌∙◌, ℕ, List, []
 use Rattle.std.specs.Prelude.{map, filter, flat_map, Option}
 use Rattle.std.specs.List.{list_any, list_all, AllByRecursion}
 use Rattle.std.proofs.lemmas.Bool.{and_parts}
+use Rattle.std.proofs.Math.Bool.{or-false}
 use Rattle.std.proofs.lemmas.List.Folds.{list_any-append, list_all-append}
 use Rattle.ft_base.specs.declared.hit.Hit.{Hit}
 use Rattle.ft_base.specs.declared.hit.Match.{Match}
@@ -14,10 +15,6 @@ use Rattle.all_matches.specs.Ways.{Operator, phrase, either, together, apart, ne
 use Rattle.all_matches.proofs.ListTests.{list_any-alike, list_any-map, list_any-flat_map, list_any-and, list_any-and_first, list_any-never}
 use Rattle.all_matches.proofs.BareWays.{bare_matches, bare_ways, made-bare, good_ways}
 use Rattle.all_matches.proofs.Choices.{some_choice}
-
-or_false : (a : Bool) → (a || false) ≡ a
-or_false true = refl
-or_false false = refl
 
 any_on : {X : Type 0} (P : X → Type 0) (f g : X → Bool) → ((x : X) → P x → f x ≡ g x) → (xs : List X) → AllByRecursion P xs → list_any f xs ≡ list_any g xs
 any_on P f g same [] h = refl
@@ -120,7 +117,7 @@ filter_any p kind count way h =
 
 found_any : (p : Match → Bool) (found : List Hit) → list_any p (map match_of_hit found) ≡ list_any (λ w. list_any p (made w)) (map one_hit found)
 found_any p [] = refl
-found_any p (hit ∷ rest) = λ i. sym (or_false (p (match_of_hit hit))) i || found_any p rest i
+found_any p (hit ∷ rest) = λ i. sym (or-false (p (match_of_hit hit))) i || found_any p rest i
 
 -- some Match of a selection passes a test exactly where some Match of one of its ways does
 pub any_way : (count : ℕ) (operator : Operator) → is_plain operator ≡ true → (p : Match → Bool) → list_any p (matches_of count operator) ≡ list_any (λ w. list_any p (made w)) (ways_of count operator)
@@ -144,8 +141,8 @@ any_way count (together left right) h p =
 any_way count (apart left right) h p =
     ap (list_any p) (bare_matches count (apart left right) h)
     ∙ list_any-map p bare_match (ways_of count (apart left right))
-    ∙ any_of is_bare (λ w. p (bare_match w)) (λ w. list_any p (made w)) (λ w e. sym (ap (list_any p) (made-bare w e) ∙ or_false (p (bare_match w)))) (ways_of count (apart left right)) (bare_ways count (apart left right) h)
-any_way count (negated operand) h p = sym (or_false (list_any p (ft_not (matches_of count operand))))
+    ∙ any_of is_bare (λ w. p (bare_match w)) (λ w. list_any p (made w)) (λ w e. sym (ap (list_any p) (made-bare w e) ∙ or-false (p (bare_match w)))) (ways_of count (apart left right)) (bare_ways count (apart left right) h)
+any_way count (negated operand) h p = sym (or-false (list_any p (ft_not (matches_of count operand))))
 any_way count (through_filter operand kind) h p =
     list_any-flat_map p (filtered_match kind count) (matches_of count operand)
     ∙ any_way count operand h (λ m. list_any p (filtered_match kind count m))

@@ -29,6 +29,10 @@ pub fn distances_in_ranges()
 pub fn distances_of_neighbours()
     ensures shorter_first { sat plain (filtered (three_and (quoted (codes "a b c")) word_a (quoted (codes "d"))) (F.Distance (R.AtMost 0) U.Words))
         (text (codes "a b c d")) ≡ true }
+    ensures shorter_first_along_the_query { sat plain (filtered (three_and word_a (quoted (codes "a b c")) (quoted (codes "d"))) (F.Distance (R.AtMost 0) U.Words))
+        (text (codes "a b c d")) ≡ true }
+    ensures by_the_first_word { sat plain (filtered (three_and (quoted (codes "a b c")) word_b (quoted (codes "d"))) (F.Distance (R.AtMost 0) U.Words))
+        (text (codes "a b c d")) ≡ false }
     ensures neighbours_alone { sat plain (filtered (three_and word_a word_b word_c) (F.Distance (R.AtMost 0) U.Words)) (text (codes "a b c")) ≡ true }
     ensures against_the_query { sat plain (filtered (three_and word_c word_b word_a) (F.Distance (R.AtMost 0) U.Words)) (text (codes "a b c")) ≡ true }
     ensures the_first_two { sat plain (filtered (three_and word_a word_b word_c) (F.Distance (R.AtMost 0) U.Words)) (text (codes "a x b c")) ≡ false }

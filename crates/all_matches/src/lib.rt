@@ -22,6 +22,7 @@ mod scope_examples;
 mod times_examples;
 mod way_laws;
 mod window_examples;
+mod window_laws;
 mod word_examples;
 
 pub use anchor_examples::{covered_content, excludes_under_anchors, some_hit_at_an_edge};
@@ -36,7 +37,7 @@ pub use hit_laws::sorted_hits_law;
 pub use mild_not_examples::{right_sides_without_includes, words_that_stand_out};
 pub use nested_examples::{excludes_under_nested_filters, hits_kept_apart, joined_hits};
 pub use not_examples::{excludes_under_filters, mild_not_by_cover, no_includes};
-pub use operator_laws::{filtered_selection_law, operator_law, plain_operator_law};
+pub use operator_laws::{allowed_law, filtered_selection_law, operator_law, plain_operator_law};
 pub use option_examples::{inner_lists, inner_options, outer_options};
 pub use order_examples::{excludes_under_order, order_by_phrases, order_of_every_two};
 pub use sat_laws::{
@@ -48,4 +49,5 @@ pub use scope_examples::{
 pub use times_examples::times_under_filters;
 pub use way_laws::ways_law;
 pub use window_examples::{excludes_in_windows, hits_in_windows, places_of_windows};
+pub use window_laws::some_window_law;
 pub use word_examples::{modes, stop_words, times};

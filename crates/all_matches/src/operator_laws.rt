@@ -2,10 +2,11 @@
 
 ghost use Rattle.std.specs.Prelude.{◌≡◌, ℕ, List, [], length, true};
 ghost use Rattle.std.specs.List.{list_any};
+ghost use Rattle.ft_base.specs.declared.filter.Filter.{Filter};
 ghost use Rattle.ft_base.specs.declared.options.Options.{Options};
 ghost use Rattle.ft_base.specs.declared.token.Token.{Token};
-ghost use Rattle.ft_base.specs.Selection.{Form};
-ghost use Rattle.all_matches.specs.Allowed.{without_times, has_plain_nots, may_be_filtered};
+ghost use Rattle.ft_base.specs.Selection.{Form, mild_not, filtered};
+ghost use Rattle.all_matches.specs.Allowed.{without_times, has_plain_nots, may_be_filtered, is_allowed};
 ghost use Rattle.all_matches.specs.Boolean.{satisfied};
 ghost use Rattle.all_matches.specs.Chain.{kept_by};
 ghost use Rattle.all_matches.specs.Meaning.{all_matches};
@@ -23,6 +24,12 @@ pub fn operator_law()
 pub fn plain_operator_law()
     ensures { (lexicon : Lexicon) (options : Options) (first : ℕ) (tokens : List Token) (form : Form) → has_plain_nots form ≡ true
         → is_plain (operator_of lexicon options first tokens form) ≡ true }
+{}
+
+/// What is allowed as a selection with a filter, and as `not in`, may stand under a further filter, so that the laws here speak of it.
+pub fn allowed_law()
+    ensures filter { (form : Form) (kind : Filter) → is_allowed (filtered form kind) ≡ true → may_be_filtered (filtered form kind) ≡ true }
+    ensures mild_not { (left right : Form) → is_allowed (mild_not left right) ≡ true → may_be_filtered (mild_not left right) ≡ true }
 {}
 
 /// A selection that may stand under a filter, with its filters, is satisfied exactly where one of its ways is clean under the chain without links.

@@ -42,6 +42,8 @@ pub fn excludes_under_same_scope()
     ensures in_another_sentence { sat plain (filtered (but_not word_a word_b) F.SameSentence) (sentence 1 (codes "a") ++ sentence 2 (codes "b")) ≡ true }
     ensures across_sentences { sat plain (filtered (not_of (quoted (codes "a b"))) F.SameSentence) (sentence 1 (codes "a") ++ sentence 2 (codes "b")) ≡ true }
     ensures in_the_paragraph { sat plain (filtered (but_not word_a word_b) F.SameParagraph) (sentence 1 (codes "a") ++ sentence 2 (codes "b")) ≡ false }
+    ensures across_paragraphs { sat plain (filtered (not_of (quoted (codes "a b"))) F.SameParagraph)
+        (paragraph 1 (codes "a") ++ paragraph 2 (codes "b")) ≡ true }
     ensures in_another_paragraph { sat plain (filtered (but_not word_a word_b) F.SameParagraph) (paragraph 1 (codes "a") ++ paragraph 2 (codes "b")) ≡ true }
 {}
 
