@@ -126,7 +126,7 @@ fn behind(tree: &DocTree, node: NodeRef) -> Option<NodeRef>
         return Some(child);
     }
     let mut here = node;
-    for _ in 0..tree.node_count() {
+    for level in 0..tree.node_count() {
         if let Some(next) = tree.next(here) {
             return Some(next);
         }
