@@ -4,4 +4,4 @@ use Rattle.ordered_tree.specs.Stands.{references}
 use Rattle.session_rows.proofs.trees.expect_nodes.Given as goal
 
 abbrev pub invariant-loop-row : goal.invariant-loop-row
-invariant-loop-row l = IfSome l.link (Contains (references l.tree.root))
+invariant-loop-row g l = IfSome l.link (Contains (references l.tree.root))
