@@ -64,19 +64,22 @@ test_false a b h = grind (arith, nat_tests)
 abbrev pub with_reply : List Named → Reply → List Named × Reply
 with_reply state reply = (state, reply)
 
--- a block's fault, too many tokens, or its document
+-- a document that was read, and too many tokens
+pub with_few_tokens-many : (root : Node) → max_tokens < length (tokens root) → with_few_tokens (Ok root) ≡ Err TooManyTokens
+with_few_tokens-many root many = ap (λ t. cond t (Err TooManyTokens) (Ok root)) (test_true max_tokens (length (tokens root)) many)
+
+pub with_few_tokens-few : (root : Node) → length (tokens root) ≤ max_tokens → with_few_tokens (Ok root) ≡ Ok root
+with_few_tokens-few root few = ap (λ t. cond t (Err TooManyTokens) (Ok root)) (test_false max_tokens (length (tokens root)) few)
+
+-- a block's fault, or its document
 module _ (block : List ℕ) where
   pub loadable-fault : (fault : DocFault) → document_of block ≡ Err fault → loadable block ≡ Err (refusal.Document fault)
   unfolding loadable
   loadable-fault fault is = ap with_few_tokens is
 
-  pub loadable-many : (root : Node) → document_of block ≡ Ok root → max_tokens < length (tokens root) → loadable block ≡ Err TooManyTokens
+  pub loadable-read : (root : Node) → document_of block ≡ Ok root → with_few_tokens (Ok root) ≡ loadable block
   unfolding loadable
-  loadable-many root is many = ap with_few_tokens is ∙ ap (λ t. cond t (Err TooManyTokens) (Ok root)) (test_true max_tokens (length (tokens root)) many)
-
-  pub loadable-few : (root : Node) → document_of block ≡ Ok root → length (tokens root) ≤ max_tokens → loadable block ≡ Ok root
-  unfolding loadable
-  loadable-few root is few = ap with_few_tokens is ∙ ap (λ t. cond t (Err TooManyTokens) (Ok root)) (test_false max_tokens (length (tokens root)) few)
+  loadable-read root is = sym (ap with_few_tokens is)
 
   -- a fault that isn't want of memory is the block's
   pub loadable-refused : (fault : DocFault) (why : Refusal) → Faults (document_of block) fault → fault ≢ faults.Memory → why ≡ refusal.Document fault → Err why ≡ loadable block

@@ -9,12 +9,12 @@ use crate::session::Session;
 use crate::writing::write_all;
 use ft_base::{Memory, Steps};
 use ft_io::{Failed, Sink};
-use session_text::{Command, Commands, print_reply};
+use session_text::{Command, Commands, Reply, print_reply};
 use std::alloc::Global;
 use std::sync::ledger::Ledger;
 
 /// Why not all replies were written.
-#[derive(Clone, Copy, Debug, PartialEq, Eq)]
+#[derive(Clone, Copy)]
 pub(crate) enum AnswerError {
     Fault,
     Memory,
@@ -58,7 +58,21 @@ pub(crate) fn answer<K: Sink, L: Ledger, M: Ledger>(
     ensures cause { IsErrOf result AnswerError.Fault → K.faults sink.old < K.faults sink.new }
 {
     let reply = session.step(command, moves, rows)?;
-    let text = print_reply(alloc, &reply)?;
+    let answered = write_reply(alloc, &reply, sink);
+    drop(reply);
+    answered
+}
+
+/// Writes a reply, and says whether it is a refusal.
+fn write_reply<K: Sink>(alloc: Global, reply: &Reply, sink: &mut K) -> Result<bool, AnswerError>
+    requires { K.faults sink.old + 1 < 2 ^ 64 }
+    ensures refused { IfOk result (λ refused. refused ≡ is_refusal reply.now) }
+    ensures written { OnOk result (K.written sink.new ≡ with_text (K.written sink.old) (reply_text reply.now)) }
+    ensures front { OnErr result (TookFront (K.written sink.old) (K.written sink.new) (reply_text reply.now)) }
+    ensures faults { OnOk result (K.faults sink.new ≡ K.faults sink.old) }
+    ensures cause { IsErrOf result AnswerError.Fault → K.faults sink.old < K.faults sink.new }
+{
+    let text = print_reply(alloc, reply)?;
     write_all(sink, text.as_str().as_bytes())?;
     Ok(reply.is_refusal())
 }

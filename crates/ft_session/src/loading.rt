@@ -1,7 +1,9 @@
-ghost use Rattle.std.specs.Prelude.{◌≡◌, ◌≢◌, IfOk, OnOk, length, nat_le};
+ghost use Rattle.std.specs.Prelude.{◌≡◌, ◌≢◌, IfOk, Ok, OnOk, length, nat_le};
+ghost use Rattle.doc_grammar.specs.Printed.{IsPrintable};
+ghost use Rattle.doc_profile.specs.Faults.{IsWithin};
 ghost use Rattle.tokenizer.specs.Tokens.{tokens};
 ghost use Rattle.ft_session.specs.Limits.{max_tokens};
-ghost use Rattle.ft_session.specs.Step.{loadable};
+ghost use Rattle.ft_session.specs.Step.{loadable, with_few_tokens};
 ghost use Rattle.ft_session.specs.LoadView.{outcome};
 
 use crate::loaded::Loaded;
@@ -35,14 +37,26 @@ fn refuse(fault: DocFault) -> Result<Refusal, Memory>
 pub(crate) fn read_document(alloc: Global, block: &[u8]) -> Result<Outcome, Memory>
     ensures { IfOk result (λ read. outcome read ≡ loadable block.now) }
 {
-    let document = match read_doc(alloc, block) {
-        Ok(document) => document,
-        Err(fault) => return Ok(Outcome::Refused(refuse(fault)?)),
-    };
-    if !has_few_tokens(alloc, &document)? {
+    match read_doc(alloc, block) {
+        Ok(document) => {
+            let outcome = load(alloc, &document);
+            drop(document);
+            outcome
+        }
+        Err(fault) => Ok(Outcome::Refused(refuse(fault)?)),
+    }
+}
+
+/// The document with references, unless it has too many tokens.
+fn load(alloc: Global, document: &PlainDoc) -> Result<Outcome, Memory>
+    requires within { IsWithin document.now }
+    requires printable { IsPrintable document.now }
+    ensures { IfOk result (λ read. outcome read ≡ with_few_tokens (Ok document.now)) }
+{
+    if !has_few_tokens(alloc, document)? {
         return Ok(Outcome::Refused(Refusal::TooManyTokens));
     }
-    let tree = DocTree::from_doc(alloc, &document)?;
+    let tree = DocTree::from_doc(alloc, document)?;
     Ok(Outcome::Document(Loaded { tree }))
 }
 

@@ -1,11 +1,12 @@
 ghost use Rattle.std.specs.Prelude.{◌≡◌, ◌++◌, ◌+◌, ◌^◌, ◌<◌, ◌≤◌, [], List, ℕ, length, string_bytes, take, IfOk, IfSome, IsErrOf, IsSome, OnErr, OnOk};
 ghost use Rattle.std.specs.List.{list_any};
 ghost use Rattle.ft_io.specs.Shelf.{bytes_of, told_bytes};
-ghost use Rattle.session_text.specs.Reading.{commands_left};
+ghost use Rattle.session_text.specs.Reading.{commands_left, new_reading};
 ghost use Rattle.session_text.specs.Replies.{is_refusal};
 ghost use Rattle.ft_session.specs.Output.{has_refusal, output, output_of_whole, texts_of};
 ghost use Rattle.ft_session.specs.Pieces.{Answered};
 ghost use Rattle.ft_session.specs.Run.{TookFront, with_text};
+ghost use Rattle.ft_session.specs.State.{opening};
 ghost use Rattle.ft_session.specs.Step.{replies};
 
 use crate::answering::{AnswerError, answer, answer_all};
@@ -18,7 +19,7 @@ use std::alloc::{AllocError, Global};
 use std::sync::ledger::{Blank, Ledger};
 
 /// Why a session was not answered to its end.
-#[derive(Clone, Copy, Debug, PartialEq, Eq)]
+#[derive(Clone, Copy)]
 pub(crate) enum Stopped {
     ReadFault,
     WriteFault,
@@ -115,14 +116,12 @@ fn answer_end<K: Sink, L: Ledger, M: Ledger>(
     ensures cause { IsErrOf result AnswerError.Fault → K.faults sink.old < K.faults sink.new }
 {
     match answering.lines.end()? {
-        Some(command) => answer(
-            answering.alloc,
-            &mut answering.session,
-            &command,
-            sink,
-            moves,
-            rows,
-        ),
+        Some(command) => {
+            let session = &mut answering.session;
+            let answered = answer(answering.alloc, session, &command, sink, moves, rows);
+            drop(command);
+            answered
+        }
         None => Ok(false),
     }
 }
@@ -157,6 +156,7 @@ pub(crate) fn answer_file<S: Shelf, K: Sink, L: Ledger, M: Ledger>(
 
     // whatever came
     ensures front { IfSome (told_bytes (S.files shelf.old) (string_bytes name.now)) (λ session. TookFront (K.written sink.old) (K.written sink.new) (output session)) }
+    ensures reached_most { S.reached shelf.new (string_bytes name.now) ≤ 67108865 }
 
     // where it stopped
     ensures read_fault { IsErrOf result Stopped.ReadFault → S.faults shelf.old (string_bytes name.now) < S.faults shelf.new (string_bytes name.now) }
@@ -169,14 +169,58 @@ pub(crate) fn answer_file<S: Shelf, K: Sink, L: Ledger, M: Ledger>(
         K.written sink.new ≡ with_text (K.written sink.old) (output_of_whole (take (S.reached shelf.new (string_bytes name.now)) session))) }
     ensures longer { IsErrOf result Stopped.TooLong → IfSome (told_bytes (S.files shelf.old) (string_bytes name.now)) (λ session. 67108865 ≤ length session) }
 {
+    let session = Session::new(alloc)?;
     let mut answering = Answering {
         alloc,
         lines: Lines_::new(alloc),
-        session: Session::new(alloc)?,
+        session,
     };
     let mut moves = Steps::<M>::new(moves);
     let mut rows = Steps::<L>::new(rows);
-    let mut piece = buffer(alloc, MAX_PIECE_BYTES)?;
+    let answered = answer_pieces(&mut answering, name, shelf, sink, &mut moves, &mut rows);
+    drop(answering);
+    answered
+}
+
+/// The same for a session of which nothing was taken yet.
+fn answer_pieces<S: Shelf, K: Sink, L: Ledger, M: Ledger>(
+    answering: &mut Answering,
+    name: &String,
+    shelf: &mut S,
+    sink: &mut K,
+    moves: &mut Steps<M>,
+    rows: &mut Steps<L>,
+) -> Result<bool, Stopped>
+    requires reading { answering.old.lines ≡ new_reading }
+    requires opening { answering.old.session ≡ opening }
+    requires fresh { S.reached shelf.old (string_bytes name.now) ≡ 0 }
+    requires shelf_countable { S.faults shelf.old (string_bytes name.now) + 1 < 2 ^ 64 }
+    requires sink_countable { K.faults sink.old + 1 < 2 ^ 64 }
+
+    // where all was answered
+    ensures present { OnOk result (IfSome (S.files shelf.old) (λ told. IsSome (bytes_of told (string_bytes name.now)))) }
+    ensures whole { OnOk result (IfSome (told_bytes (S.files shelf.old) (string_bytes name.now)) (λ session. S.reached shelf.new (string_bytes name.now) ≡ length session)) }
+    ensures written { OnOk result (IfSome (told_bytes (S.files shelf.old) (string_bytes name.now)) (λ session.
+        K.written sink.new ≡ with_text (K.written sink.old) (output session))) }
+    ensures refused { IfOk result (λ refused. IfSome (told_bytes (S.files shelf.old) (string_bytes name.now)) (λ session. refused ≡ has_refusal session)) }
+    ensures below { OnOk result (S.reached shelf.new (string_bytes name.now) ≤ 67108864) }
+
+    // whatever came
+    ensures front { IfSome (told_bytes (S.files shelf.old) (string_bytes name.now)) (λ session. TookFront (K.written sink.old) (K.written sink.new) (output session)) }
+    ensures reached_most { S.reached shelf.new (string_bytes name.now) ≤ 67108865 }
+
+    // where it stopped
+    ensures read_fault { IsErrOf result Stopped.ReadFault → S.faults shelf.old (string_bytes name.now) < S.faults shelf.new (string_bytes name.now) }
+    ensures read_fault_early { IsErrOf result Stopped.ReadFault → S.reached shelf.new (string_bytes name.now) < 67108865 }
+    ensures read_fault_writes { IsErrOf result Stopped.ReadFault → IfSome (told_bytes (S.files shelf.old) (string_bytes name.now)) (λ session.
+        K.written sink.new ≡ with_text (K.written sink.old) (output_of_whole (take (S.reached shelf.new (string_bytes name.now)) session))) }
+    ensures write_fault { IsErrOf result Stopped.WriteFault → K.faults sink.old < K.faults sink.new }
+    ensures too_long { IsErrOf result Stopped.TooLong → (S.reached shelf.new (string_bytes name.now) ≡ 67108865) × (K.faults sink.new ≡ K.faults sink.old) }
+    ensures too_long_writes { IsErrOf result Stopped.TooLong → IfSome (told_bytes (S.files shelf.old) (string_bytes name.now)) (λ session.
+        K.written sink.new ≡ with_text (K.written sink.old) (output_of_whole (take (S.reached shelf.new (string_bytes name.now)) session))) }
+    ensures longer { IsErrOf result Stopped.TooLong → IfSome (told_bytes (S.files shelf.old) (string_bytes name.now)) (λ session. 67108865 ≤ length session) }
+{
+    let mut piece = buffer(answering.alloc, MAX_PIECE_BYTES)?;
     let mut taken = 0;
     let mut refused = false;
     while taken < MOST {
@@ -184,10 +228,10 @@ pub(crate) fn answer_file<S: Shelf, K: Sink, L: Ledger, M: Ledger>(
             return Err(Stopped::ReadFault);
         };
         if count == 0 {
-            refused |= answer_end(&mut answering, sink, &mut moves, &mut rows)?;
+            refused |= answer_end(answering, sink, moves, rows)?;
             return Ok(refused);
         }
-        refused |= answer_piece(&mut answering, &piece[..count], sink, &mut moves, &mut rows)?;
+        refused |= answer_piece(answering, &piece[..count], sink, moves, rows)?;
         taken += count as u64;
     }
     Err(Stopped::TooLong)

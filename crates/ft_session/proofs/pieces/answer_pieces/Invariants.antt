@@ -3,7 +3,7 @@ use Rattle.std.proofs.Common.{◌≡◌, ◌-◌, ◌≤◌}
 use Rattle.std.specs.Prelude.{string_bytes, vec_len}
 use Rattle.ft_io.specs.Shelf.{told_bytes}
 use Rattle.ft_session.proofs.ProgressLemmas.{Progress}
-use Rattle.ft_session.proofs.pieces.answer_file.Given as goal
+use Rattle.ft_session.proofs.pieces.answer_pieces.Given as goal
 
 abbrev pub invariant-loop-taken : goal.invariant-loop-taken
 invariant-loop-taken g l = record {

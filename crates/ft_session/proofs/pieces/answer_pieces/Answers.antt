@@ -11,7 +11,7 @@ use Rattle.ft_session.proofs.AnswerLemmas.{front_all}
 use Rattle.ft_session.proofs.ProgressLemmas.{progress_all, progress_end, progress_front, progress_length, progress_more, progress_refuses, progress_start, progress_stays, progress_within, rest_piece}
 use Rattle.ft_session.proofs.ReadLemmas.{take_front}
 use Rattle.ft_session.proofs.StoppedLemmas.{no_long, no_read_fault, sink_fault, unanswered_as}
-use Rattle.ft_session.proofs.pieces.answer_file.Goals as goal
+use Rattle.ft_session.proofs.pieces.answer_pieces.Goals as goal
 
 pub loop-taken-init : goal.loop-taken-init
 loop-taken-init g c = record {
@@ -21,8 +21,8 @@ loop-taken-init g c = record {
   read_faults = refl;
   files = refl;
   write_faults = refl;
-  bytes = ap (λ r. r.bytes) c.new.ensures.reading;
-  progress = progress_start (told_bytes (g.S.Shelf.files c.args.shelf.now) (string_bytes c.args.name.now)) (g.K.Sink.written c.args.sink.now) c.new.result c.in_ok-new.field-0 c.new.ensures.reading c.in_ok-new.ensures;
+  bytes = ap (λ r. r.bytes) c.requires.reading;
+  progress = progress_start (told_bytes (g.S.Shelf.files c.args.shelf.now) (string_bytes c.args.name.now)) (g.K.Sink.written c.args.sink.now) c.args.answering.now.lines c.args.answering.now.session c.requires.reading c.requires.opening;
 }
 
 pub returns-in_default-clause-front : goal.returns-in_default-clause-front
