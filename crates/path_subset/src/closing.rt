@@ -32,7 +32,10 @@ pub(crate) fn close_bracket(frames: Vec<Frame>, filter: Predicate) -> Result<Opt
 {
     let mut outer = frames;
     match outer.pop() {
-        None => Ok(None),
+        None => {
+            drop((outer, filter));
+            Ok(None)
+        }
         Some(frame) => unbracketed(outer, frame, filter),
     }
 }
@@ -45,7 +48,10 @@ fn unbracketed(outer: Vec<Frame>, frame: Frame, filter: Predicate) -> Result<Opt
             let last = filtered(last, filter)?;
             Ok(Some(stand(outer, joint, Stage::Stepped(last))))
         }
-        _ => Ok(None),
+        _ => {
+            drop((outer, frame, filter));
+            Ok(None)
+        }
     }
 }
 
@@ -59,7 +65,10 @@ pub(crate) fn close_parenthesis(
 {
     let mut outer = frames;
     match outer.pop() {
-        None => Ok(None),
+        None => {
+            drop((outer, inside));
+            Ok(None)
+        }
         Some(frame) => unparenthesised(alloc, outer, frame, inside),
     }
 }
@@ -73,7 +82,10 @@ fn unparenthesised(
     ensures { Leads (m.close_parenthesis (frame_of frame ∷ frames_of outer.items) [] (condition inside)) result }
 {
     match frame {
-        Frame::Brackets(_, _) => Ok(None),
+        Frame::Brackets(_, _) => {
+            drop((outer, frame, inside));
+            Ok(None)
+        }
         Frame::Parentheses(joint) => Ok(Some(stand(outer, joint, Stage::Ended(inside)))),
         Frame::Negation(joint) => {
             let whole = negated(alloc, inside)?;
@@ -116,6 +128,7 @@ fn joined(
     ensures { Leads (joint_words (frames_of frames.items) (joint_of joint) (condition whole) symbol.now) result }
 {
     if frames.is_empty() {
+        drop((frames, joint, whole));
         return Ok(None);
     }
     if is_word(symbol, "and") {
@@ -125,6 +138,7 @@ fn joined(
         let joint = behind_or(alloc, joint, whole)?;
         Ok(Some(stand(frames, joint, Stage::Wanted(false))))
     } else {
+        drop((frames, joint, whole));
         Ok(None)
     }
 }

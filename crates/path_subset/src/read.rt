@@ -92,6 +92,7 @@ fn turn(
 {
     let Reading { state, found } = reading;
     if passes(open_count(&state), &placed.symbol) {
+        drop((state, found));
         return Err(limit_fault(placed));
     }
     match state {
@@ -131,8 +132,14 @@ fn along(
 {
     match inner_turn(alloc, inner, placed) {
         Ok(Some(way)) => gone(alloc, rest, bad, size, root, way, found),
-        Ok(None) => Err(QueryFault::Syntax { at: placed.from }),
-        Err(_) => Err(QueryFault::Memory),
+        Ok(None) => {
+            drop((root, found));
+            Err(QueryFault::Syntax { at: placed.from })
+        }
+        Err(_) => {
+            drop((root, found));
+            Err(QueryFault::Memory)
+        }
     }
 }
 
@@ -186,10 +193,16 @@ fn selection(
             let state = State::Along(root, inner);
             match with_found(found, Found { selection, extent }) {
                 Ok(found) => Ok((Reading { state, found }, count)),
-                Err(_) => Err(QueryFault::Memory),
+                Err(_) => {
+                    drop(state);
+                    Err(QueryFault::Memory)
+                }
             }
         }
-        Err(fault) => Err(fault),
+        Err(fault) => {
+            drop((root, frames, joint, before, found));
+            Err(fault)
+        }
     }
 }
 
@@ -234,6 +247,7 @@ fn ended(bad: Option<usize>, size: usize, reading: Reading) -> Result<ReadPath, 
     ensures { Answered read_form (spec.ended_by bad size (map found_form reading.found) (spec.finished_path (state_of reading.state))) result }
 {
     if let Some(at) = bad {
+        drop(reading);
         return Err(QueryFault::Syntax { at });
     }
     let Reading { state, found } = reading;
@@ -252,7 +266,10 @@ fn whole(state: State) -> Result<Option<Path>, Memory>
     ensures { IfOk result (λ path. option_map view.path path ≡ spec.finished_path (state_of state)) }
 {
     match state {
-        State::AtRoot(_) => Ok(None),
+        State::AtRoot(stage) => {
+            drop(stage);
+            Ok(None)
+        }
         State::Along(root, inner) => whole_along(root, inner),
     }
 }
@@ -262,12 +279,16 @@ fn whole_along(root: PathRoot, inner: Inner) -> Result<Option<Path>, Memory>
 {
     let Inner {
         frames,
-        joint: _joint,
+        joint,
         stage,
     } = inner;
+    drop(joint);
     match stage {
         Stage::Stepped(last) => whole_steps(root, frames, last),
-        _ => Ok(None),
+        _ => {
+            drop((frames, stage));
+            Ok(None)
+        }
     }
 }
 
@@ -275,6 +296,7 @@ fn whole_steps(root: PathRoot, frames: Vec<Frame>, last: LastStep) -> Result<Opt
     ensures { IfOk result (λ path. option_map view.path path ≡ option_map (λ whole. whole.0) (m.finished_inner root (frames_of frames.items) [] (m.stepped (last_of last)))) }
 {
     if !frames.is_empty() {
+        drop((frames, last));
         return Ok(None);
     }
     let steps = Items::from_vec(all_steps(last)?);
