@@ -6,9 +6,8 @@ ghost use Rattle.query_grammar.specs.Machine as m;
 ghost use Rattle.query_grammar.specs.Tree as t;
 ghost use Rattle.query_grammar.specs.View.{tree};
 
-use crate::option_turns::{ended, with_stops};
+use crate::option_turns::{ended, stops_ended, thesaurus_ended};
 use crate::state::{Left, Operand, Primary, Stage, State};
-use crate::thesaurus_turns::with_one_use;
 use ft_base::{Items, Memory, Mode};
 use query_grammar::{Parsed, PlacedString};
 use std::alloc::Global;
@@ -42,24 +41,12 @@ fn selection_at(alloc: Global, left: Left, stage: Stage) -> Result<Option<Parsed
         Stage::AllOf(n, strings) => phrases(alloc, left, n, strings, Mode::All),
         Stage::Moded(n, strings, mode) => phrases(alloc, left, n, strings, mode),
         Stage::Given(operand) => Ok(Some(ended(alloc, left, operand)?)),
-        Stage::StopTerms(stops) => {
-            let Ok(operand) = with_stops(stops) else {
-                drop(left);
-                return Err(Memory);
-            };
-            Ok(Some(ended(alloc, left, operand)?))
-        }
+        Stage::StopTerms(stops) => Ok(Some(stops_ended(alloc, left, stops)?)),
         Stage::StopStrings(stops, _, strings) => {
             drop((left, stops, strings));
             Ok(None)
         }
-        Stage::Thesaurus(last) => {
-            let Ok(operand) = with_one_use(alloc, last, None) else {
-                drop(left);
-                return Err(Memory);
-            };
-            Ok(Some(ended(alloc, left, operand)?))
-        }
+        Stage::Thesaurus(last) => Ok(Some(thesaurus_ended(alloc, left, last)?)),
         Stage::ThesaurusIn(last, uses) => {
             drop((left, last, uses));
             Ok(None)

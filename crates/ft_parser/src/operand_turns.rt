@@ -1,10 +1,12 @@
 //! Steps of the reader at operands: where one is wanted, and behind a whole one.
 
-ghost use Rattle.std.specs.Prelude.{◌≡◌, [], ◌∷◌, IfOk, Some, None};
+ghost use Rattle.std.specs.Prelude.{◌≡◌, [], ◌∷◌, IfOk, Some, None, codes};
 ghost use Rattle.ft_parser.specs.State.{Answers, frames_of, left_of, state_of};
 ghost use Rattle.ft_parser.specs.Turns.{stands};
+ghost use Rattle.query_grammar.specs.Keywords as keywords;
 ghost use Rattle.query_grammar.specs.Machine as m;
 ghost use Rattle.query_grammar.specs.Reading.{reading};
+ghost use Rattle.query_grammar.specs.Shapes.{whole};
 ghost use Rattle.query_grammar.specs.Tree as t;
 ghost use Rattle.query_grammar.specs.View.{tree};
 
@@ -277,15 +279,30 @@ pub(crate) fn joint(
         let state = behind_and(alloc, outer, left, operand)?;
         Ok((state, next + 1))
     } else if is_word(symbols, next, "not") {
-        if !is_word(symbols, next + 1, "in") {
-            drop((outer, left, operand));
-            return Err(Halt::Stuck(next + 1));
-        }
-        let state = behind_mild(alloc, outer, left, operand)?;
-        Ok((state, next + 2))
+        behind_not(alloc, symbols, next + 1, outer, left, operand)
     } else {
         let selection = selection_with(alloc, left, operand)?;
         close(alloc, symbols, next, outer, selection)
+    }
+}
+
+/// Behind the first word of `not in`.
+fn behind_not(
+    alloc: Global,
+    symbols: &[Placed],
+    next: usize,
+    outer: Vec<Frame>,
+    left: Left,
+    operand: Parsed,
+) -> Result<(State, usize), Halt>
+    ensures { Answers state_of result (reading (keywords.key (codes "in") (whole (stands (frames_of outer.items) (record { ors = (left_of left).ors; ands = (left_of left).ands; mild = Some (m.mild_with (left_of left).mild (tree operand)) }) (m.wanted None)))) symbols.now next) }
+{
+    if is_word(symbols, next, "in") {
+        let state = behind_mild(alloc, outer, left, operand)?;
+        Ok((state, next + 1))
+    } else {
+        drop((outer, left, operand));
+        Err(Halt::Stuck(next))
     }
 }
 

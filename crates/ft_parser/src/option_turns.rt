@@ -86,6 +86,28 @@ pub(crate) fn ended(alloc: Global, left: Left, operand: Operand) -> Result<Parse
     selection_with(alloc, left, parsed)
 }
 
+/// The whole selection that ends with a stop word option.
+pub(crate) fn stops_ended(alloc: Global, left: Left, stops: Stops) -> Result<Parsed, Memory>
+    ensures { IfOk result (λ parsed. tree parsed ≡ m.selection_with (left_of left) (m.operand_of stops.operand.negation (primary_of stops.operand.primary) (stops.operand.options ++ m.stop_option stops.at stops.terms ∷ []))) }
+{
+    let Ok(operand) = with_stops(stops) else {
+        drop(left);
+        return Err(Memory);
+    };
+    ended(alloc, left, operand)
+}
+
+/// The whole selection that ends with a thesaurus without levels.
+pub(crate) fn thesaurus_ended(alloc: Global, left: Left, last: Uses) -> Result<Parsed, Memory>
+    ensures { IfOk result (λ parsed. tree parsed ≡ m.thesaurus_selection (left_of left) last.operand.negation (primary_of last.operand.primary) last.operand.options last.at last.name last.relationship) }
+{
+    let Ok(operand) = with_one_use(alloc, last, None) else {
+        drop(left);
+        return Err(Memory);
+    };
+    ended(alloc, left, operand)
+}
+
 /// Behind whole options.
 #[tactic(auto, unfolding(crate::specs::Turns::options_turn))]
 pub(crate) fn given(
@@ -337,11 +359,7 @@ fn behind_at(
     if is_word(symbols, next, "least") || is_word(symbols, next, "most") {
         levels(alloc, symbols, outer, left, last, bound(symbols, next))
     } else {
-        let Ok(operand) = with_one_use(alloc, last, None) else {
-            drop((outer, left));
-            return Err(Halt::Memory);
-        };
-        let selection = ended(alloc, left, operand)?;
+        let selection = thesaurus_ended(alloc, left, last)?;
         behind_filter(alloc, outer, selection, side(symbols, next))
     }
 }
@@ -358,14 +376,14 @@ fn behind_thesaurus(
 ) -> Result<(State, usize), Halt>
     ensures { Answers state_of result (turns.behind_thesaurus_turn (frames_of outer.items) (left_of left) last.operand.negation (primary_of last.operand.primary) last.operand.options last.at last.name last.relationship symbols.now next) }
 {
-    let Ok(operand) = with_one_use(alloc, last, None) else {
-        drop((outer, left));
-        return Err(Halt::Memory);
-    };
     if begins_other_filter(symbols, next) {
-        let selection = ended(alloc, left, operand)?;
+        let selection = thesaurus_ended(alloc, left, last)?;
         behind_filter(alloc, outer, selection, other_filter(symbols, next))
     } else {
+        let Ok(operand) = with_one_use(alloc, last, None) else {
+            drop((outer, left));
+            return Err(Halt::Memory);
+        };
         unfiltered(alloc, symbols, next, outer, left, operand)
     }
 }
