@@ -4,7 +4,7 @@ use Rattle.std.specs.Fmt.{decimal}
 use Rattle.std.specs.List.{flat_map}
 use Rattle.doc_grammar.specs.Printed.{printed}
 use Rattle.element_lines.specs.Steps.{Step, steps_to}
-use Rattle.path_grammar.specs.Elements.{Element}
+use Rattle.path_meaning.specs.Elements.{Element}
 use Rattle.plain_tree.specs.Document.{Node}
 
 -- `/`, the name, and the number in brackets

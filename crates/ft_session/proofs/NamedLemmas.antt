@@ -5,7 +5,7 @@ use Rattle.std.specs.List.{AllByRecursion, IsDistinct}
 use Rattle.std.specs.Map.{keys_of, lookup}
 use Rattle.std.specs.Str.{bytes_eq}
 use Rattle.std.proofs.lemmas.Slice.Eq.{bytes_eq-Decides}
-use Rattle.path_grammar.specs.Collection.{Named}
+use Rattle.path_meaning.specs.Collection.{Named}
 use Rattle.ft_session.specs.declared.loaded.Loaded.{Loaded}
 use Rattle.ft_session.specs.State.{to_document}
 

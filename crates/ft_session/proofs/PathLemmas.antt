@@ -12,12 +12,12 @@ use Rattle.ft_base.specs.declared.fault.QueryFault.TheVariants as Q
 use Rattle.ft_parser.specs.Answer.{Answered}
 use Rattle.ordered_tree.specs.Numbered.{Numbered, plain}
 use Rattle.ordered_tree.specs.declared.node_ref.NodeRef.{NodeRef}
-use Rattle.path_grammar.specs.Collection.{Named, documents}
-use Rattle.path_grammar.specs.Elements.{Element}
+use Rattle.path_meaning.specs.Collection.{Named, documents}
+use Rattle.path_meaning.specs.Elements.{Element}
 use Rattle.path_grammar.specs.Form.{Steps, no_steps, step_then, Step, step, Predicates, no_predicates, predicate_then, Predicate, number, holds, Condition, or_of, and_of, not_of, attribute, exists, contains, Conditions, no_conditions, condition_then}
 use Rattle.path_grammar.specs.declared.path.PathRoot.{PathRoot}
 use Rattle.path_grammar.specs.declared.path.PathRoot.TheVariants.{Doc}
-use Rattle.path_grammar.specs.Meaning.{selected}
+use Rattle.path_meaning.specs.Meaning.{selected}
 use Rattle.path_nodes.specs.Asked.{OfEach, OfStep, OfPredicates, OfPredicate, OfCondition, OfConditions}
 use Rattle.path_nodes.specs.References.{element_of}
 use Rattle.path_subset.specs.Paths.{PathForm}

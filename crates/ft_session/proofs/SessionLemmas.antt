@@ -11,7 +11,7 @@ use Rattle.ordered_tree.specs.Numbered.{plain}
 use Rattle.ordered_tree.specs.Numbering.{numbered}
 use Rattle.ordered_tree.specs.Stored.{Stored}
 use Rattle.ordered_tree.proofs.BuildingLemmas.{plain-numbered}
-use Rattle.path_grammar.specs.Collection.{Named}
+use Rattle.path_meaning.specs.Collection.{Named}
 use Rattle.plain_tree.specs.Document.{Node}
 use Rattle.session_text.specs.declared.reply.FullOf.TheVariants.{Documents}
 use Rattle.session_text.specs.declared.reply.Refusal.{Refusal}

@@ -1,7 +1,7 @@
 -- How states are stored, by which proofs tell them apart.
 use Rattle.std.specs.Prelude.{ℕ, List, refl}
 use Rattle.std.specs.Coded.{Coded, code_by, coded×, coded_list, coded_ℕ}
-use Rattle.path_grammar.specs.Collection.{Named}
+use Rattle.path_meaning.specs.Collection.{Named}
 use Rattle.plain_tree.specs.Document.{Node}
 use Rattle.plain_tree.specs.View.{node_code}
 use Rattle.plan_compiler.specs.NamedLists.{NamedLists}

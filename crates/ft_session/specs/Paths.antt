@@ -5,9 +5,9 @@ use Rattle.all_matches.specs.Meaning.{sat}
 use Rattle.element_lines.specs.Lines.{element_line, printed_line}
 use Rattle.ft_base.specs.Selection.{Form}
 use Rattle.ft_base.specs.declared.fault.QueryFault.{QueryFault}
-use Rattle.path_grammar.specs.Collection.{Named, documents}
-use Rattle.path_grammar.specs.Elements.{Element}
-use Rattle.path_grammar.specs.Meaning.{selected}
+use Rattle.path_meaning.specs.Collection.{Named, documents}
+use Rattle.path_meaning.specs.Elements.{Element}
+use Rattle.path_meaning.specs.Meaning.{selected}
 use Rattle.path_grammar.specs.declared.path.PathRoot.{PathRoot}
 use Rattle.path_grammar.specs.declared.path.PathRoot.TheVariants.{Collection, Doc}
 use Rattle.path_subset.specs.Answer.{path_read}

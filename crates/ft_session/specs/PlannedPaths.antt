@@ -2,10 +2,10 @@
 use Rattle.std.specs.Prelude.{◌≡◌, ℕ, zero, suc, ◌<◌, Bool, false, List, [], ◌∷◌, length, map}
 use Rattle.all_matches.specs.Meaning.{sat}
 use Rattle.ft_base.specs.Selection.{Form}
-use Rattle.path_grammar.specs.Collection.{Named}
-use Rattle.path_grammar.specs.Elements.{Element}
+use Rattle.path_meaning.specs.Collection.{Named}
+use Rattle.path_meaning.specs.Elements.{Element}
 use Rattle.path_grammar.specs.Form.{Steps, steps}
-use Rattle.path_grammar.specs.Meaning.{selected}
+use Rattle.path_meaning.specs.Meaning.{selected}
 use Rattle.path_grammar.specs.View.{step}
 use Rattle.path_nodes.specs.Asked.{OfEach}
 use Rattle.path_subset.specs.Paths.{PathForm}

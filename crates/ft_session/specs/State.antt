@@ -3,7 +3,7 @@ use Rattle.std.specs.Prelude.{ℕ, Bool, List, []}
 use Rattle.std.specs.List.{list_any}
 use Rattle.std.specs.Str.{bytes_eq}
 use Rattle.ordered_tree.specs.Numbered.{plain}
-use Rattle.path_grammar.specs.Collection.{Named}
+use Rattle.path_meaning.specs.Collection.{Named}
 use Rattle.plan_compiler.specs.NamedLists.{NamedLists, no_lists}
 use Rattle.ft_session.specs.declared.loaded.Loaded.{Loaded}
 

@@ -4,7 +4,7 @@ use Rattle.std.specs.Str.{bytes_eq}
 use Rattle.plan_compiler.specs.NamedLists.{NamedLists}
 use Rattle.doc_profile.specs.declared.fault.DocFault.{DocFault}
 use Rattle.doc_profile.specs.Readings.{document_of}
-use Rattle.path_grammar.specs.Collection.{Named}
+use Rattle.path_meaning.specs.Collection.{Named}
 use Rattle.plain_tree.specs.Document.{Node}
 use Rattle.session_text.specs.declared.command.Command.{Command}
 use Rattle.session_text.specs.declared.command.Command.TheVariants as command

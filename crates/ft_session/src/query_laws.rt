@@ -3,9 +3,9 @@
 ghost use Rattle.std.specs.Prelude.{◌≡◌, ℕ, Bool, List, map, filter, flat_map, Some, Ok, AllPairs};
 ghost use Rattle.std.specs.List.{slice_get};
 ghost use Rattle.element_lines.specs.Lines.{element_line};
-ghost use Rattle.path_grammar.specs.Collection.{Named, documents};
-ghost use Rattle.path_grammar.specs.Elements.{Element, elements};
-ghost use Rattle.path_grammar.specs.Order.{Before};
+ghost use Rattle.path_meaning.specs.Collection.{Named, documents};
+ghost use Rattle.path_meaning.specs.Elements.{Element, elements};
+ghost use Rattle.path_meaning.specs.Order.{Before};
 ghost use Rattle.path_subset.specs.Answer.{path_read};
 ghost use Rattle.path_subset.specs.Paths.{PathForm};
 ghost use Rattle.session_text.specs.Commands.{commands};

@@ -2,7 +2,7 @@
 
 ghost use Rattle.std.specs.Prelude.{◌≡◌, ◌++◌, All, IfOk, OnOk, flat_map, map};
 ghost use Rattle.ordered_tree.specs.Numbered.{plain};
-ghost use Rattle.path_grammar.specs.Collection.{documents as documents_of};
+ghost use Rattle.path_meaning.specs.Collection.{documents as documents_of};
 ghost use Rattle.path_grammar.specs.declared.path.PathRoot.TheVariants as roots;
 ghost use Rattle.path_nodes.specs.References.{IsElement, element_of};
 ghost use Rattle.ft_session.specs.PlannedPaths.{planned_in, planned_lines, HasItsPlans};

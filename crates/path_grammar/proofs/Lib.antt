@@ -1,10 +1,3 @@
-pub mod Lists
-pub mod Selected
-pub mod InOrder
-pub mod Meanings
-pub mod Traced
-pub mod DeepSteps
-pub mod RootSteps
 pub mod Spelled
 pub mod Views
 pub mod Given

@@ -1,12 +1,6 @@
 pub mod Form
 pub mod View
-pub mod Elements
-pub mod Order
-pub mod Meaning
-pub mod Collection
-pub mod Tests
 pub mod Grammar
 pub mod Levels
 pub mod Machine
-pub mod Examples
 pub mod Spellings

@@ -1,13 +1,22 @@
--- Symbols for examples.
-use Rattle.std.specs.Prelude.{ℕ, ◌+◌, List, [], ◌∷◌, Option, Some, None}
+-- Symbols and steps for examples.
+use Rattle.std.specs.Prelude.{ℕ, ◌+◌, true, false, List, [], ◌∷◌, Option, Some, None}
 use Rattle.ft_base.specs.declared.words.Mode.TheVariants.{Any}
 use Rattle.query_grammar.specs.declared.symbol.Placed.{Placed}
 use Rattle.query_grammar.specs.declared.symbol.Symbol.{Symbol}
 use Rattle.query_grammar.specs.Grammar.{Spot, at, string, placed}
 use Rattle.query_grammar.specs.Tree.{Tree, words}
+use Rattle.path_grammar.specs.declared.path.NameTest.TheVariants as T
 use Rattle.path_grammar.specs.Form as form
+use Rattle.path_grammar.specs.Form.{Step, step, Predicate, predicates}
 use Rattle.path_grammar.specs.Grammar.{Inside, inside}
 use Rattle.path_grammar.specs.Machine.{State, read, finished, open_count}
+
+-- `/a`, `//a`, with predicates
+abbrev pub child : List ℕ → List Predicate → Step
+child name filters = step false (T.Name name) (predicates filters)
+
+abbrev pub below : List ℕ → List Predicate → Step
+below name filters = step true (T.Name name) (predicates filters)
 
 -- symbols in a row, as if each were one byte long
 abbrev pub row_from : ℕ → List Symbol → List Placed

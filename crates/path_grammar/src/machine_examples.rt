@@ -4,9 +4,8 @@
 ghost use Rattle.std.specs.Prelude.{◌≡◌, [], ◌∷◌, codes, Some, None};
 ghost use Rattle.query_grammar.specs.declared.symbol.Symbol.TheVariants as S;
 ghost use Rattle.path_grammar.specs.declared.path.PathRoot.TheVariants as R;
-ghost use Rattle.path_grammar.specs.Examples.{child, below};
+ghost use Rattle.path_grammar.specs.Spellings.{row, quoted_inside, value_of, depth_of, child, below};
 ghost use Rattle.path_grammar.specs.Form.{steps, no_steps, number, holds, and_of, or_of, not_of, attribute, exists, contains, conditions};
-ghost use Rattle.path_grammar.specs.Spellings.{row, quoted_inside, value_of, depth_of};
 
 /// `collection()//b[2]`, and what stops it: a number behind `(`, and a second number.
 pub fn read_number()

@@ -3,11 +3,10 @@
 ghost use Rattle.std.specs.Prelude.{◌≡◌, [], ◌∷◌, codes, None};
 ghost use Rattle.query_grammar.specs.declared.symbol.Symbol.TheVariants as S;
 ghost use Rattle.path_grammar.specs.declared.path.PathRoot.TheVariants as R;
-ghost use Rattle.path_grammar.specs.Examples.{child, below};
+ghost use Rattle.path_grammar.specs.Spellings.{row, quoted_inside, child, below};
 ghost use Rattle.path_grammar.specs.Form.{steps, no_steps, number, holds, and_of, or_of, not_of, attribute, exists, contains, conditions};
 ghost use Rattle.path_grammar.specs.Grammar.{Path, Begins, begins_at, ends_at};
 ghost use Rattle.path_grammar.specs.Levels.{levels};
-ghost use Rattle.path_grammar.specs.Spellings.{row, quoted_inside};
 
 /// `collection()//b[2]`.
 pub fn spelled_number()

@@ -3,12 +3,12 @@ use Rattle.std.proofs.Common.{◌≡◌, ◌+◌, ℕ, Bool, true, false, not, �
 use Rattle.std.specs.List.{All, Contains, list_any}
 use Rattle.std.proofs.lemmas.List.Elements.{All-nil, All-cons, All-head, All-tail, All-append, All-map, All-filter, All-weaker, All-contains, All-contains_itself, Contains-append_right}
 use Rattle.plain_tree.specs.Document.{Node, element, text, Nodes, no_nodes, node_then}
-use Rattle.path_grammar.specs.Elements as el
-use Rattle.path_grammar.specs.Elements.{Element, placed, elements_from, elements_below, elements_among, element_children, elements, kids_of, is_in}
+use Rattle.path_meaning.specs.Elements as el
+use Rattle.path_meaning.specs.Elements.{Element, placed, elements_from, elements_below, elements_among, element_children, elements, kids_of, is_in}
 use Rattle.path_grammar.specs.Form as form
 use Rattle.path_grammar.specs.Form.{Step, step, Steps, no_steps, step_then, Predicate, holds, Predicates, no_predicates, predicate_then, Condition, or_of, and_of, not_of, attribute, exists, contains, Conditions, no_conditions, condition_then}
-use Rattle.path_grammar.specs.Meaning.{Context, document, item, children, with_descendants, lists, is_named, some_element, stepped, led, filtered, filtered_by, is_true, some_true, each_true, selected}
-use Rattle.path_grammar.proofs.Lists.{filter-alike, list_any-alike}
+use Rattle.path_meaning.specs.Meaning.{Context, document, item, children, with_descendants, lists, is_named, some_element, stepped, led, filtered, filtered_by, is_true, some_true, each_true, selected}
+use Rattle.path_meaning.proofs.Lists.{filter-alike, list_any-alike}
 use Rattle.path_nodes.specs.Regions.{at_or_below}
 use Rattle.path_nodes.specs.Within.{is_front}
 use Rattle.path_nodes.proofs.ChosenLemmas.{Contains-later, by-of}

@@ -5,7 +5,7 @@ use Rattle.std.specs.Prelude.{bytes_eq}
 use Rattle.std.proofs.lemmas.List.Elements.{All-contains}
 use Rattle.std.proofs.lemmas.Slice.Eq.{bytes_eq-Decides}
 use Rattle.plain_tree.specs.declared.tree.Attr.{Attr}
-use Rattle.path_grammar.specs.Meaning.{has_value, attributes_of}
+use Rattle.path_meaning.specs.Meaning.{has_value, attributes_of}
 use Rattle.ordered_tree.specs.Numbered.{Numbered, element_at, text_at, plain, attrs_of, attribute}
 use Rattle.ordered_tree.specs.Stands.{OnNode, stands_in}
 use Rattle.ordered_tree.specs.declared.node_ref.NodeRef.{NodeRef}

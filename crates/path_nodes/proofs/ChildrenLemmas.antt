@@ -5,8 +5,8 @@ use Rattle.std.proofs.Math.Logic.{◌≢◌}
 use Rattle.std.proofs.lemmas.List.{map-append}
 use Rattle.std.proofs.lemmas.List.Elements.{All-nil, All-head, All-tail, All-push}
 use Rattle.plain_tree.specs.Document.{Nodes, no_nodes, node_then}
-use Rattle.path_grammar.specs.Elements as elements
-use Rattle.path_grammar.specs.Elements.{Element, placed, elements_among, element_children, kids_of}
+use Rattle.path_meaning.specs.Elements as elements
+use Rattle.path_meaning.specs.Elements.{Element, placed, elements_among, element_children, kids_of}
 use Rattle.ordered_tree.specs.Numbered.{Numbered, element_at, text_at, Children, no_children, child_then, plain, plain_children, reference, first_of, is_element, children}
 use Rattle.ordered_tree.specs.Stands.{Stand, OnNode, round_first, round_next, references}
 use Rattle.ordered_tree.specs.declared.around.Around.{Around}

@@ -7,12 +7,12 @@ use Rattle.std.proofs.lemmas.List.{get_or-map, length-map, length-append}
 use Rattle.std.proofs.lemmas.List.Elements.{All-nil, All-cons, All-append, All-tail, All-head, All-filter, All-contains, All-get_or, Contains-append_left, Contains-append_right}
 use Rattle.std.proofs.lemmas.Slice.Eq.{bytes_eq-Decides}
 use Rattle.plain_tree.specs.Document.{Node, element, text, Nodes, no_nodes, node_then}
-use Rattle.path_grammar.specs.Elements as el
-use Rattle.path_grammar.specs.Elements.{Element, placed, elements_among, element_children, elements_from, elements_below, elements, kids_of, is_same, is_in}
+use Rattle.path_meaning.specs.Elements as el
+use Rattle.path_meaning.specs.Elements.{Element, placed, elements_among, element_children, elements_from, elements_below, elements, kids_of, is_same, is_in}
 use Rattle.path_grammar.specs.Form as form
 use Rattle.path_grammar.specs.Form.{Step, step, Predicate, Predicates, no_predicates, predicate_then}
-use Rattle.path_grammar.specs.Meaning.{is_named, filtered, filtered_by, is_true, stepped, item}
-use Rattle.path_grammar.proofs.Lists.{filter-filter, filter-alike}
+use Rattle.path_meaning.specs.Meaning.{is_named, filtered, filtered_by, is_true, stepped, item}
+use Rattle.path_meaning.proofs.Lists.{filter-filter, filter-alike}
 use Rattle.ordered_tree.specs.Numbered.{Numbered, element_at, text_at, Children, no_children, child_then, plain, plain_children, first_of, is_element}
 use Rattle.ordered_tree.specs.Stands.{round_root, round_first, round_next}
 use Rattle.ordered_tree.specs.declared.around.Around.{Around}

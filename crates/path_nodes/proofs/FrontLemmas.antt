@@ -4,7 +4,7 @@ use Rattle.std.specs.List.{All, Contains}
 use Rattle.std.proofs.lemmas.Bool.Decides.{nat_tests}
 use Rattle.std.proofs.lemmas.List.Elements.{All-nil, All-cons, All-append, All-tail, All-head, Contains-append_cases, filter-append}
 use Rattle.plain_tree.specs.Document.{Node, element, text, Nodes, no_nodes, node_then}
-use Rattle.path_grammar.specs.Elements.{Element, placed, elements_from, elements_below}
+use Rattle.path_meaning.specs.Elements.{Element, placed, elements_from, elements_below}
 use Rattle.path_nodes.specs.Regions.{at_or_below}
 use Rattle.path_nodes.specs.Within.{is_front}
 

@@ -5,8 +5,8 @@ use Rattle.std.specs.List.{All, Contains, list_any}
 use Rattle.std.proofs.lemmas.List.Elements.{All-head, All-tail}
 use Rattle.std.proofs.lemmas.List.Folds.{list_any-append, list_any_none, list_any_at}
 use Rattle.std.proofs.lemmas.Slice.Eq.{bytes_eq-Decides}
-use Rattle.path_grammar.specs.Elements.{Element, is_same, is_in}
-use Rattle.path_grammar.proofs.Lists.{filter-alike}
+use Rattle.path_meaning.specs.Elements.{Element, is_same, is_in}
+use Rattle.path_meaning.proofs.Lists.{filter-alike}
 use Rattle.ordered_tree.specs.Numbered.{Numbered}
 use Rattle.ordered_tree.specs.declared.node_ref.NodeRef.{NodeRef}
 use Rattle.path_nodes.specs.Listed.{HaveSame, AreListed}

@@ -3,10 +3,10 @@ use Rattle.std.proofs.Common.{◌≡◌, ◌+◌, ◌<◌, ℕ, Bool, true, fals
 use Rattle.std.specs.List.{list_any}
 use Rattle.std.specs.Prelude.{bytes_eq}
 use Rattle.std.proofs.lemmas.List.{drop_more, map-append}
-use Rattle.path_grammar.specs.Elements.{Element, element_children}
+use Rattle.path_meaning.specs.Elements.{Element, element_children}
 use Rattle.path_grammar.specs.Form as form
-use Rattle.path_grammar.specs.Meaning as meaning
-use Rattle.path_grammar.specs.Meaning.{Context, item, children, lists, is_named, led, stepped, filtered, filtered_by, is_true, some_true, each_true, some_element, attributes_of, has_value}
+use Rattle.path_meaning.specs.Meaning as meaning
+use Rattle.path_meaning.specs.Meaning.{Context, item, children, lists, is_named, led, stepped, filtered, filtered_by, is_true, some_true, each_true, some_element, attributes_of, has_value}
 use Rattle.path_grammar.specs.View.{step, predicate, condition}
 use Rattle.path_grammar.specs.declared.path.Step.{Step}
 use Rattle.path_grammar.specs.declared.path.Predicate.{Predicate, Number, Holds}

@@ -2,7 +2,7 @@
 use Rattle.std.proofs.Common.{◌≡◌, ◌≢◌, ◌+◌, ℕ, Bool, true, List, [], ◌∷◌, ◌++◌, get_or, refl, sym, ap, ◌∙◌, arith}
 use Rattle.std.specs.List.{All, AllPairs, Contains}
 use Rattle.std.proofs.lemmas.List.Elements.{All-nil, All-cons, All-append, All-contains, Contains-append_left, Contains-append_right, Contains-get_or}
-use Rattle.path_grammar.specs.Elements.{Element, placed, elements_from, elements_below, elements}
+use Rattle.path_meaning.specs.Elements.{Element, placed, elements_from, elements_below, elements}
 use Rattle.ordered_tree.specs.Numbered.{Numbered, element_at, text_at, Children, no_children, child_then, plain, plain_children, first_of, is_element}
 use Rattle.ordered_tree.specs.Stands.{round_root, round_first, round_next, references}
 use Rattle.ordered_tree.specs.declared.around.Around.{Around}

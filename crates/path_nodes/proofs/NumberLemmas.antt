@@ -2,7 +2,7 @@
 use Rattle.std.proofs.Common.{◌≡◌, ◌+◌, ◌<◌, ◌≤◌, ◌==◌, ℕ, zero, suc, Bool, true, false, List, [], ◌∷◌, map, filter, length, get_or, cond, refl, ap, ◌∙◌, arith}
 use Rattle.std.specs.List.{enumerate_from}
 use Rattle.std.proofs.lemmas.Bool.Decides.{nat_tests}
-use Rattle.path_grammar.specs.Elements.{Element}
+use Rattle.path_meaning.specs.Elements.{Element}
 
 abbrev pub numbered_from : ℕ → ℕ → List Element → List Element
 numbered_from n k items = map (λ c. c.1) (filter (λ c. k == c.0) (enumerate_from n items))

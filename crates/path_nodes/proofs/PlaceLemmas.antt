@@ -7,8 +7,8 @@ use Rattle.std.proofs.lemmas.List.Elements.{All-nil, All-cons, All-append, All-c
 use Rattle.std.proofs.lemmas.Slice.Eq.{bytes_eq-Decides}
 use Rattle.std.specs.Prelude.{bytes_eq}
 use Rattle.path_grammar.specs.declared.path.NameTest.TheVariants as T
-use Rattle.path_grammar.specs.Elements.{is_same}
-use Rattle.path_grammar.specs.Meaning.{is_named}
+use Rattle.path_meaning.specs.Elements.{is_same}
+use Rattle.path_meaning.specs.Meaning.{is_named}
 use Rattle.ordered_tree.specs.Numbered.{Numbered, element_at, text_at, Children, no_children, child_then, plain, reference, first_of, is_element, name_of}
 use Rattle.ordered_tree.specs.Places.{at_place, child}
 use Rattle.ordered_tree.specs.Stands.{Stand, OnNode, round_root, round_first, round_next, stands_in}

@@ -3,10 +3,10 @@ use Rattle.std.proofs.Common.{◌≡◌, ◌+◌, ◌<◌, ◌≤◌, ℕ, Bool,
 use Rattle.std.specs.Prelude.{sum_by}
 use Rattle.std.proofs.lemmas.List.{drop_more, map-append, take-append-drop}
 use Rattle.std.proofs.lemmas.List.Sums.{sum_by-cons, sum_by-append}
-use Rattle.path_grammar.specs.Elements as el
-use Rattle.path_grammar.specs.Elements.{Element, elements, element_children}
+use Rattle.path_meaning.specs.Elements as el
+use Rattle.path_meaning.specs.Elements.{Element, elements, element_children}
 use Rattle.path_grammar.specs.Form as form
-use Rattle.path_grammar.specs.Meaning.{document, item, children, lists, is_named, led, stepped, filtered_by}
+use Rattle.path_meaning.specs.Meaning.{document, item, children, lists, is_named, led, stepped, filtered_by}
 use Rattle.path_grammar.specs.View.{step, predicate, condition}
 use Rattle.path_grammar.specs.declared.path.Step.{Step}
 use Rattle.path_grammar.specs.declared.path.Predicate.{Predicate, Holds}
@@ -18,7 +18,7 @@ use Rattle.path_nodes.specs.Kept.{parents}
 use Rattle.path_nodes.specs.Prices.{price_of, steps_price, step_price, predicates_price, list_price, children_price, predicate_price, condition_price, conditions_price}
 use Rattle.path_nodes.specs.References.{IsElement, element_of}
 use Rattle.path_nodes.specs.Says.{Meaning, reference_of, satisfied}
-use Rattle.path_nodes.specs.Tests.{Test, each_tested, step_tests, steps_tests, predicates_tests, predicate_tests, condition_tests, conditions_tests, selected_tests}
+use Rattle.path_meaning.specs.Tests.{Test, each_tested, step_tests, steps_tests, predicates_tests, predicate_tests, condition_tests, conditions_tests, selected_tests}
 use Rattle.path_nodes.proofs.ListLemmas.{map-more}
 use Rattle.path_nodes.proofs.MeaningLemmas.{lists-are, items-children}
 use Rattle.path_nodes.proofs.PlaceLemmas.{reference-back}

@@ -3,8 +3,8 @@ use Rattle.std.proofs.Common.{◌≡◌, ◌+◌, ◌<◌, ℕ, suc, true, List,
 use Rattle.std.specs.List.{All}
 use Rattle.std.proofs.lemmas.List.Elements.{All-nil, All-cons}
 use Rattle.plain_tree.specs.Document.{Node, element, text, Nodes, no_nodes, node_then}
-use Rattle.path_grammar.specs.Elements as elements
-use Rattle.path_grammar.specs.Elements.{Element, placed, elements_among, element_children, elements_from, elements_below, kids_of}
+use Rattle.path_meaning.specs.Elements as elements
+use Rattle.path_meaning.specs.Elements.{Element, placed, elements_among, element_children, elements_from, elements_below, kids_of}
 use Rattle.std.proofs.lemmas.List.{get_or-map, length-map}
 use Rattle.ordered_tree.specs.Numbered.{Numbered, element_at, text_at, plain, is_element}
 use Rattle.ordered_tree.specs.declared.node_ref.NodeRef.{NodeRef}

@@ -4,14 +4,14 @@ use Rattle.std.specs.List.{All, AllPairs, Contains, list_any}
 use Rattle.std.proofs.lemmas.List.{length-append}
 use Rattle.std.proofs.lemmas.Slice.Eq.{bytes_eq-Decides}
 use Rattle.plain_tree.specs.Document.{Node, element, text}
-use Rattle.path_grammar.specs.Elements as el
-use Rattle.path_grammar.specs.Elements.{Element, placed, elements, kids_of, is_same, is_in}
+use Rattle.path_meaning.specs.Elements as el
+use Rattle.path_meaning.specs.Elements.{Element, placed, elements, kids_of, is_same, is_in}
 use Rattle.path_grammar.specs.Form as form
 use Rattle.path_grammar.specs.Form.{Step, step, Predicate, Predicates, no_predicates, predicate_then}
-use Rattle.path_grammar.specs.Meaning.{document, item, children, is_named, filtered, filtered_by, is_true, stepped, led, selected}
+use Rattle.path_meaning.specs.Meaning.{document, item, children, is_named, filtered, filtered_by, is_true, stepped, led, selected}
 use Rattle.path_grammar.specs.View as view
 use Rattle.path_grammar.specs.declared.path.Step as steps
-use Rattle.path_grammar.proofs.Lists.{filter-alike}
+use Rattle.path_meaning.proofs.Lists.{filter-alike}
 use Rattle.ordered_tree.specs.Numbered.{Numbered, element_at, text_at, plain, reference, is_element}
 use Rattle.ordered_tree.specs.Stands.{round_root, references}
 use Rattle.ordered_tree.specs.declared.node_ref.NodeRef.{NodeRef}

@@ -1,9 +1,9 @@
 -- What was spent on a part, and what the rest costs, is no more than what all cost.
 use Rattle.std.proofs.Common.{◌≡◌, ◌+◌, ◌<◌, ◌≤◌, ℕ, List, map, take, drop, length, get_or, ap, ◌∙◌, subst, arith}
 use Rattle.std.specs.Prelude.{sum_by}
-use Rattle.path_grammar.specs.Elements.{Element, elements}
+use Rattle.path_meaning.specs.Elements.{Element, elements}
 use Rattle.path_grammar.specs.Form as form
-use Rattle.path_grammar.specs.Meaning.{item, stepped, filtered_by}
+use Rattle.path_meaning.specs.Meaning.{item, stepped, filtered_by}
 use Rattle.path_grammar.specs.View.{step, predicate, condition}
 use Rattle.path_grammar.specs.declared.path.Step.{Step}
 use Rattle.path_grammar.specs.declared.path.Predicate.{Predicate}
@@ -13,7 +13,7 @@ use Rattle.ordered_tree.specs.declared.node_ref.NodeRef.{NodeRef}
 use Rattle.path_nodes.specs.Prices.{price_of, steps_price, step_price, predicates_price, predicate_price, condition_price, conditions_price}
 use Rattle.path_nodes.specs.References.{IsElement, element_of}
 use Rattle.path_nodes.specs.Says.{Meaning, satisfied}
-use Rattle.path_nodes.specs.Tests.{each_tested}
+use Rattle.path_meaning.specs.Tests.{each_tested}
 use Rattle.path_nodes.proofs.PriceLemmas.{sum-more, sum-take, steps-next, predicates-next, conditions-next, nodes-next}
 
 spent-next : (before after one rest all bound : ℕ) → after ≤ before + one → before + all ≤ bound → all ≡ one + rest → after + rest ≤ bound

@@ -9,7 +9,7 @@ use Rattle.std.proofs.lemmas.Slice.Eq.{bytes_eq-Decides}
 use Rattle.ordered_tree.specs.Numbered.{Numbered}
 use Rattle.ordered_tree.specs.Stands.{OnNode, round_root}
 use Rattle.ordered_tree.specs.declared.node_ref.NodeRef.{NodeRef}
-use Rattle.path_grammar.specs.Elements.{Element, kids_of, is_same}
+use Rattle.path_meaning.specs.Elements.{Element, kids_of, is_same}
 use Rattle.path_grammar.specs.Form.{Step}
 use Rattle.path_nodes.specs.Kept.{kept_children}
 use Rattle.path_nodes.specs.Marks.{is_marked}

@@ -1,10 +1,10 @@
 -- What steps, predicates and conditions say of elements, by what a test says.
 use Rattle.std.specs.Prelude.{Bool, List, filter, flat_map, if◌then◌else◌}
 use Rattle.ordered_tree.specs.Numbered.{Numbered, plain}
-use Rattle.path_grammar.specs.Elements.{Element, elements, element_children}
+use Rattle.path_meaning.specs.Elements.{Element, elements, element_children}
 use Rattle.path_grammar.specs.declared.path.NameTest.{NameTest}
 use Rattle.path_grammar.specs.Form.{Step, step}
-use Rattle.path_grammar.specs.Meaning.{is_named, filtered}
+use Rattle.path_meaning.specs.Meaning.{is_named, filtered}
 use Rattle.path_nodes.specs.Regions.{at_or_below}
 use Rattle.path_nodes.specs.Says.{Meaning, satisfied}
 

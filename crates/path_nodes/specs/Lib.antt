@@ -7,5 +7,4 @@ pub mod Says
 pub mod Asked
 pub mod Kept
 pub mod Listed
-pub mod Tests
 pub mod Prices

@@ -1,11 +1,11 @@
 -- What the tests cost for which steps ask.
 use Rattle.std.specs.Prelude.{◌≤◌, ℕ, List, filter, sum_by}
 use Rattle.ordered_tree.specs.Numbered.{Numbered, plain}
-use Rattle.path_grammar.specs.Elements.{Element, elements, element_children}
+use Rattle.path_meaning.specs.Elements.{Element, elements, element_children}
 use Rattle.path_grammar.specs.Form.{Step, step, Steps, Predicates, Predicate, Condition, Conditions}
-use Rattle.path_grammar.specs.Meaning.{Context, is_named}
+use Rattle.path_meaning.specs.Meaning.{Context, is_named}
 use Rattle.path_nodes.specs.Says.{Meaning, reference_of, satisfied}
-use Rattle.path_nodes.specs.Tests.{Test, step_tests, steps_tests, predicates_tests, predicate_tests, condition_tests, conditions_tests}
+use Rattle.path_meaning.specs.Tests.{Test, step_tests, steps_tests, predicates_tests, predicate_tests, condition_tests, conditions_tests}
 
 -- the sum of the tests' prices
 unfoldable pub price_of : Numbered → Meaning → List Test → ℕ

@@ -2,7 +2,7 @@
 use Rattle.std.specs.Prelude.{◌≡◌, ◌≢◌, ℕ, ◌+◌, ◌==◌, Bool, true, not, ◌&&◌, List, [], ◌∷◌, ◌++◌, if◌then◌else◌, All, AllPairs, Contains, bytes_eq}
 use Rattle.std.specs.List.{list_any}
 use Rattle.plain_tree.specs.declared.tree.Attr.{Attr}
-use Rattle.path_grammar.specs.Elements.{Element, placed}
+use Rattle.path_meaning.specs.Elements.{Element, placed}
 use Rattle.ordered_tree.specs.Numbered.{Numbered, element_at, text_at, Children, no_children, child_then, plain, reference, first_of, is_element, attrs_of}
 use Rattle.ordered_tree.specs.Stands.{Stand, round_root, round_first, round_next, stands_in, references}
 use Rattle.ordered_tree.specs.declared.around.Around.{Around}

@@ -3,7 +3,7 @@ use Rattle.std.specs.Prelude.{◌≡◌, ℕ, Bool, Option, Some, None}
 use Rattle.ordered_tree.specs.Numbered.{Numbered, reference}
 use Rattle.ordered_tree.specs.Places.{at_place}
 use Rattle.ordered_tree.specs.declared.node_ref.NodeRef.{NodeRef}
-use Rattle.path_grammar.specs.Elements.{Element}
+use Rattle.path_meaning.specs.Elements.{Element}
 use Rattle.path_nodes.specs.References.{IsElement, element_of}
 
 -- What a test is: the pairs of a selection's number and a node that it may be asked for, what it says of each, and what it

@@ -1,6 +1,6 @@
 -- Elements that are at or below another.
 use Rattle.std.specs.Prelude.{◌≡◌, ℕ, ◌==◌, Bool, true, false, ◌&&◌, List, [], ◌∷◌, ◌++◌}
-use Rattle.path_grammar.specs.Elements.{Element}
+use Rattle.path_meaning.specs.Elements.{Element}
 
 -- whether a place is another one or stands below it: whether that one is its front
 abbrev pub is_front : List ℕ → List ℕ → Bool

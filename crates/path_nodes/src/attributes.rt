@@ -1,6 +1,6 @@
 ghost use Rattle.std.specs.Prelude.{◌≡◌, ◌&&◌, bytes_eq};
 ghost use Rattle.std.specs.List.{list_any};
-ghost use Rattle.path_grammar.specs.Meaning as meaning;
+ghost use Rattle.path_meaning.specs.Meaning as meaning;
 ghost use Rattle.path_nodes.specs.References.{IsElement, element_of};
 
 use ft_base::Line;

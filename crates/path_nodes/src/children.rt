@@ -1,5 +1,5 @@
 ghost use Rattle.std.specs.Prelude.{◌≡◌, All, IfOk, map};
-ghost use Rattle.path_grammar.specs.Elements.{element_children};
+ghost use Rattle.path_meaning.specs.Elements.{element_children};
 ghost use Rattle.path_nodes.specs.References.{IsElement, element_of};
 
 use crate::Nodes;

@@ -3,9 +3,9 @@
 ghost use Rattle.std.specs.Prelude.{◌≡◌, ◌≤◌, ◌+◌, ◌∷◌, [], ℕ, All, Bool, IfOk, filter, map, sum_by};
 ghost use Rattle.std.specs.List.{list_any};
 ghost use Rattle.ordered_tree.specs.Numbered.{plain};
-ghost use Rattle.path_grammar.specs.Elements.{Element, elements, is_in};
+ghost use Rattle.path_meaning.specs.Elements.{Element, elements, is_in};
 ghost use Rattle.path_grammar.specs.Form as form;
-ghost use Rattle.path_grammar.specs.Meaning as meaning;
+ghost use Rattle.path_meaning.specs.Meaning as meaning;
 ghost use Rattle.path_grammar.specs.View as view;
 ghost use Rattle.path_nodes.specs.Asked.{OfEach, OfStep, OfPredicate, OfCondition, OfConditions, MayAsk};
 ghost use Rattle.path_nodes.specs.Kept as spec;
@@ -14,7 +14,7 @@ ghost use Rattle.path_nodes.specs.Prices as price;
 ghost use Rattle.path_nodes.specs.Prices.{AreAmong};
 ghost use Rattle.path_nodes.specs.References.{IsElement, element_of};
 ghost use Rattle.path_nodes.specs.Says.{Agrees, satisfied};
-ghost use Rattle.path_nodes.specs.Tests.{each_tested};
+ghost use Rattle.path_meaning.specs.Tests.{each_tested};
 ghost use Rattle.path_nodes.specs.Within.{AtOrBelow};
 
 use crate::attributes::has_attribute;

@@ -1,5 +1,5 @@
 ghost use Rattle.std.specs.Prelude.{◌≡◌, All, IfOk, filter, map};
-ghost use Rattle.path_grammar.specs.Meaning as meaning;
+ghost use Rattle.path_meaning.specs.Meaning as meaning;
 ghost use Rattle.path_nodes.specs.References.{IsElement, element_of};
 
 use crate::Nodes;

@@ -1,14 +1,14 @@
 ghost use Rattle.std.specs.Prelude.{◌≡◌, ◌≤◌, ◌+◌, ◌∷◌, [], ℕ, All, Bool, IfOk, map, true};
 ghost use Rattle.ordered_tree.specs.Numbered.{is_element, plain};
-ghost use Rattle.path_grammar.specs.Elements.{Element, elements, placed};
+ghost use Rattle.path_meaning.specs.Elements.{Element, elements, placed};
 ghost use Rattle.path_grammar.specs.Form as form;
-ghost use Rattle.path_grammar.specs.Meaning as meaning;
+ghost use Rattle.path_meaning.specs.Meaning as meaning;
 ghost use Rattle.path_grammar.specs.View as view;
 ghost use Rattle.path_nodes.specs.Asked.{OfEach, OfStep, MayAsk};
 ghost use Rattle.path_nodes.specs.Prices.{price_of, step_price};
 ghost use Rattle.path_nodes.specs.References.{HasSingleAttributes, IsElement, element_of};
 ghost use Rattle.path_nodes.specs.Says.{Agrees, satisfied};
-ghost use Rattle.path_nodes.specs.Tests.{selected_tests};
+ghost use Rattle.path_meaning.specs.Tests.{selected_tests};
 
 use crate::evaluating::{chosen, kept, led, parents_of};
 use crate::kept::append;

@@ -1,6 +1,6 @@
 -- The laws of what paths select, for the selections of a session's path.
-use Rattle.path_grammar.proofs.InOrder as order
-use Rattle.path_grammar.proofs.Selected as members
+use Rattle.path_meaning.proofs.InOrder as order
+use Rattle.path_meaning.proofs.Selected as members
 use Rattle.ft_session.proofs.query_laws.selected_law.Goals as goal
 use Rattle.ft_session.specs.Paths.{satisfies, selections_of}
 

@@ -4,7 +4,7 @@ use Rattle.std.specs.List.{flat_map}
 use Rattle.std.specs.Map.{lookup}
 use Rattle.std.specs.Option.{option_copied}
 use Rattle.std.specs.Str.{bytes_eq}
-use Rattle.path_grammar.specs.Collection.{documents}
+use Rattle.path_meaning.specs.Collection.{documents}
 use Rattle.path_grammar.specs.declared.path.PathRoot.TheVariants.{Doc}
 use Rattle.ft_session.specs.PlannedPaths.{planned_lines}
 use Rattle.ft_session.specs.State.{to_document}

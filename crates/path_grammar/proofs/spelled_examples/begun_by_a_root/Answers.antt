@@ -2,7 +2,7 @@
 use Rattle.std.specs.Prelude.{[], ◌∷◌, codes}
 use Rattle.query_grammar.specs.declared.symbol.Symbol.TheVariants as S
 use Rattle.path_grammar.specs.declared.path.PathRoot.TheVariants as R
-use Rattle.path_grammar.specs.Examples as example
+use Rattle.path_grammar.specs.Spellings as example
 use Rattle.path_grammar.specs.Form.{steps}
 use Rattle.path_grammar.specs.Grammar.{collection, child, named, step, no_step, no_predicate, path}
 use Rattle.path_grammar.specs.Spellings.{row_from}

@@ -6,9 +6,9 @@ use Rattle.std.proofs.lemmas.List.Elements.{All-nil, All-cons, All-map, All-filt
 use Rattle.ordered_tree.specs.declared.node_ref.NodeRef.{NodeRef}
 use Rattle.path_grammar.specs.declared.path.Condition.{the_lemmas}
 use Rattle.ordered_tree.specs.Numbered.{plain}
-use Rattle.path_grammar.specs.Elements.{elements, is_in, is_same}
+use Rattle.path_meaning.specs.Elements.{elements, is_in, is_same}
 use Rattle.path_grammar.specs.Form as form
-use Rattle.path_grammar.specs.Meaning as meaning
+use Rattle.path_meaning.specs.Meaning as meaning
 use Rattle.path_grammar.specs.View as view
 use Rattle.path_nodes.specs.Asked.{OfEach, OfStep, OfPredicates, OfPredicate, OfCondition, OfConditions, MayAsk}
 use Rattle.path_nodes.specs.Kept as spec
@@ -17,7 +17,7 @@ use Rattle.path_nodes.specs.Prices as price
 use Rattle.path_nodes.specs.References.{IsElement, element_of}
 use Rattle.path_nodes.specs.Regions.{below}
 use Rattle.path_nodes.specs.Says.{satisfied}
-use Rattle.path_nodes.specs.Tests.{each_tested}
+use Rattle.path_meaning.specs.Tests.{each_tested}
 use Rattle.path_nodes.specs.Ways.{LeadTo}
 use Rattle.path_nodes.specs.Within.{AtOrBelow}
 use Rattle.path_nodes.proofs.AlikeLemmas.{led-from-alike}

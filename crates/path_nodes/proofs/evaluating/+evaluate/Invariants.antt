@@ -4,9 +4,9 @@ use Rattle.std.proofs.Common.{◌≡◌, ◌≤◌, ◌+◌, All, map, filter, t
 use Rattle.std.specs.Prelude.{sum_by}
 use Rattle.ordered_tree.specs.Numbered.{plain}
 use Rattle.ordered_tree.specs.declared.node_ref.NodeRef.{NodeRef}
-use Rattle.path_grammar.specs.Elements.{elements, is_in}
+use Rattle.path_meaning.specs.Elements.{elements, is_in}
 use Rattle.path_grammar.specs.Form as form
-use Rattle.path_grammar.specs.Meaning as meaning
+use Rattle.path_meaning.specs.Meaning as meaning
 use Rattle.path_grammar.specs.View as view
 use Rattle.path_nodes.specs.Kept.{kept, kept_children}
 use Rattle.path_nodes.specs.Marks.{is_marked}

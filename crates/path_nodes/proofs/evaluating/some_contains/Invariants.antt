@@ -4,7 +4,7 @@ use Rattle.std.specs.List.{list_any}
 use Rattle.path_nodes.specs.Prices.{price_of}
 use Rattle.path_nodes.specs.References.{element_of}
 use Rattle.path_nodes.specs.Says.{satisfied}
-use Rattle.path_nodes.specs.Tests.{each_tested}
+use Rattle.path_meaning.specs.Tests.{each_tested}
 use Rattle.path_nodes.proofs.evaluating.some_contains.Given as goal
 
 abbrev pub invariant-loop-node : goal.invariant-loop-node

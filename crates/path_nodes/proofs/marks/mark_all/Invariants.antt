@@ -2,7 +2,7 @@
 use Rattle.std.proofs.Common.{◌≡◌, ◌||◌, map, take}
 use Rattle.std.specs.List.{list_any}
 use Rattle.ordered_tree.specs.declared.node_ref.NodeRef.{NodeRef}
-use Rattle.path_grammar.specs.Elements.{is_same}
+use Rattle.path_meaning.specs.Elements.{is_same}
 use Rattle.path_nodes.specs.Marks.{is_marked}
 use Rattle.path_nodes.specs.References.{IsElement, element_of}
 use Rattle.path_nodes.proofs.marks.mark_all.Given as goal

@@ -2,7 +2,7 @@
 use Rattle.std.proofs.Common.{sym, ap, ◌∙◌}
 use Rattle.std.specs.Prelude.{bytes_eq}
 use Rattle.ordered_tree.specs.Numbered.{is_element}
-use Rattle.path_grammar.specs.Meaning.{is_named}
+use Rattle.path_meaning.specs.Meaning.{is_named}
 use Rattle.path_nodes.specs.References.{element_of}
 use Rattle.path_nodes.proofs.ChildrenLemmas.{element_there}
 use Rattle.path_nodes.proofs.PlaceLemmas.{one-stand, element-named}

@@ -2,7 +2,7 @@
 use Rattle.std.proofs.Common.{get_or, sym, subst}
 use Rattle.std.specs.List.{All}
 use Rattle.std.proofs.lemmas.List.Elements.{All-get_or}
-use Rattle.path_grammar.specs.Meaning.{is_named}
+use Rattle.path_meaning.specs.Meaning.{is_named}
 use Rattle.path_nodes.specs.References.{IsElement, element_of}
 use Rattle.path_nodes.proofs.ListLemmas.{filter-more, more-there}
 use Rattle.path_nodes.proofs.SpotLemmas.{of_number}

@@ -1,6 +1,6 @@
 -- Those of the first items that pass were kept.
 use Rattle.std.proofs.Common.{◌≡◌, All, filter, map, take}
-use Rattle.path_grammar.specs.Meaning.{is_named}
+use Rattle.path_meaning.specs.Meaning.{is_named}
 use Rattle.path_nodes.specs.References.{IsElement, element_of}
 use Rattle.path_nodes.proofs.names.named.Given as goal
 

@@ -2,9 +2,9 @@
 use Rattle.std.proofs.Common.{◌≤◌, ◌+◌, ◌-◌, [], ◌∷◌, map, take, drop, length, get_or, refl, sym, ap, ◌∙◌, subst}
 use Rattle.std.proofs.lemmas.List.{take_rest}
 use Rattle.ordered_tree.specs.Numbered.{plain}
-use Rattle.path_grammar.specs.Elements.{elements}
+use Rattle.path_meaning.specs.Elements.{elements}
 use Rattle.path_grammar.specs.Form as form
-use Rattle.path_grammar.specs.Meaning as meaning
+use Rattle.path_meaning.specs.Meaning as meaning
 use Rattle.path_grammar.specs.View as view
 use Rattle.path_nodes.specs.Asked.{OfEach, OfStep, MayAsk}
 use Rattle.path_nodes.specs.Prices.{steps_price, step_price}

@@ -3,7 +3,7 @@ use Rattle.std.proofs.Common.{◌≡◌, ◌∙◌, sym, ap, subst, ◌≤◌, l
 use Rattle.all_matches.specs.Meaning.{sat}
 use Rattle.plain_tree.specs.View.{node}
 use Rattle.ordered_tree.specs.Numbered.{plain}
-use Rattle.path_grammar.specs.Elements.{Element}
+use Rattle.path_meaning.specs.Elements.{Element}
 use Rattle.path_nodes.specs.References.{element_of}
 use Rattle.path_nodes.proofs.SpotLemmas.{spot-stand}
 use Rattle.plan_compiler.specs.Lexicon.{lexicon}
