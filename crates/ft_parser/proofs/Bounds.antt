@@ -6,9 +6,9 @@ use Rattle.std.proofs.lemmas.Bool.{cond_both}
 use Rattle.ft_base.specs.Characters.{is_name_start, is_only_inside, is_name_char}
 use Rattle.ft_parser.specs.declared.lexeme.Lexeme.{Lexeme}
 use Rattle.ft_parser.specs.declared.lexeme.Quoted.{Quoted}
-use Rattle.query_grammar.specs.declared.symbol.Symbol.{Symbol}
-use Rattle.query_grammar.specs.declared.symbol.Symbol.TheVariants.{Text}
-use Rattle.query_grammar.specs.declared.symbol.Symbols.{Symbols}
+use Rattle.selection_grammar.specs.declared.symbol.Symbol.{Symbol}
+use Rattle.selection_grammar.specs.declared.symbol.Symbol.TheVariants.{Text}
+use Rattle.selection_grammar.specs.declared.symbol.Symbols.{Symbols}
 use Rattle.ft_base.specs.Letters.{is_digit, begins_with}
 use Rattle.ft_parser.specs.Symbols.{run_of, is_quote, is_slash, is_blank, goes_on_as_name, number_at, name_at, quoted_at, string_at, slash_at, mark_of, mark_at, front_mark, front_string, front_number, front, before, bytes_of_first, with_further, symbols_within}
 

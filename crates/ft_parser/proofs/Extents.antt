@@ -5,10 +5,10 @@ use Rattle.std.specs.Option.{is_some}
 use Rattle.std.proofs.lemmas.Bool.Decides.{eqb_tells}
 use Rattle.std.proofs.lemmas.List.{drop_all, length-take}
 use Rattle.std.proofs.Math.Seq.{take-add}
-use Rattle.query_grammar.specs.declared.symbol.Symbol.{Symbol}
-use Rattle.query_grammar.specs.declared.symbol.Placed.{Placed}
-use Rattle.query_grammar.specs.Machine.{State, start, read, finished, finished_at}
-use Rattle.query_grammar.specs.Shapes.{whole, is_mark, open_parenthesis, close_parenthesis}
+use Rattle.selection_grammar.specs.declared.symbol.Symbol.{Symbol}
+use Rattle.selection_grammar.specs.declared.symbol.Placed.{Placed}
+use Rattle.selection_grammar.specs.Machine.{State, start, read, finished, finished_at}
+use Rattle.selection_grammar.specs.Shapes.{whole, is_mark, open_parenthesis, close_parenthesis}
 use Rattle.ft_parser.proofs.Steps.{Reads, reads_at, stops_at}
 use Rattle.ft_parser.specs.Extent.{Suffices, Stands, Leads, all_read, open_within, may_end, part, stopped, unless}
 use Rattle.ft_parser.specs.Limits.{open_behind, passes}

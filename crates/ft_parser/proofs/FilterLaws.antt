@@ -2,11 +2,11 @@
 use Rattle.std.proofs.Common.{◌≡◌, ℕ, Bool, true, false, ◌&&◌, List, [], ◌∷◌, ◌++◌, Option, Some, None, refl, ◌∙◌, ap}
 use Rattle.ft_base.specs.declared.words.Mode.{Mode}
 use Rattle.ft_base.specs.declared.words.Mode.TheVariants as M
-use Rattle.query_grammar.specs.declared.parsed.PlacedString.{PlacedString}
-use Rattle.query_grammar.specs.declared.parsed.PlacedOption.{PlacedOption}
-use Rattle.query_grammar.specs.declared.parsed.Parsed.{Parsed}
-use Rattle.query_grammar.specs.Machine.{Left, selection_with, operand_of, selection_at, stop_option, thesaurus_option, thesaurus_use}
-use Rattle.query_grammar.specs.Tree.{Tree, Primary, phrases, inner}
+use Rattle.selection_grammar.specs.declared.parsed.PlacedString.{PlacedString}
+use Rattle.selection_grammar.specs.declared.parsed.PlacedOption.{PlacedOption}
+use Rattle.selection_grammar.specs.declared.parsed.Parsed.{Parsed}
+use Rattle.selection_grammar.specs.Machine.{Left, selection_with, operand_of, selection_at, stop_option, thesaurus_option, thesaurus_use}
+use Rattle.selection_grammar.specs.Tree.{Tree, Primary, phrases, inner}
 use Rattle.ft_parser.specs.Limits.{has_all_filters}
 use Rattle.ft_parser.specs.Scan.{is_empty, stands_first}
 use Rattle.ft_parser.specs.State.{primary_of, stage_of}

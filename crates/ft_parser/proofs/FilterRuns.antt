@@ -2,17 +2,17 @@
 use Rattle.std.proofs.Common.{◌≡◌, Bool, true, false, ◌&&◌, List, [], ◌∷◌, ◌++◌, Option, Some, None, refl, sym, ◌∙◌, ap, subst, append_assoc}
 use Rattle.std.specs.Prelude.{not}
 use Rattle.ft_base.specs.declared.words.Mode.TheVariants as M
-use Rattle.query_grammar.specs.declared.symbol.Symbol.{Symbol}
-use Rattle.query_grammar.specs.declared.symbol.Symbol.TheVariants as S
-use Rattle.query_grammar.specs.declared.symbol.Placed.{Placed}
-use Rattle.query_grammar.specs.Grammar.{Selection, at}
-use Rattle.query_grammar.specs.Machine as m
-use Rattle.query_grammar.specs.Machine.{Left, Frame, Stage, State, start, next, advance, run_on, read, finished, finished_at, finished_in, selection_at, thesaurus_ended}
-use Rattle.query_grammar.specs.Shapes.{Shape, whole, nothing, word, number, text, mark}
-use Rattle.query_grammar.specs.Tree.{Tree, phrases}
-use Rattle.query_grammar.proofs.Laws.{spells_read, read-append, within_selection}
-use Rattle.query_grammar.proofs.Reached.{stood}
-use Rattle.query_grammar.proofs.Standing.{Outer, Stands}
+use Rattle.selection_grammar.specs.declared.symbol.Symbol.{Symbol}
+use Rattle.selection_grammar.specs.declared.symbol.Symbol.TheVariants as S
+use Rattle.selection_grammar.specs.declared.symbol.Placed.{Placed}
+use Rattle.selection_grammar.specs.Grammar.{Selection, at}
+use Rattle.selection_grammar.specs.Machine as m
+use Rattle.selection_grammar.specs.Machine.{Left, Frame, Stage, State, start, next, advance, run_on, read, finished, finished_at, finished_in, selection_at, thesaurus_ended}
+use Rattle.selection_grammar.specs.Shapes.{Shape, whole, nothing, word, number, text, mark}
+use Rattle.selection_grammar.specs.Tree.{Tree, phrases}
+use Rattle.selection_grammar.proofs.Laws.{spells_read, read-append, within_selection}
+use Rattle.selection_grammar.proofs.Reached.{stood}
+use Rattle.selection_grammar.proofs.Standing.{Outer, Stands}
 use Rattle.ft_parser.specs.FilterLimit.{are_filters_within}
 use Rattle.ft_parser.specs.FilterPlaces.{NoneIsDeep, Opened, HasAllFilters}
 use Rattle.ft_parser.specs.Limits.{has_all_filters, is_filter_word, is_deep_filter}

@@ -3,12 +3,12 @@ use Rattle.std.proofs.Common.{◌≡◌, ℕ, Bool, true, false, ◌&&◌, cond,
 use Rattle.std.specs.Prelude.{not, codes}
 use Rattle.ft_base.specs.declared.filter.Filter.{Filter}
 use Rattle.ft_base.specs.declared.filter.Filter.TheVariants as F
-use Rattle.query_grammar.specs.declared.symbol.Symbol.{Symbol}
-use Rattle.query_grammar.specs.declared.symbol.Symbol.TheVariants as S
-use Rattle.query_grammar.specs.declared.symbol.Placed.{Placed}
-use Rattle.query_grammar.specs.Keywords.{window, distance, scope, key, side, filters_without_at}
-use Rattle.query_grammar.specs.Shapes.{Shape, whole, nothing, word, number, text, mark, Mark, open_parenthesis, close_parenthesis, open_brace, close_brace, comma, is_word, is_mark, number_of, text_of, number_leads, text_leads, step, or_else, and_then}
-use Rattle.query_grammar.proofs.Words.{word_is, number_is, text_is, mark_is, symbol_of}
+use Rattle.selection_grammar.specs.declared.symbol.Symbol.{Symbol}
+use Rattle.selection_grammar.specs.declared.symbol.Symbol.TheVariants as S
+use Rattle.selection_grammar.specs.declared.symbol.Placed.{Placed}
+use Rattle.selection_grammar.specs.Keywords.{window, distance, scope, key, side, filters_without_at}
+use Rattle.selection_grammar.specs.Shapes.{Shape, whole, nothing, word, number, text, mark, Mark, open_parenthesis, close_parenthesis, open_brace, close_brace, comma, is_word, is_mark, number_of, text_of, number_leads, text_leads, step, or_else, and_then}
+use Rattle.selection_grammar.proofs.Words.{word_is, number_is, text_is, mark_is, symbol_of}
 use Rattle.ft_parser.specs.Limits.{is_filter_word}
 
 abbrev pub AllEnds : {A : Type 0} → (A → Type 0) → Shape A → Type 0

@@ -6,14 +6,14 @@ use Rattle.ft_base.specs.declared.range.Range.{Range}
 use Rattle.ft_base.specs.declared.range.Range.TheVariants as R
 use Rattle.ft_base.specs.declared.words.Mode.{Mode}
 use Rattle.ft_base.specs.declared.words.Mode.TheVariants as M
-use Rattle.query_grammar.specs.declared.parsed.PlacedString.{PlacedString}
-use Rattle.query_grammar.specs.declared.parsed.PlacedOption.{PlacedOption}
-use Rattle.query_grammar.specs.declared.parsed.PlacedTimes.{PlacedTimes}
-use Rattle.query_grammar.specs.Keywords.{range, bound, one_number, two_bounds, side, key, filters_without_at, plain_option, times}
-use Rattle.query_grammar.specs.Machine as m
-use Rattle.query_grammar.specs.Machine.{Left, Frame, Stage, State, next, selection_at, selection_with, ands_with, ors_with, mild_with, operand_of, filtered_state, thesaurus_ended, thesaurus_selection}
-use Rattle.query_grammar.specs.Shapes.{Shape, whole, nothing, word, number, text, mark, or_else, and_then}
-use Rattle.query_grammar.specs.Tree.{Tree, Trees, joined, Primary, phrases, inner, or_of, and_of}
+use Rattle.selection_grammar.specs.declared.parsed.PlacedString.{PlacedString}
+use Rattle.selection_grammar.specs.declared.parsed.PlacedOption.{PlacedOption}
+use Rattle.selection_grammar.specs.declared.parsed.PlacedTimes.{PlacedTimes}
+use Rattle.selection_grammar.specs.Keywords.{range, bound, one_number, two_bounds, side, key, filters_without_at, plain_option, times}
+use Rattle.selection_grammar.specs.Machine as m
+use Rattle.selection_grammar.specs.Machine.{Left, Frame, Stage, State, next, selection_at, selection_with, ands_with, ors_with, mild_with, operand_of, filtered_state, thesaurus_ended, thesaurus_selection}
+use Rattle.selection_grammar.specs.Shapes.{Shape, whole, nothing, word, number, text, mark, or_else, and_then}
+use Rattle.selection_grammar.specs.Tree.{Tree, Trees, joined, Primary, phrases, inner, or_of, and_of}
 use Rattle.ft_parser.specs.FilterLimit.{are_filters_within}
 use Rattle.ft_parser.specs.Limits.{filters_round, has_all_filters}
 use Rattle.ft_parser.specs.Turns.{stands}

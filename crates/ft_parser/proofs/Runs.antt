@@ -4,10 +4,10 @@ use Rattle.std.proofs.lemmas.List.{take-append-drop, length-take-le}
 use Rattle.std.proofs.Math.Seq.{take-add}
 use Rattle.ft_base.specs.declared.fault.QueryFault.{QueryFault}
 use Rattle.ft_base.specs.declared.fault.QueryFault.TheVariants as Q
-use Rattle.query_grammar.specs.declared.symbol.Placed.{Placed}
-use Rattle.query_grammar.specs.Machine.{State, start, advance, run_on, read}
-use Rattle.query_grammar.specs.Shapes.{Shape, whole}
-use Rattle.query_grammar.proofs.Laws.{read-append}
+use Rattle.selection_grammar.specs.declared.symbol.Placed.{Placed}
+use Rattle.selection_grammar.specs.Machine.{State, start, advance, run_on, read}
+use Rattle.selection_grammar.specs.Shapes.{Shape, whole}
+use Rattle.selection_grammar.proofs.Laws.{read-append}
 use Rattle.ft_parser.specs.Answer.{symbols_read, symbols_with}
 use Rattle.ft_parser.specs.Extent.{Suffices, open_within}
 use Rattle.ft_parser.specs.Limits.{open_behind, passes, limit_fault, is_deep_filter}

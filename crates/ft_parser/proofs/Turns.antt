@@ -3,7 +3,7 @@ use Rattle.std.proofs.Common.{◌≡◌, ℕ, suc, ◌+◌, ◌<◌, List, [], �
 use Rattle.std.proofs.lemmas.List.{drop_more}
 use Rattle.ft_parser.specs.declared.lexeme.Lexeme.{Lexeme}
 use Rattle.ft_parser.specs.declared.lexeme.Turn.TheVariants.{Passed, Bad}
-use Rattle.query_grammar.specs.declared.symbol.Placed.{Placed}
+use Rattle.selection_grammar.specs.declared.symbol.Placed.{Placed}
 use Rattle.ft_parser.specs.Symbols.{is_blank, front, nothing_left, before, behind_placed, bytes_of_first, with_further, symbols_within, Steps_to}
 
 -- nothing is read without a step

@@ -3,12 +3,12 @@ use Rattle.std.specs.Prelude.{◌≡◌, ℕ, if◌then◌else◌, List, [], ◌
 use Rattle.ft_base.specs.Selection.{Form}
 use Rattle.ft_base.specs.declared.fault.QueryFault.{QueryFault}
 use Rattle.ft_base.specs.declared.fault.QueryFault.TheVariants as Q
-use Rattle.query_grammar.specs.declared.symbol.Placed.{Placed}
-use Rattle.query_grammar.specs.declared.symbol.Symbols.{Symbols}
-use Rattle.query_grammar.specs.Form.{form_of}
-use Rattle.query_grammar.specs.Machine.{State, start, advance, finished_at}
-use Rattle.query_grammar.specs.Shapes.{Shape, whole}
-use Rattle.query_grammar.specs.Tree.{Tree}
+use Rattle.selection_grammar.specs.declared.symbol.Placed.{Placed}
+use Rattle.selection_grammar.specs.declared.symbol.Symbols.{Symbols}
+use Rattle.selection_grammar.specs.Form.{form_of}
+use Rattle.selection_grammar.specs.Machine.{State, start, advance, finished_at}
+use Rattle.selection_grammar.specs.Shapes.{Shape, whole}
+use Rattle.selection_grammar.specs.Tree.{Tree}
 use Rattle.selection_faults.specs.Faults.{fault_of}
 use Rattle.ft_parser.specs.Limits.{before_limit, from_limit, limit_fault, is_deep_filter}
 use Rattle.ft_parser.specs.Symbols.{symbols_of}

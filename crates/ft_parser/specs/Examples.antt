@@ -1,8 +1,8 @@
 -- Symbols for examples.
 use Rattle.std.specs.Prelude.{ℕ, List, Some, None}
-use Rattle.query_grammar.specs.declared.symbol.Symbol.{Symbol}
-use Rattle.query_grammar.specs.declared.symbol.Placed.{Placed}
-use Rattle.query_grammar.specs.declared.symbol.Symbols.{Symbols}
+use Rattle.selection_grammar.specs.declared.symbol.Symbol.{Symbol}
+use Rattle.selection_grammar.specs.declared.symbol.Placed.{Placed}
+use Rattle.selection_grammar.specs.declared.symbol.Symbols.{Symbols}
 
 -- a symbol from a place to another
 abbrev pub from_to : ℕ → ℕ → Symbol → Placed

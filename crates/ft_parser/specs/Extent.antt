@@ -1,7 +1,7 @@
 -- How far symbols are read, as data.
 use Rattle.std.specs.Prelude.{◌≡◌, ◌≤◌, ◌-◌, ℕ, Bool, true, false, ◌&&◌, ◌==◌, List, [], ◌∷◌, length, take, drop, if◌then◌else◌, Option, Some, None, Result, Ok, Err}
 use Rattle.std.specs.Option.{is_some}
-use Rattle.query_grammar.specs.declared.symbol.Placed.{Placed}
+use Rattle.selection_grammar.specs.declared.symbol.Placed.{Placed}
 use Rattle.ft_parser.specs.Limits.{open_behind, passes}
 use Rattle.ft_parser.specs.Prefix.{run_read, counted}
 use Rattle.ft_parser.specs.State.{state_of}
@@ -11,8 +11,8 @@ use Rattle.ft_parser.specs.Turns.{state_turn}
 use Rattle.ft_parser.specs.declared.state.State as reader
 use Rattle.ft_parser.specs.declared.state.Halt.{Halt}
 use Rattle.ft_parser.specs.declared.state.Halt.TheVariants.{Stuck, Memory}
-use Rattle.query_grammar.specs.Machine.{State, read, finished_at}
-use Rattle.query_grammar.specs.Shapes.{whole}
+use Rattle.selection_grammar.specs.Machine.{State, read, finished_at}
+use Rattle.selection_grammar.specs.Shapes.{whole}
 
 -- how many parentheses are open behind symbols where so many are open before them, unless one of them passes a limit
 abbrev pub open_within : ℕ → List Placed → Option ℕ

@@ -1,7 +1,7 @@
 -- The limit of filters, as selections have it.
 use Rattle.std.specs.Prelude.{Bool, true, ◌&&◌, not, nat_le}
-use Rattle.query_grammar.specs.Tree as tree
-use Rattle.query_grammar.specs.Tree.{Tree, Trees}
+use Rattle.selection_grammar.specs.Tree as tree
+use Rattle.selection_grammar.specs.Tree.{Tree, Trees}
 use Rattle.ft_parser.specs.Limits.{filters_round}
 
 -- whether the operand of each filter in a selection has fewer than 64 filters directly round one another

@@ -1,9 +1,9 @@
 -- Where a filter too many begins.
 use Rattle.std.specs.Prelude.{◌≡◌, true, false, nat_le, List, [], ◌∷◌, ◌++◌}
-use Rattle.query_grammar.specs.declared.symbol.Symbol.TheVariants.{OpenParenthesis}
-use Rattle.query_grammar.specs.declared.symbol.Placed.{Placed}
-use Rattle.query_grammar.specs.Grammar.{Selection, Spot, at}
-use Rattle.query_grammar.specs.Tree.{Tree}
+use Rattle.selection_grammar.specs.declared.symbol.Symbol.TheVariants.{OpenParenthesis}
+use Rattle.selection_grammar.specs.declared.symbol.Placed.{Placed}
+use Rattle.selection_grammar.specs.Grammar.{Selection, Spot, at}
+use Rattle.selection_grammar.specs.Tree.{Tree}
 use Rattle.ft_parser.specs.Limits.{filters_round}
 use Rattle.ft_parser.specs.Selected.{is_deep_behind}
 

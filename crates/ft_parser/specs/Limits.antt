@@ -2,12 +2,12 @@
 use Rattle.std.specs.Prelude.{ℕ, zero, suc, ◌+◌, ◌-◌, Bool, false, ◌||◌, ◌&&◌, nat_lt, nat_le, if◌then◌else◌, List, [], ◌∷◌, codes, Option, Some, None}
 use Rattle.ft_base.specs.declared.fault.QueryFault.{QueryFault}
 use Rattle.ft_base.specs.declared.fault.QueryFault.TheVariants as Q
-use Rattle.query_grammar.specs.declared.symbol.Symbol.{Symbol}
-use Rattle.query_grammar.specs.declared.symbol.Placed.{Placed}
-use Rattle.query_grammar.specs.Machine.{State, selection_at}
-use Rattle.query_grammar.specs.Shapes.{Shape, whole, is_mark, is_word, open_parenthesis, close_parenthesis, number_of}
-use Rattle.query_grammar.specs.Tree as tree
-use Rattle.query_grammar.specs.Tree.{Tree}
+use Rattle.selection_grammar.specs.declared.symbol.Symbol.{Symbol}
+use Rattle.selection_grammar.specs.declared.symbol.Placed.{Placed}
+use Rattle.selection_grammar.specs.Machine.{State, selection_at}
+use Rattle.selection_grammar.specs.Shapes.{Shape, whole, is_mark, is_word, open_parenthesis, close_parenthesis, number_of}
+use Rattle.selection_grammar.specs.Tree as tree
+use Rattle.selection_grammar.specs.Tree.{Tree}
 
 -- a number over a million
 abbrev pub is_great : Option ℕ → Bool

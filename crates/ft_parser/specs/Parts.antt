@@ -2,10 +2,10 @@
 use Rattle.std.specs.Prelude.{ℕ, ◌+◌, Bool, ◌||◌, if◌then◌else◌, List, drop, codes, Result, Ok, Err}
 use Rattle.ft_base.specs.declared.filter.Filter.{Filter}
 use Rattle.ft_base.specs.declared.filter.Filter.TheVariants as F
-use Rattle.query_grammar.specs.declared.symbol.Placed.{Placed}
-use Rattle.query_grammar.specs.declared.parsed.PlacedTimes.{PlacedTimes}
-use Rattle.query_grammar.specs.Keywords.{range, unit, scope, side}
-use Rattle.query_grammar.specs.Reading.{reading, further, front_is, front_number, by_number}
+use Rattle.selection_grammar.specs.declared.symbol.Placed.{Placed}
+use Rattle.selection_grammar.specs.declared.parsed.PlacedTimes.{PlacedTimes}
+use Rattle.selection_grammar.specs.Keywords.{range, unit, scope, side}
+use Rattle.selection_grammar.specs.Reading.{reading, further, front_is, front_number, by_number}
 
 -- a value and the keyword behind it
 abbrev pub before_word : {A : Type 0} → List ℕ → A → List Placed → ℕ → Result (A × ℕ) ℕ

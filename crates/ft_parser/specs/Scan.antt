@@ -2,11 +2,11 @@
 use Rattle.std.specs.Prelude.{Bool, true, false, ◌&&◌, List, [], ◌∷◌, Option, None, option_map, Result, Ok, Err}
 use Rattle.ft_base.specs.declared.fault.QueryFault.{QueryFault}
 use Rattle.ft_base.specs.declared.fault.QueryFault.TheVariants as Q
-use Rattle.query_grammar.specs.declared.symbol.Placed.{Placed}
-use Rattle.query_grammar.specs.Machine.{Left, State}
-use Rattle.query_grammar.specs.Shapes.{whole}
-use Rattle.query_grammar.specs.Tree.{Tree}
-use Rattle.query_grammar.specs.View.{tree}
+use Rattle.selection_grammar.specs.declared.symbol.Placed.{Placed}
+use Rattle.selection_grammar.specs.Machine.{Left, State}
+use Rattle.selection_grammar.specs.Shapes.{whole}
+use Rattle.selection_grammar.specs.Tree.{Tree}
+use Rattle.selection_grammar.specs.View.{tree}
 use Rattle.ft_parser.specs.declared.scan.Scan.{Scan}
 use Rattle.ft_parser.specs.declared.scan.Scan.TheVariants.{Whole, Refused}
 use Rattle.ft_parser.specs.Limits.{is_deep_filter}

@@ -3,14 +3,14 @@ use Rattle.std.specs.Prelude.{◌≡◌, ℕ, Bool, true, false, ◌||◌, nat_l
 use Rattle.ft_base.specs.Selection.{Form}
 use Rattle.ft_base.specs.declared.fault.QueryFault.{QueryFault}
 use Rattle.ft_base.specs.declared.fault.QueryFault.TheVariants as Q
-use Rattle.query_grammar.specs.declared.symbol.Symbol.{Symbol}
-use Rattle.query_grammar.specs.declared.symbol.Placed.{Placed}
-use Rattle.query_grammar.specs.Form.{form_of}
-use Rattle.query_grammar.specs.Grammar.{Selection}
-use Rattle.query_grammar.specs.Machine.{State, read}
-use Rattle.query_grammar.specs.Shapes.{Shape, is_mark, open_parenthesis, number_of}
-use Rattle.query_grammar.specs.Texts.{Begins}
-use Rattle.query_grammar.specs.Tree.{Tree}
+use Rattle.selection_grammar.specs.declared.symbol.Symbol.{Symbol}
+use Rattle.selection_grammar.specs.declared.symbol.Placed.{Placed}
+use Rattle.selection_grammar.specs.Form.{form_of}
+use Rattle.selection_grammar.specs.Grammar.{Selection}
+use Rattle.selection_grammar.specs.Machine.{State, read}
+use Rattle.selection_grammar.specs.Shapes.{Shape, is_mark, open_parenthesis, number_of}
+use Rattle.selection_grammar.specs.Texts.{Begins}
+use Rattle.selection_grammar.specs.Tree.{Tree}
 use Rattle.selection_faults.specs.Faults.{fault_of}
 use Rattle.ft_parser.specs.FilterLimit.{are_filters_within}
 use Rattle.ft_parser.specs.Limits.{is_great, open_behind, passes, is_deep_filter}

@@ -1,10 +1,10 @@
 -- The selection that a text spells, by computation.
 use Rattle.std.specs.Prelude.{ℕ, List, Option, Some, None, option_map}
 use Rattle.ft_base.specs.Selection.{Form}
-use Rattle.query_grammar.specs.declared.symbol.Symbols.{Symbols}
-use Rattle.query_grammar.specs.Tree.{Tree}
-use Rattle.query_grammar.specs.Machine.{read, finished}
-use Rattle.query_grammar.specs.Form.{form_of}
+use Rattle.selection_grammar.specs.declared.symbol.Symbols.{Symbols}
+use Rattle.selection_grammar.specs.Tree.{Tree}
+use Rattle.selection_grammar.specs.Machine.{read, finished}
+use Rattle.selection_grammar.specs.Form.{form_of}
 use Rattle.ft_parser.specs.Symbols.{symbols_of}
 
 abbrev pub whole_tree : Option ℕ → Option Tree → Option Tree

@@ -1,8 +1,8 @@
 -- Where the reader stands, as the machine has it.
 use Rattle.std.specs.Prelude.{◌≡◌, ℕ, List, map, reverse, option_map, Result, Ok, Err}
-use Rattle.query_grammar.specs.View.{tree}
-use Rattle.query_grammar.specs.Tree as t
-use Rattle.query_grammar.specs.Machine as m
+use Rattle.selection_grammar.specs.View.{tree}
+use Rattle.selection_grammar.specs.Tree as t
+use Rattle.selection_grammar.specs.Machine as m
 use Rattle.ft_parser.specs.declared.state.Primary.{Primary}
 use Rattle.ft_parser.specs.declared.state.Primary.TheVariants.{Phrases, Inner}
 use Rattle.ft_parser.specs.declared.state.Left.{Left}

@@ -7,10 +7,10 @@ use Rattle.ft_parser.specs.declared.lexeme.Turn.{Turn}
 use Rattle.ft_parser.specs.declared.lexeme.Turn.TheVariants.{Passed, Bad}
 use Rattle.ft_parser.specs.declared.lexeme.Lexeme.{Lexeme}
 use Rattle.ft_parser.specs.declared.lexeme.Quoted.{Quoted}
-use Rattle.query_grammar.specs.declared.symbol.Symbol.{Symbol}
-use Rattle.query_grammar.specs.declared.symbol.Symbol.TheVariants.{Name, Number, Text, Slash, DoubleSlash, OpenBracket, CloseBracket, OpenParenthesis, CloseParenthesis, OpenBrace, CloseBrace, Comma, At, Equals, Period, Star}
-use Rattle.query_grammar.specs.declared.symbol.Placed.{Placed}
-use Rattle.query_grammar.specs.declared.symbol.Symbols.{Symbols}
+use Rattle.selection_grammar.specs.declared.symbol.Symbol.{Symbol}
+use Rattle.selection_grammar.specs.declared.symbol.Symbol.TheVariants.{Name, Number, Text, Slash, DoubleSlash, OpenBracket, CloseBracket, OpenParenthesis, CloseParenthesis, OpenBrace, CloseBrace, Comma, At, Equals, Period, Star}
+use Rattle.selection_grammar.specs.declared.symbol.Placed.{Placed}
+use Rattle.selection_grammar.specs.declared.symbol.Symbols.{Symbols}
 
 -- how many characters at the front pass a test
 abbrev pub run_of : (ℕ → Bool) → List ℕ → ℕ

@@ -6,14 +6,14 @@ use Rattle.ft_base.specs.declared.words.Mode.{Mode}
 use Rattle.ft_base.specs.declared.words.Mode.TheVariants as M
 use Rattle.ft_base.specs.declared.options.StopTerm.{StopTerm}
 use Rattle.ft_base.specs.declared.options.ThesaurusUse.{ThesaurusUse}
-use Rattle.query_grammar.specs.declared.symbol.Placed.{Placed}
-use Rattle.query_grammar.specs.declared.parsed.PlacedString.{PlacedString}
-use Rattle.query_grammar.specs.declared.parsed.PlacedOption.{PlacedOption}
-use Rattle.query_grammar.specs.Keywords.{plain_option, range, range_without_at, bound, side}
-use Rattle.query_grammar.specs.Tree.{Tree, Primary, phrases}
-use Rattle.query_grammar.specs.Machine as m
-use Rattle.query_grammar.specs.Machine.{Left, Frame, Stage, State, selection_with, operand_of, filtered_state, thesaurus_ended, thesaurus_selection}
-use Rattle.query_grammar.specs.Reading.{reading, further, front_is, front_place}
+use Rattle.selection_grammar.specs.declared.symbol.Placed.{Placed}
+use Rattle.selection_grammar.specs.declared.parsed.PlacedString.{PlacedString}
+use Rattle.selection_grammar.specs.declared.parsed.PlacedOption.{PlacedOption}
+use Rattle.selection_grammar.specs.Keywords.{plain_option, range, range_without_at, bound, side}
+use Rattle.selection_grammar.specs.Tree.{Tree, Primary, phrases}
+use Rattle.selection_grammar.specs.Machine as m
+use Rattle.selection_grammar.specs.Machine.{Left, Frame, Stage, State, selection_with, operand_of, filtered_state, thesaurus_ended, thesaurus_selection}
+use Rattle.selection_grammar.specs.Reading.{reading, further, front_is, front_place}
 use Rattle.ft_parser.specs.Parts.{before_word, times_reading, filter_reading, other_filter_reading, begins_filter, begins_other_filter}
 
 abbrev pub Turn : Type 0

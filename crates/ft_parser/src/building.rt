@@ -1,15 +1,15 @@
 //! How selections are put together from what was read.
-#![tactic(auto, using(query_grammar::proofs::Views::tree_words, query_grammar::proofs::Views::tree_or, query_grammar::proofs::Views::tree_and, query_grammar::proofs::Views::tree_mild, query_grammar::proofs::Views::tree_not, query_grammar::proofs::Views::tree_filtered, query_grammar::proofs::Views::tree_with))]
+#![tactic(auto, using(selection_grammar::proofs::Views::tree_words, selection_grammar::proofs::Views::tree_or, selection_grammar::proofs::Views::tree_and, selection_grammar::proofs::Views::tree_mild, selection_grammar::proofs::Views::tree_not, selection_grammar::proofs::Views::tree_filtered, selection_grammar::proofs::Views::tree_with))]
 
 ghost use Rattle.std.specs.Prelude.{◌≡◌, [], ◌∷◌, ◌++◌, IfOk, map, option_map};
 ghost use Rattle.ft_parser.specs.State.{left_of, primary_of};
-ghost use Rattle.query_grammar.specs.Machine as m;
-ghost use Rattle.query_grammar.specs.Tree as t;
-ghost use Rattle.query_grammar.specs.View.{tree};
+ghost use Rattle.selection_grammar.specs.Machine as m;
+ghost use Rattle.selection_grammar.specs.Tree as t;
+ghost use Rattle.selection_grammar.specs.View.{tree};
 
 use crate::state::{Left, Operand, Primary};
 use ft_base::{Filter, Items, Memory};
-use query_grammar::{Parsed, ParsedWords, PlacedOption};
+use selection_grammar::{Parsed, ParsedWords, PlacedOption};
 use std::alloc::Global;
 
 /// The words, or the selection in parentheses, with options.

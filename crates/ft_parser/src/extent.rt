@@ -10,7 +10,7 @@ use crate::scan::start;
 use crate::state::{Halt, Stage, State};
 use crate::turn::turn;
 use ft_base::Memory;
-use query_grammar::Placed;
+use selection_grammar::Placed;
 use std::alloc::Global;
 
 /// How many symbols are read, and whether they are a whole selection.

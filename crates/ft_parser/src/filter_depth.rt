@@ -4,12 +4,12 @@ ghost use Rattle.std.specs.Prelude.{◌≡◌, Some, drop, nat_le};
 ghost use Rattle.ft_parser.specs.Limits as limits;
 ghost use Rattle.ft_parser.specs.Scan as spec;
 ghost use Rattle.ft_parser.specs.State.{left_of, primary_of, stage_of, state_of};
-ghost use Rattle.query_grammar.specs.Machine as m;
-ghost use Rattle.query_grammar.specs.View.{tree};
+ghost use Rattle.selection_grammar.specs.Machine as m;
+ghost use Rattle.selection_grammar.specs.View.{tree};
 
 use crate::parts::begins_filter;
 use crate::state::{Left, Operand, Primary, Stage, State};
-use query_grammar::{Parsed, Placed};
+use selection_grammar::{Parsed, Placed};
 
 /// How many filters may stand directly round one another.
 const MAX_FILTERS: usize = 64;
@@ -53,7 +53,7 @@ fn operand_has_all(operand: &Operand) -> bool
 }
 
 /// Whether so many filters stand directly round one another.
-#[tactic(auto, using(query_grammar::proofs::Views::tree_words, query_grammar::proofs::Views::tree_or, query_grammar::proofs::Views::tree_and, query_grammar::proofs::Views::tree_mild, query_grammar::proofs::Views::tree_not, query_grammar::proofs::Views::tree_filtered, query_grammar::proofs::Views::tree_with))]
+#[tactic(auto, using(selection_grammar::proofs::Views::tree_words, selection_grammar::proofs::Views::tree_or, selection_grammar::proofs::Views::tree_and, selection_grammar::proofs::Views::tree_mild, selection_grammar::proofs::Views::tree_not, selection_grammar::proofs::Views::tree_filtered, selection_grammar::proofs::Views::tree_with))]
 fn has_filters(parsed: &Parsed, count: usize) -> bool
     ensures { result ≡ nat_le count (limits.filters_round (tree parsed.now)) }
 {

@@ -2,14 +2,14 @@
 
 ghost use Rattle.std.specs.Prelude.{◌≡◌, [], IfOk, None, Some, option_map};
 ghost use Rattle.ft_parser.specs.State.{frames_of, left_of, stage_of};
-ghost use Rattle.query_grammar.specs.Machine as m;
-ghost use Rattle.query_grammar.specs.Tree as t;
-ghost use Rattle.query_grammar.specs.View.{tree};
+ghost use Rattle.selection_grammar.specs.Machine as m;
+ghost use Rattle.selection_grammar.specs.Tree as t;
+ghost use Rattle.selection_grammar.specs.View.{tree};
 
 use crate::option_turns::{ended, stops_ended, thesaurus_ended};
 use crate::state::{Left, Operand, Primary, Stage, State};
 use ft_base::{Items, Memory, Mode};
-use query_grammar::{Parsed, PlacedString};
+use selection_grammar::{Parsed, PlacedString};
 use std::alloc::Global;
 
 /// The selection, if it may end there.

@@ -9,7 +9,7 @@ use crate::lexeme::{Lexeme, Quoted};
 use ft_base::{
     Line, Memory, begins_with, digit_run, is_digit, is_name_char, is_name_start, number_of, text_of,
 };
-use query_grammar::Symbol;
+use selection_grammar::Symbol;
 use std::alloc::Global;
 
 /// The symbol that begins with the first character.

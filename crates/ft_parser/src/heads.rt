@@ -1,11 +1,11 @@
 //! What stands at a place among symbols.
 
 ghost use Rattle.std.specs.Prelude.{◌≡◌, ◌≤◌, ◌+◌, IsTrue, IfOk, IfSome, drop, length};
-ghost use Rattle.query_grammar.specs.Reading.{front_is, front_is_mark, front_number, front_text, front_place};
-ghost use Rattle.query_grammar.specs.Shapes as shapes;
+ghost use Rattle.selection_grammar.specs.Reading.{front_is, front_is_mark, front_number, front_text, front_place};
+ghost use Rattle.selection_grammar.specs.Shapes as shapes;
 
 use ft_base::{Line, Memory};
-use query_grammar::{Placed, Symbol};
+use selection_grammar::{Placed, Symbol};
 use std::alloc::Global;
 
 /// Whether the symbol of that number is this keyword.

@@ -1,5 +1,5 @@
 use ft_base::Line;
-use query_grammar::Symbol;
+use selection_grammar::Symbol;
 
 /// A symbol at the front of a text, and the number of its characters.
 #[derive(Drop)]

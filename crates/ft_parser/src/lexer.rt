@@ -8,7 +8,7 @@ use crate::characters::is_blank;
 use crate::front::front;
 use crate::lexeme::Turn;
 use ft_base::{Items, Memory, letters_of};
-use query_grammar::{Placed, Symbols};
+use selection_grammar::{Placed, Symbols};
 use std::alloc::Global;
 
 /// The symbols of a text with their places, up to the first character that begins none. It reads the text once.

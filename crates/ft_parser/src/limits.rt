@@ -5,7 +5,7 @@ ghost use Rattle.ft_parser.specs.Extent as extent;
 ghost use Rattle.ft_parser.specs.Limits as spec;
 
 use ft_base::QueryFault;
-use query_grammar::{Placed, Symbol};
+use selection_grammar::{Placed, Symbol};
 
 /// How many parentheses may be open at once.
 const MAX_OPEN: usize = 64;

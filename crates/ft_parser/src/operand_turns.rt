@@ -3,12 +3,12 @@
 ghost use Rattle.std.specs.Prelude.{◌≡◌, [], ◌∷◌, IfOk, Some, None, codes};
 ghost use Rattle.ft_parser.specs.State.{Answers, frames_of, left_of, state_of};
 ghost use Rattle.ft_parser.specs.Turns.{stands};
-ghost use Rattle.query_grammar.specs.Keywords as keywords;
-ghost use Rattle.query_grammar.specs.Machine as m;
-ghost use Rattle.query_grammar.specs.Reading.{reading};
-ghost use Rattle.query_grammar.specs.Shapes.{whole};
-ghost use Rattle.query_grammar.specs.Tree as t;
-ghost use Rattle.query_grammar.specs.View.{tree};
+ghost use Rattle.selection_grammar.specs.Keywords as keywords;
+ghost use Rattle.selection_grammar.specs.Machine as m;
+ghost use Rattle.selection_grammar.specs.Reading.{reading};
+ghost use Rattle.selection_grammar.specs.Shapes.{whole};
+ghost use Rattle.selection_grammar.specs.Tree as t;
+ghost use Rattle.selection_grammar.specs.View.{tree};
 
 use crate::building::{and_with, mild_with, or_with, selection_with};
 use crate::heads::{
@@ -17,7 +17,7 @@ use crate::heads::{
 };
 use crate::state::{Frame, Halt, Left, Operand, Primary, Stage, State};
 use ft_base::{Items, Memory};
-use query_grammar::{Parsed, Placed, PlacedString};
+use selection_grammar::{Parsed, Placed, PlacedString};
 use std::alloc::Global;
 
 /// A list of one string.

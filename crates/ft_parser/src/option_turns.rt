@@ -3,10 +3,10 @@
 ghost use Rattle.std.specs.Prelude.{◌≡◌, [], ◌∷◌, ◌++◌, IfOk, Ok, codes, false};
 ghost use Rattle.ft_parser.specs.State.{Answers, frames_of, left_of, primary_of, state_of};
 ghost use Rattle.ft_parser.specs.Turns as turns;
-ghost use Rattle.query_grammar.specs.Keywords as keywords;
-ghost use Rattle.query_grammar.specs.Machine as m;
-ghost use Rattle.query_grammar.specs.Reading.{further, reading};
-ghost use Rattle.query_grammar.specs.View.{tree};
+ghost use Rattle.selection_grammar.specs.Keywords as keywords;
+ghost use Rattle.selection_grammar.specs.Machine as m;
+ghost use Rattle.selection_grammar.specs.Reading.{further, reading};
+ghost use Rattle.selection_grammar.specs.View.{tree};
 
 use crate::building::{filtered, operand_tree, selection_with};
 use crate::heads::{is_word, place_at};
@@ -19,7 +19,7 @@ use crate::state::{Frame, Halt, Left, Operand, Stage, State, Stops, Uses};
 use crate::stop_turns::term;
 use crate::thesaurus_turns::{levels_outside, related, thesaurus_first, with_one_use};
 use ft_base::{Filter, Items, Memory, Range, StopChoice};
-use query_grammar::{MatchOption, Parsed, Placed, PlacedOption};
+use selection_grammar::{MatchOption, Parsed, Placed, PlacedOption};
 use std::alloc::Global;
 
 /// Behind a filter, which was read or not.

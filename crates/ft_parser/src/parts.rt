@@ -3,12 +3,12 @@
 ghost use Rattle.std.specs.Prelude.{◌≡◌, ◌≤◌, ◌<◌, ◌+◌, drop, length, IfOk, codes};
 ghost use Rattle.ft_base.specs.declared.filter.Filter.TheVariants as F;
 ghost use Rattle.ft_parser.specs.Parts as spec;
-ghost use Rattle.query_grammar.specs.Keywords as keywords;
-ghost use Rattle.query_grammar.specs.Reading.{reading};
+ghost use Rattle.selection_grammar.specs.Keywords as keywords;
+ghost use Rattle.selection_grammar.specs.Reading.{reading};
 
 use crate::heads::{is_word, number_at};
 use ft_base::{Filter, Range, Unit};
-use query_grammar::{Placed, PlacedTimes};
+use selection_grammar::{Placed, PlacedTimes};
 
 fn unit(symbols: &[Placed], next: usize) -> Result<(Unit, usize), usize>
     ensures value { result ≡ reading keywords.unit symbols.now next }

@@ -3,15 +3,15 @@
 ghost use Rattle.std.specs.Prelude.{◌≡◌, ◌≤◌, ◌<◌, ◌+◌, ◌^◌, ◌-◌, IfOk, Ok, codes, length};
 ghost use Rattle.ft_base.specs.declared.options.StopChoice.TheVariants as Stop;
 ghost use Rattle.ft_parser.specs.State.{Answers};
-ghost use Rattle.query_grammar.specs.Keywords as keywords;
-ghost use Rattle.query_grammar.specs.Reading.{reading};
-ghost use Rattle.query_grammar.specs.Shapes.{whole, nothing, text};
-ghost use Rattle.query_grammar.specs.declared.parsed.MatchOption.TheVariants as O;
+ghost use Rattle.selection_grammar.specs.Keywords as keywords;
+ghost use Rattle.selection_grammar.specs.Reading.{reading};
+ghost use Rattle.selection_grammar.specs.Shapes.{whole, nothing, text};
+ghost use Rattle.selection_grammar.specs.declared.parsed.MatchOption.TheVariants as O;
 
 use crate::heads::{is_word, text_at};
 use crate::state::Halt;
 use ft_base::{Case, StopChoice, ThesaurusChoice};
-use query_grammar::{MatchOption, Placed, PlacedOption};
+use selection_grammar::{MatchOption, Placed, PlacedOption};
 use std::alloc::Global;
 
 /// An option of one more keyword.

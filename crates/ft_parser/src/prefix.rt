@@ -11,7 +11,7 @@ use crate::lexer::symbols_from;
 use crate::read::read_placed;
 use ft_base::QueryFault;
 use ft_syntax::Selection;
-use query_grammar::Placed;
+use selection_grammar::Placed;
 use std::alloc::Global;
 
 /// Reads the selection with which a text begins at a byte place, at which a character starts or the text ends. It takes the longest run of symbols that

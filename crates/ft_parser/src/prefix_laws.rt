@@ -2,8 +2,8 @@
 
 ghost use Rattle.std.specs.Prelude.{◌≡◌, ◌≤◌, ℕ, List, length, take};
 ghost use Rattle.ft_parser.specs.Prefix.{run_length};
-ghost use Rattle.query_grammar.specs.Texts.{Begins};
-ghost use Rattle.query_grammar.specs.declared.symbol.Placed.{Placed};
+ghost use Rattle.selection_grammar.specs.Texts.{Begins};
+ghost use Rattle.selection_grammar.specs.declared.symbol.Placed.{Placed};
 
 /// The run begins a selection, and no longer front of the symbols does.
 pub fn run_law()

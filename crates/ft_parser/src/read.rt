@@ -4,7 +4,7 @@ ghost use Rattle.std.specs.Prelude.{option_map};
 ghost use Rattle.ft_parser.specs.Answer as spec;
 ghost use Rattle.ft_parser.specs.Answer.{Answered, scanned, selection_read, symbols_read, symbols_with};
 ghost use Rattle.ft_syntax.specs.View.{form};
-ghost use Rattle.query_grammar.specs.View.{tree};
+ghost use Rattle.selection_grammar.specs.View.{tree};
 ghost use Rattle.selection_faults.specs.Faults.{fault_of};
 
 use crate::lexer::symbols;
@@ -12,8 +12,8 @@ use crate::limits::{limit_at, limit_fault};
 use crate::scan::{Scan, scan_symbols};
 use ft_base::QueryFault;
 use ft_syntax::Selection;
-use query_grammar::{Parsed, Placed};
 use selection_faults::{first_fault, selection_of};
+use selection_grammar::{Parsed, Placed};
 use std::alloc::Global;
 
 /// Reads a text that is a selection.

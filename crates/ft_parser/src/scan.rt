@@ -4,7 +4,7 @@ ghost use Rattle.std.specs.Prelude.{◌≡◌, IfOk, drop};
 ghost use Rattle.ft_parser.specs.Answer.{scanned};
 ghost use Rattle.ft_parser.specs.Scan.{scan_of, stopped_before};
 ghost use Rattle.ft_parser.specs.State.{state_of};
-ghost use Rattle.query_grammar.specs.Machine as m;
+ghost use Rattle.selection_grammar.specs.Machine as m;
 
 use crate::filter_depth::begins_deep_filter;
 use crate::finishing::finish;
@@ -12,7 +12,7 @@ use crate::operand_turns::nothing_left_of;
 use crate::state::{Halt, Stage, State};
 use crate::turn::turn;
 use ft_base::{Memory, QueryFault};
-use query_grammar::{Parsed, Placed};
+use selection_grammar::{Parsed, Placed};
 use std::alloc::Global;
 
 /// What symbols are, limits of numbers and parentheses aside.

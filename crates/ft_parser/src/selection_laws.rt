@@ -8,10 +8,10 @@ ghost use Rattle.ft_parser.specs.FilterLimit.{are_filters_within};
 ghost use Rattle.ft_parser.specs.FilterPlaces.{HasAllFilters, NoneIsDeep};
 ghost use Rattle.ft_parser.specs.Limits.{is_filter_word};
 ghost use Rattle.ft_parser.specs.Selected.{IsFaultOf, SpellsSelection, is_deep_behind};
-ghost use Rattle.query_grammar.specs.Grammar.{Selection};
-ghost use Rattle.query_grammar.specs.Tree.{Tree};
-ghost use Rattle.query_grammar.specs.declared.symbol.Placed.{Placed};
-ghost use Rattle.query_grammar.specs.declared.symbol.Symbol.{Symbol};
+ghost use Rattle.selection_grammar.specs.Grammar.{Selection};
+ghost use Rattle.selection_grammar.specs.Tree.{Tree};
+ghost use Rattle.selection_grammar.specs.declared.symbol.Placed.{Placed};
+ghost use Rattle.selection_grammar.specs.declared.symbol.Symbol.{Symbol};
 
 /// A text is read as the selection that its symbols spell by the grammar, or else as its first fault.
 pub fn reading_law()

@@ -1,5 +1,5 @@
 use ft_base::{Items, Line, Memory, Mode, StopTerm, ThesaurusUse};
-use query_grammar::{Parsed, PlacedOption, PlacedString, PlacedTimes};
+use selection_grammar::{Parsed, PlacedOption, PlacedString, PlacedTimes};
 
 /// What options stand behind: words, or a selection in parentheses.
 #[derive(Drop)]

@@ -1,7 +1,7 @@
 //! The symbols of small texts, by computation.
 
 ghost use Rattle.std.specs.Prelude.{◌≡◌, [], ◌∷◌, codes};
-ghost use Rattle.query_grammar.specs.declared.symbol.Symbol.TheVariants as S;
+ghost use Rattle.selection_grammar.specs.declared.symbol.Symbol.TheVariants as S;
 ghost use Rattle.ft_parser.specs.Examples.{from_to, whole, bad_at};
 ghost use Rattle.ft_parser.specs.Symbols.{symbols_of};
 

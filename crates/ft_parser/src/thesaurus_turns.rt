@@ -5,15 +5,15 @@ ghost use Rattle.ft_parser.specs.State.{Answers, frames_of, left_of, primary_of,
 ghost use Rattle.ft_parser.specs.Turns as turns;
 ghost use Rattle.ft_parser.specs.Parts.{before_word};
 ghost use Rattle.ft_parser.specs.Turns.{stands, thesaurus_in_turn, thesaurus_in_rest_turn, levels_turn, in_levels, with_levels};
-ghost use Rattle.query_grammar.specs.Keywords as keywords;
-ghost use Rattle.query_grammar.specs.Machine as m;
-ghost use Rattle.query_grammar.specs.Reading.{reading};
+ghost use Rattle.selection_grammar.specs.Keywords as keywords;
+ghost use Rattle.selection_grammar.specs.Machine as m;
+ghost use Rattle.selection_grammar.specs.Reading.{reading};
 
 use crate::heads::{closes_parenthesis, is_comma, is_word, opens_parenthesis, text_at};
 use crate::parts::range;
 use crate::state::{Frame, Halt, Left, Operand, Stage, State, Uses};
 use ft_base::{Items, Memory, Range, ThesaurusChoice, ThesaurusUse, ThesaurusUses};
-use query_grammar::{MatchOption, Placed, PlacedOption};
+use selection_grammar::{MatchOption, Placed, PlacedOption};
 use std::alloc::Global;
 
 /// The name of the first thesaurus, in parentheses or not.

@@ -9,7 +9,7 @@ use crate::state::{Halt, Stage, State};
 use crate::stop_turns::stop_strings;
 use crate::thesaurus_turns::{thesauri_in, thesaurus_in};
 use crate::value_turns::{all_of, any_of, moded, valued};
-use query_grammar::Placed;
+use selection_grammar::Placed;
 use std::alloc::Global;
 
 /// Reads one construct, from between two of them.

@@ -8,7 +8,7 @@ use crate::option_turns::given;
 use crate::parts::times;
 use crate::state::{Frame, Halt, Left, Operand, Primary, Stage, State};
 use ft_base::{Items, Mode};
-use query_grammar::{Placed, PlacedString};
+use selection_grammar::{Placed, PlacedString};
 use std::alloc::Global;
 
 /// Behind a value.

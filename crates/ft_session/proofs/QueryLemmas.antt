@@ -1,5 +1,6 @@
 -- The reply of a number is that to the command of the number, and a query that is answered is answered by its lines.
 use Rattle.std.proofs.Common.{◌≡◌, refl, sym, ap, ◌∙◌, ℕ, zero, suc, Bool, true, List, [], ◌∷◌, take, Option, Some, None, Result, Ok, Err}
+use Rattle.std.proofs.lemmas.Option.{none-some}
 use Rattle.std.specs.List.{slice_get, list_all}
 use Rattle.ft_base.specs.declared.fault.QueryFault.{QueryFault}
 use Rattle.path_subset.specs.Answer.{path_read}
@@ -20,7 +21,7 @@ use Rattle.ft_session.specs.Step.{replies, state_after, step}
 
 reply_at : (state : State) (all : List Command) (number : ℕ) (c : Command) → Some c ≡ slice_get all number
     → slice_get (replies state all) number ≡ Some (step (state_after state (take number all)) c).1
-reply_at state [] number c ()
+reply_at state [] number c h = elim (none-some c (sym h)) [ ]
 reply_at state (x ∷ xs) zero c refl = refl
 reply_at state (x ∷ xs) (suc number) c h = reply_at (step state x).0 xs number c h
 

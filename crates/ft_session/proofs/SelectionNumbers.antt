@@ -3,7 +3,7 @@ use Rattle.std.proofs.Common.{◌≡◌, ◌+◌, ◌<◌, ◌≤◌, ℕ, List,
 use Rattle.path_grammar.specs.Form as form
 use Rattle.path_grammar.specs.Form.{joined, or_of, and_of}
 use Rattle.path_grammar.specs.Grammar.{Inside, Step, Steps, Predicate, Predicates, Ors, Ands, Primary, Rel, Path}
-use Rattle.query_grammar.specs.declared.symbol.Placed.{Placed}
+use Rattle.selection_grammar.specs.declared.symbol.Placed.{Placed}
 use Rattle.path_subset.specs.Answer.{path_read}
 use Rattle.path_subset.specs.Paths.{PathForm, PlacedForm, placed_form}
 use Rattle.path_subset.specs.Spelled.{Each}

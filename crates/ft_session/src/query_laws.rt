@@ -22,8 +22,8 @@ pub fn query_law()
     ensures { (session : List ℕ) (number : ℕ) (text : List ℕ) (p : PathForm)
         → Some (Query text) ≡ slice_get (commands session) number → Ok p ≡ path_read text → IsAnswered (state_before session number) p
         → slice_get (replies_to session) number ≡ Some (Nodes (flat_map
-            (λ (d : Named). map (element_line d.name d.root) (selected_in (state_before session number).lists p d.root))
-            (documents p.path.root (state_before session number).documents))) }
+        (λ (d : Named). map (element_line d.name d.root) (selected_in (state_before session number).lists p d.root))
+        (documents p.path.root (state_before session number).documents))) }
 {}
 
 /// Those elements of a document are the ones that pass a test, in document order, each once.

@@ -1,7 +1,7 @@
 -- The machine reads each path as what it is.
 use Rattle.std.proofs.Common.{◌≡◌, ℕ, ◌+◌, List, [], ◌∷◌, ◌++◌, length, Option, Some, None, refl, ◌∙◌, ap, append_assoc, arith}
 use Rattle.std.specs.Prelude.{max}
-use Rattle.query_grammar.specs.declared.symbol.Placed.{Placed}
+use Rattle.selection_grammar.specs.declared.symbol.Placed.{Placed}
 use Rattle.path_grammar.specs.declared.path.PathRoot.{PathRoot}
 use Rattle.path_grammar.specs.Form as form
 use Rattle.path_grammar.specs.Grammar as g

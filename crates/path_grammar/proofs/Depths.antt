@@ -3,8 +3,8 @@ use Rattle.std.proofs.Common.{◌≡◌, ◌⊎◌, ◌≤◌, ◌<◌, ℕ, Boo
 use Rattle.std.proofs.Math.Dec.{leb}
 use Rattle.std.proofs.lemmas.Bool.{leb-true, leb-false}
 use Rattle.std.specs.Prelude.{max}
-use Rattle.query_grammar.specs.declared.symbol.Symbol.TheVariants as S
-use Rattle.query_grammar.specs.declared.symbol.Placed.{Placed}
+use Rattle.selection_grammar.specs.declared.symbol.Symbol.TheVariants as S
+use Rattle.selection_grammar.specs.declared.symbol.Placed.{Placed}
 use Rattle.path_grammar.specs.Form as form
 use Rattle.path_grammar.specs.Grammar.{Inside, Path}
 use Rattle.path_grammar.specs.Levels.{levels, BeginsWithin, OpensTooDeep}

@@ -1,7 +1,7 @@
 -- The machine goes through what the grammar spells.
 use Rattle.std.proofs.Common.{◌≡◌, ℕ, ◌+◌, Bool, true, false, List, [], ◌∷◌, ◌++◌, length, arith}
 use Rattle.std.proofs.lemmas.List.{length-append}
-use Rattle.query_grammar.specs.declared.symbol.Placed.{Placed}
+use Rattle.selection_grammar.specs.declared.symbol.Placed.{Placed}
 use Rattle.path_grammar.specs.Form as form
 use Rattle.path_grammar.specs.Grammar.{Inside, Step, Steps, Predicate, Predicates, Ors, Ands, Primary, Rel}
 use Rattle.path_grammar.specs.Levels.{step_levels, steps_levels, predicate_levels, predicates_levels, ors_levels, ands_levels, primary_levels, rel_levels}

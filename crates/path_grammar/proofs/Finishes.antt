@@ -1,14 +1,14 @@
 -- Wherever the machine stands, some further symbols make a whole path, and open nothing more on the way than is open there.
 use Rattle.std.proofs.Common.{◌≡◌, ℕ, suc, Bool, true, false, List, [], ◌∷◌, ◌++◌, length, Option, Some, None, refl, sym, ◌∙◌, ap, arith}
 use Rattle.std.specs.Prelude.{codes, max}
-use Rattle.query_grammar.specs.declared.symbol.Symbol.TheVariants as S
-use Rattle.query_grammar.specs.declared.symbol.Placed.{Placed}
-use Rattle.query_grammar.specs.Grammar.{Spot, at, name, string}
-use Rattle.query_grammar.specs.Shapes.{Shape}
-use Rattle.query_grammar.specs.Machine as selection
-use Rattle.query_grammar.specs.Texts as texts
-use Rattle.query_grammar.specs.Tree.{Tree}
-use Rattle.query_grammar.proofs.Laws as laws
+use Rattle.selection_grammar.specs.declared.symbol.Symbol.TheVariants as S
+use Rattle.selection_grammar.specs.declared.symbol.Placed.{Placed}
+use Rattle.selection_grammar.specs.Grammar.{Spot, at, name, string}
+use Rattle.selection_grammar.specs.Shapes.{Shape}
+use Rattle.selection_grammar.specs.Machine as selection
+use Rattle.selection_grammar.specs.Texts as texts
+use Rattle.selection_grammar.specs.Tree.{Tree}
+use Rattle.selection_grammar.proofs.Laws as laws
 use Rattle.path_grammar.specs.declared.path.NameTest.TheVariants as T
 use Rattle.path_grammar.specs.Form as form
 use Rattle.path_grammar.specs.Form.{steps}

@@ -1,13 +1,13 @@
 -- What ends a condition goes on with no selection that is whole.
 use Rattle.std.proofs.Common.{◌≡◌, List, [], ◌∷◌, Some, None, refl}
 use Rattle.std.specs.Prelude.{codes}
-use Rattle.query_grammar.specs.declared.symbol.Symbol.{Symbol}
-use Rattle.query_grammar.specs.declared.symbol.Symbol.TheVariants as S
-use Rattle.query_grammar.specs.Grammar.{Spot, at}
-use Rattle.query_grammar.specs.Shapes.{Shape, whole, nothing, word, number, text, mark, step}
-use Rattle.query_grammar.specs.Machine as selection
-use Rattle.query_grammar.specs.Machine.{Left, Frame, State, next, next_at, advance, finished_at, finished_in, selection_at}
-use Rattle.query_grammar.specs.Tree.{Tree}
+use Rattle.selection_grammar.specs.declared.symbol.Symbol.{Symbol}
+use Rattle.selection_grammar.specs.declared.symbol.Symbol.TheVariants as S
+use Rattle.selection_grammar.specs.Grammar.{Spot, at}
+use Rattle.selection_grammar.specs.Shapes.{Shape, whole, nothing, word, number, text, mark, step}
+use Rattle.selection_grammar.specs.Machine as selection
+use Rattle.selection_grammar.specs.Machine.{Left, Frame, State, next, next_at, advance, finished_at, finished_in, selection_at}
+use Rattle.selection_grammar.specs.Tree.{Tree}
 
 -- `]`, `)`, `and` and `or`
 pub data Follower : Symbol → Type 0 where

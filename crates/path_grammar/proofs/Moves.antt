@@ -2,12 +2,12 @@
 use Rattle.std.proofs.Common.{◌≡◌, ℕ, Bool, true, false, cond, List, [], ◌∷◌, ◌++◌, length, Option, Some, None, refl, sym, ◌∙◌, ap, subst, append_assoc}
 use Rattle.std.proofs.lemmas.List.{append-nil, length-append}
 use Rattle.std.specs.Prelude.{codes}
-use Rattle.query_grammar.specs.declared.symbol.Symbol.{Symbol}
-use Rattle.query_grammar.specs.declared.symbol.Symbol.TheVariants as S
-use Rattle.query_grammar.specs.declared.symbol.Placed.{Placed}
-use Rattle.query_grammar.specs.Grammar.{Spot, at, name}
-use Rattle.query_grammar.specs.Shapes.{is_word}
-use Rattle.query_grammar.proofs.Words.{word_is}
+use Rattle.selection_grammar.specs.declared.symbol.Symbol.{Symbol}
+use Rattle.selection_grammar.specs.declared.symbol.Symbol.TheVariants as S
+use Rattle.selection_grammar.specs.declared.symbol.Placed.{Placed}
+use Rattle.selection_grammar.specs.Grammar.{Spot, at, name}
+use Rattle.selection_grammar.specs.Shapes.{is_word}
+use Rattle.selection_grammar.proofs.Words.{word_is}
 use Rattle.path_grammar.specs.declared.path.NameTest.{NameTest}
 use Rattle.path_grammar.specs.declared.path.NameTest.TheVariants as T
 use Rattle.path_grammar.specs.Form as form

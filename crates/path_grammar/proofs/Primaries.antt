@@ -2,13 +2,13 @@
 use Rattle.std.proofs.Common.{◌≡◌, ℕ, suc, ◌+◌, Bool, false, List, [], ◌∷◌, ◌++◌, length, Option, Some, None, refl, sym, ◌∙◌, ap, subst, append_assoc, append-nil, arith}
 use Rattle.std.proofs.lemmas.List.{length-append}
 use Rattle.std.specs.Prelude.{codes, max}
-use Rattle.query_grammar.specs.declared.symbol.Symbol.TheVariants as S
-use Rattle.query_grammar.specs.declared.symbol.Placed.{Placed}
-use Rattle.query_grammar.specs.Grammar.{Spot, at, name, string, Selection}
-use Rattle.query_grammar.specs.Shapes.{Shape}
-use Rattle.query_grammar.specs.Machine as selection
-use Rattle.query_grammar.specs.Tree.{Tree}
-use Rattle.query_grammar.proofs.Laws as laws
+use Rattle.selection_grammar.specs.declared.symbol.Symbol.TheVariants as S
+use Rattle.selection_grammar.specs.declared.symbol.Placed.{Placed}
+use Rattle.selection_grammar.specs.Grammar.{Spot, at, name, string, Selection}
+use Rattle.selection_grammar.specs.Shapes.{Shape}
+use Rattle.selection_grammar.specs.Machine as selection
+use Rattle.selection_grammar.specs.Tree.{Tree}
+use Rattle.selection_grammar.proofs.Laws as laws
 use Rattle.path_grammar.specs.Form as form
 use Rattle.path_grammar.specs.Form.{steps, joined, or_of, and_of}
 use Rattle.path_grammar.specs.Grammar.{Inside, inside}

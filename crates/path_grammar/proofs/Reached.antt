@@ -2,14 +2,14 @@
 use Rattle.std.proofs.Common.{◌≡◌, ℕ, ◌+◌, true, false, List, [], ◌∷◌, ◌++◌, length, Option, Some, None, refl, sym, ◌∙◌, ap, subst, append_assoc}
 use Rattle.std.proofs.lemmas.List.{append-nil, length-append}
 use Rattle.std.specs.Prelude.{codes}
-use Rattle.query_grammar.specs.declared.symbol.Symbol.{Symbol}
-use Rattle.query_grammar.specs.declared.symbol.Symbol.TheVariants as S
-use Rattle.query_grammar.specs.declared.symbol.Placed.{Placed}
-use Rattle.query_grammar.specs.Grammar.{Spot, at, name, string}
-use Rattle.query_grammar.specs.Shapes.{Shape}
-use Rattle.query_grammar.specs.Machine as selection
-use Rattle.query_grammar.specs.Tree.{Tree}
-use Rattle.query_grammar.proofs.Laws as laws
+use Rattle.selection_grammar.specs.declared.symbol.Symbol.{Symbol}
+use Rattle.selection_grammar.specs.declared.symbol.Symbol.TheVariants as S
+use Rattle.selection_grammar.specs.declared.symbol.Placed.{Placed}
+use Rattle.selection_grammar.specs.Grammar.{Spot, at, name, string}
+use Rattle.selection_grammar.specs.Shapes.{Shape}
+use Rattle.selection_grammar.specs.Machine as selection
+use Rattle.selection_grammar.specs.Tree.{Tree}
+use Rattle.selection_grammar.proofs.Laws as laws
 use Rattle.path_grammar.specs.Form as form
 use Rattle.path_grammar.specs.Form.{steps, predicates, joined, or_of, and_of}
 use Rattle.path_grammar.specs.Grammar as g

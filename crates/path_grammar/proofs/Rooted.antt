@@ -1,10 +1,10 @@
 -- What the machine has read of a whole path is spelled by the grammar.
 use Rattle.std.proofs.Common.{◌≡◌, ℕ, List, [], ◌∷◌, ◌++◌, Option, Some, None, refl, sym, subst, append_assoc, append-nil, arith}
 use Rattle.std.specs.Prelude.{codes}
-use Rattle.query_grammar.specs.declared.symbol.Symbol.{Symbol}
-use Rattle.query_grammar.specs.declared.symbol.Symbol.TheVariants as S
-use Rattle.query_grammar.specs.declared.symbol.Placed.{Placed}
-use Rattle.query_grammar.specs.Grammar.{Spot, at, name, string}
+use Rattle.selection_grammar.specs.declared.symbol.Symbol.{Symbol}
+use Rattle.selection_grammar.specs.declared.symbol.Symbol.TheVariants as S
+use Rattle.selection_grammar.specs.declared.symbol.Placed.{Placed}
+use Rattle.selection_grammar.specs.Grammar.{Spot, at, name, string}
 use Rattle.path_grammar.specs.declared.path.PathRoot.{PathRoot}
 use Rattle.path_grammar.specs.Form as form
 use Rattle.path_grammar.specs.Grammar as g

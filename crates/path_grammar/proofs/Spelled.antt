@@ -1,7 +1,7 @@
 -- Parts of the paths of the examples.
 use Rattle.std.specs.Prelude.{ℕ, List, [], ◌∷◌}
-use Rattle.query_grammar.specs.Grammar as grammar
-use Rattle.query_grammar.specs.Grammar.{Spot, string, Value, Moded, Timed, Negation, Options, Selection}
+use Rattle.selection_grammar.specs.Grammar as grammar
+use Rattle.selection_grammar.specs.Grammar.{Spot, string, Value, Moded, Timed, Negation, Options, Selection}
 use Rattle.path_grammar.specs.Spellings.{quoted}
 
 pub selection : (p : Spot) (s : List ℕ) → Selection (string p s ∷ []) (quoted p s)

@@ -2,10 +2,10 @@
 -- grammar that is read here). The selections inside are numbered in the order of the text: a relation with a number n in front
 -- numbers its own from n on, and its last part is the list of them, each with its symbols.
 use Rattle.std.specs.Prelude.{ℕ, ◌+◌, Bool, true, false, List, [], ◌∷◌, ◌++◌, length, Some, None, codes}
-use Rattle.query_grammar.specs.declared.symbol.Placed.{Placed}
-use Rattle.query_grammar.specs.declared.symbol.Symbol.TheVariants as S
-use Rattle.query_grammar.specs.Grammar.{Spot, at, name, string, Selection}
-use Rattle.query_grammar.specs.Tree.{Tree}
+use Rattle.selection_grammar.specs.declared.symbol.Placed.{Placed}
+use Rattle.selection_grammar.specs.declared.symbol.Symbol.TheVariants as S
+use Rattle.selection_grammar.specs.Grammar.{Spot, at, name, string, Selection}
+use Rattle.selection_grammar.specs.Tree.{Tree}
 use Rattle.path_grammar.specs.declared.path.NameTest.{NameTest}
 use Rattle.path_grammar.specs.declared.path.NameTest.TheVariants as T
 use Rattle.path_grammar.specs.declared.path.PathRoot.{PathRoot}

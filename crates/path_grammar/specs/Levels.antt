@@ -1,6 +1,6 @@
 -- How deep the brackets and parentheses of a path stand in one another, those of its selections not counted.
 use Rattle.std.specs.Prelude.{ℕ, suc, max, ◌≤◌, List, [], ◌∷◌, ◌++◌}
-use Rattle.query_grammar.specs.declared.symbol.Placed.{Placed}
+use Rattle.selection_grammar.specs.declared.symbol.Placed.{Placed}
 use Rattle.path_grammar.specs.Form as form
 use Rattle.path_grammar.specs.Grammar.{Inside, Step, Steps, Predicate, Predicates, Ors, Ands, Primary, Rel, Path, step, no_step, further_step, number, holds, no_predicate, further_predicate, first_or, further_or, first_and, further_and, negated, parentheses, attribute, valued, exists, contains, itself, some_child, path, Begins}
 

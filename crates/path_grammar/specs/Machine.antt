@@ -1,12 +1,12 @@
 -- A machine that goes over the symbols of a path once, one symbol at a time: which brackets and parentheses are open, what stands before
 -- the condition under way, and what was read last.
 use Rattle.std.specs.Prelude.{ℕ, Bool, true, false, if◌then◌else◌, List, [], ◌∷◌, ◌++◌, length, max, Option, Some, None, codes}
-use Rattle.query_grammar.specs.declared.symbol.Symbol.{Symbol}
-use Rattle.query_grammar.specs.declared.symbol.Symbol.TheVariants as S
-use Rattle.query_grammar.specs.declared.symbol.Placed.{Placed}
-use Rattle.query_grammar.specs.Shapes.{Shape, is_word}
-use Rattle.query_grammar.specs.Tree.{Tree}
-use Rattle.query_grammar.specs.Machine as selection
+use Rattle.selection_grammar.specs.declared.symbol.Symbol.{Symbol}
+use Rattle.selection_grammar.specs.declared.symbol.Symbol.TheVariants as S
+use Rattle.selection_grammar.specs.declared.symbol.Placed.{Placed}
+use Rattle.selection_grammar.specs.Shapes.{Shape, is_word}
+use Rattle.selection_grammar.specs.Tree.{Tree}
+use Rattle.selection_grammar.specs.Machine as selection
 use Rattle.path_grammar.specs.declared.path.NameTest.{NameTest}
 use Rattle.path_grammar.specs.declared.path.NameTest.TheVariants as T
 use Rattle.path_grammar.specs.declared.path.PathRoot.{PathRoot}

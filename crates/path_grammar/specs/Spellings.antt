@@ -1,10 +1,10 @@
 -- Symbols and steps for examples.
 use Rattle.std.specs.Prelude.{ℕ, ◌+◌, true, false, List, [], ◌∷◌, Option, Some, None}
 use Rattle.ft_base.specs.declared.words.Mode.TheVariants.{Any}
-use Rattle.query_grammar.specs.declared.symbol.Placed.{Placed}
-use Rattle.query_grammar.specs.declared.symbol.Symbol.{Symbol}
-use Rattle.query_grammar.specs.Grammar.{Spot, at, string, placed}
-use Rattle.query_grammar.specs.Tree.{Tree, words}
+use Rattle.selection_grammar.specs.declared.symbol.Placed.{Placed}
+use Rattle.selection_grammar.specs.declared.symbol.Symbol.{Symbol}
+use Rattle.selection_grammar.specs.Grammar.{Spot, at, string, placed}
+use Rattle.selection_grammar.specs.Tree.{Tree, words}
 use Rattle.path_grammar.specs.declared.path.NameTest.TheVariants as T
 use Rattle.path_grammar.specs.Form as form
 use Rattle.path_grammar.specs.Form.{Step, step, Predicate, predicates}

@@ -1,8 +1,8 @@
 //! What the machine reads in the symbols of small paths, by computation.
-#![tactic(auto, unfolding(query_grammar::specs::Machine::next))]
+#![tactic(auto, unfolding(selection_grammar::specs::Machine::next))]
 
 ghost use Rattle.std.specs.Prelude.{◌≡◌, [], ◌∷◌, codes, Some, None};
-ghost use Rattle.query_grammar.specs.declared.symbol.Symbol.TheVariants as S;
+ghost use Rattle.selection_grammar.specs.declared.symbol.Symbol.TheVariants as S;
 ghost use Rattle.path_grammar.specs.declared.path.PathRoot.TheVariants as R;
 ghost use Rattle.path_grammar.specs.Spellings.{row, quoted_inside, value_of, depth_of, child, below};
 ghost use Rattle.path_grammar.specs.Form.{steps, no_steps, number, holds, and_of, or_of, not_of, attribute, exists, contains, conditions};

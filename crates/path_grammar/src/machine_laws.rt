@@ -1,8 +1,8 @@
 //! What the machine reads is what the grammar spells.
 
 ghost use Rattle.std.specs.Prelude.{◌≡◌, ◌⊎◌, ◌↔◌, ◌≤◌, ◌<◌, ℕ, max, List, [], ◌∷◌, ◌++◌, Some, None};
-ghost use Rattle.query_grammar.specs.declared.symbol.Placed.{Placed};
-ghost use Rattle.query_grammar.specs.declared.symbol.Symbol.TheVariants as S;
+ghost use Rattle.selection_grammar.specs.declared.symbol.Placed.{Placed};
+ghost use Rattle.selection_grammar.specs.declared.symbol.Symbol.TheVariants as S;
 ghost use Rattle.path_grammar.specs.Form as form;
 ghost use Rattle.path_grammar.specs.Grammar.{Inside, Path, Begins};
 ghost use Rattle.path_grammar.specs.Levels.{levels, BeginsWithin, OpensTooDeep};

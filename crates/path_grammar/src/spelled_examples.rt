@@ -1,7 +1,7 @@
 //! Symbols that spell paths.
 
 ghost use Rattle.std.specs.Prelude.{◌≡◌, [], ◌∷◌, codes, None};
-ghost use Rattle.query_grammar.specs.declared.symbol.Symbol.TheVariants as S;
+ghost use Rattle.selection_grammar.specs.declared.symbol.Symbol.TheVariants as S;
 ghost use Rattle.path_grammar.specs.declared.path.PathRoot.TheVariants as R;
 ghost use Rattle.path_grammar.specs.Spellings.{row, quoted_inside, child, below};
 ghost use Rattle.path_grammar.specs.Form.{steps, no_steps, number, holds, and_of, or_of, not_of, attribute, exists, contains, conditions};

@@ -1,9 +1,9 @@
 -- Where the reader stands behind symbols that may stand.
 use Rattle.std.proofs.Common.{◌≡◌, ◌≤◌, ℕ, zero, suc, false, List, [], ◌∷◌, ◌++◌, length, take, drop, Option, Some, None, option_map, Result, refl, sym, ◌∙◌, ap, subst, append_assoc, append-nil, arith}
 use Rattle.ft_base.specs.declared.fault.QueryFault.{QueryFault}
-use Rattle.query_grammar.specs.declared.symbol.Placed.{Placed}
-use Rattle.query_grammar.specs.Machine as selection
-use Rattle.query_grammar.specs.Shapes.{Shape}
+use Rattle.selection_grammar.specs.declared.symbol.Placed.{Placed}
+use Rattle.selection_grammar.specs.Machine as selection
+use Rattle.selection_grammar.specs.Shapes.{Shape}
 use Rattle.path_grammar.specs.declared.path.PathRoot.{PathRoot}
 use Rattle.path_grammar.specs.Form as form
 use Rattle.path_grammar.specs.Form.{steps}

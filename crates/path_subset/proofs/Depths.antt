@@ -4,13 +4,13 @@ use Rattle.std.proofs.Math.Dec.{leb}
 use Rattle.std.proofs.lemmas.Bool.{leb-true, leb-false, le-leb, ltb-true, ltb-false}
 use Rattle.std.specs.Option.{is_some}
 use Rattle.std.specs.Prelude.{nat_le}
-use Rattle.query_grammar.specs.declared.symbol.Symbol.{Symbol}
-use Rattle.query_grammar.specs.declared.symbol.Symbol.TheVariants as S
-use Rattle.query_grammar.specs.declared.symbol.Placed.{Placed}
-use Rattle.query_grammar.specs.Grammar.{Spot, at}
-use Rattle.query_grammar.specs.Machine as selection
-use Rattle.query_grammar.specs.Shapes.{Shape}
-use Rattle.query_grammar.specs.Tree.{Tree}
+use Rattle.selection_grammar.specs.declared.symbol.Symbol.{Symbol}
+use Rattle.selection_grammar.specs.declared.symbol.Symbol.TheVariants as S
+use Rattle.selection_grammar.specs.declared.symbol.Placed.{Placed}
+use Rattle.selection_grammar.specs.Grammar.{Spot, at}
+use Rattle.selection_grammar.specs.Machine as selection
+use Rattle.selection_grammar.specs.Shapes.{Shape}
+use Rattle.selection_grammar.specs.Tree.{Tree}
 use Rattle.path_grammar.specs.Form as form
 use Rattle.path_grammar.specs.Grammar.{Inside, Path, Begins}
 use Rattle.path_grammar.specs.Levels.{levels, BeginsWithin, OpensTooDeep}

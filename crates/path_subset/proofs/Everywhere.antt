@@ -1,11 +1,11 @@
 -- Where the machine goes doesn't depend on the selections that it has.
 use Rattle.std.proofs.Common.{◌≡◌, ℕ, Bool, true, false, cond, List, [], ◌∷◌, Option, Some, None, option_map, refl, ◌∙◌, ap}
 use Rattle.std.specs.Prelude.{codes}
-use Rattle.query_grammar.specs.declared.symbol.Symbol.{Symbol}
-use Rattle.query_grammar.specs.declared.symbol.Symbol.TheVariants as S
-use Rattle.query_grammar.specs.declared.symbol.Placed.{Placed}
-use Rattle.query_grammar.specs.Shapes.{Shape, is_word}
-use Rattle.query_grammar.specs.Machine as selection
+use Rattle.selection_grammar.specs.declared.symbol.Symbol.{Symbol}
+use Rattle.selection_grammar.specs.declared.symbol.Symbol.TheVariants as S
+use Rattle.selection_grammar.specs.declared.symbol.Placed.{Placed}
+use Rattle.selection_grammar.specs.Shapes.{Shape, is_word}
+use Rattle.selection_grammar.specs.Machine as selection
 use Rattle.path_grammar.specs.Form as form
 use Rattle.path_grammar.specs.Form.{steps}
 use Rattle.path_grammar.specs.Grammar.{Inside}

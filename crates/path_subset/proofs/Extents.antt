@@ -1,7 +1,7 @@
 -- Where some symbols end, and an item of a list of parts.
 use Rattle.std.proofs.Common.{◌≡◌, ◌-◌, ℕ, zero, suc, List, [], ◌∷◌, length, map, slice_get, slice_index_or, Some, refl, sym, ◌∙◌, ap, arith}
 use Rattle.std.proofs.Math.ListN.{get_or-map}
-use Rattle.query_grammar.specs.declared.symbol.Placed.{Placed}
+use Rattle.selection_grammar.specs.declared.symbol.Placed.{Placed}
 use Rattle.path_grammar.specs.Grammar.{ends_at}
 
 ends_got : (symbols : List Placed) (n : ℕ) (p : Placed) → length symbols ≡ suc n → slice_get symbols n ≡ Some p → p.to ≡ ends_at symbols

@@ -4,10 +4,10 @@ use Rattle.std.proofs.lemmas.List.{take-append-drop}
 use Rattle.ft_base.specs.Selection.{Form}
 use Rattle.ft_base.specs.declared.fault.QueryFault.{QueryFault}
 use Rattle.ft_base.specs.declared.fault.QueryFault.TheVariants as Q
-use Rattle.query_grammar.specs.declared.symbol.Placed.{Placed}
-use Rattle.query_grammar.specs.Machine as selection
-use Rattle.query_grammar.specs.Shapes.{Shape}
-use Rattle.query_grammar.proofs.Laws as laws
+use Rattle.selection_grammar.specs.declared.symbol.Placed.{Placed}
+use Rattle.selection_grammar.specs.Machine as selection
+use Rattle.selection_grammar.specs.Shapes.{Shape}
+use Rattle.selection_grammar.proofs.Laws as laws
 use Rattle.ft_parser.specs.Prefix.{run_read}
 use Rattle.ft_parser.specs.Selected.{Selects}
 use Rattle.ft_parser.specs.Symbols.{symbols_of}

@@ -3,10 +3,10 @@ use Rattle.std.proofs.Common.{◌≡◌, ℕ, Bool, true, false, List, [], ◌�
 use Rattle.std.specs.Prelude.{codes}
 use Rattle.ft_base.specs.declared.fault.QueryFault.{QueryFault}
 use Rattle.ft_base.specs.declared.fault.QueryFault.TheVariants as Q
-use Rattle.query_grammar.specs.declared.symbol.Placed.{Placed}
-use Rattle.query_grammar.specs.Grammar.{Spot, name}
-use Rattle.query_grammar.specs.Machine as selection
-use Rattle.query_grammar.specs.Shapes.{Shape}
+use Rattle.selection_grammar.specs.declared.symbol.Placed.{Placed}
+use Rattle.selection_grammar.specs.Grammar.{Spot, name}
+use Rattle.selection_grammar.specs.Machine as selection
+use Rattle.selection_grammar.specs.Shapes.{Shape}
 use Rattle.ft_parser.specs.Prefix.{run_read}
 use Rattle.path_grammar.specs.declared.path.PathRoot.{PathRoot}
 use Rattle.path_grammar.specs.Form as form

@@ -1,7 +1,7 @@
 -- Where a symbol leads, whatever is open: one equation for each kind of step.
 use Rattle.std.proofs.Common.{◌≡◌, refl, List, [], ◌∷◌, Option}
-use Rattle.query_grammar.specs.declared.symbol.Symbol.{Symbol}
-use Rattle.query_grammar.specs.declared.symbol.Symbol.TheVariants as S
+use Rattle.selection_grammar.specs.declared.symbol.Symbol.{Symbol}
+use Rattle.selection_grammar.specs.declared.symbol.Symbol.TheVariants as S
 use Rattle.path_grammar.specs.Form as form
 use Rattle.path_grammar.specs.Machine as m
 use Rattle.path_subset.specs.Turns.{joint_words}

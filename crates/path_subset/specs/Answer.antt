@@ -3,8 +3,8 @@ use Rattle.std.specs.Prelude.{ℕ, zero, suc, if◌then◌else◌, List, [], ◌
 use Rattle.ft_base.specs.Selection.{Form}
 use Rattle.ft_base.specs.declared.fault.QueryFault.{QueryFault}
 use Rattle.ft_base.specs.declared.fault.QueryFault.TheVariants as Q
-use Rattle.query_grammar.specs.declared.symbol.Placed.{Placed}
-use Rattle.query_grammar.specs.declared.symbol.Symbols.{Symbols}
+use Rattle.selection_grammar.specs.declared.symbol.Placed.{Placed}
+use Rattle.selection_grammar.specs.declared.symbol.Symbols.{Symbols}
 use Rattle.ft_parser.specs.Prefix.{run_read}
 use Rattle.ft_parser.specs.Symbols.{symbols_of}
 use Rattle.path_grammar.specs.Form as form

@@ -3,10 +3,10 @@ use Rattle.std.specs.Prelude.{◌≡◌, ◌≤◌, ℕ, Bool, true, false, nat_
 use Rattle.std.specs.Option.{is_some}
 use Rattle.ft_base.specs.declared.fault.QueryFault.{QueryFault}
 use Rattle.ft_base.specs.declared.fault.QueryFault.TheVariants as Q
-use Rattle.query_grammar.specs.Machine as selection
-use Rattle.query_grammar.specs.declared.symbol.Placed.{Placed}
-use Rattle.query_grammar.specs.declared.symbol.Symbol.{Symbol}
-use Rattle.query_grammar.specs.declared.symbol.Symbol.TheVariants as S
+use Rattle.selection_grammar.specs.Machine as selection
+use Rattle.selection_grammar.specs.declared.symbol.Placed.{Placed}
+use Rattle.selection_grammar.specs.declared.symbol.Symbol.{Symbol}
+use Rattle.selection_grammar.specs.declared.symbol.Symbol.TheVariants as S
 use Rattle.path_grammar.specs.Machine.{State, Stage, at_root, along, selecting, read, run_on, open_count}
 
 abbrev pub opens : Symbol → Bool

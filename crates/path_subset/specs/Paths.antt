@@ -2,7 +2,7 @@
 use Rattle.std.specs.Prelude.{List, map}
 use Rattle.ft_base.specs.Selection.{Form}
 use Rattle.ft_syntax.specs.View.{form}
-use Rattle.query_grammar.specs.declared.symbol.Placed.{Placed}
+use Rattle.selection_grammar.specs.declared.symbol.Placed.{Placed}
 use Rattle.path_grammar.specs.Form as path
 use Rattle.path_grammar.specs.Grammar.{begins_at, ends_at}
 use Rattle.path_grammar.specs.View as view

@@ -2,9 +2,9 @@
 use Rattle.std.specs.Prelude.{ℕ, List, [], map, Option, Result}
 use Rattle.ft_base.specs.Selection.{Form}
 use Rattle.ft_base.specs.declared.fault.QueryFault.{QueryFault}
-use Rattle.query_grammar.specs.Machine as selection
-use Rattle.query_grammar.specs.Shapes.{whole}
-use Rattle.query_grammar.specs.declared.symbol.Placed.{Placed}
+use Rattle.selection_grammar.specs.Machine as selection
+use Rattle.selection_grammar.specs.Shapes.{whole}
+use Rattle.selection_grammar.specs.declared.symbol.Placed.{Placed}
 use Rattle.path_grammar.specs.Form as form
 use Rattle.path_grammar.specs.Machine as m
 use Rattle.path_grammar.specs.declared.path.PathRoot.{PathRoot}

@@ -2,9 +2,9 @@
 use Rattle.std.specs.Prelude.{◌≡◌, ℕ, true, false, List, [], ◌∷◌, ◌++◌, length, Option, Some, None}
 use Rattle.ft_base.specs.declared.fault.QueryFault.{QueryFault}
 use Rattle.ft_base.specs.declared.fault.QueryFault.TheVariants as Q
-use Rattle.query_grammar.specs.declared.symbol.Placed.{Placed}
-use Rattle.query_grammar.specs.Machine as selection
-use Rattle.query_grammar.specs.Shapes.{whole}
+use Rattle.selection_grammar.specs.declared.symbol.Placed.{Placed}
+use Rattle.selection_grammar.specs.Machine as selection
+use Rattle.selection_grammar.specs.Shapes.{whole}
 use Rattle.ft_parser.specs.Symbols.{symbols_of}
 use Rattle.path_grammar.specs.declared.path.PathRoot.{PathRoot}
 use Rattle.path_grammar.specs.Form as form

@@ -2,10 +2,10 @@
 use Rattle.std.specs.Prelude.{◌≡◌, ℕ, List, [], ◌∷◌, ◌++◌, Option, None}
 use Rattle.ft_base.specs.Selection.{Form}
 use Rattle.ft_base.specs.declared.fault.QueryFault.{QueryFault}
-use Rattle.query_grammar.specs.declared.symbol.Placed.{Placed}
-use Rattle.query_grammar.specs.Grammar.{Selection}
-use Rattle.query_grammar.specs.Texts.{Begins}
-use Rattle.query_grammar.specs.Tree.{Tree}
+use Rattle.selection_grammar.specs.declared.symbol.Placed.{Placed}
+use Rattle.selection_grammar.specs.Grammar.{Selection}
+use Rattle.selection_grammar.specs.Texts.{Begins}
+use Rattle.selection_grammar.specs.Tree.{Tree}
 use Rattle.ft_parser.specs.Selected.{Selects, Refuses}
 
 -- Some symbols begin a selection, and none does with the symbol behind them.

@@ -1,7 +1,7 @@
 -- Where the reader stands, as the machine has it. The machine's own list of selections stays empty: each of them is read by itself.
 use Rattle.std.specs.Prelude.{◌≡◌, List, [], map, reverse, Option, option_map, Result, IfOk}
-use Rattle.query_grammar.specs.Shapes.{whole}
-use Rattle.query_grammar.specs.Machine as selection
+use Rattle.selection_grammar.specs.Shapes.{whole}
+use Rattle.selection_grammar.specs.Machine as selection
 use Rattle.ft_base.specs.declared.memory.Memory.{Memory}
 use Rattle.path_grammar.specs.View.{step, predicate, condition}
 use Rattle.path_grammar.specs.Form as form

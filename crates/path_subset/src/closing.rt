@@ -13,7 +13,7 @@ use crate::heads::is_word;
 use crate::state::{Frame, Inner, Joint, LastStep, Stage};
 use ft_base::Memory;
 use path_grammar::{Condition, Predicate};
-use query_grammar::Symbol;
+use selection_grammar::Symbol;
 use std::alloc::Global;
 
 pub(crate) fn stand(frames: Vec<Frame>, joint: Joint, stage: Stage) -> Inner

@@ -12,7 +12,7 @@ use crate::state::{Frame, Inner, Joint, Stage};
 use crate::stepping::test;
 use ft_base::{Line, Memory};
 use path_grammar::{Condition, Predicate};
-use query_grammar::Symbol;
+use selection_grammar::Symbol;
 use std::alloc::Global;
 
 /// Where a condition is wanted, or also a number.

@@ -1,9 +1,9 @@
 //! What a symbol is.
 
 ghost use Rattle.std.specs.Prelude.{◌≡◌};
-ghost use Rattle.query_grammar.specs.Shapes as shapes;
+ghost use Rattle.selection_grammar.specs.Shapes as shapes;
 
-use query_grammar::Symbol;
+use selection_grammar::Symbol;
 
 /// Whether the symbol is this keyword.
 pub(crate) fn is_word(symbol: &Symbol, word: &str) -> bool

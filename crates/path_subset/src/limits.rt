@@ -8,7 +8,7 @@ ghost use Rattle.path_subset.specs.State.{state_of};
 
 use crate::state::State;
 use ft_base::QueryFault;
-use query_grammar::{Placed, Symbol};
+use selection_grammar::{Placed, Symbol};
 
 /// How many brackets and parentheses may be open at once.
 const MAX_OPEN: usize = 64;

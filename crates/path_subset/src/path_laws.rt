@@ -11,7 +11,7 @@ ghost use Rattle.path_subset.specs.Limits.{AreNumbersWithin, Within, goes_on, op
 ghost use Rattle.path_subset.specs.Paths.{PathForm};
 ghost use Rattle.path_subset.specs.Refused.{IsFaultOf};
 ghost use Rattle.path_subset.specs.Spelled.{SpellsPath};
-ghost use Rattle.query_grammar.specs.declared.symbol.Placed.{Placed};
+ghost use Rattle.selection_grammar.specs.declared.symbol.Placed.{Placed};
 
 /// A text is read as the path that its symbols spell by the grammar, within the limits and with selections that have no fault, and
 /// as no other.

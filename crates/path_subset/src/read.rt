@@ -10,7 +10,7 @@ ghost use Rattle.path_subset.specs.Answer as spec;
 ghost use Rattle.path_subset.specs.Paths.{extent_of, found_form, read_form};
 ghost use Rattle.path_subset.specs.Reading.{led_of, run_led, way_led};
 ghost use Rattle.path_subset.specs.State.{frames_of, inner_of, joint_of, last_of, root_stage_of, state_of, steps_of, way_of};
-ghost use Rattle.query_grammar.specs.declared.symbol.Placed.{Placed};
+ghost use Rattle.selection_grammar.specs.declared.symbol.Placed.{Placed};
 
 use crate::building::all_steps;
 use crate::closing::stand;
@@ -21,7 +21,7 @@ use crate::turn::{inner_turn, root_turn};
 use ft_base::{Items, Memory, QueryFault};
 use ft_parser::{read_run, symbols};
 use path_grammar::{Condition, Path, PathRoot, Step};
-use query_grammar::Placed;
+use selection_grammar::Placed;
 use std::alloc::Global;
 
 /// Reads a text that is a path, and the selections in it. Each selection is as long as can be. A fault of a selection counts before

@@ -13,7 +13,7 @@ use crate::heads::is_word;
 use crate::state::{Frame, Inner, Joint, LastStep, Stage};
 use ft_base::{Items, Line, Memory};
 use path_grammar::{Condition, NameTest, Step};
-use query_grammar::Symbol;
+use selection_grammar::Symbol;
 use std::alloc::Global;
 
 /// Behind steps, predicates aside.

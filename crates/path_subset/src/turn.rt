@@ -14,7 +14,7 @@ use crate::state::{Frame, Inner, Joint, RootStage, Stage, State, Way};
 use crate::stepping::{behind_steps, not_name, stepped, test};
 use ft_base::{Line, Memory};
 use path_grammar::{PathRoot, Step};
-use query_grammar::{Placed, Symbol};
+use selection_grammar::{Placed, Symbol};
 use std::alloc::Global;
 
 /// Where a symbol leads behind the root.

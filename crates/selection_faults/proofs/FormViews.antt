@@ -7,8 +7,8 @@ use Rattle.ft_base.specs.Selection as f
 use Rattle.ft_syntax.specs.View.{form, forms_of as forms}
 use Rattle.ft_syntax.specs.declared.selection.Selection as S
 use Rattle.ft_syntax.specs.declared.selection.Selection.{Selection, the_lemmas}
-use Rattle.query_grammar.specs.Form.{form_of, forms_of}
-use Rattle.query_grammar.specs.Tree.{Tree, trees_of}
+use Rattle.selection_grammar.specs.Form.{form_of, forms_of}
+use Rattle.selection_grammar.specs.Tree.{Tree, trees_of}
 
 pub form_words : (words : Words) → form (S.Words words) ≡ f.words words
 form_words words = search (rules, the_lemmas)

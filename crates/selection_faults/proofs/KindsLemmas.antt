@@ -3,7 +3,7 @@ use Rattle.std.proofs.Common.{◌≡◌, ℕ, List, [], ◌∷◌, ◌++◌, Opt
 use Rattle.std.specs.Option.{option_to_list}
 use Rattle.ft_base.specs.declared.fault.QueryFault.{QueryFault}
 use Rattle.ft_base.specs.declared.fault.QueryFault.TheVariants as F
-use Rattle.query_grammar.specs.Tree.{Tree}
+use Rattle.selection_grammar.specs.Tree.{Tree}
 use Rattle.selection_faults.specs.Excludes.{mild_not_excludes, inside_filters}
 use Rattle.selection_faults.specs.Faults.{placed, faults_at, fault_of}
 use Rattle.selection_faults.specs.Kinds.{sooner, phrases, option_twice, bad_wildcard, mild_not_exclude, inside_filter, fault_at}

@@ -4,9 +4,9 @@ use Rattle.std.proofs.lemmas.List.{map-append, take_more}
 use Rattle.std.proofs.lemmas.List.Concat.{flat_map-append}
 use Rattle.std.specs.Option.{option_to_list}
 use Rattle.ft_base.specs.declared.filter.Filter.{Filter}
-use Rattle.query_grammar.specs.declared.parsed.ParsedWords.{ParsedWords}
-use Rattle.query_grammar.specs.declared.parsed.PlacedOption.{PlacedOption}
-use Rattle.query_grammar.specs.Tree.{Tree, words, or_of, and_of, mild_not, not_of, filtered, with_options, trees_of}
+use Rattle.selection_grammar.specs.declared.parsed.ParsedWords.{ParsedWords}
+use Rattle.selection_grammar.specs.declared.parsed.PlacedOption.{PlacedOption}
+use Rattle.selection_grammar.specs.Tree.{Tree, words, or_of, and_of, mild_not, not_of, filtered, with_options, trees_of}
 use Rattle.selection_faults.specs.Excludes.{within, within_all, nots, times, excludes, nested_nots, inside_filters, not_place, times_place, operand_nots, operand_excludes, filtered_excludes}
 use Rattle.selection_faults.specs.Least.{itself, least_place}
 use Rattle.selection_faults.specs.LeastPlaces.{least_in, least_of, least_places, least_places_of, of_words, both, of_mild_not, of_not, of_filtered, of_with, sooner}

@@ -4,12 +4,12 @@ use Rattle.std.proofs.lemmas.List.{take_more}
 use Rattle.std.specs.Option.{unwrap_or}
 use Rattle.ft_base.specs.declared.options.Options.{Options}
 use Rattle.ft_base.specs.Selection.{no_options}
-use Rattle.query_grammar.specs.Form.{options_from, options_of, with_option}
-use Rattle.query_grammar.specs.declared.parsed.MatchOption.{MatchOption}
-use Rattle.query_grammar.specs.declared.parsed.MatchOption.TheVariants as O
-use Rattle.query_grammar.specs.declared.parsed.PlacedOption.{PlacedOption}
-use Rattle.query_grammar.specs.declared.parsed.PlacedString.{PlacedString}
-use Rattle.query_grammar.specs.Grammar.{texts_of}
+use Rattle.selection_grammar.specs.Form.{options_from, options_of, with_option}
+use Rattle.selection_grammar.specs.declared.parsed.MatchOption.{MatchOption}
+use Rattle.selection_grammar.specs.declared.parsed.MatchOption.TheVariants as O
+use Rattle.selection_grammar.specs.declared.parsed.PlacedOption.{PlacedOption}
+use Rattle.selection_grammar.specs.declared.parsed.PlacedString.{PlacedString}
+use Rattle.selection_grammar.specs.Grammar.{texts_of}
 use Rattle.selection_faults.specs.Strings.{wildcards_inside}
 use Rattle.selection_faults.specs.Walk.{wildcards_after}
 

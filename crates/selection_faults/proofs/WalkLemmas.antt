@@ -1,7 +1,7 @@
 -- What a walk over strings keeps.
 use Rattle.std.proofs.Common.{◌≡◌, ℕ, ◌+◌, ◌<◌, Bool, true, false, cond, List, [], ◌∷◌, ◌++◌, Option, Some, None, map, filter, refl, sym, ap, ◌∙◌, ltb, length, take, get_or, append_assoc}
 use Rattle.std.proofs.lemmas.List.{take_more}
-use Rattle.query_grammar.specs.Tree.{Tree, trees_of}
+use Rattle.selection_grammar.specs.Tree.{Tree, trees_of}
 use Rattle.selection_faults.specs.Least.{earlier, itself, least_place}
 use Rattle.selection_faults.specs.Strings.{Written, strings_inside, strings_inside_all, phrases_of, phrases_past, is_bad, bad_wildcards}
 use Rattle.selection_faults.specs.Walk.{after, after_all, bad_after}

@@ -3,11 +3,11 @@ use Rattle.std.specs.Prelude.{ℕ, zero, suc, ◌+◌, ◌*◌, List, [], ◌∷
 use Rattle.ft_base.specs.declared.range.Range.TheVariants.{AtLeast}
 use Rattle.ft_base.specs.declared.words.Mode.{Mode}
 use Rattle.ft_base.specs.declared.words.Mode.TheVariants as M
-use Rattle.query_grammar.specs.Tree.{Tree, words}
-use Rattle.query_grammar.specs.declared.parsed.MatchOption.{MatchOption}
-use Rattle.query_grammar.specs.declared.parsed.PlacedOption.{PlacedOption}
-use Rattle.query_grammar.specs.declared.parsed.PlacedString.{PlacedString}
-use Rattle.query_grammar.specs.declared.parsed.PlacedTimes.{PlacedTimes}
+use Rattle.selection_grammar.specs.Tree.{Tree, words}
+use Rattle.selection_grammar.specs.declared.parsed.MatchOption.{MatchOption}
+use Rattle.selection_grammar.specs.declared.parsed.PlacedOption.{PlacedOption}
+use Rattle.selection_grammar.specs.declared.parsed.PlacedString.{PlacedString}
+use Rattle.selection_grammar.specs.declared.parsed.PlacedTimes.{PlacedTimes}
 
 abbrev pub string : ℕ → List ℕ → PlacedString
 string at text = record { at = at; text = text }

@@ -2,7 +2,7 @@
 -- they are not allowed.
 use Rattle.std.specs.Prelude.{ℕ, List, [], ◌∷◌, ◌++◌, flat_map, option_map}
 use Rattle.std.specs.Option.{option_to_list}
-use Rattle.query_grammar.specs.Tree.{Tree, Trees, words, or_of, and_of, mild_not, not_of, filtered, with_options, none, more}
+use Rattle.selection_grammar.specs.Tree.{Tree, Trees, words, or_of, and_of, mild_not, not_of, filtered, with_options, none, more}
 
 -- a selection, and all that stand inside it
 unfoldable mutual

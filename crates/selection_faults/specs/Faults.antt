@@ -3,7 +3,7 @@ use Rattle.std.specs.Prelude.{ℕ, List, ◌++◌, map, Option, option_map}
 use Rattle.std.specs.Option.{option_to_list}
 use Rattle.ft_base.specs.declared.fault.QueryFault.{QueryFault}
 use Rattle.ft_base.specs.declared.fault.QueryFault.TheVariants as F
-use Rattle.query_grammar.specs.Tree.{Tree}
+use Rattle.selection_grammar.specs.Tree.{Tree}
 use Rattle.selection_faults.specs.Excludes.{mild_not_excludes, inside_filters}
 use Rattle.selection_faults.specs.Least.{least}
 use Rattle.selection_faults.specs.Options.{options_twice}

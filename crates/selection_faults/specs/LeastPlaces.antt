@@ -1,8 +1,8 @@
 -- The least places in a selection, as its parts give them.
 use Rattle.std.specs.Prelude.{ℕ, List, flat_map, Option, Some, None, option_map}
-use Rattle.query_grammar.specs.Tree.{Tree}
-use Rattle.query_grammar.specs.declared.parsed.PlacedOption.{PlacedOption}
-use Rattle.query_grammar.specs.declared.parsed.ParsedWords.{ParsedWords}
+use Rattle.selection_grammar.specs.Tree.{Tree}
+use Rattle.selection_grammar.specs.declared.parsed.PlacedOption.{PlacedOption}
+use Rattle.selection_grammar.specs.declared.parsed.ParsedWords.{ParsedWords}
 use Rattle.selection_faults.specs.Excludes.{within, not_place, times_place, operand_nots, operand_excludes, filtered_excludes}
 use Rattle.selection_faults.specs.Least.{earlier, itself, least_place}
 use Rattle.selection_faults.specs.Options.{own_second_option, second_option}

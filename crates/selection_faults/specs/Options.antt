@@ -2,10 +2,10 @@
 use Rattle.std.specs.Prelude.{ℕ, Bool, true, false, if◌then◌else◌, List, [], ◌∷◌, ◌++◌, flat_map, Option, Some, None}
 use Rattle.std.specs.List.{list_any}
 use Rattle.std.specs.Option.{option_to_list}
-use Rattle.query_grammar.specs.declared.parsed.MatchOption.{MatchOption}
-use Rattle.query_grammar.specs.declared.parsed.MatchOption.TheVariants as O
-use Rattle.query_grammar.specs.declared.parsed.PlacedOption.{PlacedOption}
-use Rattle.query_grammar.specs.Tree.{Tree, words, with_options}
+use Rattle.selection_grammar.specs.declared.parsed.MatchOption.{MatchOption}
+use Rattle.selection_grammar.specs.declared.parsed.MatchOption.TheVariants as O
+use Rattle.selection_grammar.specs.declared.parsed.PlacedOption.{PlacedOption}
+use Rattle.selection_grammar.specs.Tree.{Tree, words, with_options}
 use Rattle.selection_faults.specs.Excludes.{within}
 
 -- two options of one group: `using stemming` and `using no stemming` are, and so are `lowercase` and `case sensitive`

@@ -6,11 +6,11 @@ use Rattle.ft_base.specs.declared.words.Mode.{Mode}
 use Rattle.ft_base.specs.declared.words.Mode.TheVariants as M
 use Rattle.match_options.specs.Items.{items_of}
 use Rattle.match_options.specs.Patterns.{holds_bad_pattern}
-use Rattle.query_grammar.specs.Form.{options_of}
-use Rattle.query_grammar.specs.Tree.{Tree, Trees, words, or_of, and_of, mild_not, not_of, filtered, with_options, none, more}
-use Rattle.query_grammar.specs.declared.parsed.ParsedWords.{ParsedWords}
-use Rattle.query_grammar.specs.declared.parsed.PlacedOption.{PlacedOption}
-use Rattle.query_grammar.specs.declared.parsed.PlacedString.{PlacedString}
+use Rattle.selection_grammar.specs.Form.{options_of}
+use Rattle.selection_grammar.specs.Tree.{Tree, Trees, words, or_of, and_of, mild_not, not_of, filtered, with_options, none, more}
+use Rattle.selection_grammar.specs.declared.parsed.ParsedWords.{ParsedWords}
+use Rattle.selection_grammar.specs.declared.parsed.PlacedOption.{PlacedOption}
+use Rattle.selection_grammar.specs.declared.parsed.PlacedString.{PlacedString}
 
 -- a string of a value, with the mode of its value, and whether wildcards are on for it
 pub record Written : Type 0 where

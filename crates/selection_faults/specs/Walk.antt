@@ -1,8 +1,8 @@
 -- What is known of the strings that were passed, string by string.
 use Rattle.std.specs.Prelude.{ℕ, ◌+◌, Bool, nat_lt, if◌then◌else◌, List, [], ◌∷◌, Option, Some, None}
 use Rattle.std.specs.Option.{is_some}
-use Rattle.query_grammar.specs.declared.parsed.MatchOption.{MatchOption}
-use Rattle.query_grammar.specs.declared.parsed.MatchOption.TheVariants as O
+use Rattle.selection_grammar.specs.declared.parsed.MatchOption.{MatchOption}
+use Rattle.selection_grammar.specs.declared.parsed.MatchOption.TheVariants as O
 use Rattle.selection_faults.specs.Least.{earlier, itself}
 use Rattle.selection_faults.specs.Strings.{Written, phrases_of, is_bad}
 use Rattle.selection_faults.specs.declared.strings.StringWalk.{StringWalk}

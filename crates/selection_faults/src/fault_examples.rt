@@ -6,8 +6,8 @@ ghost use Rattle.ft_base.specs.declared.filter.Filter.TheVariants as F;
 ghost use Rattle.ft_base.specs.declared.options.Case.TheVariants as C;
 ghost use Rattle.ft_base.specs.declared.unit.TextUnit.TheVariants as U;
 ghost use Rattle.ft_base.specs.declared.words.Mode.TheVariants as M;
-ghost use Rattle.query_grammar.specs.Tree.{and_of, mild_not, not_of, filtered, with_options, trees_of};
-ghost use Rattle.query_grammar.specs.declared.parsed.MatchOption.TheVariants as O;
+ghost use Rattle.selection_grammar.specs.Tree.{and_of, mild_not, not_of, filtered, with_options, trees_of};
+ghost use Rattle.selection_grammar.specs.declared.parsed.MatchOption.TheVariants as O;
 ghost use Rattle.selection_faults.specs.Examples.{quoted, quoted_with, counted, using_at, strings_from, value};
 ghost use Rattle.selection_faults.specs.Faults.{fault_of};
 

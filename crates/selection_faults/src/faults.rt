@@ -1,7 +1,7 @@
 //! What is wrong with a selection that was read.
 
 ghost use Rattle.std.specs.Prelude.{◌≡◌, IfOk};
-ghost use Rattle.query_grammar.specs.View.{tree};
+ghost use Rattle.selection_grammar.specs.View.{tree};
 ghost use Rattle.selection_faults.specs.Faults.{fault_of};
 ghost use Rattle.selection_faults.specs.Kinds as kinds;
 ghost use Rattle.selection_faults.specs.Walk as walks;
@@ -10,7 +10,7 @@ use crate::least_places::{LeastPlaces, least_places};
 use crate::placed_fault::PlacedFault;
 use crate::strings::{StringWalk, pass};
 use ft_base::{Memory, QueryFault};
-use query_grammar::Parsed;
+use selection_grammar::Parsed;
 use std::alloc::Global;
 
 /// The fault of a selection that was read, if it has one: the one at the least place, and at one place the one whose kind stands first in

@@ -1,11 +1,11 @@
 //! The strings and options of a selection that was read, without their places.
 
 ghost use Rattle.std.specs.Prelude.{◌≡◌, IfOk};
-ghost use Rattle.query_grammar.specs.Form as spec;
-ghost use Rattle.query_grammar.specs.Grammar as grammar;
+ghost use Rattle.selection_grammar.specs.Form as spec;
+ghost use Rattle.selection_grammar.specs.Grammar as grammar;
 
 use ft_base::{Items, Lines, Memory, Options};
-use query_grammar::{MatchOption, PlacedOption, PlacedString};
+use selection_grammar::{MatchOption, PlacedOption, PlacedString};
 use std::alloc::Global;
 
 pub(crate) fn texts_of(alloc: Global, strings: Items<PlacedString>) -> Result<Lines, Memory>

@@ -1,12 +1,12 @@
 //! The least places in a selection of what it may not hold everywhere.
 
 ghost use Rattle.std.specs.Prelude.{◌≡◌, map, option_map};
-ghost use Rattle.query_grammar.specs.View.{tree};
+ghost use Rattle.selection_grammar.specs.View.{tree};
 ghost use Rattle.selection_faults.specs.LeastPlaces as spec;
 
 use crate::options::second_option;
 use ft_base::Items;
-use query_grammar::{Parsed, ParsedWords, PlacedOption};
+use selection_grammar::{Parsed, ParsedWords, PlacedOption};
 
 /// The least place in a selection, or in several, of each of these.
 #[derive(Clone, Copy)]

@@ -5,7 +5,7 @@ ghost use Rattle.selection_faults.specs.Options as spec;
 ghost use Rattle.selection_faults.specs.Strings as strings;
 ghost use Rattle.selection_faults.specs.Walk as walks;
 
-use query_grammar::{MatchOption, PlacedOption};
+use selection_grammar::{MatchOption, PlacedOption};
 
 /// Whether two options are of one group, so that only one of them may stand on a selection.
 fn same_group(first: &MatchOption, second: &MatchOption) -> bool

@@ -3,14 +3,14 @@
 ghost use Rattle.std.specs.Prelude.{◌≡◌, IfOk, map, option_map};
 ghost use Rattle.ft_base.specs.Selection.{words as words_form};
 ghost use Rattle.ft_syntax.specs.View.{form};
-ghost use Rattle.query_grammar.specs.Form.{form_of};
-ghost use Rattle.query_grammar.specs.Tree.{words as words_tree};
-ghost use Rattle.query_grammar.specs.View.{tree};
+ghost use Rattle.selection_grammar.specs.Form.{form_of};
+ghost use Rattle.selection_grammar.specs.Tree.{words as words_tree};
+ghost use Rattle.selection_grammar.specs.View.{tree};
 
 use crate::given::{options_of, texts_of};
 use ft_base::{Items, Memory, Range};
 use ft_syntax::{Selection, Selections, Words};
-use query_grammar::{Parsed, ParsedWords, PlacedTimes};
+use selection_grammar::{Parsed, ParsedWords, PlacedTimes};
 use std::alloc::Global;
 
 /// The selection that was read, without its places.

@@ -2,8 +2,8 @@
 
 ghost use Rattle.std.specs.Prelude.{◌≡◌, map, IfOk, OnOk};
 ghost use Rattle.ft_base.specs.declared.words.Mode.{Mode};
-ghost use Rattle.query_grammar.specs.Tree.{trees_of};
-ghost use Rattle.query_grammar.specs.View.{tree};
+ghost use Rattle.selection_grammar.specs.Tree.{trees_of};
+ghost use Rattle.selection_grammar.specs.View.{tree};
 ghost use Rattle.selection_faults.specs.Strings as spec;
 ghost use Rattle.selection_faults.specs.Walk as walks;
 
@@ -11,7 +11,7 @@ use crate::least_places::sooner;
 use crate::options::wildcards_inside;
 use ft_base::{Items, Memory, Mode};
 use match_options::{has_bad_pattern, items_of};
-use query_grammar::{Parsed, ParsedWords, PlacedString};
+use selection_grammar::{Parsed, ParsedWords, PlacedString};
 use std::alloc::Global;
 
 /// How many phrases a selection may have.

@@ -2,10 +2,10 @@
 use Rattle.std.proofs.Common.{◌≡◌, [], ◌+◌, true, cond, List, drop, Err, sym, ◌∙◌, ap, subst}
 use Rattle.std.specs.Prelude.{codes, false}
 use Rattle.ft_base.specs.declared.options.StopTerm.{StopTerm}
-use Rattle.query_grammar.specs.Machine as m
-use Rattle.query_grammar.specs.Machine.{State}
-use Rattle.query_grammar.specs.Reading.{reading, front_is}
-use Rattle.query_grammar.specs.Shapes.{Shape}
+use Rattle.selection_grammar.specs.Machine as m
+use Rattle.selection_grammar.specs.Machine.{State}
+use Rattle.selection_grammar.specs.Reading.{reading, front_is}
+use Rattle.selection_grammar.specs.Shapes.{Shape}
 use Rattle.ft_parser.specs.State.{Answers, frames_of, left_of, primary_of, state_of}
 use Rattle.ft_parser.proofs.option_turns.stop_words.Goals as goal
 

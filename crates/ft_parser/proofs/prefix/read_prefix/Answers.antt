@@ -1,8 +1,8 @@
 -- As the symbols from the place on are read.
 use Rattle.std.proofs.Common.{◌≡◌, List, length, Ok, sym, ◌∙◌, ap}
 use Rattle.std.proofs.lemmas.List.{length-take-le}
-use Rattle.query_grammar.specs.declared.symbol.Placed.{Placed}
-use Rattle.query_grammar.specs.declared.symbol.Symbols.{Symbols}
+use Rattle.selection_grammar.specs.declared.symbol.Placed.{Placed}
+use Rattle.selection_grammar.specs.declared.symbol.Symbols.{Symbols}
 use Rattle.ft_syntax.specs.View.{form}
 use Rattle.ft_parser.specs.Prefix.{with_place, run_read, prefix_read, numbered_form}
 use Rattle.ft_parser.proofs.Prefixes.{fault_kept}

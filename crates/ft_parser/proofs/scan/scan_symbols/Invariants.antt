@@ -1,6 +1,6 @@
 -- What is left is scanned as all symbols are.
 use Rattle.std.proofs.Common.{◌≡◌, ◌≤◌, ◌-◌, length, drop}
-use Rattle.query_grammar.specs.Shapes.{whole}
+use Rattle.selection_grammar.specs.Shapes.{whole}
 use Rattle.ft_parser.specs.Answer.{scanned, scanned_from}
 use Rattle.ft_parser.specs.State.{state_of}
 use Rattle.ft_parser.proofs.scan.scan_symbols.Given as goal

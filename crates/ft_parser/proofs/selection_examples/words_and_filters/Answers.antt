@@ -3,8 +3,8 @@ use Rattle.std.proofs.Common.{refl}
 use Rattle.std.specs.Str.{chars}
 use Rattle.std.proofs.Math.Utf8.{encode}
 use Rattle.ft_base.specs.Characters.{is_name_start, is_name_char}
-use Rattle.query_grammar.specs.Form.{form_of}
-use Rattle.query_grammar.specs.Machine.{next}
+use Rattle.selection_grammar.specs.Form.{form_of}
+use Rattle.selection_grammar.specs.Machine.{next}
 use Rattle.ft_parser.specs.Symbols.{symbols_of, symbols_within, front}
 use Rattle.ft_parser.proofs.selection_examples.words_and_filters.Goals as goal
 

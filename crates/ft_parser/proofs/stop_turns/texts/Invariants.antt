@@ -1,6 +1,6 @@
 -- The texts so far are those of the first strings.
 use Rattle.std.proofs.Common.{◌≡◌, ◌++◌, drop}
-use Rattle.query_grammar.specs.Grammar.{texts_of}
+use Rattle.selection_grammar.specs.Grammar.{texts_of}
 use Rattle.ft_parser.proofs.stop_turns.texts.Given as goal
 
 abbrev pub invariant-loop-string : goal.invariant-loop-string

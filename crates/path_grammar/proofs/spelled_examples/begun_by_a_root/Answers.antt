@@ -1,6 +1,6 @@
 -- A step makes it a path.
 use Rattle.std.specs.Prelude.{[], ◌∷◌, codes}
-use Rattle.query_grammar.specs.declared.symbol.Symbol.TheVariants as S
+use Rattle.selection_grammar.specs.declared.symbol.Symbol.TheVariants as S
 use Rattle.path_grammar.specs.declared.path.PathRoot.TheVariants as R
 use Rattle.path_grammar.specs.Spellings as example
 use Rattle.path_grammar.specs.Form.{steps}

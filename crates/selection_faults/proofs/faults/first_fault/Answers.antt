@@ -1,6 +1,6 @@
 -- The least places of the parts, and what the walk over the strings shows, give the first of all faults.
 use Rattle.std.proofs.Common.{None, ap, ◌∙◌}
-use Rattle.query_grammar.specs.View.{tree}
+use Rattle.selection_grammar.specs.View.{tree}
 use Rattle.selection_faults.specs.Kinds.{fault_at}
 use Rattle.selection_faults.specs.LeastPlaces.{least_places}
 use Rattle.selection_faults.specs.Strings.{strings_of, phrases_past}

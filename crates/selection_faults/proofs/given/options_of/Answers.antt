@@ -1,6 +1,6 @@
 -- One option further.
 use Rattle.std.proofs.Common.{sym, ap, ◌∙◌}
-use Rattle.query_grammar.specs.Form.{with_option}
+use Rattle.selection_grammar.specs.Form.{with_option}
 use Rattle.selection_faults.proofs.OptionsLemmas.{options_more}
 use Rattle.selection_faults.proofs.given.options_of.Goals as goal
 

@@ -1,7 +1,7 @@
 -- Each kind of selection has the least places that its parts give; in the list one more part was passed.
 use Rattle.std.proofs.Common.{map, take, sym, ap, ◌∙◌, arith}
-use Rattle.query_grammar.proofs.Views.{tree_words, tree_or, tree_and, tree_mild, tree_not, tree_filtered, tree_with}
-use Rattle.query_grammar.specs.View.{tree}
+use Rattle.selection_grammar.proofs.Views.{tree_words, tree_or, tree_and, tree_mild, tree_not, tree_filtered, tree_with}
+use Rattle.selection_grammar.specs.View.{tree}
 use Rattle.selection_faults.specs.LeastPlaces.{least_places, least_places_of, both, of_mild_not, of_not, of_filtered, of_with}
 use Rattle.selection_faults.proofs.LeastPlacesLemmas.{least_words, least_or, least_and, least_mild_not, least_not, least_filtered, least_with, least_next}
 use Rattle.selection_faults.proofs.least_places.+least.Goals as goal

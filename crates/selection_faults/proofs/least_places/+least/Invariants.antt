@@ -1,6 +1,6 @@
 -- The least places in the first parts.
 use Rattle.std.proofs.Common.{◌≡◌, map, take}
-use Rattle.query_grammar.specs.View.{tree}
+use Rattle.selection_grammar.specs.View.{tree}
 use Rattle.selection_faults.specs.LeastPlaces.{least_places_of}
 use Rattle.selection_faults.proofs.least_places.+least.Given as goal
 

@@ -2,9 +2,9 @@
 use Rattle.std.proofs.Common.{map, sym, ap, ◌∙◌}
 use Rattle.ft_base.specs.Selection as f
 use Rattle.ft_syntax.specs.View.{form, forms_of as forms}
-use Rattle.query_grammar.proofs.Views.{tree_words, tree_or, tree_and, tree_mild, tree_not, tree_filtered, tree_with}
-use Rattle.query_grammar.specs.Form.{form_of}
-use Rattle.query_grammar.specs.View.{tree}
+use Rattle.selection_grammar.proofs.Views.{tree_words, tree_or, tree_and, tree_mild, tree_not, tree_filtered, tree_with}
+use Rattle.selection_grammar.specs.Form.{form_of}
+use Rattle.selection_grammar.specs.View.{tree}
 use Rattle.selection_faults.proofs.FormViews.{form_words, form_or, form_and, form_mild_not, form_not, form_filtered, form_with, forms_of_trees}
 use Rattle.selection_faults.proofs.selection.+make.Goals as goal
 

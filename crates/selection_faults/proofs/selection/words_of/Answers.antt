@@ -1,8 +1,8 @@
 -- The words with their texts, range and options.
 use Rattle.std.proofs.Common.{ap, ◌∙◌, option_map}
 use Rattle.ft_base.specs.Selection.{words}
-use Rattle.query_grammar.specs.Form.{form_of}
-use Rattle.query_grammar.specs.Grammar.{texts_of}
+use Rattle.selection_grammar.specs.Form.{form_of}
+use Rattle.selection_grammar.specs.Grammar.{texts_of}
 use Rattle.selection_faults.proofs.selection.words_of.Goals as goal
 
 pub returns : goal.returns

@@ -1,10 +1,10 @@
 -- Each kind of selection has the strings of its parts, one behind the other; in the list one more part was passed.
 use Rattle.std.proofs.Common.{◌≡◌, ◌∷◌, [], ◌++◌, Bool, List, OnOk, map, take, subst, refl, sym, ap, ◌∙◌, arith, append-nil}
 use Rattle.std.proofs.lemmas.List.{map-append}
-use Rattle.query_grammar.proofs.Views.{tree_words, tree_or, tree_and, tree_mild, tree_not, tree_filtered, tree_with}
-use Rattle.query_grammar.specs.Tree.{trees_of}
-use Rattle.query_grammar.specs.View.{tree}
-use Rattle.query_grammar.specs.declared.parsed.Parsed.{Parsed}
+use Rattle.selection_grammar.proofs.Views.{tree_words, tree_or, tree_and, tree_mild, tree_not, tree_filtered, tree_with}
+use Rattle.selection_grammar.specs.Tree.{trees_of}
+use Rattle.selection_grammar.specs.View.{tree}
+use Rattle.selection_grammar.specs.declared.parsed.Parsed.{Parsed}
 use Rattle.selection_faults.specs.Strings.{Written, strings_inside, strings_inside_all, strings_of_words, wildcards_inside}
 use Rattle.selection_faults.specs.Walk.{after_all}
 use Rattle.selection_faults.proofs.WalkLemmas.{after_append, strings_append, walk_next}

@@ -1,7 +1,7 @@
 -- What is known behind the first parts.
 use Rattle.std.proofs.Common.{◌≡◌, map, take}
-use Rattle.query_grammar.specs.Tree.{trees_of}
-use Rattle.query_grammar.specs.View.{tree}
+use Rattle.selection_grammar.specs.Tree.{trees_of}
+use Rattle.selection_grammar.specs.View.{tree}
 use Rattle.selection_faults.specs.Strings.{strings_inside_all}
 use Rattle.selection_faults.specs.Walk.{after_all}
 use Rattle.selection_faults.proofs.strings.+pass.Given as goal

@@ -1,7 +1,7 @@
 -- One string further.
 use Rattle.std.proofs.Common.{◌∷◌, [], map, refl, ap, ◌∙◌, take, arith}
 use Rattle.std.proofs.lemmas.List.{map-append}
-use Rattle.query_grammar.specs.declared.parsed.PlacedString.{PlacedString}
+use Rattle.selection_grammar.specs.declared.parsed.PlacedString.{PlacedString}
 use Rattle.selection_faults.specs.Strings.{written}
 use Rattle.selection_faults.specs.Walk.{after, after_all}
 use Rattle.selection_faults.proofs.WalkLemmas.{walk_next}
