@@ -1,8 +1,3 @@
-pub mod Bounds
-pub mod Fronts
-pub mod Places
-pub mod QuotedStrings
-pub mod Turns
 pub mod Frames
 pub mod TurnLaws
 pub mod FilterLaws

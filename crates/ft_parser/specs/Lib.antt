@@ -1,5 +1,3 @@
-pub mod Symbols
-pub mod Examples
 pub mod Selections
 pub mod Parts
 pub mod State

@@ -1,16 +1,15 @@
 -- The run: the longest front of symbols that begins a selection. What it is read as, limits and what stands behind it included.
-use Rattle.std.specs.Prelude.{ℕ, suc, Bool, true, false, List, [], ◌∷◌, length, take, drop, chars, Option, Some, None, Result, Ok, Err}
+use Rattle.std.specs.Prelude.{ℕ, suc, Bool, true, false, List, [], ◌∷◌, length, take, Option, Some, None, Result, Ok, Err}
 use Rattle.std.specs.Option.{is_some}
 use Rattle.ft_base.specs.Selection.{Form}
 use Rattle.ft_base.specs.declared.fault.QueryFault.{QueryFault}
 use Rattle.selection_grammar.specs.declared.symbol.Placed.{Placed}
-use Rattle.selection_grammar.specs.declared.symbol.Symbols.{Symbols}
 use Rattle.selection_grammar.specs.Machine.{State, start, advance, read, finished}
 use Rattle.selection_grammar.specs.Shapes.{Shape, whole}
 use Rattle.ft_parser.specs.Answer.{symbols_read, symbols_with}
 use Rattle.ft_syntax.specs.View.{form}
 use Rattle.ft_syntax.specs.declared.selection.Selection.{Selection}
-use Rattle.ft_parser.specs.Symbols.{symbols_within}
+use Rattle.query_symbols.specs.Symbols.{symbols_from}
 
 -- a symbol that leads somewhere, and those that lead on from there
 abbrev pub one_and : Option (Shape State) → (Shape State → ℕ) → ℕ
@@ -46,10 +45,6 @@ counted is_all count symbols bad size = with_number count (read_with_end is_all 
 -- the selection that the run is, and the number of its symbols, or the first fault
 unfoldable pub run_read : List Placed → Option ℕ → ℕ → Result (Form × ℕ) QueryFault
 run_read symbols bad size = counted (is_whole (take (run_length symbols) symbols)) (run_length symbols) symbols bad size
-
--- the symbols of a text from a place on, at which a character begins
-unfoldable pub symbols_from : ℕ → List ℕ → Symbols
-symbols_from from text = symbols_within (length (chars (drop from text))) from (chars (drop from text))
 
 -- the place behind symbols that stand from a place on
 abbrev pub place_behind : ℕ → List Placed → ℕ

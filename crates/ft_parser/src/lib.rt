@@ -2,14 +2,10 @@
 #![tactic(auto)]
 
 mod building;
-mod characters;
 mod extent;
 mod filter_depth;
 mod finishing;
-mod front;
 mod heads;
-mod lexeme;
-mod lexer;
 mod limits;
 mod operand_turns;
 mod option_turns;
@@ -23,18 +19,13 @@ mod selection_examples;
 mod selection_laws;
 mod state;
 mod stop_turns;
-mod symbol_examples;
-mod symbol_laws;
 mod thesaurus_turns;
 mod turn;
 mod value_turns;
 
-pub use lexer::{symbols, symbols_from};
 pub use prefix::{read_prefix, read_run};
 pub use prefix_laws::run_law;
+pub use query_symbols::{Placed, Symbol, Symbols, symbols, symbols_from};
 pub use read::read_selection;
 pub use selection_examples::{levels, words_and_filters};
-pub use selection_grammar::{Placed, Symbol, Symbols};
 pub use selection_laws::{filters_law, reading_law};
-pub use symbol_examples::{marks, names_and_numbers, strings};
-pub use symbol_laws::bound_law;

@@ -7,10 +7,10 @@ ghost use Rattle.ft_parser.specs.Prefix.{numbered_form};
 ghost use Rattle.ft_syntax.specs.View.{form};
 
 use crate::extent::{Extent, extent_of};
-use crate::lexer::symbols_from;
 use crate::read::read_placed;
 use ft_base::QueryFault;
 use ft_syntax::Selection;
+use query_symbols::symbols_from;
 use selection_grammar::Placed;
 use std::alloc::Global;
 

@@ -7,11 +7,11 @@ ghost use Rattle.ft_syntax.specs.View.{form};
 ghost use Rattle.selection_grammar.specs.View.{tree};
 ghost use Rattle.selection_faults.specs.Faults.{fault_of};
 
-use crate::lexer::symbols;
 use crate::limits::{limit_at, limit_fault};
 use crate::scan::{Scan, scan_symbols};
 use ft_base::QueryFault;
 use ft_syntax::Selection;
+use query_symbols::symbols;
 use selection_faults::{first_fault, selection_of};
 use selection_grammar::{Parsed, Placed};
 use std::alloc::Global;

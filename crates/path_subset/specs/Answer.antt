@@ -6,7 +6,7 @@ use Rattle.ft_base.specs.declared.fault.QueryFault.TheVariants as Q
 use Rattle.selection_grammar.specs.declared.symbol.Placed.{Placed}
 use Rattle.selection_grammar.specs.declared.symbol.Symbols.{Symbols}
 use Rattle.ft_parser.specs.Prefix.{run_read}
-use Rattle.ft_parser.specs.Symbols.{symbols_of}
+use Rattle.query_symbols.specs.Symbols.{symbols_of}
 use Rattle.path_grammar.specs.Form as form
 use Rattle.path_grammar.specs.Machine.{State, Stage, nothing, at_root, along, stand, ended, selecting, advance, finished, open_count}
 use Rattle.path_subset.specs.Limits.{passes, limit_fault}

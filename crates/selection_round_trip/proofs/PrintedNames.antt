@@ -7,7 +7,7 @@ use Rattle.std.specs.List.{list_all, prefix_len}
 use Rattle.ft_base.specs.Characters.{is_name_start, is_name_char, is_only_inside}
 use Rattle.selection_grammar.specs.declared.symbol.Symbol.TheVariants.{Name}
 use Rattle.selection_grammar.specs.declared.symbol.Symbols.{Symbols}
-use Rattle.ft_parser.specs.Symbols.{front, front_number, name_at, goes_on_as_name, is_blank, with_further, symbols_within}
+use Rattle.query_symbols.specs.Symbols.{front, front_number, name_at, goes_on_as_name, is_blank, with_further, symbols_within}
 use Rattle.selection_round_trip.specs.Strings.{with_symbol}
 use Rattle.selection_round_trip.proofs.PrintedStrings.{take_front}
 

@@ -14,7 +14,7 @@ use Rattle.ft_base.specs.Characters.{is_within, is_in, is_ascii_name_start, is_n
 use Rattle.ft_base.specs.Letters.{is_digit, number_of}
 use Rattle.selection_grammar.specs.declared.symbol.Symbol.TheVariants.{Number}
 use Rattle.selection_grammar.specs.declared.symbol.Symbols.{Symbols}
-use Rattle.ft_parser.specs.Symbols.{front, front_number, front_string, name_at, number_at, goes_on_as_name, is_blank, run_of, with_further, symbols_within}
+use Rattle.query_symbols.specs.Symbols.{front, front_number, front_string, name_at, number_at, goes_on_as_name, is_blank, run_of, with_further, symbols_within}
 use Rattle.selection_round_trip.specs.Strings.{with_symbol}
 use Rattle.selection_round_trip.proofs.PrintedNames.{run_all}
 use Rattle.selection_round_trip.proofs.PrintedStrings.{take_front}

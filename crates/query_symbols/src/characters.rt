@@ -1,0 +1,24 @@
+//! The classes of characters.
+
+ghost use Rattle.std.specs.Prelude.{◌≡◌};
+ghost use Rattle.query_symbols.specs.Symbols as spec;
+
+/// Whether the character may stand between symbols.
+pub(crate) fn is_blank(c: char) -> bool
+    ensures { result ≡ spec.is_blank c }
+{
+    c == ' ' || c == '\t'
+}
+
+/// Whether the character opens a string.
+pub(crate) fn is_quote(c: char) -> bool
+    ensures { result ≡ spec.is_quote c }
+{
+    c == '"' || c == '\''
+}
+
+pub(crate) fn is_slash(c: char) -> bool
+    ensures { result ≡ spec.is_slash c }
+{
+    c == '/'
+}
