@@ -41,9 +41,6 @@ pub fn run<S: Shelf, K: Sink>(
         AnswersAll session (S.reached shelf.new name) (K.written sink.old) (K.written sink.new) result))) }
     ensures limit { IsFinished result → IfSome (session_file (map string_bytes words.now)) (λ name. S.reached shelf.new name ≤ 67108864) }
 
-    // Whatever the status, one byte more than a session may have is the last that is read.
-    ensures reached_most { IfSome (session_file (map string_bytes words.now)) (λ name. S.reached shelf.new name ≤ 67108865) }
-
     // Whatever the status, no more than a front of those replies is written.
     ensures front { IfSome (session_file (map string_bytes words.now)) (λ name. IfSome (told_bytes (S.files shelf.old) name) (λ session.
         TookFront (K.written sink.old) (K.written sink.new) (output session))) }
@@ -75,6 +72,9 @@ pub fn run<S: Shelf, K: Sink>(
         S.faults shelf.new name ≡ S.faults shelf.old name → K.faults sink.new ≡ K.faults sink.old →
         IfSome (told_bytes (S.files shelf.old) name) (λ session. length session ≤ 67108864 →
         IsFinished result ⊎ (result ≡ Status.Memory))) }
+
+    // Whatever the status, one byte more than a session may have is the last that is read.
+    ensures reached_most { IfSome (session_file (map string_bytes words.now)) (λ name. S.reached shelf.new name ≤ 67108865) }
 {
     let Some(name) = file_of(words) else {
         return Status::Usage;
