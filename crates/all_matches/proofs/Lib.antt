@@ -14,3 +14,5 @@ pub mod OperatorMatches
 pub mod PlainOperators
 pub mod SomeWindow
 pub mod AllowedForms
+pub mod SpanIntervals
+pub mod SpanHits

@@ -13,6 +13,7 @@ pub mod Meaning
 pub mod Compositional
 pub mod Counting
 pub mod Ways
+pub mod Spans
 pub mod Sorting
 pub mod Chain
 pub mod Operators

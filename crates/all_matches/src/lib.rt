@@ -33,7 +33,7 @@ pub use distance_examples::{distances_in_ranges, distances_of_neighbours, exclud
 pub use filter_examples::{
     anchors, distances, distances_without_excludes, entire, nested_filters, order, scopes, windows,
 };
-pub use hit_laws::sorted_hits_law;
+pub use hit_laws::{sorted_hits_law, span_hits_law};
 pub use mild_not_examples::{right_sides_without_includes, words_that_stand_out};
 pub use nested_examples::{excludes_under_nested_filters, hits_kept_apart, joined_hits};
 pub use not_examples::{excludes_under_filters, mild_not_by_cover, no_includes};

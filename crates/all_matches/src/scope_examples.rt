@@ -53,6 +53,8 @@ pub fn excludes_under_different_scopes()
     ensures in_the_sentence { sat plain (filtered (but_not word_a word_b) F.DifferentSentence) (text (codes "a b")) ≡ true }
     ensures in_one_of_two { sat plain (filtered (but_not (two_and word_a word_b) word_x) F.DifferentSentence)
         (sentence 1 (codes "a x") ++ sentence 2 (codes "b")) ≡ true }
+    ensures in_one_of_two_paragraphs { sat plain (filtered (but_not (two_and word_a word_b) word_x) F.DifferentParagraph)
+        (paragraph 1 (codes "a x") ++ paragraph 2 (codes "b")) ≡ true }
     ensures in_another_paragraph { sat plain (filtered (but_not word_a word_b) F.DifferentParagraph)
         (paragraph 1 (codes "a") ++ paragraph 2 (codes "b")) ≡ false }
     ensures in_the_paragraph { sat plain (filtered (but_not word_a word_b) F.DifferentParagraph) (sentence 1 (codes "a") ++ sentence 2 (codes "b")) ≡ true }
