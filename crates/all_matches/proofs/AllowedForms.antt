@@ -1,5 +1,5 @@
 -- What is allowed as a selection with a filter, or as `not in`, may stand under a filter.
-use Rattle.std.proofs.Common.{◌≡◌, refl, Bool, true, ◌&&◌}
+use Rattle.std.proofs.Common.{◌≡◌, true, ◌&&◌}
 use Rattle.std.proofs.lemmas.Bool.{and_parts}
 use Rattle.ft_base.specs.declared.filter.Filter.{Filter}
 use Rattle.ft_base.specs.Selection.{Form, mild_not, filtered}

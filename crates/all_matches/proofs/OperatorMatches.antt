@@ -1,5 +1,5 @@
 -- The AllMatches of a selection's operator are those of the selection.
-use Rattle.std.proofs.Common.{◌≡◌, refl, ap, sym, ◌∙◌, ℕ, ◌+◌, List, [], ◌∷◌, Bool, true, false, ◌&&◌, length}
+use Rattle.std.proofs.Common.{◌≡◌, refl, ap, sym, ◌∙◌, ℕ, ◌+◌, List, [], ◌∷◌, Bool, true, false, length}
 use Rattle.std.specs.Prelude.{map, fold, cond, Option, Some, None}
 use Rattle.std.specs.List.{list_all}
 use Rattle.std.proofs.lemmas.Bool.{and_parts}

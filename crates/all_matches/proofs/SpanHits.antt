@@ -1,5 +1,5 @@
 -- The hits of a phrase in a part of a text are those of the text that lie in it, told in its numbers.
-use Rattle.std.proofs.Common.{◌≡◌, refl, ap, sym, ◌∙◌, ℕ, zero, suc, ◌+◌, ◌-◌, ◌<◌, ◌≤◌, List, [], ◌∷◌, ◌++◌, Bool, true, false, ◌&&◌, cond, length, take, drop, arith, drop-drop, take-take, get_or, get_or-drop, get_or-take, length-take-le, length-drop}
+use Rattle.std.proofs.Common.{◌≡◌, refl, ap, sym, ◌∙◌, ℕ, zero, suc, ◌+◌, ◌-◌, ◌≤◌, List, [], ◌∷◌, Bool, true, false, ◌&&◌, cond, length, take, drop, arith, drop-drop, take-take, get_or, get_or-drop, get_or-take, length-take-le, length-drop}
 use Rattle.std.specs.Prelude.{map, filter, flat_map, nat_lt, nat_le, Some, slice_get, option_map}
 use Rattle.std.specs.List.{list_any, list_all, range_with_len}
 use Rattle.std.specs.Option.{option_map_or}
@@ -13,10 +13,10 @@ use Rattle.ft_base.specs.declared.span.Span.{Span}
 use Rattle.ft_base.specs.declared.token.Token.{Token}
 use Rattle.ft_base.specs.declared.options.Options.{Options}
 use Rattle.all_matches.specs.Variants.{Item, any_word, word, pattern, Lexicon, variants}
-use Rattle.all_matches.specs.Hits.{passes_item, stands_as, Interval, intervals, tokens_in, sentence_at, paragraph_at, hit_on, intervals_of, hits}
+use Rattle.all_matches.specs.Hits.{passes_item, stands_as, Interval, intervals, tokens_in, sentence_at, paragraph_at, hit_on, hits}
 use Rattle.all_matches.specs.Spans.{renumbered, in_span, lies_in_span, told_in_span}
 use Rattle.all_matches.proofs.ListTests.{list_any-alike}
-use Rattle.all_matches.proofs.SpanIntervals.{inside, moved_by, intervals_in}
+use Rattle.all_matches.proofs.SpanIntervals.{inside, intervals_in}
 
 -- ---- lists
 
