@@ -1,5 +1,5 @@
 // Words of a text that are the same as words of a query, by their case and their marks.
-use crate::rows::{TruthRow, expect_truth};
+use crate::rows::{TruthRow, expect_truths};
 use std::test::Fail;
 
 const COMPARED: [TruthRow; 12] = [
@@ -27,8 +27,5 @@ const COMPARED: [TruthRow; 12] = [
 
 #[test]
 fn words_are_compared_by_case_and_marks(rt: HostRuntime) -> Result<(), Fail> {
-    for row in COMPARED {
-        expect_truth(&rt, rt.alloc(), row)?;
-    }
-    Ok(())
+    expect_truths(&rt, rt.alloc(), &COMPARED)
 }
