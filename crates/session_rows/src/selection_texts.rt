@@ -2,7 +2,7 @@
 use crate::rows::{NEVER, is_answered, joined, repeated};
 use ft_parser::read_selection;
 use ft_session::Status;
-use ft_syntax::{copy_selection, print_selection};
+use ft_syntax::{Selection, copy_selection, print_selection};
 use std::alloc::Global;
 use std::process::Abort;
 use std::test::Fail;
@@ -104,20 +104,26 @@ fn the_first_fault_of_a_selection_is_told(rt: HostRuntime) -> Result<(), Fail> {
     Ok(())
 }
 
+fn is_printed(alloc: Global, selection: &Selection, printed: &str) -> Result<bool, Fail> {
+    Ok(print_selection(alloc, selection)?.as_str() == printed)
+}
+
+/// Whether that is printed of the selection and of its copy.
+fn are_printed(alloc: Global, selection: &Selection, printed: &str) -> Result<bool, Fail> {
+    let copy = copy_selection(alloc, selection)?;
+    let answer = is_printed(alloc, &copy, printed);
+    std::mem::drop(copy);
+    Ok(answer? && is_printed(alloc, selection, printed)?)
+}
+
 /// Reads the selection, and compares what is printed of it and of its copy.
 fn expect_print(rt: &impl Abort, alloc: Global, text: &str, printed: &str) -> Result<(), Fail> {
     let Ok(selection) = read_selection(alloc, text) else {
         return Err(Fail::from("no selection"));
     };
-    assert!(rt;
-        print_selection(alloc, &selection)?.as_str() == printed,
-        "{text}"
-    );
-    let copy = copy_selection(alloc, &selection)?;
-    assert!(rt;
-        print_selection(alloc, &copy)?.as_str() == printed,
-        "{text}"
-    );
+    let answer = are_printed(alloc, &selection, printed);
+    std::mem::drop(selection);
+    assert!(rt; answer?, "{text}");
     Ok(())
 }
 
