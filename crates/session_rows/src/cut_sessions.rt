@@ -2,6 +2,7 @@
 ghost use Rattle.std.specs.Prelude.{◌≡◌, ◌+◌, ◌<◌, ◌^◌, length};
 
 use crate::commands::LINES;
+use crate::rows::Row;
 use crate::sessions::SESSIONS;
 use ft_base::{Bytes, Line};
 use session_text::{Command, Commands, How, Lines_};
@@ -213,12 +214,17 @@ fn expect_commands(rt: &impl Abort, alloc: Global, row: CutRow) -> Result<(), Fa
     Ok(())
 }
 
-#[test]
-fn sessions_are_read_however_they_are_cut_in_two(rt: HostRuntime) -> Result<(), Fail> {
-    for row in &COMMANDS {
-        expect_commands(&rt, rt.alloc(), *row)?;
+/// Tries rows one after the other.
+fn expect_all_commands(rt: &impl Abort, alloc: Global, rows: &[CutRow]) -> Result<(), Fail> {
+    for row in rows {
+        expect_commands(rt, alloc, *row)?;
     }
     Ok(())
+}
+
+#[test]
+fn sessions_are_read_however_they_are_cut_in_two(rt: HostRuntime) -> Result<(), Fail> {
+    expect_all_commands(&rt, rt.alloc(), &COMMANDS)
 }
 
 /// How many bytes a piece has.
@@ -235,19 +241,35 @@ fn expect_same(rt: &impl Abort, alloc: Global, session: &[u8]) -> Result<(), Fai
     Ok(())
 }
 
-#[test]
-fn sessions_are_read_in_pieces_as_they_are_at_once(rt: HostRuntime) -> Result<(), Fail> {
-    for row in &COMMANDS {
+/// Tries the sessions of rows one after the other.
+fn expect_cuts_same(rt: &impl Abort, alloc: Global, rows: &[CutRow]) -> Result<(), Fail> {
+    for row in rows {
         let (session, _commands) = *row;
-        expect_same(&rt, rt.alloc(), session)?;
-    }
-    for row in &SESSIONS {
-        let (session, _output, _status) = *row;
-        expect_same(&rt, rt.alloc(), session.as_bytes())?;
-    }
-    for row in &LINES {
-        let (session, _output, _status) = *row;
-        expect_same(&rt, rt.alloc(), session.as_bytes())?;
+        expect_same(rt, alloc, session)?;
     }
     Ok(())
+}
+
+/// The same for rows that have replies.
+fn expect_rows_same(rt: &impl Abort, alloc: Global, rows: &[Row]) -> Result<(), Fail> {
+    for row in rows {
+        let (session, _output, _status) = *row;
+        expect_same(rt, alloc, session.as_bytes())?;
+    }
+    Ok(())
+}
+
+#[test]
+fn commands_are_read_in_pieces_as_they_are_at_once(rt: HostRuntime) -> Result<(), Fail> {
+    expect_cuts_same(&rt, rt.alloc(), &COMMANDS)
+}
+
+#[test]
+fn sessions_are_read_in_pieces_as_they_are_at_once(rt: HostRuntime) -> Result<(), Fail> {
+    expect_rows_same(&rt, rt.alloc(), &SESSIONS)
+}
+
+#[test]
+fn lines_are_read_in_pieces_as_they_are_at_once(rt: HostRuntime) -> Result<(), Fail> {
+    expect_rows_same(&rt, rt.alloc(), &LINES)
 }

@@ -5,7 +5,7 @@ use std::alloc::{AllocError, Global};
 use std::process::Abort;
 use std::test::Fail;
 
-/// What stands before and behind line feeds, so that there are that many bytes; what is written, and how it ends.
+/// What stands before and behind number signs, so that there are that many bytes; what is written, and how it ends.
 type LengthRow = (&'static str, &'static str, usize, &'static str, Status);
 
 const HELLO: &str =
@@ -28,34 +28,40 @@ const TOO_LONG: [LengthRow; 3] = [
     ),
     (
         "drop x\n",
-        "drop y\n",
+        "\ndrop y\n",
         67_108_865,
         "! 4 no such name: x\n! 4 no such name: y\n",
         Status::TooLong,
     ),
     (
         "drop x\n",
-        "drop yy",
+        "\ndrop yy",
         67_108_866,
         "! 4 no such name: x\n",
         Status::TooLong,
     ),
 ];
 
-/// The front, line feeds, and the back: so many bytes.
-fn filled(alloc: Global, front: &str, back: &str, count: usize) -> Result<Vec<u8>, AllocError> {
-    let mut session = vec![in alloc; b'\n'; count]?;
-    if front.len().saturating_add(back.len()) <= session.len() {
-        session[..front.len()].copy_from_slice(front.as_bytes());
-        session[count - back.len()..].copy_from_slice(back.as_bytes());
+const SIGNS: &str = "################################################################";
+
+/// The front, number signs, which are a comment of one line, and the back: so many bytes, or no signs where these are too few.
+fn filled(alloc: Global, front: &str, back: &str, count: usize) -> Result<String, AllocError> {
+    let mut session = String::from_str(alloc, front)?;
+    let signs = count.saturating_sub(front.len()).saturating_sub(back.len());
+    for _ in 0..signs / 64 {
+        session.push_str(SIGNS)?;
     }
+    for _ in 0..signs % 64 {
+        session.push('#')?;
+    }
+    session.push_str(back)?;
     Ok(session)
 }
 
 fn expect_length(rt: &impl Abort, alloc: Global, row: LengthRow) -> Result<(), Fail> {
     let (front, back, count, output, status) = row;
     let session = filled(alloc, front, back, count)?;
-    let answered = is_answered(alloc, session.as_slice(), NEVER, NEVER, &[output], status)?;
+    let answered = is_answered(alloc, session.as_bytes(), NEVER, NEVER, &[output], status)?;
     assert!(rt; answered, "{front} {count}");
     Ok(())
 }

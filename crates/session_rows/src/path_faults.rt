@@ -1,9 +1,8 @@
 // Texts that are no paths, with their faults, and commands that are refused for their paths.
-use crate::rows::{expect_output, joined, repeated};
+use crate::rows::{expect_output, joined, query_refusal, repeated};
 use ft_base::{Memory, QueryFault};
 use ft_session::Status;
 use path_subset::{ReadPath, read_path};
-use session_text::{Refusal, Reply, print_reply};
 use std::alloc::Global;
 use std::process::Abort;
 use std::test::Fail;
@@ -123,10 +122,7 @@ fn is_refused(
             std::mem::drop(path);
             Ok(false)
         }
-        Err(fault) => {
-            let printed = print_reply(alloc, &Reply::Refused(Refusal::Query(fault)))?;
-            Ok(printed.as_str() == words)
-        }
+        Err(fault) => Ok(query_refusal(alloc, fault)?.as_str() == words),
     }
 }
 
@@ -145,22 +141,23 @@ fn expect_fault(rt: &impl Abort, alloc: Global, path: &str, fault: &str) -> Resu
     )
 }
 
-#[test]
-fn the_first_symbol_that_cannot_stand_has_its_place(rt: HostRuntime) -> Result<(), Fail> {
-    for row in &SYNTAX {
+/// Tries rows one after the other.
+fn expect_faults(rt: &impl Abort, alloc: Global, rows: &[FaultRow]) -> Result<(), Fail> {
+    for row in rows {
         let (path, fault) = *row;
-        expect_fault(&rt, rt.alloc(), path, fault)?;
+        expect_fault(rt, alloc, path, fault)?;
     }
     Ok(())
 }
 
 #[test]
+fn the_first_symbol_that_cannot_stand_has_its_place(rt: HostRuntime) -> Result<(), Fail> {
+    expect_faults(&rt, rt.alloc(), &SYNTAX)
+}
+
+#[test]
 fn numbers_and_faults_of_selections_have_their_places(rt: HostRuntime) -> Result<(), Fail> {
-    for row in &FURTHER {
-        let (path, fault) = *row;
-        expect_fault(&rt, rt.alloc(), path, fault)?;
-    }
-    Ok(())
+    expect_faults(&rt, rt.alloc(), &FURTHER)
 }
 
 #[test]
@@ -177,26 +174,36 @@ fn no_text_is_no_path(rt: HostRuntime) -> Result<(), Fail> {
 // What opens a 65th level behind 64 brackets.
 const OPENINGS: [&str; 4] = ["a[", "@(", "@[", "b["];
 
-#[test]
-fn the_65th_level_has_its_place(rt: HostRuntime) -> Result<(), Fail> {
-    for opening in &OPENINGS {
-        let path = repeated(rt.alloc(), "collection()/", 64, "a[", opening)?;
-        expect_fault(&rt, rt.alloc(), path.as_str(), "deep at 142")?;
+/// Tries openings one after the other.
+fn expect_all_deep(rt: &impl Abort, alloc: Global, openings: &[&'static str]) -> Result<(), Fail> {
+    for opening in openings {
+        let path = repeated(alloc, "collection()/", 64, "a[", opening)?;
+        expect_fault(rt, alloc, path.as_str(), "deep at 142")?;
     }
     Ok(())
+}
+
+#[test]
+fn the_65th_level_has_its_place(rt: HostRuntime) -> Result<(), Fail> {
+    expect_all_deep(&rt, rt.alloc(), &OPENINGS)
 }
 
 // What may stand in 64 brackets: a selection has levels of its own.
 const INSIDES: [&str; 2] = ["1", r#". contains text ((("a")))"#];
 
-#[test]
-fn a_path_has_64_levels(rt: HostRuntime) -> Result<(), Fail> {
-    for inside in &INSIDES {
-        let session = repeated(rt.alloc(), "query collection()/", 64, "a[", inside)?;
-        let session = repeated(rt.alloc(), session.as_str(), 64, "]", "\n")?;
-        expect_output(&rt, rt.alloc(), session.as_str(), &["= 0\n"], Status::Done)?;
+/// Tries what stands in them one after the other.
+fn expect_all_nested(rt: &impl Abort, alloc: Global, insides: &[&'static str]) -> Result<(), Fail> {
+    for inside in insides {
+        let front = repeated(alloc, "query collection()/", 64, "a[", inside)?;
+        let session = repeated(alloc, front.as_str(), 64, "]", "\n")?;
+        expect_output(rt, alloc, session.as_str(), &["= 0\n"], Status::Done)?;
     }
     Ok(())
+}
+
+#[test]
+fn a_path_has_64_levels(rt: HostRuntime) -> Result<(), Fail> {
+    expect_all_nested(&rt, rt.alloc(), &INSIDES)
 }
 
 // Commands in a session that holds a document `x`, and their refusals in the order in which they are tried.
@@ -282,11 +289,16 @@ fn expect_refusal(rt: &impl Abort, alloc: Global, command: &str, reply: &str) ->
     )
 }
 
-#[test]
-fn refusals_are_tried_in_order(rt: HostRuntime) -> Result<(), Fail> {
-    for row in &REFUSALS {
+/// Tries rows one after the other.
+fn expect_refusals(rt: &impl Abort, alloc: Global, rows: &[FaultRow]) -> Result<(), Fail> {
+    for row in rows {
         let (command, reply) = *row;
-        expect_refusal(&rt, rt.alloc(), command, reply)?;
+        expect_refusal(rt, alloc, command, reply)?;
     }
     Ok(())
+}
+
+#[test]
+fn refusals_are_tried_in_order(rt: HostRuntime) -> Result<(), Fail> {
+    expect_refusals(&rt, rt.alloc(), &REFUSALS)
 }

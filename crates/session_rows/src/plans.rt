@@ -151,9 +151,15 @@ fn expect_missing(
     Ok(())
 }
 
-fn expect_all_missing(rt: &impl Abort, alloc: Global, lists: &mut Lists) -> Result<(), Fail> {
+/// Tries rows one after the other, with the lists put.
+fn expect_all_missing(
+    rt: &impl Abort,
+    alloc: Global,
+    lists: &mut Lists,
+    rows: &[MissingRow],
+) -> Result<(), Fail> {
     put_lists(alloc, lists)?;
-    for row in &MISSING_ROWS {
+    for row in rows {
         expect_missing(rt, alloc, lists, *row)?;
     }
     Ok(())
@@ -162,7 +168,7 @@ fn expect_all_missing(rt: &impl Abort, alloc: Global, lists: &mut Lists) -> Resu
 #[test]
 fn the_first_missing_list_refuses_a_plan(rt: HostRuntime) -> Result<(), Fail> {
     let mut lists = Lists::new(rt.alloc());
-    let tried = expect_all_missing(&rt, rt.alloc(), &mut lists);
+    let tried = expect_all_missing(&rt, rt.alloc(), &mut lists, &MISSING_ROWS);
     std::mem::drop(lists);
     tried
 }
@@ -181,26 +187,44 @@ fn bad_pattern(alloc: Global) -> Result<Selection, Memory> {
     }))
 }
 
-/// Whether the text that is this one word satisfies the selection.
-fn is_satisfied(alloc: Global, selection: &Selection, word: &str) -> Result<bool, Fail> {
+/// The tokens of a text that is this one word.
+fn only_token(alloc: Global, word: &str) -> Result<Vec<Token>, Memory> {
     let mut tokens = Vec::new(alloc);
     tokens.push(Token {
         word: Line::read(alloc, word)?,
         sentence: 1,
         paragraph: 1,
     })?;
+    Ok(tokens)
+}
+
+/// Whether the tokens satisfy the selection, compiled with the lists.
+fn satisfy(
+    alloc: Global,
+    selection: &Selection,
+    lists: &Lists,
+    tokens: &Vec<Token>,
+) -> Result<bool, Fail> {
     if !is_decided(selection) {
         return Err(Fail::from("not decided"));
     }
-    let lists = Lists::new(alloc);
-    match Plan::compile(alloc, selection, &lists) {
+    match Plan::compile(alloc, selection, lists) {
         Ok(plan) => {
-            let satisfied = plan.check(&tokens);
+            let satisfied = plan.check(tokens);
             std::mem::drop(plan);
             Ok(satisfied?)
         }
         Err(_fault) => Err(Fail::from("not compiled")),
     }
+}
+
+/// Whether the text that is this one word satisfies the selection.
+fn is_satisfied(alloc: Global, selection: &Selection, word: &str) -> Result<bool, Fail> {
+    let tokens = only_token(alloc, word)?;
+    let lists = Lists::new(alloc);
+    let satisfied = satisfy(alloc, selection, &lists, &tokens);
+    std::mem::drop((lists, tokens));
+    satisfied
 }
 
 #[test]

@@ -1,9 +1,8 @@
 // Selections with which texts begin, and the faults of those that begin with none.
-use crate::rows::repeated;
+use crate::rows::{query_refusal, repeated};
 use ft_base::{Memory, QueryFault};
 use ft_parser::{read_prefix, read_run, symbols};
 use ft_syntax::{Selection, print_selection};
-use session_text::{Refusal, Reply, print_reply};
 use std::alloc::Global;
 use std::process::Abort;
 use std::test::Fail;
@@ -135,10 +134,7 @@ fn read_text(alloc: Global, selection: Selection, number: usize) -> Result<Strin
 fn outcome(alloc: Global, read: Result<(Selection, usize), QueryFault>) -> Result<String, Memory> {
     match read {
         Ok((selection, number)) => read_text(alloc, selection, number),
-        Err(fault) => {
-            let printed = print_reply(alloc, &Reply::Refused(Refusal::Query(fault)))?;
-            Ok(printed.into_string())
-        }
+        Err(fault) => Ok(query_refusal(alloc, fault)?.into_string()),
     }
 }
 
@@ -156,32 +152,43 @@ fn expect_prefix(
     Ok(())
 }
 
-#[test]
-fn the_longest_front_is_read(rt: HostRuntime) -> Result<(), Fail> {
-    for row in &READ {
+/// Tries rows one after the other.
+fn expect_prefixes(rt: &impl Abort, alloc: Global, rows: &[PrefixRow]) -> Result<(), Fail> {
+    for row in rows {
         let (text, from, expected) = *row;
-        expect_prefix(&rt, rt.alloc(), text, from, expected)?;
+        expect_prefix(rt, alloc, text, from, expected)?;
     }
     Ok(())
 }
 
 #[test]
+fn the_longest_front_is_read(rt: HostRuntime) -> Result<(), Fail> {
+    expect_prefixes(&rt, rt.alloc(), &READ)
+}
+
+#[test]
 fn fronts_that_are_no_selections_are_refused(rt: HostRuntime) -> Result<(), Fail> {
-    for row in &REFUSED {
-        let (text, from, expected) = *row;
-        expect_prefix(&rt, rt.alloc(), text, from, expected)?;
+    expect_prefixes(&rt, rt.alloc(), &REFUSED)
+}
+
+/// Compares the refusal of a text with repeated pieces.
+fn expect_deep(rt: &impl Abort, alloc: Global, row: DeepRow) -> Result<(), Fail> {
+    let (before, count, piece, behind, from, expected) = row;
+    let text = repeated(alloc, before, count, piece, behind)?;
+    expect_prefix(rt, alloc, text.as_str(), from, expected)
+}
+
+/// Tries rows one after the other.
+fn expect_all_deep(rt: &impl Abort, alloc: Global, rows: &[DeepRow]) -> Result<(), Fail> {
+    for row in rows {
+        expect_deep(rt, alloc, *row)?;
     }
     Ok(())
 }
 
 #[test]
 fn what_is_limited_in_a_front_has_its_place(rt: HostRuntime) -> Result<(), Fail> {
-    for row in &DEEP {
-        let (before, count, piece, behind, from, expected) = *row;
-        let text = repeated(rt.alloc(), before, count, piece, behind)?;
-        expect_prefix(&rt, rt.alloc(), text.as_str(), from, expected)?;
-    }
-    Ok(())
+    expect_all_deep(&rt, rt.alloc(), &DEEP)
 }
 
 /// Compares the place behind the selection with which the text begins.
@@ -218,22 +225,32 @@ fn expect_run(
     let found = symbols(alloc, text)?;
     let placed = found.placed.as_slice();
     assert!(rt; number <= placed.len());
-    let outcome = outcome(
-        alloc,
-        read_run(alloc, &placed[number..], found.bad, text.len()),
-    )?;
+    let read = read_run(alloc, &placed[number..], found.bad, text.len());
+    std::mem::drop(found);
+    let outcome = outcome(alloc, read)?;
     assert!(rt; outcome.as_str() == expected, "{text}");
+    Ok(())
+}
+
+/// The number of the symbol from which a text is read, and what comes of it.
+type RunRow = (usize, &'static str);
+
+const RUNS: [RunRow; 3] = [
+    (0, "3 \"a\" ftor \"b\"\n"),
+    (2, "1 \"b\"\n"),
+    (4, "! 7 query: syntax at 15\n"),
+];
+
+/// Tries rows one after the other.
+fn expect_runs(rt: &impl Abort, alloc: Global, rows: &[RunRow]) -> Result<(), Fail> {
+    for row in rows {
+        let (number, expected) = *row;
+        expect_run(rt, alloc, r#""a" ftor "b" ] ?"#, number, expected)?;
+    }
     Ok(())
 }
 
 #[test]
 fn the_longest_run_of_symbols_is_read(rt: HostRuntime) -> Result<(), Fail> {
-    for (number, expected) in [
-        (0, "3 \"a\" ftor \"b\"\n"),
-        (2, "1 \"b\"\n"),
-        (4, "! 7 query: syntax at 15\n"),
-    ] {
-        expect_run(&rt, rt.alloc(), r#""a" ftor "b" ] ?"#, number, expected)?;
-    }
-    Ok(())
+    expect_runs(&rt, rt.alloc(), &RUNS)
 }

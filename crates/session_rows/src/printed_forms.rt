@@ -21,8 +21,11 @@ const PRINTED: [&str; 10] = [
     r#""a" window 1000000 words"#,
 ];
 
+/// A text, and the printed form of the selection that it is read as.
+type RewrittenRow = (&'static str, &'static str);
+
 // Texts, and how the selections that they are read as are printed.
-const REWRITTEN: [(&str, &str); 10] = [
+const REWRITTEN: [RewrittenRow; 10] = [
     (r#"{'a'}"#, r#""a""#),
     (r#"(("a"))"#, r#""a""#),
     (r#"("a" ftor "b") at end"#, r#""a" ftor "b" at end"#),
@@ -58,8 +61,11 @@ const READ: [RepeatedRow; 4] = [
     (r#"("a""#, 64, " ordered", r#") ftor "b" ordered"#),
 ];
 
+/// How many parentheses stand round a text, the text, and what stands behind.
+type NestedRow = (usize, &'static str, &'static str);
+
 // The same for levels of parentheses, those of stop words among them.
-const READ_IN_PARENTHESES: [(usize, &str, &str); 2] = [
+const READ_IN_PARENTHESES: [NestedRow; 2] = [
     (64, r#""a""#, r#" ftand ("b")"#),
     (63, r#""a" using stop words ("of")"#, ""),
 ];
@@ -102,40 +108,60 @@ fn expect_read(rt: &impl Abort, alloc: Global, text: &str) {
     assert!(rt; read, "{text}");
 }
 
-#[test]
-fn a_printed_selection_is_read_as_it_was(rt: HostRuntime) -> Result<(), Fail> {
-    for text in &PRINTED {
-        expect_printed(&rt, rt.alloc(), text, text)?;
+/// Tries texts one after the other.
+fn expect_all_printed(rt: &impl Abort, alloc: Global, texts: &[&'static str]) -> Result<(), Fail> {
+    for text in texts {
+        expect_printed(rt, alloc, text, text)?;
     }
     Ok(())
+}
+
+/// Tries rows one after the other.
+fn expect_rewritten(rt: &impl Abort, alloc: Global, rows: &[RewrittenRow]) -> Result<(), Fail> {
+    for row in rows {
+        let (text, printed) = *row;
+        expect_printed(rt, alloc, text, printed)?;
+    }
+    Ok(())
+}
+
+/// The same for texts with repeated pieces, which are read.
+fn expect_all_read(rt: &impl Abort, alloc: Global, rows: &[RepeatedRow]) -> Result<(), Fail> {
+    for row in rows {
+        let (before, count, piece, behind) = *row;
+        let text = repeated(alloc, before, count, piece, behind)?;
+        expect_read(rt, alloc, text.as_str());
+    }
+    Ok(())
+}
+
+/// The same for texts in parentheses.
+fn expect_all_nested(rt: &impl Abort, alloc: Global, rows: &[NestedRow]) -> Result<(), Fail> {
+    for row in rows {
+        let (count, inside, behind) = *row;
+        let front = repeated(alloc, "", count, "(", inside)?;
+        let text = repeated(alloc, front.as_str(), count, ")", behind)?;
+        expect_read(rt, alloc, text.as_str());
+    }
+    Ok(())
+}
+
+#[test]
+fn a_printed_selection_is_read_as_it_was(rt: HostRuntime) -> Result<(), Fail> {
+    expect_all_printed(&rt, rt.alloc(), &PRINTED)
 }
 
 #[test]
 fn how_a_selection_was_written_is_forgotten(rt: HostRuntime) -> Result<(), Fail> {
-    for row in &REWRITTEN {
-        let (text, printed) = *row;
-        expect_printed(&rt, rt.alloc(), text, printed)?;
-    }
-    Ok(())
+    expect_rewritten(&rt, rt.alloc(), &REWRITTEN)
 }
 
 #[test]
 fn up_to_64_filters_are_read(rt: HostRuntime) -> Result<(), Fail> {
-    for row in &READ {
-        let (before, count, piece, behind) = *row;
-        let text = repeated(rt.alloc(), before, count, piece, behind)?;
-        expect_read(&rt, rt.alloc(), text.as_str());
-    }
-    Ok(())
+    expect_all_read(&rt, rt.alloc(), &READ)
 }
 
 #[test]
 fn up_to_64_levels_are_read(rt: HostRuntime) -> Result<(), Fail> {
-    for row in &READ_IN_PARENTHESES {
-        let (count, inside, behind) = *row;
-        let front = repeated(rt.alloc(), "", count, "(", inside)?;
-        let text = repeated(rt.alloc(), front.as_str(), count, ")", behind)?;
-        expect_read(&rt, rt.alloc(), text.as_str());
-    }
-    Ok(())
+    expect_all_nested(&rt, rt.alloc(), &READ_IN_PARENTHESES)
 }

@@ -1,10 +1,9 @@
 // Texts that are no selections, with their faults: alone, and in the path of a query.
-use crate::rows::{expect_output, joined, repeated};
+use crate::rows::{expect_output, joined, query_refusal, repeated};
 use ft_base::{Memory, QueryFault};
 use ft_parser::read_selection;
 use ft_session::Status;
 use ft_syntax::Selection;
-use session_text::{Refusal, Reply, print_reply};
 use std::alloc::Global;
 use std::process::Abort;
 use std::test::Fail;
@@ -131,10 +130,7 @@ fn is_refused(
             std::mem::drop(selection);
             Ok(false)
         }
-        Err(fault) => {
-            let printed = print_reply(alloc, &Reply::Refused(Refusal::Query(fault)))?;
-            Ok(printed.as_str() == words)
-        }
+        Err(fault) => Ok(query_refusal(alloc, fault)?.as_str() == words),
     }
 }
 
@@ -186,31 +182,46 @@ fn expect_fault(
     expect_fault_in_path(rt, alloc, text, words, place)
 }
 
-#[test]
-fn faults_have_their_places(rt: HostRuntime) -> Result<(), Fail> {
-    for row in &FAULTS {
+/// Tries rows one after the other.
+fn expect_faults(rt: &impl Abort, alloc: Global, rows: &[FaultRow]) -> Result<(), Fail> {
+    for row in rows {
         let (text, words, place) = *row;
-        expect_fault(&rt, rt.alloc(), text, words, place)?;
+        expect_fault(rt, alloc, text, words, place)?;
     }
     Ok(())
+}
+
+/// The same for texts alone.
+fn expect_faults_alone(rt: &impl Abort, alloc: Global, rows: &[FaultRow]) -> Result<(), Fail> {
+    for row in rows {
+        let (text, words, place) = *row;
+        expect_fault_alone(rt, alloc, text, words, place)?;
+    }
+    Ok(())
+}
+
+/// The same in paths.
+fn expect_faults_in_path(rt: &impl Abort, alloc: Global, rows: &[FaultRow]) -> Result<(), Fail> {
+    for row in rows {
+        let (text, words, place) = *row;
+        expect_fault_in_path(rt, alloc, text, words, place)?;
+    }
+    Ok(())
+}
+
+#[test]
+fn faults_have_their_places(rt: HostRuntime) -> Result<(), Fail> {
+    expect_faults(&rt, rt.alloc(), &FAULTS)
 }
 
 #[test]
 fn faults_of_texts_alone_have_their_places(rt: HostRuntime) -> Result<(), Fail> {
-    for row in &FAULTS_ALONE {
-        let (text, words, place) = *row;
-        expect_fault_alone(&rt, rt.alloc(), text, words, place)?;
-    }
-    Ok(())
+    expect_faults_alone(&rt, rt.alloc(), &FAULTS_ALONE)
 }
 
 #[test]
 fn faults_in_paths_have_their_places(rt: HostRuntime) -> Result<(), Fail> {
-    for row in &FAULTS_IN_PATH {
-        let (text, words, place) = *row;
-        expect_fault_in_path(&rt, rt.alloc(), text, words, place)?;
-    }
-    Ok(())
+    expect_faults_in_path(&rt, rt.alloc(), &FAULTS_IN_PATH)
 }
 
 /// Compares the fault of a text with repeated pieces.
@@ -220,10 +231,15 @@ fn expect_repeated(rt: &impl Abort, alloc: Global, row: RepeatedRow) -> Result<(
     expect_fault(rt, alloc, text.as_str(), words, place)
 }
 
-#[test]
-fn what_is_limited_has_its_place(rt: HostRuntime) -> Result<(), Fail> {
-    for row in &REPEATED_FAULTS {
-        expect_repeated(&rt, rt.alloc(), *row)?;
+/// Tries rows one after the other.
+fn expect_all_repeated(rt: &impl Abort, alloc: Global, rows: &[RepeatedRow]) -> Result<(), Fail> {
+    for row in rows {
+        expect_repeated(rt, alloc, *row)?;
     }
     Ok(())
+}
+
+#[test]
+fn what_is_limited_has_its_place(rt: HostRuntime) -> Result<(), Fail> {
+    expect_all_repeated(&rt, rt.alloc(), &REPEATED_FAULTS)
 }

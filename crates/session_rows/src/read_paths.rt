@@ -145,12 +145,17 @@ fn expect_form(rt: &impl Abort, alloc: Global, row: FormRow) -> Result<(), Fail>
     Ok(())
 }
 
-#[test]
-fn roots_steps_and_predicates_are_read(rt: HostRuntime) -> Result<(), Fail> {
-    for row in &FORMS {
-        expect_form(&rt, rt.alloc(), *row)?;
+/// Tries rows one after the other.
+fn expect_forms(rt: &impl Abort, alloc: Global, rows: &[FormRow]) -> Result<(), Fail> {
+    for row in rows {
+        expect_form(rt, alloc, *row)?;
     }
     Ok(())
+}
+
+#[test]
+fn roots_steps_and_predicates_are_read(rt: HostRuntime) -> Result<(), Fail> {
+    expect_forms(&rt, rt.alloc(), &FORMS)
 }
 
 /// A path, how many selections it has, the number of one of them, its printed form, and where it begins and ends.
@@ -235,12 +240,17 @@ fn expect_selection(rt: &impl Abort, alloc: Global, row: SelectionRow) -> Result
     Ok(())
 }
 
-#[test]
-fn selections_are_numbered_in_the_order_of_the_text(rt: HostRuntime) -> Result<(), Fail> {
-    for row in &SELECTIONS {
-        expect_selection(&rt, rt.alloc(), *row)?;
+/// Tries rows one after the other.
+fn expect_selections(rt: &impl Abort, alloc: Global, rows: &[SelectionRow]) -> Result<(), Fail> {
+    for row in rows {
+        expect_selection(rt, alloc, *row)?;
     }
     Ok(())
+}
+
+#[test]
+fn selections_are_numbered_in_the_order_of_the_text(rt: HostRuntime) -> Result<(), Fail> {
+    expect_selections(&rt, rt.alloc(), &SELECTIONS)
 }
 
 // Selections that go on as far as they can before an `and`.
@@ -266,10 +276,19 @@ fn expect_longest(rt: &impl Abort, alloc: Global, printed: &str) -> Result<(), F
     Ok(())
 }
 
-#[test]
-fn selections_are_read_as_long_as_can_be(rt: HostRuntime) -> Result<(), Fail> {
-    for printed in &LONGEST {
-        expect_longest(&rt, rt.alloc(), printed)?;
+/// Tries selections one after the other.
+fn expect_all_longest(
+    rt: &impl Abort,
+    alloc: Global,
+    selections: &[&'static str],
+) -> Result<(), Fail> {
+    for printed in selections {
+        expect_longest(rt, alloc, printed)?;
     }
     Ok(())
+}
+
+#[test]
+fn selections_are_read_as_long_as_can_be(rt: HostRuntime) -> Result<(), Fail> {
+    expect_all_longest(&rt, rt.alloc(), &LONGEST)
 }

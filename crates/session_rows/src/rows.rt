@@ -1,8 +1,10 @@
 // Rows of tables, and how each is tried.
 ghost use Rattle.std.specs.Prelude.{◌<◌, ◌^◌};
 
+use ft_base::{Line, Memory, QueryFault};
 use ft_io::{MemoryShelf, MemorySink};
 use ft_session::{Status, run};
+use session_text::{Refusal, Reply, print_reply};
 use std::alloc::{AllocError, Global};
 use std::process::Abort;
 use std::test::Fail;
@@ -39,6 +41,14 @@ pub(crate) fn repeated(
     }
     text.push_str(behind)?;
     Ok(text)
+}
+
+/// The reply that refuses a query for the fault.
+pub(crate) fn query_refusal(alloc: Global, fault: QueryFault) -> Result<Line, Memory> {
+    let reply = Reply::Refused(Refusal::Query(fault));
+    let printed = print_reply(alloc, &reply);
+    std::mem::drop(reply);
+    printed
 }
 
 /// Whether the bytes are these texts, one behind the other.
