@@ -1,0 +1,52 @@
+use Rattle.std.proofs.Common.{◌≡◌, ◌+◌, ◌<◌, [], length, set, ap, sym, ◌∙◌, arith}
+use Rattle.std.specs.Prelude.{remove}
+use Rattle.std.proofs.lemmas.List.{get_or_read}
+use Rattle.shared_list.specs.Blocks.{joined, start_of, starts_from}
+use Rattle.shared_list.proofs.JoinedLemmas.{joined-split}
+use Rattle.shared_list.proofs.StartLemmas.{same-length, split-starts, remove-insert}
+use Rattle.shared_list.proofs.blocks.Blocks.split.Goals as goal
+
+pub insert-requires : goal.insert-requires
+insert-requires g c =
+    let inside = c.self.inside in
+    omega (arith, c.requires, inside.starts.ok.0, same-length inside.blocks.items inside.starts.items c.self.invariant, ap length c.self.view_is)
+
+pub invariant_of-self-in-Ok : goal.invariant_of-self-in-Ok
+invariant_of-self-in-Ok g c =
+    let inside = c.self.inside in
+    let number = c.args.number in
+    let front = c.in_ok-front.front in
+    let there : number < length inside.blocks.items = omega (arith, c.requires, ap length c.self.view_is) in
+    let halves = c.in_ok-front.ensures.0 ∙ get_or_read inside.blocks.items number c.index-2.result.now there c.index-2.ensures [] in
+    let middle : c.in-Some.middle ≡ start_of inside.blocks.items number + length front =
+    omega (arith, c.start.ensures, ap (λ blocks. start_of blocks number) c.self.view_is, c.in-Some.ensures, c.in_ok-front.ensures.1) in
+    c.in_ok-insert.ensures.items
+    ∙ split-starts inside.blocks.items inside.starts.items number c.in-Some.middle front c.in_ok-front.back c.self.invariant there halves middle
+    ∙ ap (λ blocks. starts_from 0 (set blocks number front)) (sym c.in-Ok.ensures.items)
+
+pub remove-requires : goal.remove-requires
+remove-requires g c =
+    let inside = c.self.inside in
+    omega (arith, c.requires, c.in_ok-insert.ensures.len, inside.starts.ok.0, same-length inside.blocks.items inside.starts.items c.self.invariant, ap length c.self.view_is)
+
+pub invariant_of-self-in-Err-1 : goal.invariant_of-self-in-Err-1
+invariant_of-self-in-Err-1 g c =
+    let inside = c.self.inside in
+    let number = c.args.number in
+    let same = same-length inside.blocks.items inside.starts.items c.self.invariant in
+    c.remove.ensures.items
+    ∙ ap (λ starts. remove starts (number + 1)) c.in_ok-insert.ensures.items
+    ∙ remove-insert inside.starts.items (number + 1) c.in-Some.middle (omega (arith, c.requires, same, ap length c.self.view_is))
+    ∙ c.self.invariant
+    ∙ ap (λ blocks. starts_from 0 blocks) (sym c.in-Err.ensures.items)
+
+pub returns-in-Ok-clause-same : goal.returns-in-Ok-clause-same
+returns-in-Ok-clause-same g c =
+    let inside = c.self.inside in
+    let number = c.args.number in
+    let front = c.in_ok-front.front in
+    let there : number < length inside.blocks.items = omega (arith, c.requires, ap length c.self.view_is) in
+    let halves = c.in_ok-front.ensures.0 ∙ get_or_read inside.blocks.items number c.index-2.result.now there c.index-2.ensures [] in
+    ap (λ blocks. joined (set blocks number front)) c.in-Ok.ensures.items
+    ∙ joined-split inside.blocks.items number front c.in_ok-front.back there halves
+    ∙ ap (λ blocks. joined blocks) c.self.view_is
