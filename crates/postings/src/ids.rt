@@ -1,0 +1,9 @@
+/// Which document of a collection is meant. The documents of one collection have different numbers, which say
+/// nothing else.
+#[derive(Clone, Copy, PartialEq, Eq)]
+pub struct DocId(pub u32);
+
+/// Which leaf of a document is meant: a text of it, whose words are kept together. The leaves of one document have
+/// different numbers, which say nothing else, not even in which order the leaves stand.
+#[derive(Clone, Copy, PartialEq, Eq)]
+pub struct LeafId(pub u32);

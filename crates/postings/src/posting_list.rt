@@ -1,0 +1,99 @@
+ghost use Rattle.std.specs.Prelude.{◌≡◌, ◌≤◌, ◌<◌, ◌+◌, [], insert, remove, length, slice_index_or, IfOk, OnErr, OnOk};
+ghost use Rattle.postings.specs.Places.{at_place};
+
+use crate::{Row, RowCursor};
+use ft_base::{Memory, Steps};
+use shared_list::SharedList;
+use std::alloc::Global;
+use std::marker::Model;
+use std::sync::ledger::Ledger;
+
+/// How many rows a block holds at most.
+const BLOCK_ROWS: usize = 1024;
+
+/// A list of rows, which contracts see as the plain list. A copy shares the blocks of the list that it was made of;
+/// neither sees a change to the other.
+#[derive(Drop)]
+pub struct PostingList {
+    rows: SharedList<Row, BLOCK_ROWS>,
+}
+
+impl Model for PostingList {
+    ghost use Rattle.std.specs.Prelude.{List};
+    ghost use Rattle.postings.specs.declared.row.Row.{Row};
+
+    ghost Value = { List Row };
+
+    ghost view = { λ list. list.rows };
+}
+
+impl PostingList {
+    /// The list without rows.
+    pub fn empty(alloc: Global) -> PostingList
+        ensures { result ≡ [] }
+    {
+        PostingList {
+            rows: SharedList::new(alloc),
+        }
+    }
+
+    /// The same list once more; no row is copied.
+    pub fn copy(&self) -> Result<PostingList, Memory>
+        ensures { IfOk result (λ copy. copy ≡ self.now) }
+    {
+        let rows = self.rows.copy()?;
+        Ok(PostingList { rows })
+    }
+
+    /// How many rows there are.
+    pub fn len(&self) -> usize
+        ensures { result ≡ length self.now }
+    {
+        self.rows.len()
+    }
+
+    /// The row at that place, counted from 0.
+    pub fn get(&self, at: usize) -> Row
+        requires { at < length self.now }
+        ensures { result ≡ slice_index_or self.now at result }
+    {
+        *self.rows.get(at)
+    }
+
+    /// Puts a row at that place, counted from 0, in front of the one that is there. Counts one row, also where
+    /// memory runs out and the list stays as it was.
+    pub fn put_row<L: Ledger>(
+        &mut self,
+        row: Row,
+        at: usize,
+        rows: &mut Steps<L>,
+    ) -> Result<(), Memory>
+        requires { at ≤ length self.old }
+        ensures ok { OnOk result (self.new ≡ insert self.old at row) }
+        ensures err { OnErr result (self.new ≡ self.old) }
+        ensures counted { rows.new ≡ rows.old + 1 }
+    {
+        rows.tick();
+        self.rows.insert(at, row)
+    }
+
+    /// Takes the row at that place, counted from 0, out of the list. Counts one row, also where memory runs out and
+    /// the list stays as it was.
+    pub fn take_row<L: Ledger>(&mut self, at: usize, rows: &mut Steps<L>) -> Result<Row, Memory>
+        requires { at < length self.old }
+        ensures row { IfOk result (λ row. row ≡ slice_index_or self.old at row) }
+        ensures ok { OnOk result (self.new ≡ remove self.old at) }
+        ensures err { OnErr result (self.new ≡ self.old) }
+        ensures counted { rows.new ≡ rows.old + 1 }
+    {
+        rows.tick();
+        self.rows.remove(at)
+    }
+
+    /// A cursor at the first row.
+    pub fn cursor(&self) -> RowCursor<'_>
+        ensures { result ≡ at_place self.now 0 }
+    {
+        RowCursor::new(self)
+    }
+}

@@ -1,0 +1,19 @@
+use crate::{DocId, LeafId};
+use ft_base::Memory;
+use shared_list::Share;
+use std::alloc::Global;
+
+/// One place at which a word stands (a posting): the document, its leaf, and how many words of the leaf stand in
+/// front of it.
+#[derive(Clone, Copy, PartialEq, Eq)]
+pub struct Row {
+    pub doc: DocId,
+    pub leaf: LeafId,
+    pub offset: u32,
+}
+
+impl Share for Row {
+    fn copies(alloc: Global, items: &[Row]) -> Result<Vec<Row>, Memory> {
+        Ok(Vec::from_slice(alloc, items)?)
+    }
+}
