@@ -1,0 +1,7 @@
+//! What an index means, as definitions: terms and their order; documents by their numbers, each with its leaves and
+//! their words; the rows, the terms and the counts that follow from them; and where a word stands in a document. No code
+//! but examples.
+#![tactic(auto)]
+
+mod entry_examples;
+mod examples;
