@@ -1,0 +1,132 @@
+"""Answers and faults as text, JSON, CSV and paths."""
+
+from __future__ import annotations
+
+import csv
+import json
+import sys
+from typing import Any, Callable, Iterable
+
+from rich.cells import cell_len
+from rich.console import Console
+from rich.text import Text
+
+from ftq_client import Element, NotYet, QueryFault, Refusal
+
+from .collection import Collection
+from .locating import Located
+from .mistakes import FAULTS, advice_for
+from .showing import Asked, Piece, shortened
+
+FORMATS = ("text", "json", "csv", "paths")
+
+
+def asked_of(path: str, collection: Collection) -> Asked:
+    """The words that a path asks for, under the collection's stems."""
+    return Asked(path, collection.stems.stem if collection.stems else None)
+
+
+def shown_text(located: Located, asked: Asked, whole: bool) -> str:
+    """An element's text in an answer for programs: all of it, or shortened."""
+    return located.text if whole else "".join(it.text for it in shortened(located.shown, asked))
+
+
+def shown_attributes(located: Located, width: int = 160) -> str:
+    """An element's attributes, for one without a text of its own."""
+    text = " ".join(f'@{name}="{value}"' for name, value in located.attributes)
+    return text if len(text) <= width else f"{text[:width]} …"
+
+
+def _row(located: Located, asked: Asked, whole: bool) -> dict[str, Any]:
+    return {
+        "document": located.element.document,
+        "file": str(located.path) if located.path else None,
+        "line": located.line,
+        "path": located.element.line,
+        "text": shown_text(located, asked, whole),
+    }
+
+
+def write_json(collection: Collection, path: str, count: int, shown: Iterable[Element], whole: bool, told: list[str]) -> None:
+    """One object: the question, how many elements there are, those that are shown, and the hints."""
+    asked = asked_of(path, collection)
+    rows = [_row(collection.locator.locate(it), asked, whole) for it in shown]
+    json.dump({"query": path, "count": count, "results": rows, "hints": told}, sys.stdout, ensure_ascii=False, indent=1)
+    sys.stdout.write("\n")
+
+
+def write_csv(collection: Collection, path: str, shown: Iterable[Element], whole: bool) -> None:
+    """A line of names, then one for each element."""
+    asked = asked_of(path, collection)
+    writer = csv.DictWriter(sys.stdout, ["document", "file", "line", "path", "text"], lineterminator="\n")
+    writer.writeheader()
+    writer.writerows(_row(collection.locator.locate(it), asked, whole) for it in shown)
+
+
+def write_paths(shown: Iterable[Element]) -> None:
+    """The program's own line for each element."""
+    sys.stdout.writelines(f"{it.line}\n" for it in shown)
+
+
+def write_text(console: Console, collection: Collection, path: str, shown: Iterable[Element], whole: bool) -> None:
+    """For each element its file and line, its path, and below them its text with the words that were asked for."""
+    asked = asked_of(path, collection)
+    for element in shown:
+        located = collection.locator.locate(element)
+        say(console, Text.assemble((located.place, "cyan"), "  ", (element.line, "dim")))
+        pieces = [Piece(located.text)] if whole and located.text else shortened(located.shown, asked)
+        if located.note:
+            say(console, Text(f"    ({located.note})", "yellow"))
+        if pieces:
+            say(console, Text.assemble("    ", *((it.text, "bold green") if it.asked else it.text for it in pieces)))
+        elif located.attributes:
+            say(console, Text(f"    {shown_attributes(located)}", "dim"))
+
+
+def counted(count: int) -> str:
+    """How many elements were found, in words."""
+    return "1 element" if count == 1 else f"{count:,} elements"
+
+
+def say(console: Console, text: Text | str) -> None:
+    """Writes a text as it is: neither cut into lines nor read as markup."""
+    console.print(text, soft_wrap=True, markup=False, highlight=False)
+
+
+def say_hints(console: Console, told: Iterable[str]) -> None:
+    """Writes hints, one in a line."""
+    for it in told:
+        say(console, Text(f"hint: {it}", "yellow"))
+
+
+def say_refusal(console: Console, path: str, refusal: Refusal, prefix: str = "") -> None:
+    """Writes what a refusal says. A fault of a path shows the path, a caret under its place, and what to write instead."""
+    if isinstance(refusal, QueryFault):
+        column = refusal.column(path)
+        say(console, Text(f"{prefix}{refusal.kind}: {FAULTS.get(refusal.kind, refusal.reply)}", "red"))
+        say(console, f"    {path}")
+        say(console, Text("    " + " " * cell_len(path[:column]) + "^", "red"))
+        advice = advice_for(path, refusal.kind, column)
+        if advice:
+            say(console, Text(f"    {advice.why}" + ("; write:" if advice.write else ""), "yellow"))
+            if advice.write:
+                say(console, Text(f"    {advice.write}", "green"))
+    elif isinstance(refusal, NotYet):
+        say(console, Text(f"{prefix}this is read as it should be, and this program doesn't carry it out yet", "red"))
+    else:
+        say(console, Text(prefix + _in_words(refusal), "red"))
+
+
+_WORDS: dict[int, Callable[[Refusal], str]] = {
+    1: lambda it: "this is no command of the language",
+    2: lambda it: "a name has 1 to 64 letters, digits, periods, low lines and hyphens",
+    3: lambda it: f"there is a document {it.name}: drop it first, or take another name",
+    4: lambda it: f"there is no document {it.name}",
+    8: lambda it: f"there is no document {it.name}; files lists those that there are",
+    9: lambda it: f"there is no list {it.name}: load it with stop {it.name} or thesaurus {it.name}, or by --stop",
+}
+
+
+def _in_words(refusal: Refusal) -> str:
+    say_it = _WORDS.get(refusal.number)
+    return say_it(refusal) if say_it else refusal.reply.removeprefix("! ").lstrip("0123456789 ")

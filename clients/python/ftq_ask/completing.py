@@ -1,0 +1,81 @@
+"""What can stand next in a command that is being typed."""
+
+from __future__ import annotations
+
+import re
+from typing import Callable, Iterable, Iterator
+
+from prompt_toolkit.completion import CompleteEvent, Completer, Completion
+from prompt_toolkit.document import Document
+
+from .collection import Collection
+from .paths import missing_end
+
+ASKING = ["help", "quit", "more", "files", "names"]
+"""The words of the prompt itself."""
+
+LANGUAGE = ["query", "print", "load", "drop", "stop", "stems", "thesaurus", "explain", "stats", "mark", "unmark", "insert", "replace", "delete"]
+"""The first words of the language's commands."""
+
+OPTIONS = [
+    "case sensitive",
+    "case insensitive",
+    "lowercase",
+    "uppercase",
+    "diacritics sensitive",
+    "diacritics insensitive",
+    "wildcards",
+    "stemming",
+    'stop words at "',
+    'stop words ("',
+    'thesaurus at "',
+    "no stop words",
+    "no stemming",
+    "no wildcards",
+]
+BEHIND_A_STRING = ["ftand ", "ftor ", "ftand ftnot ", "using ", "occurs ", "any word", "all words", "all", "phrase"]
+TIMES = ["exactly ", "at least ", "at most ", "from "]
+
+_NAME = r"[\w:.-]*"
+
+
+class PathCompleter(Completer):
+    """Completes commands, keywords, and the names of the collection's elements, attributes and documents."""
+
+    def __init__(self, collection: Collection) -> None:
+        known = collection.vocabulary
+        self._rules: list[tuple[re.Pattern[str], Callable[[], Iterable[str]]]] = [
+            (re.compile(rf"@({_NAME})$"), lambda: sorted(known.attributes)),
+            (re.compile(rf"(?:^|\s)doc\s*\(\s*[\"']({_NAME})$"), lambda: collection.sources),
+            (re.compile(r"\busing\s+([\w ]*)$"), lambda: OPTIONS),
+            (re.compile(r"\boccurs\s+([\w ]*)$"), lambda: TIMES),
+            (re.compile(r"\bcontains\s+(\w*)$"), lambda: ["text "]),
+            (re.compile(r"[\"'}]\s+(\w*)$"), lambda: BEHIND_A_STRING),
+            (re.compile(rf"/({_NAME})$"), lambda: [*sorted(known.elements), "*"]),
+            (re.compile(r"\[\s*(\.?[\w:-]*)$"), lambda: [". contains text ", ".//", *sorted(known.elements), "@", "not("]),
+            (re.compile(r"\b(?:and|or)\s+(\.?[\w:-]*)$"), lambda: [". contains text ", *sorted(known.elements), "@", "not("]),
+            (re.compile(r"[\].\w]\s+(\w*)$"), lambda: ["contains text ", "and ", "or "]),
+        ]
+
+    def get_completions(self, document: Document, complete_event: CompleteEvent) -> Iterator[Completion]:
+        """The words that go on from the text before the cursor."""
+        text = document.text_before_cursor
+        first = re.fullmatch(r"\s*(\w*)", text)
+        if first:
+            yield from self._from(first[1], [*(f"{it} " for it in LANGUAGE), *ASKING, "collection()", 'doc("'])
+            return
+        if re.fullmatch(rf"\s*(?:query|print|delete|replace)\s+({_NAME})", text):
+            yield from self._from(text.split()[-1] if text[-1] not in " \t" else "", ["collection()", 'doc("'])
+            return
+        inside_string = missing_end(text)[:1] in ("'", '"')
+        for pattern, words in self._rules:
+            told = pattern.search(text)
+            if told and (not inside_string or "doc" in pattern.pattern):
+                yield from self._from(told[1], words())
+                return
+
+    @staticmethod
+    def _from(begun: str, words: Iterable[str]) -> Iterator[Completion]:
+        for word in words:
+            if word.casefold().startswith(begun.casefold()) and word != begun:
+                yield Completion(word, start_position=-len(begun))

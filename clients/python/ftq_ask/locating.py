@@ -1,0 +1,119 @@
+"""From an element's line to its file, its place there and its text."""
+
+from __future__ import annotations
+
+from collections import OrderedDict
+from dataclasses import dataclass
+from pathlib import Path
+
+from lxml import etree
+
+from ftq_client import Element
+
+from .reading import Untaken, lines_of, read_tree, written_attributes, written_name
+
+
+@dataclass(frozen=True)
+class Source:
+    """Where a document came from, and the digest that its file had."""
+
+    path: Path
+    digest: bytes
+
+
+@dataclass(frozen=True)
+class Located:
+    """An element that was found, with its file, its line there from 1, the texts in it and its attributes; what isn't known is None."""
+
+    element: Element
+    path: Path | None = None
+    line: int | None = None
+    texts: tuple[str, ...] = ()
+    attributes: tuple[tuple[str, str], ...] = ()
+    note: str = ""
+
+    @property
+    def text(self) -> str:
+        """The element's text, as it stands in the file."""
+        return "".join(self.texts)
+
+    @property
+    def shown(self) -> str:
+        """The element's text with a blank at each boundary of elements, where a word ends too."""
+        return " ".join(self.texts)
+
+    @property
+    def place(self) -> str:
+        """`FILE:LINE`, as far as it is known."""
+        if self.path is None:
+            return self.element.document
+        return f"{self.path}:{self.line}" if self.line else str(self.path)
+
+
+class _Document:
+    """A document's tree, in which children are found by name and number in one look."""
+
+    def __init__(self, root: etree._Element, path: Path) -> None:
+        self.root = root
+        self.lines = lines_of(root, path)
+        self._children: dict[etree._Element, dict[str, list[etree._Element]]] = {}
+
+    def find(self, element: Element) -> etree._Element | None:
+        """The element to which the steps lead."""
+        first, *further = element.steps
+        if first.name != written_name(self.root) or first.number != 1:
+            return None
+        here = self.root
+        for step in further:
+            children = self._by_name(here).get(step.name, [])
+            if step.number > len(children):
+                return None
+            here = children[step.number - 1]
+        return here
+
+    def _by_name(self, parent: etree._Element) -> dict[str, list[etree._Element]]:
+        if parent not in self._children:
+            found: dict[str, list[etree._Element]] = {}
+            for child in parent:
+                found.setdefault(written_name(child), []).append(child)
+            self._children[parent] = found
+        return self._children[parent]
+
+
+class Locator:
+    """Finds elements in their files again. Some documents are kept, since answers name one document after another."""
+
+    KEPT = 4
+
+    def __init__(self, sources: dict[str, Source]) -> None:
+        self._sources = sources
+        self._kept: OrderedDict[str, _Document | str] = OrderedDict()
+
+    def locate(self, element: Element) -> Located:
+        """The element in its file, or why it can't be shown there: a document without a file, a file that has changed."""
+        source = self._sources.get(element.document)
+        if source is None:
+            return Located(element, note="this document wasn't read from a file")
+        document = self._document(element.document, source)
+        if isinstance(document, str):
+            return Located(element, source.path, note=document)
+        found = document.find(element)
+        if found is None:
+            return Located(element, source.path, note="the document was edited since it was read")
+        return Located(element, source.path, document.lines.get(found), tuple(found.itertext()), tuple(written_attributes(found)))
+
+    def _document(self, name: str, source: Source) -> "_Document | str":
+        if name not in self._kept:
+            self._kept[name] = self._read(source)
+            if len(self._kept) > self.KEPT:
+                self._kept.popitem(last=False)
+        self._kept.move_to_end(name)
+        return self._kept[name]
+
+    @staticmethod
+    def _read(source: Source) -> "_Document | str":
+        try:
+            root, digest = read_tree(source.path)
+        except Untaken as untaken:
+            return f"the file can't be read any more: {untaken.reason}"
+        return _Document(root, source.path) if digest == source.digest else "the file has changed since it was read"

@@ -1,0 +1,318 @@
+"""The usual mistakes in a path: how each shows, why it is one, and what to write instead."""
+
+from __future__ import annotations
+
+import re
+from dataclasses import dataclass
+from typing import Callable
+
+from .paths import missing_end
+
+_STRING = r"(?:\"[^\"]*\"|'[^']*')"
+_NAME = r"[\w:][\w:.-]*"
+_OPTION = r"(?:case|diacritics)\s+(?:in)?sensitive|lowercase|uppercase|stemming|wildcards|stop\s+words|thesaurus"
+_KEYWORDS = "CONTAINS|TEXT|FTAND|FTOR|FTNOT|USING|OCCURS|TIMES|ANY|ALL|WORDS?|PHRASE|STEMMING|WILDCARDS|COLLECTION|DOC"
+
+Put = str | Callable[[re.Match[str]], str]
+
+
+@dataclass(frozen=True)
+class Mistake:
+    """A mistake: the pattern that shows it, the reason, and what stands in the pattern's place (None where nothing can)."""
+
+    why: str
+    pattern: re.Pattern[str]
+    put: Put | None
+    wrong: str
+
+    def write(self, path: str) -> str | None:
+        """The path without this mistake."""
+        return None if self.put is None else self.pattern.sub(self.put, path)
+
+
+@dataclass(frozen=True)
+class Advice:
+    """What is to be said of a mistake: the reason, and the path to write, if there is one."""
+
+    why: str
+    write: str | None
+
+
+def _mistake(why: str, pattern: str, put: Put | None, wrong: str) -> Mistake:
+    return Mistake(why, re.compile(pattern), put, wrong)
+
+
+def _contains_call(told: re.Match[str]) -> str:
+    what = "." if told[1].strip() in ("text()", ".") else told[1].strip()
+    return f"{what} contains text {told[2]}"
+
+
+def _singular(told: re.Match[str]) -> str:
+    return {"wildcard": "using wildcards"}.get(told[1], "using stemming" if told[1].startswith("stem") else "using stop words")
+
+
+MISTAKES: list[Mistake] = [
+    _mistake("strings stand in straight quotation marks", "[“”„‟«»]", '"', "collection()//p[. contains text “storm”]"),
+    _mistake("a path begins at the documents", rf"^\s*(?=//?\s*(?:{_NAME}|\*))", "collection()", '//p[. contains text "storm"]'),
+    _mistake(
+        "a path has one step at least; /* leads to the roots",
+        rf"^\s*(collection\s*\(\s*\)|doc\s*\(\s*{_STRING}\s*\))\s*/*\s*$",
+        r"\1/*",
+        "collection()",
+    ),
+    _mistake("the parentheses belong to it", r"^\s*collection(?=\s*/)", "collection()", "collection//p"),
+    _mistake(
+        "there is one collection; a document is named with doc",
+        rf"^\s*collection\s*\(\s*({_STRING})\s*\)",
+        r"doc(\1)",
+        'collection("moby")//p',
+    ),
+    _mistake("a document's name is a string", r"^\s*doc\s*\(\s*([A-Za-z0-9._-]+)\s*\)", r'doc("\1")', "doc(moby)//p"),
+    _mistake("the first line of an answer is its count", r"^\s*count\s*\(\s*(.*)\)\s*$", r"\1", "count(collection()//p)"),
+    _mistake(
+        "a question is one path, without variables and return",
+        rf"^\s*for\s+\$\w+\s+in\s+(.*?)\s+where\s+\$\w+(?:/[\w/]*)?\s+contains\s+text\s+({_STRING})\s+return\s+.*$",
+        r"\1[. contains text \2]",
+        'for $p in collection()//p where $p contains text "storm" return $p',
+    ),
+    _mistake(
+        "a question is one path: ask two",
+        rf"\s*[|,]\s*(?:collection\s*\(\s*\)|doc\s*\(\s*{_STRING}\s*\)).*$",
+        "",
+        "collection()//p | collection()//title",
+    ),
+    _mistake("it is called contains text", r"\bftcontains\b", "contains text", 'collection()//p[. ftcontains "storm"]'),
+    _mistake(
+        "contains text stands between the element and the string",
+        rf"\bcontains\s*\(\s*(text\(\)|[^,()]+?)\s*,\s*({_STRING})\s*\)",
+        _contains_call,
+        'collection()//p[contains(., "storm")]',
+    ),
+    _mistake(
+        "contains is followed by text",
+        r"\bcontains\s+(?=[\"'{(]|ftnot\b)",
+        "contains text ",
+        'collection()//p[. contains "storm"]',
+    ),
+    _mistake(
+        "texts are no steps: an element's text is asked for in its brackets",
+        r"//?\s*text\s*\(\s*\)\s*$",
+        "",
+        "collection()//p/text()",
+    ),
+    _mistake(
+        "a period stands for the element with all that is in it",
+        r"\btext\s*\(\s*\)",
+        ".",
+        'collection()//p[text() contains text "storm"]',
+    ),
+    _mistake("any element is written *", r"\bnode\s*\(\s*\)", "*", "collection()//p/node()"),
+    _mistake(
+        "attributes are no steps; an element that has one is asked for in brackets",
+        rf"//?\s*@({_NAME})\s*$",
+        r"[@\1]",
+        "collection()//book/@id",
+    ),
+    _mistake(
+        "the text of attributes isn't searched; their whole value can be asked for",
+        rf"@({_NAME})\s+contains\s+text\s+({_STRING})",
+        r"@\1 = \2",
+        'collection()//book[@id contains text "b1"]',
+    ),
+    _mistake("an attribute's value is a string", rf"@({_NAME})\s*=\s*([0-9]+)", r'@\1 = "\2"', "collection()//book[@id = 1]"),
+    _mistake(
+        "there is = alone; not( .. ) turns it",
+        rf"@({_NAME})\s*!=\s*({_STRING}|[0-9]+)",
+        r"not(@\1 = \2)",
+        'collection()//book[@id != "b1"]',
+    ),
+    _mistake("it is written =", rf"@({_NAME})\s+eq\s+", r"@\1 = ", 'collection()//book[@id eq "b1"]'),
+    _mistake(
+        "attributes are compared by = alone",
+        rf"@({_NAME})\s*[<>]=?\s*(?:{_STRING}|[0-9]+)",
+        None,
+        'collection()//book[@year > "1900"]',
+    ),
+    _mistake(
+        "an element's text is searched; only attributes are compared by =",
+        rf"(?<=\[)\s*({_NAME}|\.)\s*=\s*({_STRING})",
+        r"\1 contains text \2",
+        'collection()//book[title = "Garden Notes"]',
+    ),
+    _mistake(
+        "a place is a number alone",
+        r"\[\s*position\s*\(\s*\)\s*=\s*([0-9]+)\s*\]",
+        r"[\1]",
+        "collection()//p[position() = 2]",
+    ),
+    _mistake("places are counted from the front alone", r"\blast\s*\(\s*\)", None, "collection()//p[last()]"),
+    _mistake(
+        "a number stands alone in its brackets",
+        r"\[\s*([0-9]+)\s+and\s+([^\]]+)\]",
+        r"[\2][\1]",
+        "collection()//book[1 and @id]",
+    ),
+    _mistake(
+        "no step leads upwards; say in brackets what stands below",
+        rf"//\s*({_NAME})((?:\[[^\]]*\])*)/\s*\.\.",
+        r"//*[\1\2]",
+        'collection()//p[. contains text "storm"]/..',
+    ),
+    _mistake(
+        "between strings it is ftand",
+        r"(?<=[\"'})])\s*(?:&&|&|\bAND\b)\s*(?=[\"'{(]|ftnot)",
+        " ftand ",
+        'collection()//p[. contains text "storm" && "ship"]',
+    ),
+    _mistake(
+        "between strings it is ftor",
+        r"(?<=[\"'})])\s*(?:\|\|?|\bOR\b)\s*(?=[\"'{(]|ftnot)",
+        " ftor ",
+        'collection()//p[. contains text "storm" || "ship"]',
+    ),
+    _mistake(
+        "between strings it is ftand",
+        r"(?<=[\"'})])(\s+)and(\s+)(?=[\"'{])",
+        r"\1ftand\2",
+        'collection()//p[. contains text "storm" and "ship"]',
+    ),
+    _mistake(
+        "between strings it is ftor",
+        r"(?<=[\"'})])(\s+)or(\s+)(?=[\"'{])",
+        r"\1ftor\2",
+        'collection()//p[. contains text "storm" or "ship"]',
+    ),
+    _mistake(
+        "between strings it is ftand, or a blank inside one string",
+        r"(?<=[\"'])(\s+)(?=[\"'{])",
+        r" ftand ",
+        'collection()//p[. contains text "storm" "ship"]',
+    ),
+    _mistake(
+        "without a string is ftand ftnot",
+        r"(?<=[\"'})])\s+(?:ftnot|but\s+not|except)\s+(?=[\"'{(])",
+        " ftand ftnot ",
+        'collection()//p[. contains text "storm" ftnot "night"]',
+    ),
+    _mistake(
+        "between strings it is ftnot",
+        r"(\btext\s+|\bftand\s+|\bftor\s+|\()not\s+(?=[\"'{])",
+        lambda told: f"{told[1]}ftnot ",
+        'collection()//p[. contains text "storm" ftand not "night"]',
+    ),
+    _mistake(
+        "not has parentheses",
+        r"(\[|\band\s+|\bor\s+)not\s+((?:\.|@|\w)[^\]]*)(?=\])",
+        r"\1not(\2)",
+        'collection()//p[not . contains text "storm"]',
+    ),
+    _mistake(
+        "keywords are written small",
+        rf"(?<![\"'\w/])(?:{_KEYWORDS})(?![\"'\w])",
+        lambda told: told[0].lower(),
+        'collection()//p[. CONTAINS TEXT "storm"]',
+    ),
+    _mistake(
+        "an option begins with using",
+        rf"\bwith(?:out)?\s+({_OPTION})",
+        r"using \1",
+        'collection()//p[. contains text "storm" with stemming]',
+    ),
+    _mistake(
+        "the option's name is another",
+        r"\busing\s+(wildcard|stems?|stemmer|stop\s*words?)(?![\w ]|s\b)(?!\s*\()",
+        _singular,
+        'collection()//p[. contains text "sto.*" using wildcard]',
+    ),
+    _mistake(
+        "an option begins with using",
+        rf"(?<=[\"'}})])\s+({_OPTION})",
+        r" using \1",
+        'collection()//p[. contains text "Storm" case sensitive]',
+    ),
+    _mistake(
+        "there is no search by similarity; a pattern finds spellings",
+        r"\s*\busing\s+fuzzy(?:\s+[0-9]+\s+errors)?",
+        "",
+        'collection()//p[. contains text "storm" using fuzzy]',
+    ),
+    _mistake(
+        "a number of times is exactly, at least, at most or from .. to",
+        r"\boccurs\s+([0-9]+)",
+        r"occurs exactly \1",
+        'collection()//p[. contains text "the" occurs 3 times]',
+    ),
+    _mistake(
+        "a number of times ends with times",
+        r"\boccurs\s+((?:exactly|at\s+least|at\s+most)\s+[0-9]+|from\s+[0-9]+\s+to\s+[0-9]+)(?![0-9]|\s+times)",
+        r"occurs \1 times",
+        'collection()//p[. contains text "the" occurs at least 2]',
+    ),
+    _mistake(
+        "a window has a unit",
+        r"\bwindow\s+([0-9]+)(?![0-9]|\s+(?:words|sentences|paragraphs))",
+        r"window \1 words",
+        'collection()//p[. contains text "storm" ftand "ship" window 5]',
+    ),
+    _mistake(
+        "a distance is exactly, at least, at most or from .. to",
+        r"\bdistance\s+([0-9]+)(?:\s+(?:words)?)?",
+        r"distance at most \1 words",
+        'collection()//p[. contains text "storm" ftand "ship" distance 5 words]',
+    ),
+    _mistake(
+        "words near each other are asked for by a window",
+        r"\b(?:within|near)\s+([0-9]+)(?:\s+words)?",
+        r"window \1 words",
+        'collection()//p[. contains text "storm" ftand "ship" within 5 words]',
+    ),
+    _mistake(
+        "a quote inside a string is doubled",
+        r"\\([\"'])",
+        r"\1\1",
+        'collection()//p[. contains text "the \\"big\\" storm"]',
+    ),
+    _mistake("names are as they are written, with their prefix", r"\*:(?=\w)", "", "collection()//*:p"),
+    _mistake("a path ends with a name", r"\s*/+\s*$", "", "collection()//p/"),
+    _mistake("there are no comments in a path", r"\(:.*?:\)", "", "collection()//p(: paragraphs :)"),
+    _mistake(
+        "a question is a path; a string stands in brackets behind contains text",
+        rf"^\s*({_STRING}(?:.*\S)?)\s*$",
+        r"collection()//*[. contains text \1]",
+        '"storm" ftand "ship"',
+    ),
+    _mistake(
+        "a question is a path; a string stands in brackets behind contains text",
+        r"^\s*([\w’' -]+?)\s*$",
+        r'collection()//*[. contains text "\1"]',
+        "heavy storm",
+    ),
+]
+"""The mistakes, in the order in which they are looked for."""
+
+FAULTS = {
+    "syntax": "with what stands here the text before it doesn't go on",
+    "deep": "brackets, parentheses or filters stand more than 64 deep in one another",
+    "number": "the number is over 1,000,000",
+    "phrases": "with this string there are more than 64 phrases: ask in several queries",
+    "option twice": "this is the second option of its group here: keep one",
+    "bad wildcard": "the pattern is badly formed: .{n,m} has two numbers, the smaller in front; a backslash stands before what is no pattern",
+    "mild not exclude": "ftnot and occurs have no place inside an operand of not in",
+    "inside filter": "ftnot inside another, and occurs, have no place inside a selection with a filter: put the filter on a part",
+}
+"""What each fault of a query says, in a few words."""
+
+
+def advice_for(path: str, kind: str, column: int) -> Advice | None:
+    """What to write instead of a path that is faulty at that column, where it is one of the usual mistakes."""
+    if kind != "syntax":
+        return None
+    found = [(mistake, told) for mistake in MISTAKES for told in mistake.pattern.finditer(path)]
+    near = [it for it in found if it[1].start() - 1 <= column <= it[1].end() + 1] or found
+    if near:
+        mistake = near[0][0]
+        return Advice(mistake.why, mistake.write(path))
+    missing = missing_end(path)
+    if missing:
+        return Advice(f"it isn't closed: {missing} is missing", path + missing)
+    return None

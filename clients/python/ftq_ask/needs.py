@@ -1,0 +1,37 @@
+"""Debian's packages that the tools need, and what is said where one is missing."""
+
+from __future__ import annotations
+
+import importlib
+import sys
+from pathlib import Path
+
+PACKAGES = {
+    "lxml": "python3-lxml",
+    "prompt_toolkit": "python3-prompt-toolkit",
+    "rich": "python3-rich",
+    "Stemmer": "python3-stemmer",
+    "distributed": "python3-distributed",
+}
+"""The package that brings each module."""
+
+USUAL = "apt-get install python3-lxml python3-prompt-toolkit python3-rich python3-stemmer"
+"""The line that installs all that the tools use on one machine."""
+
+
+def line_for(module: str) -> str:
+    """The line that installs what is missing: the usual packages, or the one that only a cluster needs."""
+    package = PACKAGES[module]
+    return USUAL if package in USUAL else f"apt-get install {package}"
+
+
+def run(module: str) -> int:
+    """The status of the `main` of one of this package's modules; 2 where something that it imports isn't installed."""
+    try:
+        return int(importlib.import_module(module).main(sys.argv[1:]))
+    except ModuleNotFoundError as error:
+        missing = (error.name or "").split(".")[0]
+        if missing not in PACKAGES:
+            raise
+        print(f"{Path(sys.argv[0]).name}: {PACKAGES[missing]} is not installed for {sys.executable}: {line_for(missing)}", file=sys.stderr)
+        return 2

@@ -1,0 +1,74 @@
+"""Packs XML files into a session for ftq, on standard output.
+
+Each file becomes a `load` command behind a comment with its path; a folder gives all its files that end in .xml, in the order of
+their paths. Files are read as `ask` reads them: document types, CDATA sections, entities and encodings are no hindrance. What can't
+be taken is named on standard error with its line and the reason; the rest goes on, and the status is then 1.
+"""
+
+from __future__ import annotations
+
+import argparse
+import sys
+from pathlib import Path
+from typing import BinaryIO
+
+from ftq_client import command_bytes
+
+from .naming import Names
+from .reading import MOST_BYTES, Reading, Untaken, files_of, read_file
+
+MOST_DOCUMENTS = 4_096
+
+
+class Packing:
+    """A session that is being written."""
+
+    def __init__(self, out: BinaryIO) -> None:
+        self.out = out
+        self.names = Names()
+        self.documents = 0
+        self.bytes = 0
+
+    def document(self, path: Path, reading: Reading) -> None:
+        """Writes a document behind a comment with its file."""
+        comment = f"# {reading.path}".replace("\n", " ").encode("utf-8", errors="replace") + b"\n"
+        self.write(comment + command_bytes(f"load {self.names.name_for(path)}", reading.content))
+        self.documents += 1
+
+    def write(self, part: bytes) -> None:
+        """Writes a part of the session, and counts its bytes."""
+        self.out.write(part)
+        self.bytes += len(part)
+
+    def faults(self) -> list[str]:
+        """What is too much for one session."""
+        found = []
+        if self.documents > MOST_DOCUMENTS:
+            found.append(f"a session holds {MOST_DOCUMENTS:,} documents at once, and these are {self.documents:,}")
+        if self.bytes > MOST_BYTES:
+            found.append(f"a session has at most {MOST_BYTES:,} bytes, and this one has {self.bytes:,}")
+        return found
+
+
+def main(arguments: list[str]) -> int:
+    """The tool: 0, or 1 where something was left out or is too much."""
+    parser = argparse.ArgumentParser(prog="pack", description=__doc__, formatter_class=argparse.RawDescriptionHelpFormatter)
+    parser.add_argument("paths", nargs="+", type=Path, metavar="FILE|FOLDER")
+    parser.add_argument("--query", action="append", default=[], metavar="PATH", help="adds a query behind the documents; may be given again")
+    options = parser.parse_args(arguments)
+    packing, status = Packing(sys.stdout.buffer), 0
+    for shown, path in files_of(options.paths):
+        try:
+            if isinstance(path, Untaken):
+                raise path
+            packing.document(shown, read_file(path))
+        except Untaken as untaken:
+            print(f"pack: {untaken}", file=sys.stderr)
+            status = 1
+    for query in options.query:
+        packing.write(command_bytes(f"query {query}"))
+    packing.out.flush()
+    for fault in packing.faults():
+        print(f"pack: {fault}", file=sys.stderr)
+        status = 1
+    return status

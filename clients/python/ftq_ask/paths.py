@@ -1,0 +1,113 @@
+"""The symbols of a path, and what can be told from them without reading it as the program does."""
+
+from __future__ import annotations
+
+import re
+from dataclasses import dataclass
+from typing import Iterator
+
+_FIRST = (
+    ":_A-Za-z\u00c0-\u00d6\u00d8-\u00f6\u00f8-\u02ff\u0370-\u037d\u037f-\u1fff\u200c\u200d\u2070-\u218f\u2c00-\u2fef"
+    "\u3001-\ud7ff\uf900-\ufdcf\ufdf0-\ufffd\U00010000-\U000effff"
+)
+_FURTHER = _FIRST + "\\-.0-9\u00b7\u0300-\u036f\u203f\u2040"
+_SYMBOL = re.compile(
+    rf"(?P<blank>\s+)|(?P<string>\"(?:[^\"]|\"\")*\"|'(?:[^']|'')*')|(?P<open>[\"'].*)|(?P<name>[{_FIRST}][{_FURTHER}]*)"
+    r"|(?P<number>[0-9]+)|(?P<mark>//|[/\[\](){},@=.*])|(?P<other>.)",
+    re.DOTALL,
+)
+_CLOSER = {"(": ")", "[": "]", "{": "}"}
+
+
+@dataclass(frozen=True)
+class Symbol:
+    """A symbol: its kind (`string`, `open` for a string without an end, `name`, `number`, `mark`, `other`), text and place."""
+
+    kind: str
+    text: str
+    start: int
+
+    @property
+    def value(self) -> str:
+        """What a string says."""
+        quote = self.text[0]
+        return self.text[1:-1].replace(quote * 2, quote) if self.kind == "string" else self.text
+
+
+def symbols(path: str) -> list[Symbol]:
+    """The symbols of a text, blanks left out."""
+    return [Symbol(it.lastgroup or "other", it[0], it.start()) for it in _SYMBOL.finditer(path) if it.lastgroup != "blank"]
+
+
+def missing_end(path: str) -> str:
+    """What a text lacks to its end: the quote of an open string and the brackets that are open."""
+    ends = []
+    quote = ""
+    for symbol in symbols(path):
+        if symbol.kind == "open":
+            quote = symbol.text[0]
+        elif symbol.text in _CLOSER:
+            ends.append(_CLOSER[symbol.text])
+        elif ends and symbol.text == ends[-1]:
+            ends.pop()
+    return quote + "".join(reversed(ends))
+
+
+def asked_strings(path: str) -> list[str]:
+    """The strings that a path looks for in texts: not those of attributes, of names, of stop words and of languages."""
+    found: list[str] = []
+    inside, stop_words = False, False
+    row = symbols(path)
+    for number, symbol in enumerate(row):
+        before = [it.text for it in row[max(0, number - 2) : number]]
+        if before == ["contains", "text"]:
+            inside = True
+        stop_words = (before[-2:] == ["words", "("] or stop_words) and symbol.text != ")"
+        names_something = bool(before) and before[-1] in ("=", "at", "relationship", "language")
+        if symbol.kind == "string" and inside and not stop_words and not names_something:
+            found.append(symbol.value)
+    return found
+
+
+@dataclass(frozen=True)
+class Named:
+    """A name in a path: of an element or of an attribute, with its place."""
+
+    kind: str
+    name: str
+    start: int
+
+
+KEYWORDS = frozenset(
+    "contains text and or not using ftand ftor ftnot occurs times any all word words phrase exactly at least most from to".split()
+    + "case diacritics sensitive insensitive lowercase uppercase stemming wildcards stop thesaurus relationship levels no".split()
+    + "language union except ordered window distance sentences paragraphs same different sentence paragraph start end entire content".split()
+)
+"""The words of the language, as they stand behind a value or between predicates."""
+
+_BEFORE_NAME = frozenset({"/", "//", "[", "(", "and", "or"})
+
+
+def names_in(path: str) -> Iterator[Named]:
+    """The names of elements and attributes that a path asks for, where its symbols leave no doubt."""
+    row = symbols(path)
+    inside = False
+    for number, symbol in enumerate(row):
+        before = row[number - 1].text if number else ""
+        after = row[number + 1].text if number + 1 < len(row) else ""
+        if [before, symbol.text] == ["contains", "text"]:
+            inside = True
+        elif symbol.text == "]" or (inside and symbol.text in ("and", "or")):
+            inside = False
+        if symbol.kind != "name" or inside:
+            continue
+        if before == "@":
+            yield Named("attribute", symbol.text, symbol.start)
+        elif before in _BEFORE_NAME and after != "(":
+            yield Named("element", symbol.text, symbol.start)
+
+
+def is_said(path: str, *words: str) -> bool:
+    """Whether these symbols stand beside each other in a path, outside strings."""
+    row = [it.text for it in symbols(path)]
+    return any(row[number : number + len(words)] == list(words) for number in range(len(row)))

@@ -1,0 +1,219 @@
+"""The prompt: commands that are typed, one after the other."""
+
+from __future__ import annotations
+
+import os
+import re
+import sys
+from pathlib import Path
+from typing import Iterator
+
+from prompt_toolkit import PromptSession
+from prompt_toolkit.history import FileHistory
+from prompt_toolkit.key_binding import KeyBindings, KeyPressEvent
+from rich.console import Console
+from rich.text import Text
+
+from ftq_client import ClientError, Element, ProgramEnded, Refusal, Said
+from ftq_client.blocks import BLOCK_WORDS
+
+from . import answers
+from .collection import Collection
+from .completing import ASKING, LANGUAGE, PathCompleter
+from .hints import hints
+from .paths import missing_end
+
+SHOWN = 10
+"""How many elements are shown at a time."""
+
+HELP = """\
+A question is a path; query may stand in front of it:
+
+    collection()//p[. contains text "storm"]           elements named p with the word
+    collection()//p[. contains text "heavy storm"]     a phrase
+    doc("NAME")//chapter[title contains text "sea" ftand ftnot "storm"]
+    collection()//p[. contains text "regist.*" using wildcards]
+    print PATH                                         the elements as XML
+
+more                    the next elements of the last answer
+files                   the documents with their files
+names                   the names of elements and attributes, and in how many documents they are
+load NAME, stop NAME, stems, thesaurus NAME            lines follow, up to one that is a single period
+drop NAME               takes a document out
+quit                    ends (also Ctrl-D)
+
+Open brackets and strings go on in the next line; an empty line ends them. Tab completes. docs/QUERIES.md has the whole language."""
+
+
+def is_whole(text: str) -> bool:
+    """Whether what was typed is a whole command: no bracket, string or block is open, or an empty line ends it all the same."""
+    lines = text.split("\n")
+    if first_word(text) in BLOCK_WORDS:
+        return lines[-1].strip() == "."
+    return not missing_end(text) or (len(lines) > 1 and not lines[-1].strip())
+
+
+def first_word(text: str) -> str:
+    """The first word of what was typed."""
+    return (text.split() or [""])[0]
+
+
+class Conversation:
+    """What is asked and answered, and the answer of which `more` shows more."""
+
+    def __init__(self, collection: Collection, out: Console) -> None:
+        self.collection = collection
+        self.out = out
+        self._path = ""
+        self._rest: list[Element] = []
+
+    def do(self, typed: str) -> bool:
+        """Does what was typed; False where it ends the conversation."""
+        text = typed.strip()
+        word, _, rest = text.partition(" ")
+        if not text:
+            return True
+        if text in ("quit", "exit", "q"):
+            return False
+        if text in ASKING or word == "help":
+            {"help": self._help, "more": self._more, "files": self._files, "names": self._names}[word]()
+        elif word in BLOCK_WORDS:
+            self._block(text)
+        elif word == "print":
+            self._asked(_one_line(rest), as_xml=True)
+        elif word == "query" and first_word(rest) != "at":
+            self._asked(_one_line(rest), as_xml=False)
+        elif word in LANGUAGE:
+            self._command(_one_line(text), None)
+        else:
+            self._asked(_one_line(text), as_xml=False)
+        return True
+
+    def _asked(self, path: str, as_xml: bool) -> None:
+        try:
+            found = self.collection.query(path)
+            printed = self.collection.engine.print(path) if as_xml else []
+        except Refusal as refusal:
+            answers.say_refusal(self.out, path, refusal)
+            return
+        answers.say(self.out, Text(answers.counted(len(found)), "bold"))
+        if as_xml:
+            for element, xml in zip(found, printed):
+                answers.say(self.out, Text(self.collection.locator.locate(element).place, "cyan"))
+                answers.say(self.out, f"    {xml}")
+        else:
+            self._path, self._rest = path, found
+            self._more()
+        answers.say_hints(self.out, hints(path, len(found), self.collection.vocabulary, self.collection.has_stems))
+
+    def _command(self, line: str, block: bytes | None) -> None:
+        try:
+            reply = self.collection.command(line, block)
+        except Refusal as refusal:
+            answers.say_refusal(self.out, line.partition(" ")[2], refusal)
+            return
+        except ValueError as error:
+            answers.say(self.out, Text(str(error), "red"))
+            return
+        answers.say(self.out, reply.text if isinstance(reply, Said) else "ok")
+
+    def _block(self, text: str) -> None:
+        """A command with a block: its first line, then the block's up to the period."""
+        line, *further = text.split("\n")
+        self._command(line.strip(), "\n".join(further[:-1]).encode("utf-8"))
+
+    def _help(self) -> None:
+        answers.say(self.out, HELP)
+
+    def _more(self) -> None:
+        shown, self._rest = self._rest[:SHOWN], self._rest[SHOWN:]
+        answers.write_text(self.out, self.collection, self._path, shown, whole=False)
+        if self._rest:
+            answers.say(self.out, Text(f"{len(self._rest):,} further: more", "dim"))
+
+    def _files(self) -> None:
+        for name, source in self.collection.sources.items():
+            answers.say(self.out, f"{name}  {source.path}")
+
+    def _names(self) -> None:
+        known = self.collection.vocabulary
+        for kind, names in (("elements", known.elements), ("attributes", known.attributes)):
+            rows = sorted(names.items(), key=lambda it: (-it[1], it[0]))
+            answers.say(self.out, Text(f"{kind}: ", "bold").append(", ".join(f"{name} {count}" for name, count in rows), ""))
+
+
+def _one_line(text: str) -> str:
+    return re.sub(r"\s*\n\s*", " ", text).strip()
+
+
+def converse(collection: Collection, errors: Console) -> int:
+    """Reads commands until the end, from a terminal with history and completion, otherwise line by line."""
+    out = Console(highlight=False)
+    conversation = Conversation(collection, out)
+    typed = _typed_at_terminal(collection) if sys.stdin.isatty() and out.is_terminal else _typed_in_pipe()
+    for text in typed:
+        try:
+            if not conversation.do(text):
+                break
+        except KeyboardInterrupt:
+            answers.say(errors, "interrupted; the program is started again for the next question")
+        except ProgramEnded as ended:
+            answers.say(errors, f"{ended}; it is started again for the next question")
+        except ClientError as error:
+            answers.say(errors, str(error))
+    return 0
+
+
+def _typed_in_pipe() -> Iterator[str]:
+    """Whole commands from lines of standard input."""
+    open_lines: list[str] = []
+    for line in sys.stdin:
+        open_lines.append(line.rstrip("\n"))
+        text = "\n".join(open_lines)
+        if is_whole(text):
+            yield text
+            open_lines = []
+    if open_lines:
+        yield "\n".join(open_lines)
+
+
+def _typed_at_terminal(collection: Collection) -> Iterator[str]:
+    """Whole commands from a terminal."""
+    session: PromptSession[str] = PromptSession(
+        "ask> ",
+        multiline=True,
+        prompt_continuation="...> ",
+        history=FileHistory(os.fspath(_history_file())),
+        completer=PathCompleter(collection),
+        complete_while_typing=False,
+        key_bindings=_keys(),
+    )
+    while True:
+        try:
+            yield session.prompt()
+        except KeyboardInterrupt:
+            continue
+        except EOFError:
+            return
+
+
+def _keys() -> KeyBindings:
+    """Enter takes a whole command, and goes on in a new line otherwise."""
+    keys = KeyBindings()
+
+    @keys.add("enter")
+    def _(event: KeyPressEvent) -> None:
+        buffer = event.current_buffer
+        if is_whole(buffer.text):
+            buffer.validate_and_handle()
+        else:
+            buffer.insert_text("\n")
+
+    return keys
+
+
+def _history_file() -> Path:
+    """Where the typed commands are kept from one time to the next."""
+    folder = Path(os.environ.get("XDG_STATE_HOME") or Path.home() / ".local" / "state") / "ftq"
+    folder.mkdir(parents=True, exist_ok=True)
+    return folder / "history"

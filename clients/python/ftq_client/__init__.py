@@ -1,0 +1,74 @@
+"""A client of ftq: loads XML documents into a running program and asks it questions.
+
+    from ftq_client import Session
+
+    with Session() as session:
+        session.load("one", b"<a>Hello <b>world</b></a>")
+        for element in session.query('collection()//a[. contains text "hello"]'):
+            print(element.document, element.steps, element.line)
+
+A command that the program refuses raises a `Refusal`, a program that ends early `ProgramEnded`.
+"""
+
+from .blocks import block_bytes, command_bytes
+from .faults import (
+    BadCommand,
+    BadLine,
+    BadName,
+    ClientError,
+    DocumentFault,
+    Full,
+    ManyTargets,
+    NameTaken,
+    NoSuchDocument,
+    NoSuchList,
+    NoSuchName,
+    NoTarget,
+    NotYet,
+    OverLimit,
+    ProgramEnded,
+    ProgramMissing,
+    QueryFault,
+    Refusal,
+    RootTarget,
+    SessionFull,
+    refusal_of,
+)
+from .program import find_program
+from .replies import Done, Element, Found, Reply, Said, Step
+from .session import Engine, Session
+
+__all__ = [
+    "BadCommand",
+    "BadLine",
+    "BadName",
+    "ClientError",
+    "DocumentFault",
+    "Done",
+    "Element",
+    "Engine",
+    "Found",
+    "Full",
+    "ManyTargets",
+    "NameTaken",
+    "NoSuchDocument",
+    "NoSuchList",
+    "NoSuchName",
+    "NoTarget",
+    "NotYet",
+    "OverLimit",
+    "ProgramEnded",
+    "ProgramMissing",
+    "QueryFault",
+    "Refusal",
+    "Reply",
+    "RootTarget",
+    "Said",
+    "Session",
+    "SessionFull",
+    "Step",
+    "block_bytes",
+    "command_bytes",
+    "find_program",
+    "refusal_of",
+]

@@ -1,0 +1,53 @@
+"""What was sent to a program and still counts, so that another process can be brought to the same state."""
+
+from __future__ import annotations
+
+from dataclasses import dataclass
+
+LOOKS_BACK = frozenset({"insert", "replace", "delete", "mark", "unmark"})
+"""The commands whose effect depends on all that came before them."""
+
+
+@dataclass(frozen=True)
+class Kept:
+    """A command that was accepted: its words in front, and its bytes."""
+
+    kind: str
+    name: str
+    command: bytes
+
+
+class History:
+    """The accepted commands that changed something, less those whose effect is gone."""
+
+    def __init__(self) -> None:
+        self._kept: list[Kept] = []
+
+    @property
+    def size(self) -> int:
+        """How many bytes all of them have."""
+        return sum(len(it.command) for it in self._kept)
+
+    @property
+    def commands(self) -> list[bytes]:
+        """The commands in the order in which they have to be sent."""
+        return [it.command for it in self._kept]
+
+    def add(self, line: str, command: bytes) -> None:
+        """Takes note of an accepted command that was answered by `ok`.
+
+        A document that was dropped and a list that was replaced are forgotten, unless an edit or a mark stands between that
+        may have looked at them.
+        """
+        words = line.replace("\t", " ").split()
+        kind, name = words[0], words[1] if len(words) > 1 else ""
+        plain = not any(it.kind in LOOKS_BACK for it in self._kept)
+        if plain and kind == "drop":
+            self._forget("load", name)
+            return
+        if plain and kind in ("stop", "thesaurus", "stems"):
+            self._forget(kind, name)
+        self._kept.append(Kept(kind, name, command))
+
+    def _forget(self, kind: str, name: str) -> None:
+        self._kept = [it for it in self._kept if (it.kind, it.name) != (kind, name)]

@@ -1,0 +1,105 @@
+"""The program as a process at the other end of a pipe."""
+
+from __future__ import annotations
+
+import os
+import shutil
+import subprocess
+from pathlib import Path
+
+from .faults import ProgramEnded, ProgramMissing, refusal_of
+from .replies import Done, Found, Reply, Said
+
+MOST_BYTES = 67_108_864
+"""How many bytes the program reads of one session."""
+
+
+def find_program() -> Path:
+    """The program to start: what the variable FTQ_PROGRAM names, else the one that this repository built, else `ftq` on the path."""
+    named = os.environ.get("FTQ_PROGRAM")
+    if named:
+        return Path(named)
+    built = Path(__file__).resolve().parents[3] / "crates" / "ftq" / "out" / "ftq"
+    if os.access(built, os.X_OK):
+        return built
+    found = shutil.which("ftq")
+    if found:
+        return Path(found)
+    raise ProgramMissing(f"there is no program at {built}: build it with ./ftq examples/hello.ftq, or name one by the variable FTQ_PROGRAM")
+
+
+class Process:
+    """One run of the program, and one session with it."""
+
+    def __init__(self, program: Path) -> None:
+        """Starts it. It gets a process group of its own, so that an interrupt at the terminal doesn't end it."""
+        try:
+            self._child = subprocess.Popen(
+                [os.fspath(program), "/dev/stdin"],
+                stdin=subprocess.PIPE,
+                stdout=subprocess.PIPE,
+                stderr=subprocess.PIPE,
+                start_new_session=True,
+            )
+        except OSError as error:
+            raise ProgramMissing(f"{program} can't be started: {error.strerror}") from error
+        self.sent = 0
+        """How many bytes of its session were sent."""
+
+    @property
+    def pid(self) -> int:
+        """The number of the process, by which its memory can be looked at."""
+        return self._child.pid
+
+    def ask(self, command: bytes) -> Reply:
+        """The reply to one command; a `Refusal` where it is refused, `ProgramEnded` where none comes."""
+        assert self._child.stdin
+        self.sent += len(command)
+        try:
+            self._child.stdin.write(command)
+            self._child.stdin.flush()
+        except BrokenPipeError:
+            raise self._ended() from None
+        first = self._line()
+        if first == "ok":
+            return Done()
+        if first.startswith("! "):
+            raise refusal_of(first)
+        text = first.removeprefix("= ")
+        if text.isdecimal():
+            return Found(tuple(self._line() for _ in range(int(text))))
+        return Said(text)
+
+    def close(self) -> int:
+        """Ends the session; the program's exit status."""
+        assert self._child.stdin and self._child.stdout and self._child.stderr
+        try:
+            self._child.stdin.close()
+        except BrokenPipeError:
+            pass
+        status = self._child.wait()
+        self._child.stdout.close()
+        self._child.stderr.close()
+        return status
+
+    def end(self) -> None:
+        """Ends the program in the middle of whatever it does; whoever waits for a reply is told."""
+        self._child.kill()
+
+    def kill(self) -> None:
+        """Ends the program and closes its pipes."""
+        self.end()
+        self.close()
+
+    def _line(self) -> str:
+        assert self._child.stdout
+        line = self._child.stdout.readline()
+        if not line.endswith(b"\n"):
+            raise self._ended()
+        return line[:-1].decode("utf-8")
+
+    def _ended(self) -> ProgramEnded:
+        """What is to be raised once the program has closed its side."""
+        assert self._child.stderr
+        said = self._child.stderr.read().decode("utf-8", errors="replace").strip()
+        return ProgramEnded(self._child.wait(), said)

@@ -1,0 +1,60 @@
+"""The program's replies as values."""
+
+from __future__ import annotations
+
+import re
+from dataclasses import dataclass
+from typing import NamedTuple, Union
+
+
+class Step(NamedTuple):
+    """One step from an element to a child: the child's name, and its place among the children of that name, from 1."""
+
+    name: str
+    number: int
+
+
+@dataclass(frozen=True)
+class Element:
+    """An element that a query found: its document's name and the steps from the document to it.
+
+    `line` is the program's line for it, which is a path that selects just this element.
+    """
+
+    document: str
+    steps: tuple[Step, ...]
+    line: str
+
+    LINE = re.compile(r'doc\("([A-Za-z0-9._-]+)"\)((?:/[^/\[\]]+\[[0-9]+\])+)')
+    STEP = re.compile(r"/([^/\[\]]+)\[([0-9]+)\]")
+
+    @classmethod
+    def read(cls, line: str) -> "Element":
+        """The element that a line names; a `ValueError` where the line is of another form."""
+        parts = cls.LINE.fullmatch(line)
+        if not parts:
+            raise ValueError(f"no line that names an element: {line!r}")
+        steps = tuple(Step(name, int(number)) for name, number in cls.STEP.findall(parts[2]))
+        return cls(parts[1], steps, line)
+
+
+@dataclass(frozen=True)
+class Done:
+    """`ok`: the command did what it says."""
+
+
+@dataclass(frozen=True)
+class Found:
+    """`= N`, and the N lines behind it."""
+
+    lines: tuple[str, ...]
+
+
+@dataclass(frozen=True)
+class Said:
+    """`= ` and a text, all of the reply."""
+
+    text: str
+
+
+Reply = Union[Done, Found, Said]

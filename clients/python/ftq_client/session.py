@@ -1,0 +1,156 @@
+"""A session: documents, lists and questions, in one process after another."""
+
+from __future__ import annotations
+
+from pathlib import Path
+from types import TracebackType
+from typing import Protocol, TypeVar
+
+from .blocks import command_bytes
+from .faults import ClientError, Refusal, SessionFull
+from .history import History
+from .program import MOST_BYTES, Process, find_program
+from .replies import Done, Element, Found, Reply, Said
+
+Wanted = TypeVar("Wanted", Done, Found, Said)
+
+
+class Engine(Protocol):
+    """What answers: a `Session`, or several that divide the documents among them."""
+
+    def load(self, name: str, content: bytes) -> None: ...
+
+    def drop(self, name: str) -> None: ...
+
+    def stop(self, name: str, words: bytes) -> None: ...
+
+    def stems(self, lines: bytes) -> None: ...
+
+    def thesaurus(self, name: str, lines: bytes) -> None: ...
+
+    def query(self, path: str) -> list[Element]: ...
+
+    def print(self, path: str) -> list[str]: ...
+
+    def close(self) -> int: ...
+
+
+class Session:
+    """A conversation with the program, over a pipe, for one thread.
+
+    The program reads 64 MiB of a session. The client keeps what it sent, and carries a longer conversation on in a new process
+    with the same documents, lists and edits; so documents and lists together may take 64 MiB less the longest command. An
+    interrupt (Ctrl-C) while an answer is awaited ends the process, and the next command starts a new one likewise.
+
+    Where `limit` is less than 64 MiB the session moves on earlier.
+    """
+
+    def __init__(self, program: str | Path | None = None, *, limit: int = MOST_BYTES) -> None:
+        """Starts the program: the one that is given, or what `find_program` finds."""
+        self.program = Path(program) if program else find_program()
+        self.limit = limit
+        self.processes = 0
+        """How many processes this session has started."""
+        self._history = History()
+        self._interrupted = False
+        self._process: Process | None = self._start()
+
+    def __enter__(self) -> "Session":
+        return self
+
+    def __exit__(self, kind: type[BaseException] | None, value: BaseException | None, traceback: TracebackType | None) -> None:
+        self.close()
+
+    def load(self, name: str, content: bytes) -> None:
+        """Reads `content` as a document and puts it last in the collection. Any bytes may be given."""
+        self._said(self.command(f"load {name}", content), Done)
+
+    def drop(self, name: str) -> None:
+        """Takes the document out of the collection."""
+        self._said(self.command(f"drop {name}"), Done)
+
+    def stop(self, name: str, words: bytes) -> None:
+        """Reads `words`, one in a line, as a stop list, in the place of the one of that name."""
+        self._said(self.command(f"stop {name}", words), Done)
+
+    def stems(self, lines: bytes) -> None:
+        """Reads `lines`, a word and its stem in each, as the dictionary of stems, in the place of the one before."""
+        self._said(self.command("stems", lines), Done)
+
+    def thesaurus(self, name: str, lines: bytes) -> None:
+        """Reads `lines`, each `RELATION | PHRASE | PHRASE`, as a thesaurus, in the place of the one of that name."""
+        self._said(self.command(f"thesaurus {name}", lines), Done)
+
+    def query(self, path: str) -> list[Element]:
+        """The elements that the path selects, documents in order of loading, elements of one document in its order."""
+        found = self._said(self.command(f"query {path}"), Found)
+        return [Element.read(line) for line in found.lines]
+
+    def print(self, path: str) -> list[str]:
+        """The elements that the path selects as XML, each on one line, in the order of `query`."""
+        return list(self._said(self.command(f"print {path}"), Found).lines)
+
+    def command(self, line: str, block: bytes | None = None) -> Reply:
+        """The reply to any command of the program's; its block's bytes are given as they are, and quoted here.
+
+        Raises a `Refusal` where the program refuses it, `SessionFull` where it is too long to be sent, `ProgramEnded` where the
+        program ends, and a `ValueError` where the line is none that the program would answer.
+        """
+        command = command_bytes(line, block)
+        process = self._ready(len(command))
+        try:
+            reply = process.ask(command)
+        except Refusal:
+            raise
+        except BaseException:
+            process.kill()
+            self._process = None
+            raise
+        if isinstance(reply, Done):
+            self._history.add(line, command)
+        return reply
+
+    def interrupt(self) -> None:
+        """Ends the process from another thread: a command that waits there raises `ProgramEnded`, the next one starts a new process."""
+        process = self._process
+        if process:
+            self._interrupted = True
+            process.end()
+
+    @property
+    def pid(self) -> int | None:
+        """The number of the process that answers now, if there is one."""
+        return self._process.pid if self._process else None
+
+    def close(self) -> int:
+        """Ends the program; its exit status: 0, or 1 where it refused a command."""
+        process, self._process = self._process, None
+        return process.close() if process else 0
+
+    def _start(self) -> Process:
+        self.processes += 1
+        return Process(self.program)
+
+    def _ready(self, size: int) -> Process:
+        """A process that takes a command of so many bytes, in the state of this session."""
+        if self._interrupted and self._process:
+            self._process.close()
+            self._process = None
+        self._interrupted = False
+        if self._process and self._process.sent + size <= self.limit:
+            return self._process
+        again = self._history.size
+        if again + size > self.limit:
+            raise SessionFull(f"documents and lists of {again:,} bytes and a command of {size:,} are more than the {self.limit:,} of one session")
+        if self._process:
+            self._process.close()
+        self._process = self._start()
+        for command in self._history.commands:
+            self._process.ask(command)
+        return self._process
+
+    @staticmethod
+    def _said(reply: Reply, wanted: type[Wanted]) -> Wanted:
+        if not isinstance(reply, wanted):
+            raise ClientError(f"a reply of another form than the command's: {reply}")
+        return reply

@@ -1,0 +1,258 @@
+"""The client against the real program."""
+
+from __future__ import annotations
+
+import os
+import pickle
+import signal
+import stat
+import threading
+import time
+from pathlib import Path
+
+import pytest
+from ftq_client import (
+    BadCommand,
+    BadLine,
+    BadName,
+    DocumentFault,
+    Done,
+    Element,
+    Found,
+    Full,
+    NameTaken,
+    NoSuchDocument,
+    NoSuchList,
+    NoSuchName,
+    NotYet,
+    ProgramEnded,
+    ProgramMissing,
+    QueryFault,
+    Refusal,
+    Session,
+    SessionFull,
+    Step,
+    command_bytes,
+    find_program,
+    refusal_of,
+)
+
+
+def test_a_query_gives_elements_with_document_steps_and_line(session: Session) -> None:
+    session.load("one", b"<a><b>x</b><b>Hello <c>world</c></b></a>")
+    line = 'doc("one")/a[1]/b[2]'
+    assert session.query('collection()//b[. contains text "hello world"]') == [Element("one", (Step("a", 1), Step("b", 2)), line)]
+    assert session.print(line) == ["<b>Hello <c>world</c></b>"]
+    assert session.query('collection()//b[. contains text "nothing"]') == []
+
+
+def test_a_line_selects_just_its_element(session: Session) -> None:
+    session.load("one", "<x:a><b-1.c/><é><b-1.c/></é></x:a>".encode())
+    for element in session.query("collection()//*"):
+        assert session.query(element.line) == [element]
+
+
+def test_documents_come_in_order_of_loading(session: Session) -> None:
+    for name in ("c", "a", "b"):
+        session.load(name, b"<p>word</p>")
+    session.drop("a")
+    session.load("a", b"<p>word</p>")
+    assert [it.document for it in session.query("collection()/p")] == ["c", "b", "a"]
+
+
+@pytest.mark.parametrize("text", [".", "..", ".\n.", "\n.\n", "..x\n.y", "x\n.\r\n.", "\n"])
+def test_any_block_is_quoted(session: Session, text: str) -> None:
+    session.load("d", f"<a>{text}</a>".encode())
+    session.load("e", f"\n\n<a>\n{text}\n</a>\n".encode())
+    wanted = text.replace("\r\n", "\n").replace("\n", "&#10;")
+    assert session.print('doc("d")/a') == [f"<a>{wanted}</a>"]
+    assert session.print('doc("e")/a') == [f"<a>&#10;{wanted}&#10;</a>"]
+
+
+def test_a_document_without_bytes_is_refused_at_its_front(session: Session) -> None:
+    with pytest.raises(DocumentFault) as caught:
+        session.load("d", b"")
+    assert (caught.value.kind, caught.value.place) == ("syntax", 0)
+
+
+def test_lists_are_looked_at(session: Session) -> None:
+    session.load("d", b"<a><p>the ship sailed</p><p>a vessel</p></a>")
+    session.stop("common", b"a\nthe")
+    session.stems(b"sailed sail\nsails sail")
+    session.thesaurus("sea", b"narrower | ship | vessel")
+    assert len(session.query('collection()//p[. contains text "sails" using stemming]')) == 1
+    assert len(session.query('collection()//p[. contains text "ship" using thesaurus at "sea"]')) == 2
+    assert len(session.query('collection()//p[. contains text "a ship" using stop words at "common"]')) == 1
+
+
+def test_refusals_are_exceptions_with_what_they_tell(session: Session) -> None:
+    session.load("d", b"<a/>")
+    told: list[tuple[type[Refusal], str, bytes | None, dict[str, object]]] = [
+        (BadCommand, "nonsense", None, {"number": 1, "kind": "bad command", "line": 4}),
+        (BadName, "drop a/b", None, {"number": 2, "line": 5}),
+        (NameTaken, "load d", b"<a/>", {"number": 3, "name": "d"}),
+        (NoSuchName, "drop e", None, {"number": 4, "name": "e"}),
+        (DocumentFault, "load e", b"<a>\xff</a>", {"number": 6, "kind": "not utf-8", "place": 3}),
+        (DocumentFault, "load e", b"<a></b>", {"kind": "syntax", "place": 5}),
+        (DocumentFault, "load e", b"<a>" * 201, {"kind": "depth", "place": 600}),
+        (BadLine, "stop s", b"one\ntwo words", {"number": 6, "kind": "bad line", "line": 2}),
+        (QueryFault, 'query collection()//p[. contains text "é" ftand]', None, {"number": 7, "kind": "syntax", "place": 42}),
+        (QueryFault, 'query collection()//p[. contains text ".{2" using wildcards]', None, {"kind": "bad wildcard", "place": 32}),
+        (QueryFault, "query collection()//p[1000001]", None, {"kind": "number", "place": 16}),
+        (NoSuchDocument, 'query doc("e")/a', None, {"number": 8, "name": "e"}),
+        (NoSuchList, 'query collection()//a[. contains text "x" using stop words at "s"]', None, {"number": 9, "name": "s"}),
+    ]
+    for kind, line, block, parts in told:
+        with pytest.raises(kind) as caught:
+            session.command(line, block)
+        assert type(caught.value) is kind
+        assert {name: getattr(caught.value, name) for name in parts} == parts, line
+        assert str(caught.value).startswith(f"! {caught.value.number} ")
+        again = pickle.loads(pickle.dumps(caught.value))
+        assert (type(again), again.__dict__) == (kind, caught.value.__dict__)
+    assert session.query("collection()/a")
+
+
+def test_a_faults_column_counts_characters(session: Session) -> None:
+    path = 'collection()//p[. contains text "é" ftand]'
+    with pytest.raises(QueryFault) as caught:
+        session.query(path)
+    assert path[caught.value.column(path)] == "]"
+
+
+def test_more_lists_than_there_may_be(session: Session) -> None:
+    for number in range(64):
+        session.stop(f"s{number}", b"a")
+    with pytest.raises(Full) as caught:
+        session.stop("one-more", b"a")
+    assert (caught.value.count, caught.value.kind) == (64, "stop lists")
+
+
+@pytest.mark.parametrize(
+    ("reply", "number", "parts"),
+    [
+        ("! 10 no target", 10, {}),
+        ("! 11 many targets: 12", 11, {"count": 12}),
+        ("! 12 root target", 12, {}),
+        ("! 13 limit: nodes", 13, {"kind": "nodes"}),
+        ("! 14 not yet", 14, {}),
+        ("! 5 full at 4096 documents", 5, {"count": 4096, "kind": "documents"}),
+        ("! 99 something new", 0, {"reply": "! 99 something new"}),
+    ],
+)
+def test_refusals_that_are_known_by_their_text(reply: str, number: int, parts: dict[str, object]) -> None:
+    refusal = refusal_of(reply)
+    assert refusal.number == number
+    assert {name: getattr(refusal, name) for name in parts} == parts
+
+
+def test_any_command_has_a_reply_or_a_refusal(session: Session) -> None:
+    assert session.command("load d", b"<a>x</a>") == Done()
+    assert session.command("  query\tcollection()/a  ") == Found(('doc("d")/a[1]',))
+    for line, block in [("stats", None), ("mark m", None), ("explain " + '"a"', None), ("delete collection()/a/b", None), ("insert last collection()/a", b"x")]:
+        try:
+            session.command(line, block)
+        except NotYet:
+            pass
+    assert session.query("collection()/a")
+
+
+@pytest.mark.parametrize("line", ["", "   ", "# remark", "\t#", "\ufeff# x", "query a\nquery b", "load d", "stems", "\r"])
+def test_lines_without_a_reply_are_not_sent(session: Session, line: str) -> None:
+    with pytest.raises(ValueError):
+        session.command(line)
+    with pytest.raises(ValueError):
+        session.command("query collection()/a", b"block")
+    assert session.query("collection()/*") == []
+
+
+def test_a_session_that_outlives_its_limit_goes_on_in_a_new_process(program: Path) -> None:
+    content = b"<a>word" + b" " * 2_000 + b"</a>"
+    path = 'collection()/a[. contains text "words" using stemming using stop words at "common"]' + " " * 1_000
+    with Session(program, limit=12_000) as session:
+        session.load("first", content)
+        session.stop("common", b"the")
+        session.stop("common", b"a")
+        session.stems(b"words word")
+        session.load("gone", content)
+        session.drop("gone")
+        session.load("second", content)
+        for number in range(30):
+            assert len(session.query(path)) == 2, number
+        assert session.processes > 3
+        assert [it.document for it in session.query("collection()/a")] == ["first", "second"]
+        with pytest.raises(SessionFull):
+            session.load("third", content * 4)
+        assert len(session.query("collection()/a")) == 2
+
+
+def test_the_limit_is_the_programs(program: Path) -> None:
+    session = Session(program)
+    session.load("d", b"<a>w</a>")
+    again = b"<" + b" " * 16_000_000
+    for _ in range(5):
+        with pytest.raises(DocumentFault):
+            session.load("e", again)
+    assert session.processes == 2
+    assert len(session.query("collection()/a")) == 1
+    assert session.close() == 1
+
+
+def test_a_program_that_is_ended_is_told_and_then_started_again(program: Path) -> None:
+    with Session(program) as session:
+        session.load("d", b"<a/>")
+        assert session.pid
+        os.kill(session.pid, signal.SIGKILL)
+        with pytest.raises(ProgramEnded) as caught:
+            session.query("collection()/a")
+        assert caught.value.status == -signal.SIGKILL
+        assert len(session.query("collection()/a")) == 1
+        assert session.processes == 2
+
+
+def test_a_program_that_has_too_little_memory_is_told_with_its_line(program: Path, tmp_path: Path) -> None:
+    small = tmp_path / "small"
+    small.write_text(f"#!/bin/sh\nulimit -v 60000\nexec '{program}' \"$@\"\n")
+    small.chmod(small.stat().st_mode | stat.S_IXUSR)
+    with Session(small) as session, pytest.raises(ProgramEnded) as caught:
+        session.load("d", b"<a>" + b"<b/>" * 900_000 + b"</a>")
+    assert (caught.value.status, caught.value.line) == (5, "ftq: out of memory")
+    assert pickle.loads(pickle.dumps(caught.value)).status == 5
+
+
+def test_an_interrupt_leaves_a_session_that_goes_on(program: Path) -> None:
+    with Session(program) as session:
+        session.load("d", b"<a>" + b"<p>some words here</p>" * 2_000 + b"</a>")
+        slow = "collection()//*[" + " and ".join(['. contains text "nothing"'] * 12) + " or .//p[" + " or ".join(['. contains text "no"'] * 40) + "]]"
+        threading.Timer(0.1, lambda: os.kill(os.getpid(), signal.SIGINT)).start()
+        start = time.monotonic()
+        try:
+            while time.monotonic() - start < 60:
+                session.query(slow)
+            raise AssertionError("no interrupt came")
+        except KeyboardInterrupt:
+            pass
+        assert [it.line for it in session.query("collection()/a")] == ['doc("d")/a[1]']
+
+
+def test_the_status_at_the_end(program: Path) -> None:
+    session = Session(program)
+    session.load("d", b"<a/>")
+    assert session.close() == 0
+    session = Session(program)
+    with pytest.raises(Refusal):
+        session.drop("d")
+    assert session.close() == 1
+    assert session.close() == 0
+
+
+def test_a_program_that_isnt_there(monkeypatch: pytest.MonkeyPatch, tmp_path: Path) -> None:
+    monkeypatch.setenv("FTQ_PROGRAM", str(tmp_path / "absent"))
+    assert find_program() == tmp_path / "absent"
+    with pytest.raises(ProgramMissing):
+        Session()
+
+
+def test_the_bytes_of_commands() -> None:
+    assert command_bytes("load d", b".a\nb\n") == b"load d\n..a\nb\n\n.\n"
+    assert command_bytes("query collection()/é") == "query collection()/é\n".encode()
