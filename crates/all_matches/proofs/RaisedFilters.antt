@@ -14,7 +14,8 @@ use Rattle.all_matches.specs.Positions.{start_in, end_in, covers, places_from_to
 use Rattle.all_matches.specs.Join.{least, greatest, are_whole, join}
 use Rattle.all_matches.specs.Window.{leads_of, fits_window, lies_in_window}
 use Rattle.all_matches.specs.Distance.{gap_in_range, stands_before, put_in_order, in_order, neighbours_in_range, distance_in_range}
-use Rattle.all_matches.specs.Filters.{every_two, passes, choices, keeps, after, through, filtered_match, ft_filtered}
+use Rattle.ft_base.specs.Hits.{every_two}
+use Rattle.all_matches.specs.Filters.{passes, choices, keeps, after, through, filtered_match, ft_filtered}
 use Rattle.all_matches.specs.Numbering.{raised_hit, raised_match, raised}
 use Rattle.all_matches.proofs.Raised.{map-append, map-cond, any-raised, all-raised, filter-raised}
 

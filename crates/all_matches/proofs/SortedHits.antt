@@ -9,8 +9,7 @@ use Rattle.ft_base.specs.declared.token.Token.{Token}
 use Rattle.ft_base.specs.declared.options.Options.{Options}
 use Rattle.all_matches.specs.Variants.{Item, Lexicon}
 use Rattle.all_matches.specs.Hits.{Interval, intervals, intervals_of, hit_on, hits}
-use Rattle.all_matches.specs.Filters.{every_two}
-use Rattle.all_matches.specs.Sorting.{comes_before, is_sorted}
+use Rattle.ft_base.specs.Hits.{every_two, comes_before, is_sorted}
 
 -- tests of every two elements of a list
 module _ {X : Type 0} (test : X → X → Bool) where

@@ -2,6 +2,7 @@
 -- whether an exclude stays, and the includes behind the filter.
 use Rattle.std.specs.Prelude.{ℕ, Bool, true, false, ◌&&◌, ◌==◌, if◌then◌else◌, List, [], ◌∷◌, map, flat_map, filter, Option, Some, None, option_to_list}
 use Rattle.std.specs.List.{list_any, list_all}
+use Rattle.ft_base.specs.Hits.{every_two}
 use Rattle.ft_base.specs.declared.hit.Hit.{Hit}
 use Rattle.ft_base.specs.declared.hit.Match.{Match}
 use Rattle.ft_base.specs.declared.filter.Filter.{Filter}
@@ -12,11 +13,6 @@ use Rattle.all_matches.specs.Positions.{covers, places_from_to, share_one, are_a
 use Rattle.all_matches.specs.Join.{join}
 use Rattle.all_matches.specs.Window.{window_leads, fits_window, lies_in_window}
 use Rattle.all_matches.specs.Distance.{in_order, neighbours_in_range, distance_in_range}
-
--- whether a test holds between every two hits at different places of a list
-abbrev pub every_two : (Hit → Hit → Bool) → List Hit → Bool
-every_two test [] = true
-every_two test (hit ∷ rest) = list_all (test hit) rest && every_two test rest
 
 -- whether all hits lie in one sentence or paragraph
 abbrev pub all_in_one : TextUnit → List Hit → Bool

@@ -14,7 +14,6 @@ pub mod Compositional
 pub mod Counting
 pub mod Ways
 pub mod Spans
-pub mod Sorting
 pub mod Chain
 pub mod Operators
 pub mod Allowed

@@ -5,7 +5,7 @@ ghost use Rattle.ft_base.specs.declared.options.Options.{Options};
 ghost use Rattle.ft_base.specs.declared.span.Span.{Span};
 ghost use Rattle.ft_base.specs.declared.token.Token.{Token};
 ghost use Rattle.all_matches.specs.Hits.{hits};
-ghost use Rattle.all_matches.specs.Sorting.{is_sorted};
+ghost use Rattle.ft_base.specs.Hits.{is_sorted};
 ghost use Rattle.all_matches.specs.Spans.{renumbered, in_span, lies_in_span, told_in_span};
 ghost use Rattle.all_matches.specs.Variants.{Item, Lexicon};
 

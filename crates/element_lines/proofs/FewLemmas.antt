@@ -8,7 +8,7 @@ use Rattle.plain_tree.specs.Document.{Node, element, text, Nodes, no_nodes, node
 use Rattle.ordered_tree.specs.Numbered.{Numbered, element_at, text_at, Children, no_children, child_then, plain, plain_children, first_of}
 use Rattle.ordered_tree.specs.Stands.{round_root, round_first, round_next, stands, child_stands, stands_in}
 use Rattle.ordered_tree.specs.declared.around.Around.{Around}
-use Rattle.ordered_tree.specs.declared.node_ref.NodeRef.{NodeRef}
+use Rattle.ft_base.specs.declared.ids.NodeRef.{NodeRef}
 use Rattle.ordered_tree.proofs.BuildingLemmas.{node_count-some}
 use Rattle.path_nodes.specs.References.{element_of, IsElement}
 use Rattle.path_nodes.proofs.PlaceLemmas.{element-is}

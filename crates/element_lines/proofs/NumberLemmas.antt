@@ -12,7 +12,7 @@ use Rattle.doc_grammar.specs.Limits.{node_count}
 use Rattle.plain_tree.specs.Document.{Node}
 use Rattle.ordered_tree.specs.Numbered.{Numbered, element_at, text_at, plain, is_element, name_of}
 use Rattle.ordered_tree.specs.Stands.{OnNode, references}
-use Rattle.ordered_tree.specs.declared.node_ref.NodeRef.{NodeRef}
+use Rattle.ft_base.specs.declared.ids.NodeRef.{NodeRef}
 use Rattle.path_nodes.specs.References.{element_of, IsElement}
 use Rattle.path_nodes.proofs.ChildrenLemmas.{Reading, Next, next, there, on, left, smaller, past-text, past-element, is-child}
 use Rattle.path_nodes.proofs.PlaceLemmas.{element-is, one-place, one-reference}

@@ -10,7 +10,7 @@ use Rattle.ordered_tree.specs.Numbered as numbered
 use Rattle.ordered_tree.specs.Numbered.{Numbered, element_at, text_at, plain, is_element}
 use Rattle.ordered_tree.specs.Places as places
 use Rattle.ordered_tree.specs.Places.{at_place}
-use Rattle.ordered_tree.specs.declared.node_ref.NodeRef.{NodeRef}
+use Rattle.ft_base.specs.declared.ids.NodeRef.{NodeRef}
 use Rattle.path_nodes.specs.References.{IsElement, element_of}
 use Rattle.path_nodes.proofs.PlaceLemmas.{element-is, led, one-reference}
 use Rattle.element_lines.specs.Steps.{Step, step, children, child, name_of, is_named, step_to, steps_below, steps_to}

@@ -7,7 +7,7 @@ use Rattle.ordered_tree.specs.Numbered.{Numbered, element_at, text_at, Children,
 use Rattle.ordered_tree.specs.Places as places
 use Rattle.ordered_tree.specs.Places.{at_place}
 use Rattle.ordered_tree.specs.Stands.{OnNode}
-use Rattle.ordered_tree.specs.declared.node_ref.NodeRef.{NodeRef}
+use Rattle.ft_base.specs.declared.ids.NodeRef.{NodeRef}
 use Rattle.path_nodes.specs.References.{IsElement, element_of}
 use Rattle.path_nodes.proofs.ChildrenLemmas.{on_element}
 use Rattle.path_nodes.proofs.PlaceLemmas.{element-is, led}

@@ -3,7 +3,7 @@ use Rattle.std.specs.Prelude.{◌≡◌, ℕ, nat_eq, List, [], ◌∷◌, ◌++
 use Rattle.std.specs.HashMap.{HashMap, get}
 use Rattle.element_lines.specs.Steps.{Step, step, steps_to}
 use Rattle.ordered_tree.specs.Numbered.{Numbered, plain}
-use Rattle.ordered_tree.specs.declared.node_ref.NodeRef.{NodeRef}
+use Rattle.ft_base.specs.declared.ids.NodeRef.{NodeRef}
 use Rattle.path_nodes.specs.References.{IsElement, element_of}
 
 abbrev pub last : List Step → Step

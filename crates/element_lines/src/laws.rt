@@ -1,7 +1,7 @@
 ghost use Rattle.std.specs.Prelude.{◌≡◌};
 ghost use Rattle.element_lines.specs.Steps.{steps_to};
 ghost use Rattle.ordered_tree.specs.Numbered.{Numbered, plain};
-ghost use Rattle.ordered_tree.specs.declared.node_ref.NodeRef.{NodeRef};
+ghost use Rattle.ft_base.specs.declared.ids.NodeRef.{NodeRef};
 ghost use Rattle.path_nodes.specs.References.{IsElement, element_of};
 
 /// No two elements of a document have the same steps.

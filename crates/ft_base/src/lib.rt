@@ -4,9 +4,12 @@
 #![tactic(auto)]
 
 mod characters;
+pub mod examples;
 mod fault;
 mod filter;
 mod hit;
+mod hits;
+mod ids;
 mod items;
 mod letters;
 mod limits;
@@ -26,6 +29,8 @@ pub use characters::{is_char, is_name_char, is_name_start, is_space};
 pub use fault::{ListFault, QueryFault};
 pub use filter::Filter;
 pub use hit::{Hit, Match};
+pub use hits::Hits;
+pub use ids::{DocId, LeafId, NodeRef};
 pub use items::Items;
 pub use letters::{begins_with, digit_run, is_digit, letters_of, number_of, text_of};
 pub use limits::{

@@ -11,7 +11,7 @@ use Rattle.ft_base.specs.declared.fault.QueryFault.{QueryFault}
 use Rattle.ft_base.specs.declared.fault.QueryFault.TheVariants as Q
 use Rattle.ft_parser.specs.Answer.{Answered}
 use Rattle.ordered_tree.specs.Numbered.{Numbered, plain}
-use Rattle.ordered_tree.specs.declared.node_ref.NodeRef.{NodeRef}
+use Rattle.ft_base.specs.declared.ids.NodeRef.{NodeRef}
 use Rattle.path_meaning.specs.Collection.{Named, documents}
 use Rattle.path_meaning.specs.Elements.{Element}
 use Rattle.path_grammar.specs.Form.{Steps, no_steps, step_then, Step, step, Predicates, no_predicates, predicate_then, Predicate, number, holds, Condition, or_of, and_of, not_of, attribute, exists, contains, Conditions, no_conditions, condition_then}

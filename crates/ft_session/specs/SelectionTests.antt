@@ -2,7 +2,7 @@
 use Rattle.std.specs.Prelude.{ℕ, ◌==◌, Bool, ◌&&◌, nat_lt, List, length}
 use Rattle.std.specs.List.{list_any}
 use Rattle.ordered_tree.specs.Numbered.{Numbered}
-use Rattle.ordered_tree.specs.declared.node_ref.NodeRef.{NodeRef}
+use Rattle.ft_base.specs.declared.ids.NodeRef.{NodeRef}
 use Rattle.path_nodes.specs.References.{element_of, spot_reference, spots_in}
 use Rattle.path_nodes.specs.Says.{Meaning}
 use Rattle.plan_compiler.specs.declared.plan.Plan.{Plan}

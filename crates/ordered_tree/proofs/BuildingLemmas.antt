@@ -14,7 +14,7 @@ use Rattle.ordered_tree.specs.Numbering.{numbered, children_numbered, next_sibli
 use Rattle.ordered_tree.specs.Slots.{slot, slot_at, no_slot}
 use Rattle.ordered_tree.specs.Stands.{stands, child_stands, stands_in, round_root, round_first}
 use Rattle.ordered_tree.specs.declared.around.Around.{Around}
-use Rattle.ordered_tree.specs.declared.node_ref.NodeRef.{NodeRef}
+use Rattle.ft_base.specs.declared.ids.NodeRef.{NodeRef}
 use Rattle.ordered_tree.specs.declared.slot.Held.TheVariants.{Element, Text}
 use Rattle.ordered_tree.specs.declared.slot.Slot.{Slot}
 

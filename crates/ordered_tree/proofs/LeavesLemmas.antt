@@ -4,8 +4,8 @@ use Rattle.tokenizer.specs.Words.{words}
 use Rattle.ordered_tree.specs.Leaves.{texts, texts_of, leaf_of, leaves_behind, last_leaf}
 use Rattle.ordered_tree.specs.Numbered.{Numbered, element_at, text_at, reference, children}
 use Rattle.ordered_tree.specs.Slots.{held}
-use Rattle.ordered_tree.specs.declared.leaf.LeafId.{LeafId}
-use Rattle.ordered_tree.specs.declared.node_ref.NodeRef.{NodeRef}
+use Rattle.ft_base.specs.declared.ids.LeafId.{LeafId}
+use Rattle.ft_base.specs.declared.ids.NodeRef.{NodeRef}
 use Rattle.ordered_tree.specs.declared.slot.Held.TheVariants.{Element, Text}
 
 pub leaves_behind-append : (xs : List (NodeRef × List ℕ)) (ys : List (NodeRef × List ℕ)) (before : Option LeafId) → leaves_behind before (xs ++ ys) ≡ leaves_behind before xs ++ leaves_behind (last_leaf before xs) ys

@@ -11,7 +11,7 @@ use Rattle.ordered_tree.specs.Places.{child, at_place}
 use Rattle.ordered_tree.specs.Slots.{slot, slot_at, no_slot, IsIn}
 use Rattle.ordered_tree.specs.Stands.{round_root, round_first, round_next, stands, child_stands, stands_in}
 use Rattle.ordered_tree.specs.declared.around.Around.{Around}
-use Rattle.ordered_tree.specs.declared.node_ref.NodeRef.{NodeRef}
+use Rattle.ft_base.specs.declared.ids.NodeRef.{NodeRef}
 use Rattle.ordered_tree.specs.declared.slot.Slot.{Slot}
 use Rattle.ordered_tree.proofs.SlotsLemmas.{slot_of-stands, below-stands, first-child_stands, rest-child_stands}
 

@@ -8,7 +8,7 @@ use Rattle.ordered_tree.specs.Counts.{word_count}
 use Rattle.ordered_tree.specs.Numbered.{Numbered, element_at, text_at, plain, reference, is_element, name_of}
 use Rattle.ordered_tree.specs.Slots.{held, slot, IsIn}
 use Rattle.ordered_tree.specs.Stands.{Stand, round_root, stands_in, references}
-use Rattle.ordered_tree.specs.declared.node_ref.NodeRef.{NodeRef}
+use Rattle.ft_base.specs.declared.ids.NodeRef.{NodeRef}
 use Rattle.ordered_tree.specs.declared.slot.Held.TheVariants.{Element, Text, Free}
 use Rattle.ordered_tree.specs.declared.slot.Slot.{Slot}
 use Rattle.ordered_tree.proofs.ShiftLemmas.{stands-few}

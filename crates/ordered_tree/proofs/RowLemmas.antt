@@ -9,7 +9,7 @@ use Rattle.ordered_tree.specs.Numbered.{Numbered, element_at, text_at, Children,
 use Rattle.ordered_tree.specs.Slots.{held, root_ref, first_child_or, row, node_at, root_of, free_from, IsIn, IsRow, IsDocument}
 use Rattle.ordered_tree.specs.Stands.{round_root, round_first, round_next, stands, child_stands, stands_in, references}
 use Rattle.ordered_tree.specs.declared.around.Around.{Around}
-use Rattle.ordered_tree.specs.declared.node_ref.NodeRef.{NodeRef}
+use Rattle.ft_base.specs.declared.ids.NodeRef.{NodeRef}
 use Rattle.ordered_tree.specs.declared.slot.Held.TheVariants.{Element, Text}
 use Rattle.ordered_tree.specs.declared.slot.Slot.{Slot}
 use Rattle.ordered_tree.proofs.SlotsLemmas.{some_node, from_link-children, slot_of-stands, below-stands, first-child_stands, rest-child_stands}

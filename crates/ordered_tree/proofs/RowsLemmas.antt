@@ -7,7 +7,7 @@ use Rattle.ordered_tree.specs.Numbered.{Numbered, element_at, text_at, Children,
 use Rattle.ordered_tree.specs.Slots.{first_child_or, node_at, IsIn, IsRow, IsDocument}
 use Rattle.ordered_tree.specs.Stands.{round_root, round_first, round_next, stands, child_stands, stands_in}
 use Rattle.ordered_tree.specs.declared.around.Around.{Around}
-use Rattle.ordered_tree.specs.declared.node_ref.NodeRef.{NodeRef}
+use Rattle.ft_base.specs.declared.ids.NodeRef.{NodeRef}
 use Rattle.ordered_tree.specs.declared.slot.Slot.{Slot}
 use Rattle.ordered_tree.proofs.RowLemmas.{row-nodes, fits}
 use Rattle.ordered_tree.proofs.SlotsLemmas.{All-left, below-stands, first-child_stands, rest-child_stands}

@@ -12,7 +12,7 @@ use Rattle.ordered_tree.specs.Numbering.{numbered, children_numbered}
 use Rattle.ordered_tree.specs.Slots.{slot, slot_at, no_slot, IsIn, root_ref, node_held, from_link, first_child_or, root_of, free_from, IsDocument}
 use Rattle.ordered_tree.specs.Stands.{Stand, round_root, round_first, round_next, stands, child_stands, stands_in, references}
 use Rattle.ordered_tree.specs.declared.around.Around.{Around}
-use Rattle.ordered_tree.specs.declared.node_ref.NodeRef.{NodeRef}
+use Rattle.ft_base.specs.declared.ids.NodeRef.{NodeRef}
 use Rattle.ordered_tree.specs.declared.slot.Slot.{Slot}
 use Rattle.ordered_tree.proofs.BuildingLemmas.{plain-numbered, reference-numbered, length-stands, length-filled-root}
 

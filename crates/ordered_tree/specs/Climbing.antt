@@ -1,7 +1,7 @@
 -- The child numbers that lead down to a node, found by its slot and those of the nodes above it.
 use Rattle.std.specs.Prelude.{◌≡◌, ℕ, zero, suc, ◌<◌, List, [], ◌∷◌, ◌++◌, length, Option, Some, None}
 use Rattle.ordered_tree.specs.Slots.{slot_at}
-use Rattle.ordered_tree.specs.declared.node_ref.NodeRef.{NodeRef}
+use Rattle.ft_base.specs.declared.ids.NodeRef.{NodeRef}
 use Rattle.ordered_tree.specs.declared.slot.Slot.{Slot}
 
 abbrev pub below_parent : (NodeRef → List ℕ) → ℕ → Option NodeRef → List ℕ

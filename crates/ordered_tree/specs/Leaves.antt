@@ -2,9 +2,9 @@
 use Rattle.std.specs.Prelude.{List, ℕ, [], ◌∷◌, ◌++◌, Option, Some, None}
 use Rattle.tokenizer.specs.Words.{words}
 use Rattle.ordered_tree.specs.Numbered.{Numbered, element_at, text_at, Children, no_children, child_then}
-use Rattle.ordered_tree.specs.declared.leaf.LeafId.{LeafId}
+use Rattle.ft_base.specs.declared.ids.LeafId.{LeafId}
 use Rattle.ordered_tree.specs.declared.leaf.LeafWords.{LeafWords}
-use Rattle.ordered_tree.specs.declared.node_ref.NodeRef.{NodeRef}
+use Rattle.ft_base.specs.declared.ids.NodeRef.{NodeRef}
 
 abbrev mutual
   pub texts : Numbered → List (NodeRef × List ℕ)

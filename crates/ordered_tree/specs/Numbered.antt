@@ -2,7 +2,7 @@
 use Rattle.std.specs.Prelude.{ℕ, Bool, true, false, List, [], ◌∷◌, bytes_eq, if◌then◌else◌, Option, Some, None}
 use Rattle.plain_tree.specs.Document.{Node, element, text, Nodes, no_nodes, node_then}
 use Rattle.plain_tree.specs.declared.tree.Attr.{Attr}
-use Rattle.ordered_tree.specs.declared.node_ref.NodeRef.{NodeRef}
+use Rattle.ft_base.specs.declared.ids.NodeRef.{NodeRef}
 
 mutual
   -- an element with its name, its attributes and its children, or a text

@@ -6,7 +6,7 @@ use Rattle.ordered_tree.specs.Counts.{word_count, element_depth}
 use Rattle.ordered_tree.specs.Numbered.{Numbered, element_at, text_at, Children, no_children, child_then, plain, plain_children, reference, children, first_of, last_of}
 use Rattle.ordered_tree.specs.Stands.{Stand, round_root, child_stands, stands_in, references}
 use Rattle.ordered_tree.specs.declared.around.Around.{Around}
-use Rattle.ordered_tree.specs.declared.node_ref.NodeRef.{NodeRef}
+use Rattle.ft_base.specs.declared.ids.NodeRef.{NodeRef}
 use Rattle.ordered_tree.specs.declared.slot.Held.{Held}
 use Rattle.ordered_tree.specs.declared.slot.Held.TheVariants.{Element, Text, Free}
 use Rattle.ordered_tree.specs.declared.slot.Slot.{Slot}

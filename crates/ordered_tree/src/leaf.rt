@@ -1,8 +1,4 @@
-use ft_base::Lines;
-
-/// The name of a text's words among those of its document.
-#[derive(Clone, Copy, PartialEq, Eq)]
-pub struct LeafId(pub u32);
+use ft_base::{LeafId, Lines};
 
 /// A leaf with its words, in order. It stands directly behind the leaf `after`, or in front.
 #[derive(Drop)]

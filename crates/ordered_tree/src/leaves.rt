@@ -3,7 +3,7 @@ ghost use Rattle.tokenizer.specs.Words.{words};
 ghost use Rattle.ordered_tree.specs.Leaves.{texts, texts_of, leaf_of, leaves_behind, last_leaf};
 ghost use Rattle.ordered_tree.specs.Slots.{IsRow, row, node_at};
 
-use crate::leaf::{LeafId, LeafWords};
+use crate::leaf::LeafWords;
 use crate::slot::{Held, Slot};
 use crate::{Leaves, NodeRef};
 use ft_base::{Line, Lines, Memory};

@@ -11,16 +11,15 @@ mod doc_tree;
 mod laws;
 mod leaf;
 mod leaves;
-mod node_ref;
 mod plain;
 mod reading;
 mod slot;
 
 pub use doc_tree::DocTree;
 use ft_base::Items;
+pub use ft_base::{LeafId, NodeRef};
 pub use laws::{below_law, one_node_law, shift_law};
-pub use leaf::{LeafId, LeafWords};
-pub use node_ref::NodeRef;
+pub use leaf::LeafWords;
 
 /// A list of leaves.
 pub type LeafIds = Items<LeafId>;

@@ -8,7 +8,7 @@ use Rattle.plain_tree.specs.declared.tree.Attr.{Attr}
 use Rattle.path_meaning.specs.Meaning.{has_value, attributes_of}
 use Rattle.ordered_tree.specs.Numbered.{Numbered, element_at, text_at, plain, attrs_of, attribute}
 use Rattle.ordered_tree.specs.Stands.{OnNode, stands_in}
-use Rattle.ordered_tree.specs.declared.node_ref.NodeRef.{NodeRef}
+use Rattle.ft_base.specs.declared.ids.NodeRef.{NodeRef}
 use Rattle.path_nodes.specs.References.{IsElement, element_of, names_differ}
 use Rattle.path_nodes.proofs.PlaceLemmas.{element-is, same-bools}
 use Rattle.path_nodes.proofs.SpotLemmas.{spot-stand}

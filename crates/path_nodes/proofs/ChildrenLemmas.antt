@@ -10,7 +10,7 @@ use Rattle.path_meaning.specs.Elements.{Element, placed, elements_among, element
 use Rattle.ordered_tree.specs.Numbered.{Numbered, element_at, text_at, Children, no_children, child_then, plain, plain_children, reference, first_of, is_element, children}
 use Rattle.ordered_tree.specs.Stands.{Stand, OnNode, round_first, round_next, references}
 use Rattle.ordered_tree.specs.declared.around.Around.{Around}
-use Rattle.ordered_tree.specs.declared.node_ref.NodeRef.{NodeRef}
+use Rattle.ft_base.specs.declared.ids.NodeRef.{NodeRef}
 use Rattle.path_nodes.specs.References.{Spot, spots, child_spots, spots_in, spot_element, element_of, IsElement, HasSingleAttributes}
 use Rattle.path_nodes.proofs.SpotLemmas.{spot-stand, spot-there, inside, element_of-is}
 

@@ -16,7 +16,7 @@ use Rattle.path_meaning.proofs.Lists.{filter-filter, filter-alike}
 use Rattle.ordered_tree.specs.Numbered.{Numbered, element_at, text_at, Children, no_children, child_then, plain, plain_children, first_of, is_element}
 use Rattle.ordered_tree.specs.Stands.{round_root, round_first, round_next}
 use Rattle.ordered_tree.specs.declared.around.Around.{Around}
-use Rattle.ordered_tree.specs.declared.node_ref.NodeRef.{NodeRef}
+use Rattle.ft_base.specs.declared.ids.NodeRef.{NodeRef}
 use Rattle.path_nodes.specs.Kept.{parents, kept, kept_children, named_children}
 use Rattle.path_nodes.specs.References.{Spot, spots, child_spots, spots_in, spot_element, element_of, IsElement}
 use Rattle.path_nodes.specs.Regions.{at_or_below, below}

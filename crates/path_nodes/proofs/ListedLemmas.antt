@@ -8,7 +8,7 @@ use Rattle.std.proofs.lemmas.Slice.Eq.{bytes_eq-Decides}
 use Rattle.path_meaning.specs.Elements.{Element, is_same, is_in}
 use Rattle.path_meaning.proofs.Lists.{filter-alike}
 use Rattle.ordered_tree.specs.Numbered.{Numbered}
-use Rattle.ordered_tree.specs.declared.node_ref.NodeRef.{NodeRef}
+use Rattle.ft_base.specs.declared.ids.NodeRef.{NodeRef}
 use Rattle.path_nodes.specs.Listed.{HaveSame, AreListed}
 use Rattle.path_nodes.specs.Marks.{is_marked}
 use Rattle.path_nodes.specs.References.{IsElement, element_of}

@@ -6,7 +6,7 @@ use Rattle.path_meaning.specs.Elements.{Element, placed, elements_from, elements
 use Rattle.ordered_tree.specs.Numbered.{Numbered, element_at, text_at, Children, no_children, child_then, plain, plain_children, first_of, is_element}
 use Rattle.ordered_tree.specs.Stands.{round_root, round_first, round_next, references}
 use Rattle.ordered_tree.specs.declared.around.Around.{Around}
-use Rattle.ordered_tree.specs.declared.node_ref.NodeRef.{NodeRef}
+use Rattle.ft_base.specs.declared.ids.NodeRef.{NodeRef}
 use Rattle.path_nodes.specs.References.{Spot, spots, child_spots, spots_in, spot_reference, spot_element, element_of, IsElement, HasSingleAttributes}
 use Rattle.path_nodes.specs.Says.{Meaning, Agrees, reference_of, satisfied}
 use Rattle.path_nodes.proofs.AboveLemmas.{top}

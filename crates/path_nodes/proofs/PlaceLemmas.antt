@@ -13,7 +13,7 @@ use Rattle.ordered_tree.specs.Numbered.{Numbered, element_at, text_at, Children,
 use Rattle.ordered_tree.specs.Places.{at_place, child}
 use Rattle.ordered_tree.specs.Stands.{Stand, OnNode, round_root, round_first, round_next, stands_in}
 use Rattle.ordered_tree.specs.declared.around.Around.{Around}
-use Rattle.ordered_tree.specs.declared.node_ref.NodeRef.{NodeRef}
+use Rattle.ft_base.specs.declared.ids.NodeRef.{NodeRef}
 use Rattle.path_nodes.specs.Says.{reference_of, reference_or}
 use Rattle.path_nodes.specs.References.{Spot, spots, child_spots, spots_in, spot_element, element_of, IsElement}
 use Rattle.ordered_tree.proofs.LawsLemmas.{one-node}

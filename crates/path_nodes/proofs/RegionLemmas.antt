@@ -7,7 +7,7 @@ use Rattle.path_meaning.specs.Elements as elements
 use Rattle.path_meaning.specs.Elements.{Element, placed, elements_among, element_children, elements_from, elements_below, kids_of}
 use Rattle.std.proofs.lemmas.List.{get_or-map, length-map}
 use Rattle.ordered_tree.specs.Numbered.{Numbered, element_at, text_at, plain, is_element}
-use Rattle.ordered_tree.specs.declared.node_ref.NodeRef.{NodeRef}
+use Rattle.ft_base.specs.declared.ids.NodeRef.{NodeRef}
 use Rattle.path_nodes.specs.References.{element_of, IsElement}
 use Rattle.path_nodes.specs.Regions.{at_or_below, below}
 use Rattle.path_nodes.proofs.PlaceLemmas.{element-is}

@@ -14,7 +14,7 @@ use Rattle.path_grammar.specs.declared.path.Step as steps
 use Rattle.path_meaning.proofs.Lists.{filter-alike}
 use Rattle.ordered_tree.specs.Numbered.{Numbered, element_at, text_at, plain, reference, is_element}
 use Rattle.ordered_tree.specs.Stands.{round_root, references}
-use Rattle.ordered_tree.specs.declared.node_ref.NodeRef.{NodeRef}
+use Rattle.ft_base.specs.declared.ids.NodeRef.{NodeRef}
 use Rattle.path_nodes.specs.Asked.{OfEach}
 use Rattle.path_nodes.specs.Kept.{kept, kept_children}
 use Rattle.path_nodes.specs.Listed.{HaveSame}

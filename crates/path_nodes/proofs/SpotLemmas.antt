@@ -9,7 +9,7 @@ use Rattle.path_meaning.specs.Elements.{Element, placed}
 use Rattle.ordered_tree.specs.Numbered.{Numbered, element_at, text_at, Children, no_children, child_then, plain, reference, first_of}
 use Rattle.ordered_tree.specs.Stands.{Stand, round_root, round_first, round_next, stands, child_stands, stands_in, references}
 use Rattle.ordered_tree.specs.declared.around.Around.{Around}
-use Rattle.ordered_tree.specs.declared.node_ref.NodeRef.{NodeRef}
+use Rattle.ft_base.specs.declared.ids.NodeRef.{NodeRef}
 use Rattle.path_nodes.specs.References.{Spot, spots, child_spots, spots_in, spot_reference, spot_element, found_in, element_of}
 
 abbrev stand_of : Spot → Stand

@@ -1,7 +1,7 @@
 -- Marked nodes.
 use Rattle.std.specs.Prelude.{ℕ, Bool, nat_eq}
 use Rattle.std.specs.HashSet.{HashSet, contains}
-use Rattle.ordered_tree.specs.declared.node_ref.NodeRef.{NodeRef}
+use Rattle.ft_base.specs.declared.ids.NodeRef.{NodeRef}
 
 -- whether the node's number is in a set
 abbrev pub is_marked : {S : Type 0} → HashSet ℕ S → NodeRef → Bool

@@ -6,7 +6,7 @@ use Rattle.path_meaning.specs.Elements.{Element, placed}
 use Rattle.ordered_tree.specs.Numbered.{Numbered, element_at, text_at, Children, no_children, child_then, plain, reference, first_of, is_element, attrs_of}
 use Rattle.ordered_tree.specs.Stands.{Stand, round_root, round_first, round_next, stands_in, references}
 use Rattle.ordered_tree.specs.declared.around.Around.{Around}
-use Rattle.ordered_tree.specs.declared.node_ref.NodeRef.{NodeRef}
+use Rattle.ft_base.specs.declared.ids.NodeRef.{NodeRef}
 
 -- a node, its place in the document and what stands round it
 pub record Spot : Type 0 where

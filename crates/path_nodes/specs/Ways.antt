@@ -2,7 +2,7 @@
 use Rattle.std.specs.Prelude.{◌≡◌, ℕ, Bool, true}
 use Rattle.std.specs.HashSet.{HashSet}
 use Rattle.ordered_tree.specs.Numbered.{Numbered}
-use Rattle.ordered_tree.specs.declared.node_ref.NodeRef.{NodeRef}
+use Rattle.ft_base.specs.declared.ids.NodeRef.{NodeRef}
 use Rattle.path_meaning.specs.Elements.{Element}
 use Rattle.path_nodes.specs.Marks.{is_marked}
 use Rattle.path_nodes.specs.References.{IsElement, element_of}

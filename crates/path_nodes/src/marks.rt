@@ -1,6 +1,6 @@
 ghost use Rattle.std.specs.Prelude.{◌≡◌, ◌≢◌, ◌||◌, ◌==◌, [], true, All, map, OnOk};
 ghost use Rattle.std.specs.List.{list_any};
-ghost use Rattle.ordered_tree.specs.declared.node_ref.NodeRef.{NodeRef};
+ghost use Rattle.ft_base.specs.declared.ids.NodeRef.{NodeRef};
 ghost use Rattle.path_meaning.specs.Elements.{is_same};
 ghost use Rattle.path_nodes.specs.Marks.{is_marked};
 ghost use Rattle.path_nodes.specs.References.{IsElement, element_of};

@@ -1,6 +1,6 @@
 ghost use Rattle.std.specs.Prelude.{◌≡◌, ◌≤◌, ◌+◌, ◌∷◌, [], ◌++◌, ◌||◌, ℕ, All, Bool, IfOk, OnOk, filter, flat_map, map, sum_by};
 ghost use Rattle.std.specs.List.{list_any};
-ghost use Rattle.ordered_tree.specs.declared.node_ref.NodeRef.{NodeRef};
+ghost use Rattle.ft_base.specs.declared.ids.NodeRef.{NodeRef};
 ghost use Rattle.path_meaning.specs.Elements.{Element};
 ghost use Rattle.path_nodes.specs.Listed.{AreListed, HaveSame};
 ghost use Rattle.path_nodes.specs.Marks.{is_marked};

@@ -1,5 +1,4 @@
-use crate::{DocId, LeafId};
-use ft_base::Memory;
+use ft_base::{DocId, LeafId, Memory};
 use shared_list::Share;
 use std::alloc::Global;
 

@@ -3,7 +3,7 @@ use Rattle.std.proofs.Common.{◌≡◌, ◌+◌, ◌≤◌, ◌||◌, ◌&&◌,
 use Rattle.std.specs.List.{All, list_any}
 use Rattle.std.proofs.lemmas.List.{take_all, drop_all}
 use Rattle.std.proofs.lemmas.List.Elements.{All-nil, All-cons, All-map, All-filter, All-get_or}
-use Rattle.ordered_tree.specs.declared.node_ref.NodeRef.{NodeRef}
+use Rattle.ft_base.specs.declared.ids.NodeRef.{NodeRef}
 use Rattle.path_grammar.specs.declared.path.Condition.{the_lemmas}
 use Rattle.ordered_tree.specs.Numbered.{plain}
 use Rattle.path_meaning.specs.Elements.{elements, is_in, is_same}

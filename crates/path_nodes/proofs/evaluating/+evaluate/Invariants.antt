@@ -3,7 +3,7 @@
 use Rattle.std.proofs.Common.{◌≡◌, ◌≤◌, ◌+◌, All, map, filter, take, drop}
 use Rattle.std.specs.Prelude.{sum_by}
 use Rattle.ordered_tree.specs.Numbered.{plain}
-use Rattle.ordered_tree.specs.declared.node_ref.NodeRef.{NodeRef}
+use Rattle.ft_base.specs.declared.ids.NodeRef.{NodeRef}
 use Rattle.path_meaning.specs.Elements.{elements, is_in}
 use Rattle.path_grammar.specs.Form as form
 use Rattle.path_meaning.specs.Meaning as meaning

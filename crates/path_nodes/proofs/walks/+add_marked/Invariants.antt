@@ -1,6 +1,6 @@
 -- The marked elements at or below the first children stand behind the others.
 use Rattle.std.proofs.Common.{◌≡◌, ◌++◌, All, Bool, filter, flat_map, map, take}
-use Rattle.ordered_tree.specs.declared.node_ref.NodeRef.{NodeRef}
+use Rattle.ft_base.specs.declared.ids.NodeRef.{NodeRef}
 use Rattle.path_meaning.specs.Elements.{Element}
 use Rattle.path_nodes.specs.Marks.{is_marked}
 use Rattle.path_nodes.specs.References.{IsElement, element_of}
