@@ -6,7 +6,7 @@ ghost use Rattle.ordered_tree.specs.Slots.{IsRow, row, node_at};
 use crate::leaf::LeafWords;
 use crate::slot::{Held, Slot};
 use crate::{Leaves, NodeRef};
-use ft_base::{Line, Lines, Memory};
+use ft_base::{LeafId, Line, Lines, Memory};
 use std::alloc::Global;
 use tokenizer::words_of;
 
