@@ -14,7 +14,8 @@ use Rattle.doc_grammar.specs.Texts.{Kind, Spells, GoesWrong, without_mark, mark_
 use Rattle.doc_grammar.proofs.Joined.{document_joined}
 use Rattle.doc_grammar.proofs.Laws.{one_reading}
 use Rattle.doc_grammar.proofs.WithinLimits.{passes_none}
-use Rattle.doc_profile.specs.Faults.{max_depth, max_nodes, Fits, IsWithin, AreWithin, FaultIn, FaultOf, IsFaultOf}
+use Rattle.ft_base.specs.Limits.{max_depth, max_nodes}
+use Rattle.doc_profile.specs.Faults.{Fits, IsWithin, AreWithin, FaultIn, FaultOf, IsFaultOf}
 use Rattle.doc_profile.specs.Readings.{walk, at_end, only, document_of, fragment_of}
 use Rattle.doc_profile.specs.declared.fault.DocFault.{DocFault}
 use Rattle.doc_profile.specs.declared.fault.DocFault.TheVariants as faults

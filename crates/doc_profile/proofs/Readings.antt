@@ -6,7 +6,8 @@ use Rattle.doc_grammar.specs.Texts.{Kind, Spells}
 use Rattle.doc_grammar.specs.Reading.{outer_of, read}
 use Rattle.doc_grammar.proofs.Laws.{read_spells, ends_wrong}
 use Rattle.plain_tree.specs.Document.{Node, nodes}
-use Rattle.doc_profile.specs.Faults.{max_depth, max_nodes, Fits, IsWithin, AreWithin}
+use Rattle.ft_base.specs.Limits.{max_depth, max_nodes}
+use Rattle.doc_profile.specs.Faults.{Fits, IsWithin, AreWithin}
 use Rattle.doc_grammar.proofs.Counts.{begun, nodes_count-nodes}
 use Rattle.doc_grammar.proofs.Heights.{reached, heights-nodes}
 use Rattle.doc_grammar.proofs.WithinLimits.{totals}

@@ -16,7 +16,8 @@ use Rattle.doc_grammar.proofs.Laws.{read-append, goes_wrong}
 use Rattle.doc_grammar.proofs.Passed.{Clean, Checked, clean_start, clean_further, clean_end, clean_keeps}
 use Rattle.doc_grammar.proofs.PassedFaults.{element_begins, text_begins, element_keeps, not_deep, text_not_deep, text_no_element, refused_no_element, taken_adds, here_count}
 use Rattle.doc_grammar.proofs.WithinLimits.{taken_reaches}
-use Rattle.doc_profile.specs.Faults.{max_depth, max_nodes, Fits, IsPlace, SyntaxAt, DepthAt, NodesAt, FaultIn}
+use Rattle.ft_base.specs.Limits.{max_depth, max_nodes}
+use Rattle.doc_profile.specs.Faults.{Fits, IsPlace, SyntaxAt, DepthAt, NodesAt, FaultIn}
 use Rattle.doc_profile.specs.Readings.{element_passes, text_passes, passes, taken}
 use Rattle.doc_profile.specs.declared.fault.DocFault.{DocFault}
 use Rattle.doc_profile.specs.declared.fault.DocFault.TheVariants as faults

@@ -1,18 +1,12 @@
 -- What each fault of a text says.
 use Rattle.std.specs.Prelude.{◌≡◌, ℕ, ◌+◌, ◌≤◌, List, length, encode_utf8_all, ⊤}
 use Rattle.std.specs.Str.{IsUtf8, IsValidUpTo}
+use Rattle.ft_base.specs.Limits.{max_depth, max_nodes}
 use Rattle.plain_tree.specs.Document.{Node, Nodes}
 use Rattle.doc_grammar.specs.Texts.{Kind, GoesWrong}
 use Rattle.doc_grammar.specs.Limits.{Limit, depth_limit, node_limit, Passes, KeepsLimits, height, heights, node_count, nodes_count}
 use Rattle.doc_profile.specs.declared.fault.DocFault.{DocFault}
 use Rattle.doc_profile.specs.declared.fault.DocFault.TheVariants as faults
-
--- the deepest level, and the most elements and texts
-abbrev pub max_depth : ℕ
-max_depth = 200
-
-abbrev pub max_nodes : ℕ
-max_nodes = 1_000_000
 
 -- the text passes no limit
 abbrev pub Fits : Kind → List ℕ → Type 0

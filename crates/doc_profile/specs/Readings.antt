@@ -8,7 +8,7 @@ use Rattle.doc_grammar.specs.Machine.{State, run_on, start, finished}
 use Rattle.doc_grammar.specs.Texts.{Kind, without_mark, mark_len}
 use Rattle.doc_grammar.specs.Reading.{outer_of}
 use Rattle.doc_grammar.specs.Limits.{text_here, element_here, place_count, depth}
-use Rattle.doc_profile.specs.Faults.{max_depth, max_nodes}
+use Rattle.ft_base.specs.Limits.{max_depth, max_nodes}
 use Rattle.doc_profile.specs.declared.fault.DocFault.{DocFault}
 use Rattle.doc_profile.specs.declared.fault.DocFault.TheVariants as faults
 

@@ -7,9 +7,9 @@ pub enum DocFault {
     NotUtf8 { at: usize },
     /// The text can't go on like this: the bytes before the place begin a document, and one character more doesn't.
     Syntax { at: usize },
-    /// More than 200 elements stand in one another: the `<` of the first tag at the 201st level.
+    /// Elements stand deeper in one another than `MAX_DEPTH`: the `<` of the first tag one level deeper.
     Depth { at: usize },
-    /// There are more than 1,000,000 elements and texts: the first byte of the first one too many.
+    /// There are more than `MAX_NODES` elements and texts: the first byte of the first one too many.
     Nodes { at: usize },
     /// There was not enough memory.
     Memory,

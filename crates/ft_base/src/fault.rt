@@ -8,9 +8,9 @@ pub enum QueryFault {
     Syntax { at: usize },
     /// A parenthesis, a bracket or a filter stands inside too many others.
     Deep { at: usize },
-    /// The number is over 1,000,000.
+    /// The number is greater than one in a query may be.
     Number { at: usize },
-    /// The selection has more than 64 phrases with those of the string there.
+    /// With those of the string there the selection has more phrases than it may have.
     Phrases { at: usize },
     /// There is an option of the same group before.
     OptionTwice { at: usize },

@@ -85,6 +85,16 @@ impl<T: Drop> Items<T> {
         self.items.push(item)?;
         Ok(())
     }
+
+    /// Puts the items of another list to the end. Where memory runs out, the list stays as it was and the others are dropped.
+    pub fn append(&mut self, more: Items<T>) -> Result<(), Memory>
+        ensures ok { OnOk result (self.new ≡ self.old ++ more) }
+        ensures err { OnErr result (self.new ≡ self.old) }
+    {
+        let mut more = more.into_vec();
+        self.items.append(&mut more)?;
+        Ok(())
+    }
 }
 
 impl<T: Copy> Items<T> {

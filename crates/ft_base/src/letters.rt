@@ -2,7 +2,7 @@ ghost use Rattle.std.specs.Prelude.{◌≡◌, ◌≤◌, IfOk, chars, encode_ut
 ghost use Rattle.std.specs.List.{prefix_len};
 ghost use Rattle.ft_base.specs.Letters as spec;
 
-use crate::{Line, Memory};
+use crate::{Line, MAX_NUMBER, Memory};
 use std::alloc::Global;
 
 /// The characters of a text.
@@ -45,13 +45,16 @@ pub fn digit_run(letters: &[char]) -> usize
     size
 }
 
-/// The number that digits stand for; past a million it is a million and one.
+/// What every number past the greatest one is taken for.
+const PAST_MAX_NUMBER: u32 = MAX_NUMBER + 1;
+
+/// The number that digits stand for; past `MAX_NUMBER` it is the one behind that.
 pub fn number_of(digits: &[char]) -> u32
     ensures { result ≡ spec.number_of digits.now }
 {
     let mut number: u32 = 0;
     for digit in digits {
-        number = (number * 10 + (*digit as u32).saturating_sub(48)).min(1_000_001);
+        number = (number * 10 + (*digit as u32).saturating_sub(48)).min(PAST_MAX_NUMBER);
     }
     number
 }

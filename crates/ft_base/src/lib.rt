@@ -34,7 +34,8 @@ pub use ids::{DocId, LeafId, NodeRef};
 pub use items::Items;
 pub use letters::{begins_with, digit_run, is_digit, letters_of, number_of, text_of};
 pub use limits::{
-    MAX_DEPTH, MAX_DOCUMENTS, MAX_NODES, MAX_PIECE_BYTES, MAX_SESSION_BYTES, MAX_TOKENS,
+    MAX_DEPTH, MAX_DOCUMENTS, MAX_FILTERS, MAX_LINE_BYTES, MAX_LISTS, MAX_MARKS, MAX_NAME_BYTES,
+    MAX_NODES, MAX_NUMBER, MAX_OPEN, MAX_PHRASES, MAX_PIECE_BYTES, MAX_SESSION_BYTES, MAX_TOKENS,
 };
 pub use line::Line;
 pub use memory::Memory;

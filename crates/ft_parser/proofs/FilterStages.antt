@@ -1,6 +1,7 @@
 -- Whether filters are within their limit behind the next symbol.
 use Rattle.std.proofs.Common.{◌≡◌, ℕ, Bool, true, false, ◌&&◌, List, [], ◌∷◌, ◌++◌, Option, Some, None, refl, sym, ◌∙◌, ap, subst}
 use Rattle.std.specs.Prelude.{not, nat_le, codes}
+use Rattle.ft_base.specs.Limits.{max_filters}
 use Rattle.ft_base.specs.declared.filter.Filter.{Filter}
 use Rattle.ft_base.specs.declared.range.Range.{Range}
 use Rattle.ft_base.specs.declared.range.Range.TheVariants as R
@@ -56,7 +57,7 @@ options_first outer left n x os =
     k : Filter → State
     k f = filtered_state outer (selection_with left (operand_of n x os)) f
 
-    made : (f : Filter) → state_within (filtered_state outer (selection_with left (operand_of n x os)) f) ≡ (before outer left x && not (nat_le 64 (filters_round (selection_with left (operand_of n x os)))))
+    made : (f : Filter) → state_within (filtered_state outer (selection_with left (operand_of n x os)) f) ≡ (before outer left x && not (nat_le max_filters (filters_round (selection_with left (operand_of n x os)))))
     made f = filter_within outer (selection_with left (operand_of n x os)) (left_within left && primary_within x) f (whole_within left n x os)
 
 moded_first : (outer : List Frame) (left : Left) (n : Option ℕ) (xs : List PlacedString) (mode : Mode) → First state_within (frames_within outer && (left_within left && true)) (has_all_filters (Some (selection_with left (operand_of n (phrases xs mode None) [])))) (m.moded_next outer left n xs mode)
@@ -111,7 +112,7 @@ thesaurus_first outer left n x os at s r = first_or_else state_within (before ou
 
     made : (f : Filter) → state_within (filtered_state outer (thesaurus_selection left n x os at s r) f) ≡ (before outer left x && true)
     made f = filter_within outer (thesaurus_selection left n x os at s r) (left_within left && primary_within x) f (whole_within left n x (thesaurus_ended os at s r None))
-        ∙ ap (λ z. before outer left x && not (nat_le 64 z)) (thesaurus_round left n x os at s r)
+        ∙ ap (λ z. before outer left x && not (nat_le max_filters z)) (thesaurus_round left n x os at s r)
 
 opened_within : (a c : Bool) → ((c && a) && true) ≡ ((a && (c && true)) && true)
 opened_within true true = refl
@@ -131,7 +132,7 @@ stage_first outer left (m.given_options n x os) = options_first outer left n x o
 stage_first outer left (m.stop_terms n x os at ts) = let same = old (before outer left x) in first_or_else state_within (before outer left x) (has_all_filters (selection_at left (m.stop_terms n x os at ts))) (m.term_words outer left n x os at ts) (m.options_next outer left n x (os ++ m.stop_option at ts ∷ []))
     ((λ i. ((λ r. ((λ t s. same), tt)), (((λ t s. same), tt), tt))), ((λ i. ((λ r. ((λ t s. same), tt)), (((λ t s. same), tt), tt))), tt)) (options_first outer left n x (os ++ m.stop_option at ts ∷ []))
 stage_first outer left (m.stop_strings n x os at ts except xs) = let same = old (before outer left x) in (((λ i s. same), tt), (same, tt))
-stage_first outer left (m.thesaurus n x os at s r) = subst (λ b. First state_within (before outer left x) b (m.thesaurus_next outer left n x os at s r)) (ap (nat_le 64) (sym (thesaurus_round left n x os at s r)))
+stage_first outer left (m.thesaurus n x os at s r) = subst (λ b. First state_within (before outer left x) b (m.thesaurus_next outer left n x os at s r)) (ap (nat_le max_filters) (sym (thesaurus_round left n x os at s r)))
     (first_or_else state_within (before outer left x) false (m.relationship_word (λ t. stands outer left (m.thesaurus n x os at s (Some t))) r) (m.thesaurus_rest outer left n x os at s r) (relationship_first (before outer left x) false (λ t. stands outer left (m.thesaurus n x os at s (Some t))) r (λ t. refl)) (thesaurus_first outer left n x os at s r))
 stage_first outer left (m.thesaurus_in n x os at us s r) = first_or_else state_within (before outer left x) false (m.relationship_word (λ t. stands outer left (m.thesaurus_in n x os at us s (Some t))) r) (m.thesaurus_in_rest outer left n x os at us s r)
     (relationship_first (before outer left x) false (λ t. stands outer left (m.thesaurus_in n x os at us s (Some t))) r (λ t. refl))
@@ -144,5 +145,5 @@ stage_first outer left (m.thesaurus_in n x os at us s r) = first_or_else state_w
     levels t = all_and_then (Same (before outer left x)) t (m.levels_end made) (λ l. ((λ i. old (before outer left x)), tt))
 stage_first outer left (m.thesauri_in n x os at us) = let same = old (before outer left x) in (((λ i. ((λ j s. same), tt)), tt), (same, tt))
 stage_first outer left (m.with_filter x) =
-    first_filters state_within (frames_within outer && are_filters_within x) (nat_le 64 (filters_round x)) (filtered_state outer x) (word (codes "at") (λ i. and_then side (whole_of (filtered_state outer x))) (m.close_next outer x)) (λ f. filter_within outer x (are_filters_within x) f refl)
-    (first_side state_within (frames_within outer && are_filters_within x) (nat_le 64 (filters_round x)) (filtered_state outer x) (m.close_next outer x) (λ f. filter_within outer x (are_filters_within x) f refl) (close_first outer x (nat_le 64 (filters_round x)) (are_filters_within x) refl))
+    first_filters state_within (frames_within outer && are_filters_within x) (nat_le max_filters (filters_round x)) (filtered_state outer x) (word (codes "at") (λ i. and_then side (whole_of (filtered_state outer x))) (m.close_next outer x)) (λ f. filter_within outer x (are_filters_within x) f refl)
+    (first_side state_within (frames_within outer && are_filters_within x) (nat_le max_filters (filters_round x)) (filtered_state outer x) (m.close_next outer x) (λ f. filter_within outer x (are_filters_within x) f refl) (close_first outer x (nat_le max_filters (filters_round x)) (are_filters_within x) refl))

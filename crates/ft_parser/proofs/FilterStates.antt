@@ -1,6 +1,7 @@
 -- Whether filters are within their limit in all that the machine has read, wherever it stands.
 use Rattle.std.proofs.Common.{◌≡◌, ℕ, Bool, true, false, ◌&&◌, List, [], ◌∷◌, ◌++◌, Option, Some, None, refl, sym, ◌∙◌, ap}
 use Rattle.std.specs.Prelude.{not, nat_le}
+use Rattle.ft_base.specs.Limits.{max_filters}
 use Rattle.ft_base.specs.declared.filter.Filter.{Filter}
 use Rattle.selection_grammar.specs.declared.parsed.PlacedOption.{PlacedOption}
 use Rattle.selection_grammar.specs.Machine as m
@@ -125,9 +126,9 @@ old a = sym (and_true a)
 pub whole_within : (left : Left) (n : Option ℕ) (x : Primary) (os : List PlacedOption) → are_filters_within (selection_with left (operand_of n x os)) ≡ (left_within left && primary_within x)
 whole_within left n x os = selection_within left (operand_of n x os) ∙ ap (λ b. left_within left && b) (operand_within n x os)
 
-pub filter_within : (outer : List Frame) (x : Tree) (b : Bool) (f : Filter) → are_filters_within x ≡ b → state_within (filtered_state outer x f) ≡ ((frames_within outer && b) && not (nat_le 64 (filters_round x)))
+pub filter_within : (outer : List Frame) (x : Tree) (b : Bool) (f : Filter) → are_filters_within x ≡ b → state_within (filtered_state outer x f) ≡ ((frames_within outer && b) && not (nat_le max_filters (filters_round x)))
 unfolding are_filters_within
-filter_within outer x b f e = sym (and_assoc (frames_within outer) (are_filters_within x) (not (nat_le 64 (filters_round x)))) ∙ ap (λ a. (frames_within outer && a) && not (nat_le 64 (filters_round x))) e
+filter_within outer x b f e = sym (and_assoc (frames_within outer) (are_filters_within x) (not (nat_le max_filters (filters_round x)))) ∙ ap (λ a. (frames_within outer && a) && not (nat_le max_filters (filters_round x))) e
 
 pub close_first : (outer : List Frame) (x : Tree) (full b : Bool) → are_filters_within x ≡ b → First state_within (frames_within outer && b) full (m.close_next outer x)
 close_first [] x full b e = tt

@@ -2,6 +2,7 @@
 use Rattle.std.proofs.Common.{◌≡◌, ℕ, Bool, true, false, ◌||◌, ◌&&◌, cond, List, [], ◌∷◌, ◌++◌, Option, Some, None, Ok, Err, refl, sym, ◌∙◌, ap, subst, append_assoc}
 use Rattle.std.proofs.lemmas.List.{append-nil}
 use Rattle.std.specs.Prelude.{nat_le}
+use Rattle.ft_base.specs.Limits.{max_open}
 use Rattle.ft_base.specs.Selection.{Form}
 use Rattle.ft_base.specs.declared.fault.QueryFault.{QueryFault}
 use Rattle.ft_base.specs.declared.fault.QueryFault.TheVariants as Q
@@ -113,10 +114,10 @@ selects_read symbols bad size form x = begun symbols (whole_begins x.whole.spell
 
 pub refuses_read : (symbols : List Placed) (bad : Option ℕ) (size : ℕ) (fault : QueryFault) → Refuses symbols bad size fault → rest_read 0 (whole start) symbols bad size ≡ Err fault
 refuses_read symbols bad size fault (Refuses.number u p rest e h great) = begun u h.begins _ (λ s r.
-    to_there symbols bad size u (p ∷ rest) s e r h ∙ at_limit bad size (open_in u) p rest s (ap (λ b. b || (nat_le 64 (open_in u) && is_mark open_parenthesis p.symbol)) great)
+    to_there symbols bad size u (p ∷ rest) s e r h ∙ at_limit bad size (open_in u) p rest s (ap (λ b. b || (nat_le max_open (open_in u) && is_mark open_parenthesis p.symbol)) great)
     ∙ ap (λ b. Err (cond b (Q.Deep p.from) (Q.Number p.from))) (number_no_mark p.symbol great))
 refuses_read symbols bad size fault (Refuses.parenthesis u p rest e h opens full) = begun u h.begins _ (λ s r.
-    to_there symbols bad size u (p ∷ rest) s e r h ∙ at_limit bad size (open_in u) p rest s (both (is_great (number_of p.symbol)) (nat_le 64 (open_in u)) (is_mark open_parenthesis p.symbol) full opens)
+    to_there symbols bad size u (p ∷ rest) s e r h ∙ at_limit bad size (open_in u) p rest s (both (is_great (number_of p.symbol)) (nat_le max_open (open_in u)) (is_mark open_parenthesis p.symbol) full opens)
     ∙ ap (λ b. Err (cond b (Q.Deep p.from) (Q.Number p.from))) opens)
   where
     both : (a b c : Bool) → b ≡ true → c ≡ true → (a || (b && c)) ≡ true

@@ -2,6 +2,7 @@
 use Rattle.std.proofs.Common.{◌≡◌, ℕ, Bool, true, false, ◌||◌, ◌&&◌, cond, List, [], ◌∷◌, ◌++◌, Option, Some, None, Result, Ok, Err, refl, sym, ◌∙◌, ap, subst, append_assoc}
 use Rattle.std.proofs.lemmas.List.{append-nil}
 use Rattle.std.specs.Prelude.{nat_le}
+use Rattle.ft_base.specs.Limits.{max_open}
 use Rattle.ft_base.specs.Selection.{Form}
 use Rattle.ft_base.specs.declared.fault.QueryFault.{QueryFault}
 use Rattle.ft_base.specs.declared.fault.QueryFault.TheVariants as Q
@@ -46,7 +47,7 @@ number_no_mark (S.Number n) h = refl
 number_no_mark other h = cc
 
 word_passes_none : (s : Symbol) (depth : ℕ) (all : Bool) → (is_filter_word s && all) ≡ true → passes depth s ≡ false
-word_passes_none (S.Name name) depth all h = no_mark (nat_le 64 depth)
+word_passes_none (S.Name name) depth all h = no_mark (nat_le max_open depth)
   where
     no_mark : (b : Bool) → (b && false) ≡ false
     no_mark true = refl
@@ -113,14 +114,14 @@ one_read bad size p v u shape depth r h e further = by_limit (passes depth p.sym
     by_filter true a l = Refuses.filter u p v refl h (ap (λ o. is_deep_there o p.symbol) r ∙ a)
     by_filter false a l = by_advance (advance shape p) refl (ap (λ n. passes n p.symbol || is_deep_behind u p.symbol) e ∙ ap (λ b. b || is_deep_behind u p.symbol) l ∙ ap (λ o. is_deep_there o p.symbol) r ∙ a)
 
-    by_kind : (b c d : Bool) → is_great (number_of p.symbol) ≡ b → nat_le 64 depth ≡ c → is_mark open_parenthesis p.symbol ≡ d → (b || (c && d)) ≡ true → Outcome (u ++ p ∷ v) bad size (Err (limit_fault p))
+    by_kind : (b c d : Bool) → is_great (number_of p.symbol) ≡ b → nat_le max_open depth ≡ c → is_mark open_parenthesis p.symbol ≡ d → (b || (c && d)) ≡ true → Outcome (u ++ p ∷ v) bad size (Err (limit_fault p))
     by_kind true c d a k m l = subst (λ b. Refuses (u ++ p ∷ v) bad size (cond b (Q.Deep p.from) (Q.Number p.from))) (sym (number_no_mark p.symbol a)) (Refuses.number u p v refl h a)
-    by_kind false true true a k m l = subst (λ b. Refuses (u ++ p ∷ v) bad size (cond b (Q.Deep p.from) (Q.Number p.from))) (sym m) (Refuses.parenthesis u p v refl h m (ap (nat_le 64) e ∙ k))
+    by_kind false true true a k m l = subst (λ b. Refuses (u ++ p ∷ v) bad size (cond b (Q.Deep p.from) (Q.Number p.from))) (sym m) (Refuses.parenthesis u p v refl h m (ap (nat_le max_open) e ∙ k))
     by_kind false true false a k m l = cc
     by_kind false false d a k m l = cc
 
     by_limit : (b : Bool) → passes depth p.symbol ≡ b → Outcome (u ++ p ∷ v) bad size (read_as (scanned_from shape (cond b [] (p ∷ before_limit (open_behind depth p.symbol) v))) (cond b (p ∷ v) (from_limit (open_behind depth p.symbol) v)) bad size)
-    by_limit true l = by_kind (is_great (number_of p.symbol)) (nat_le 64 depth) (is_mark open_parenthesis p.symbol) refl refl refl l
+    by_limit true l = by_kind (is_great (number_of p.symbol)) (nat_le max_open depth) (is_mark open_parenthesis p.symbol) refl refl refl l
     by_limit false l = by_filter (is_deep_filter shape p.symbol) refl l
 
 forward : (bad : Option ℕ) (size : ℕ) (v u : List Placed) (shape : Shape State) (depth : ℕ) → read u ≡ Some shape → MayStand u → open_in u ≡ depth → Outcome (u ++ v) bad size (rest_read depth shape v bad size)

@@ -1,5 +1,6 @@
 -- Where a filter too many begins.
 use Rattle.std.specs.Prelude.{◌≡◌, true, false, nat_le, List, [], ◌∷◌, ◌++◌}
+use Rattle.ft_base.specs.Limits.{max_filters}
 use Rattle.selection_grammar.specs.declared.symbol.Symbol.TheVariants.{OpenParenthesis}
 use Rattle.selection_grammar.specs.declared.symbol.Placed.{Placed}
 use Rattle.selection_grammar.specs.Grammar.{Selection, Spot, at}
@@ -16,7 +17,7 @@ pub data Opened : List Placed → Type 0 where
   nothing : Opened []
   behind : (u : List Placed) (p : Spot) → Opened (u ++ at p OpenParenthesis ∷ [])
 
--- The symbols from the last open parenthesis on, or all of them, spell a selection with 64 filters directly round one another.
+-- The symbols from the last open parenthesis on, or all of them, spell a selection with as many filters directly round one another as may stand so.
 pub record HasAllFilters (symbols : List Placed) : Type 0 where
   pub outside : List Placed
   pub inside : List Placed
@@ -24,4 +25,4 @@ pub record HasAllFilters (symbols : List Placed) : Type 0 where
   pub split : symbols ≡ outside ++ inside
   pub opened : Opened outside
   pub spells : Selection inside tree
-  pub full : nat_le 64 (filters_round tree) ≡ true
+  pub full : nat_le max_filters (filters_round tree) ≡ true

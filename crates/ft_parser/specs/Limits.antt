@@ -1,5 +1,6 @@
 -- The limits of a query: how great numbers are, how many parentheses are open at once, and how many filters stand directly round one another.
 use Rattle.std.specs.Prelude.{ℕ, zero, suc, ◌+◌, ◌-◌, Bool, false, ◌||◌, ◌&&◌, nat_lt, nat_le, if◌then◌else◌, List, [], ◌∷◌, codes, Option, Some, None}
+use Rattle.ft_base.specs.Limits.{max_filters, max_number, max_open}
 use Rattle.ft_base.specs.declared.fault.QueryFault.{QueryFault}
 use Rattle.ft_base.specs.declared.fault.QueryFault.TheVariants as Q
 use Rattle.selection_grammar.specs.declared.symbol.Symbol.{Symbol}
@@ -9,18 +10,18 @@ use Rattle.selection_grammar.specs.Shapes.{Shape, whole, is_mark, is_word, open_
 use Rattle.selection_grammar.specs.Tree as tree
 use Rattle.selection_grammar.specs.Tree.{Tree}
 
--- a number over a million
+-- a number that is too great
 abbrev pub is_great : Option ℕ → Bool
 is_great None = false
-is_great (Some n) = nat_lt 1000000 n
+is_great (Some n) = nat_lt max_number n
 
 -- how many parentheses are open behind a symbol
 abbrev pub open_behind : ℕ → Symbol → ℕ
 open_behind depth symbol = if is_mark open_parenthesis symbol then depth + 1 else if is_mark close_parenthesis symbol then depth - 1 else depth
 
--- whether a symbol passes a limit where so many parentheses are open: it opens one more than 64, or is a number over a million
+-- whether a symbol passes a limit where so many parentheses are open: it opens one more than may be, or is a number that is too great
 abbrev pub passes : ℕ → Symbol → Bool
-passes depth symbol = is_great (number_of symbol) || (nat_le 64 depth && is_mark open_parenthesis symbol)
+passes depth symbol = is_great (number_of symbol) || (nat_le max_open depth && is_mark open_parenthesis symbol)
 
 -- the symbols before the first that passes a limit, and that one with those behind it
 abbrev pub before_limit : ℕ → List Placed → List Placed
@@ -46,7 +47,7 @@ filters_round (tree.with_options operand options) = zero
 
 abbrev pub has_all_filters : Option Tree → Bool
 has_all_filters None = false
-has_all_filters (Some t) = nat_le 64 (filters_round t)
+has_all_filters (Some t) = nat_le max_filters (filters_round t)
 
 -- the keywords with which filters begin
 abbrev pub is_filter_word : Symbol → Bool
@@ -54,7 +55,7 @@ is_filter_word symbol =
     is_word (codes "ordered") symbol || is_word (codes "window") symbol || is_word (codes "distance") symbol || is_word (codes "same") symbol
     || is_word (codes "different") symbol || is_word (codes "entire") symbol || is_word (codes "at") symbol
 
--- whether a symbol begins a filter whose operand has 64 filters directly round one another
+-- whether a symbol begins a filter whose operand has as many filters directly round one another as may stand so
 abbrev pub is_deep_filter : Shape State → Symbol → Bool
 is_deep_filter (whole s) symbol = is_filter_word symbol && has_all_filters (selection_at s.left s.stage)
 is_deep_filter other symbol = false

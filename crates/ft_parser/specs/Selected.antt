@@ -1,5 +1,6 @@
 -- Which selection a text spells, and why a text is refused.
 use Rattle.std.specs.Prelude.{◌≡◌, ℕ, Bool, true, false, ◌||◌, nat_le, List, [], ◌∷◌, ◌++◌, length, Option, Some, None}
+use Rattle.ft_base.specs.Limits.{max_open}
 use Rattle.ft_base.specs.Selection.{Form}
 use Rattle.ft_base.specs.declared.fault.QueryFault.{QueryFault}
 use Rattle.ft_base.specs.declared.fault.QueryFault.TheVariants as Q
@@ -24,7 +25,7 @@ open_after depth (p ∷ rest) = open_after (open_behind depth p.symbol) rest
 abbrev pub open_in : List Placed → ℕ
 open_in symbols = open_after 0 symbols
 
--- whether a symbol begins a filter whose operand has 64 filters directly round one another, where the machine has read the symbols before it
+-- whether a symbol begins a filter too many, where the machine has read the symbols before it
 abbrev pub is_deep_there : Option (Shape State) → Symbol → Bool
 is_deep_there None symbol = false
 is_deep_there (Some shape) symbol = is_deep_filter shape symbol
@@ -57,11 +58,11 @@ pub record Selects (symbols : List Placed) (bad : Option ℕ) (form : Form) : Ty
 
 -- Why symbols are refused, in a text of so many bytes that has a character that begins no symbol, or none. The symbols before the fault may stand.
 pub data Refuses (symbols : List Placed) (bad : Option ℕ) (size : ℕ) : QueryFault → Type 0 where
-  -- a number is over a million
+  -- a number is too great
   number : (before : List Placed) (p : Placed) (rest : List Placed) → symbols ≡ before ++ p ∷ rest → MayStand before → is_great (number_of p.symbol) ≡ true → Refuses symbols bad size (Q.Number p.from)
-  -- a parenthesis opens where 64 are open
-  parenthesis : (before : List Placed) (p : Placed) (rest : List Placed) → symbols ≡ before ++ p ∷ rest → MayStand before → is_mark open_parenthesis p.symbol ≡ true → nat_le 64 (open_in before) ≡ true → Refuses symbols bad size (Q.Deep p.from)
-  -- a filter begins whose operand has 64 filters directly round one another
+  -- a parenthesis opens where as many are open as may be
+  parenthesis : (before : List Placed) (p : Placed) (rest : List Placed) → symbols ≡ before ++ p ∷ rest → MayStand before → is_mark open_parenthesis p.symbol ≡ true → nat_le max_open (open_in before) ≡ true → Refuses symbols bad size (Q.Deep p.from)
+  -- a filter begins whose operand has as many filters directly round one another as may stand so
   filter : (before : List Placed) (p : Placed) (rest : List Placed) → symbols ≡ before ++ p ∷ rest → MayStand before → is_deep_behind before p.symbol ≡ true → Refuses symbols bad size (Q.Deep p.from)
   -- with the symbol there they begin no selection
   symbol : (before : List Placed) (p : Placed) (rest : List Placed) → symbols ≡ before ++ p ∷ rest → MayStand before → passes_limit before p.symbol ≡ false → (Begins (before ++ p ∷ []) → ⊥) → Refuses symbols bad size (Q.Syntax p.from)

@@ -9,10 +9,8 @@ ghost use Rattle.selection_grammar.specs.View.{tree};
 
 use crate::parts::begins_filter;
 use crate::state::{Left, Operand, Primary, Stage, State};
+use ft_base::MAX_FILTERS;
 use selection_grammar::{Parsed, Placed};
-
-/// How many filters may stand directly round one another.
-const MAX_FILTERS: usize = 64;
 
 /// Whether the symbol of that number begins a filter too many.
 pub(crate) fn begins_deep_filter(symbols: &[Placed], next: usize, state: &State) -> bool

@@ -4,14 +4,8 @@ ghost use Rattle.std.specs.Prelude.{◌≡◌, ◌<◌, ◌+◌, ◌^◌, [], If
 ghost use Rattle.ft_parser.specs.Extent as extent;
 ghost use Rattle.ft_parser.specs.Limits as spec;
 
-use ft_base::QueryFault;
+use ft_base::{MAX_NUMBER, MAX_OPEN, QueryFault};
 use selection_grammar::{Placed, Symbol};
-
-/// How many parentheses may be open at once.
-const MAX_OPEN: usize = 64;
-
-/// The greatest number.
-const MAX_NUMBER: u32 = 1_000_000;
 
 fn passes(depth: usize, symbol: &Symbol) -> bool
     ensures { result ≡ spec.passes depth symbol.now }

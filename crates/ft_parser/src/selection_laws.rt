@@ -19,8 +19,8 @@ pub fn reading_law()
     ensures fault { (text : List ℕ) (fault : QueryFault) → (selection_read text ≡ Err fault) ↔ IsFaultOf text fault }
 {}
 
-/// A symbol begins a filter too many exactly where the selection that is spelled has somewhere more than 64 filters directly round one
-/// another; and the selection that the filter would stand on is the one from the last open parenthesis on.
+/// A symbol begins a filter too many exactly where the selection that is spelled has somewhere more filters directly round one another
+/// than may stand so; and the selection that the filter would stand on is the one from the last open parenthesis on.
 pub fn filters_law()
     ensures selection { (symbols : List Placed) (tree : Tree) → Selection symbols tree → NoneIsDeep symbols ↔ (are_filters_within tree ≡ true) }
     ensures operand { (before : List Placed) (symbol : Symbol) → is_deep_behind before symbol ≡ true → (is_filter_word symbol ≡ true) × HasAllFilters before }

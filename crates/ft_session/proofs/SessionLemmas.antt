@@ -22,7 +22,7 @@ use Rattle.session_text.specs.declared.reply.Reply.TheVariants.{Refused, Done}
 use Rattle.tokenizer.specs.Tokens.{tokens}
 use Rattle.doc_profile.specs.Readings.{Faults, document_of}
 use Rattle.ft_session.specs.declared.loaded.Loaded.{Loaded}
-use Rattle.ft_session.specs.Limits.{max_documents, max_tokens}
+use Rattle.ft_base.specs.Limits.{max_documents, max_tokens}
 use Rattle.ft_session.specs.State.{has_name, to_document}
 use Rattle.ft_session.specs.Step.{added, dropped, loadable, loaded, with_few_tokens, without}
 

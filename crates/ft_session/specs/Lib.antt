@@ -1,5 +1,4 @@
 pub mod Status
-pub mod Limits
 pub mod State
 pub mod StateView
 pub mod Paths

@@ -10,7 +10,7 @@ use Rattle.session_text.specs.declared.reply.Reply.{Reply}
 use Rattle.session_text.specs.declared.reply.Reply.TheVariants.{Done, Refused}
 use Rattle.thesaurus_file.specs.Links.{Links}
 use Rattle.word_lists.specs.Stems.{Stem}
-use Rattle.ft_session.specs.Limits.{max_lists}
+use Rattle.ft_base.specs.Limits.{max_lists}
 
 -- whether there is no room for a list of that name: it would be a new one, and there are as many as there may be
 abbrev pub is_full_for : {L : Type 0} → List ℕ → List (List ℕ × L) → Bool

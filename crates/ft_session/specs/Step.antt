@@ -18,7 +18,7 @@ use Rattle.tokenizer.specs.Tokens.{tokens}
 use Rattle.word_lists.specs.Stems.{stems_of}
 use Rattle.word_lists.specs.StopLists.{stop_list_of}
 use Rattle.ft_session.specs.declared.shown.Shown.TheVariants.{Names, Texts}
-use Rattle.ft_session.specs.Limits.{max_tokens, max_documents}
+use Rattle.ft_base.specs.Limits.{max_tokens, max_documents}
 use Rattle.ft_session.specs.Lists.{stems_put, stop_list_put, thesaurus_put}
 use Rattle.ft_session.specs.Paths.{answer}
 use Rattle.ft_session.specs.State.{State, has_name}

@@ -6,15 +6,12 @@ ghost use Rattle.word_lists.specs.Stems.{stems_of};
 ghost use Rattle.word_lists.specs.StopLists.{stop_list_of};
 ghost use Rattle.ft_session.specs.Lists.{Answers, stems_put, stop_list_put, thesaurus_put};
 
-use ft_base::{ListFault, Memory};
+use ft_base::{ListFault, MAX_LISTS, Memory};
 use plan_compiler::Lists;
 use session_text::{FullOf, Refusal, Reply};
 use std::alloc::Global;
 use thesaurus_file::Thesaurus;
 use word_lists::{Stems, StopList};
-
-/// How many stop lists there are at once, at most, and how many thesauri.
-const MAX_LISTS: usize = 64;
 
 /// Puts the stop list that the block is under the name, unless the name is new and there are as many as there may be, or the
 /// block is no stop list.

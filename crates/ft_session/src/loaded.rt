@@ -2,7 +2,7 @@ ghost use Rattle.std.specs.Prelude.{◌≤◌, length};
 ghost use Rattle.ordered_tree.specs.Numbered.{plain};
 ghost use Rattle.path_nodes.specs.References.{HasSingleAttributes};
 ghost use Rattle.tokenizer.specs.Tokens.{tokens};
-ghost use Rattle.ft_session.specs.Limits.{max_tokens};
+ghost use Rattle.ft_base.specs.Limits.{max_tokens};
 
 use ordered_tree::DocTree;
 

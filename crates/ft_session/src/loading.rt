@@ -2,7 +2,7 @@ ghost use Rattle.std.specs.Prelude.{◌≡◌, ◌≢◌, IfOk, Ok, OnOk, length
 ghost use Rattle.doc_grammar.specs.Printed.{IsPrintable};
 ghost use Rattle.doc_profile.specs.Faults.{IsWithin};
 ghost use Rattle.tokenizer.specs.Tokens.{tokens};
-ghost use Rattle.ft_session.specs.Limits.{max_tokens};
+ghost use Rattle.ft_base.specs.Limits.{max_tokens};
 ghost use Rattle.ft_session.specs.Step.{loadable, with_few_tokens};
 ghost use Rattle.ft_session.specs.LoadView.{outcome};
 

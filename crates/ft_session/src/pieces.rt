@@ -1,5 +1,6 @@
 ghost use Rattle.std.specs.Prelude.{◌≡◌, ◌++◌, ◌+◌, ◌^◌, ◌<◌, ◌≤◌, [], List, ℕ, length, string_bytes, take, IfOk, IfSome, IsErrOf, IsSome, OnErr, OnOk};
 ghost use Rattle.std.specs.List.{list_any};
+ghost use Rattle.ft_base.specs.Limits.{max_session_bytes};
 ghost use Rattle.ft_io.specs.Shelf.{bytes_of, told_bytes};
 ghost use Rattle.session_text.specs.Reading.{commands_left, new_reading};
 ghost use Rattle.session_text.specs.Replies.{is_refusal};
@@ -152,22 +153,22 @@ pub(crate) fn answer_file<S: Shelf, K: Sink, L: Ledger, M: Ledger>(
     ensures written { OnOk result (IfSome (told_bytes (S.files shelf.old) (string_bytes name.now)) (λ session.
         K.written sink.new ≡ with_text (K.written sink.old) (output session))) }
     ensures refused { IfOk result (λ refused. IfSome (told_bytes (S.files shelf.old) (string_bytes name.now)) (λ session. refused ≡ has_refusal session)) }
-    ensures below { OnOk result (S.reached shelf.new (string_bytes name.now) ≤ 67108864) }
+    ensures below { OnOk result (S.reached shelf.new (string_bytes name.now) ≤ max_session_bytes) }
 
     // whatever came
     ensures front { IfSome (told_bytes (S.files shelf.old) (string_bytes name.now)) (λ session. TookFront (K.written sink.old) (K.written sink.new) (output session)) }
-    ensures reached_most { S.reached shelf.new (string_bytes name.now) ≤ 67108865 }
+    ensures reached_most { S.reached shelf.new (string_bytes name.now) ≤ max_session_bytes + 1 }
 
     // where it stopped
     ensures read_fault { IsErrOf result Stopped.ReadFault → S.faults shelf.old (string_bytes name.now) < S.faults shelf.new (string_bytes name.now) }
-    ensures read_fault_early { IsErrOf result Stopped.ReadFault → S.reached shelf.new (string_bytes name.now) < 67108865 }
+    ensures read_fault_early { IsErrOf result Stopped.ReadFault → S.reached shelf.new (string_bytes name.now) < max_session_bytes + 1 }
     ensures read_fault_writes { IsErrOf result Stopped.ReadFault → IfSome (told_bytes (S.files shelf.old) (string_bytes name.now)) (λ session.
         K.written sink.new ≡ with_text (K.written sink.old) (output_of_whole (take (S.reached shelf.new (string_bytes name.now)) session))) }
     ensures write_fault { IsErrOf result Stopped.WriteFault → K.faults sink.old < K.faults sink.new }
-    ensures too_long { IsErrOf result Stopped.TooLong → (S.reached shelf.new (string_bytes name.now) ≡ 67108865) × (K.faults sink.new ≡ K.faults sink.old) }
+    ensures too_long { IsErrOf result Stopped.TooLong → (S.reached shelf.new (string_bytes name.now) ≡ max_session_bytes + 1) × (K.faults sink.new ≡ K.faults sink.old) }
     ensures too_long_writes { IsErrOf result Stopped.TooLong → IfSome (told_bytes (S.files shelf.old) (string_bytes name.now)) (λ session.
         K.written sink.new ≡ with_text (K.written sink.old) (output_of_whole (take (S.reached shelf.new (string_bytes name.now)) session))) }
-    ensures longer { IsErrOf result Stopped.TooLong → IfSome (told_bytes (S.files shelf.old) (string_bytes name.now)) (λ session. 67108865 ≤ length session) }
+    ensures longer { IsErrOf result Stopped.TooLong → IfSome (told_bytes (S.files shelf.old) (string_bytes name.now)) (λ session. max_session_bytes + 1 ≤ length session) }
 {
     let session = Session::new(alloc)?;
     let mut answering = Answering {
@@ -203,22 +204,22 @@ fn answer_pieces<S: Shelf, K: Sink, L: Ledger, M: Ledger>(
     ensures written { OnOk result (IfSome (told_bytes (S.files shelf.old) (string_bytes name.now)) (λ session.
         K.written sink.new ≡ with_text (K.written sink.old) (output session))) }
     ensures refused { IfOk result (λ refused. IfSome (told_bytes (S.files shelf.old) (string_bytes name.now)) (λ session. refused ≡ has_refusal session)) }
-    ensures below { OnOk result (S.reached shelf.new (string_bytes name.now) ≤ 67108864) }
+    ensures below { OnOk result (S.reached shelf.new (string_bytes name.now) ≤ max_session_bytes) }
 
     // whatever came
     ensures front { IfSome (told_bytes (S.files shelf.old) (string_bytes name.now)) (λ session. TookFront (K.written sink.old) (K.written sink.new) (output session)) }
-    ensures reached_most { S.reached shelf.new (string_bytes name.now) ≤ 67108865 }
+    ensures reached_most { S.reached shelf.new (string_bytes name.now) ≤ max_session_bytes + 1 }
 
     // where it stopped
     ensures read_fault { IsErrOf result Stopped.ReadFault → S.faults shelf.old (string_bytes name.now) < S.faults shelf.new (string_bytes name.now) }
-    ensures read_fault_early { IsErrOf result Stopped.ReadFault → S.reached shelf.new (string_bytes name.now) < 67108865 }
+    ensures read_fault_early { IsErrOf result Stopped.ReadFault → S.reached shelf.new (string_bytes name.now) < max_session_bytes + 1 }
     ensures read_fault_writes { IsErrOf result Stopped.ReadFault → IfSome (told_bytes (S.files shelf.old) (string_bytes name.now)) (λ session.
         K.written sink.new ≡ with_text (K.written sink.old) (output_of_whole (take (S.reached shelf.new (string_bytes name.now)) session))) }
     ensures write_fault { IsErrOf result Stopped.WriteFault → K.faults sink.old < K.faults sink.new }
-    ensures too_long { IsErrOf result Stopped.TooLong → (S.reached shelf.new (string_bytes name.now) ≡ 67108865) × (K.faults sink.new ≡ K.faults sink.old) }
+    ensures too_long { IsErrOf result Stopped.TooLong → (S.reached shelf.new (string_bytes name.now) ≡ max_session_bytes + 1) × (K.faults sink.new ≡ K.faults sink.old) }
     ensures too_long_writes { IsErrOf result Stopped.TooLong → IfSome (told_bytes (S.files shelf.old) (string_bytes name.now)) (λ session.
         K.written sink.new ≡ with_text (K.written sink.old) (output_of_whole (take (S.reached shelf.new (string_bytes name.now)) session))) }
-    ensures longer { IsErrOf result Stopped.TooLong → IfSome (told_bytes (S.files shelf.old) (string_bytes name.now)) (λ session. 67108865 ≤ length session) }
+    ensures longer { IsErrOf result Stopped.TooLong → IfSome (told_bytes (S.files shelf.old) (string_bytes name.now)) (λ session. max_session_bytes + 1 ≤ length session) }
 {
     let mut piece = buffer(answering.alloc, MAX_PIECE_BYTES)?;
     let mut taken = 0;

@@ -1,5 +1,6 @@
 ghost use Rattle.std.specs.Prelude.{◌≡◌, ◌⊎◌, ◌↔◌, ◌+◌, ◌^◌, ◌<◌, ◌≤◌, None, length, map, take, IfSome, IsSomeAnd, string_bytes};
 ghost use Rattle.std.specs.Option.{ForSome, option_copied, option_map};
+ghost use Rattle.ft_base.specs.Limits.{max_session_bytes};
 ghost use Rattle.ft_io.specs.Shelf.{bytes_of, told_bytes};
 ghost use Rattle.ft_session.specs.Output.{output, output_of_whole};
 ghost use Rattle.ft_session.specs.Run.{AnswersAll, IsFinished, TookFront, first_of, is_file_word, session_file, with_text};
@@ -23,7 +24,7 @@ fn file_of(words: &[String]) -> Option<&String>
 
 /// Reads the session's file that the words name, does its commands in order and writes the reply to each.
 ///
-/// The words are the arguments of a call, without the program's name. The file is read in pieces of at most 65,536 bytes, and
+/// The words are the arguments of a call, without the program's name. The file is read in pieces of at most `MAX_PIECE_BYTES`, and
 /// each command is answered before the piece behind its last byte is read.
 pub fn run<S: Shelf, K: Sink>(
     alloc: Global,
@@ -39,7 +40,7 @@ pub fn run<S: Shelf, K: Sink>(
     ensures answers { IsFinished result → IfSome (session_file (map string_bytes words.now)) (λ name.
         IfSome (S.files shelf.old) (λ files. IsSomeAnd (bytes_of files name) (λ session.
         AnswersAll session (S.reached shelf.new name) (K.written sink.old) (K.written sink.new) result))) }
-    ensures limit { IsFinished result → IfSome (session_file (map string_bytes words.now)) (λ name. S.reached shelf.new name ≤ 67108864) }
+    ensures limit { IsFinished result → IfSome (session_file (map string_bytes words.now)) (λ name. S.reached shelf.new name ≤ max_session_bytes) }
 
     // Whatever the status, no more than a front of those replies is written.
     ensures front { IfSome (session_file (map string_bytes words.now)) (λ name. IfSome (told_bytes (S.files shelf.old) name) (λ session.
@@ -60,9 +61,9 @@ pub fn run<S: Shelf, K: Sink>(
 
     // The session is too long: one byte more than it may have was read. Then too the commands that were whole are answered.
     ensures too_long { result ≡ Status.TooLong → IfSome (session_file (map string_bytes words.now)) (λ name.
-        (S.reached shelf.new name ≡ 67108865) × (K.faults sink.new ≡ K.faults sink.old)) }
+        (S.reached shelf.new name ≡ max_session_bytes + 1) × (K.faults sink.new ≡ K.faults sink.old)) }
     ensures too_long_only { IfSome (session_file (map string_bytes words.now)) (λ name.
-        S.reached shelf.new name ≡ 67108865 → K.faults sink.new ≡ K.faults sink.old → (result ≡ Status.TooLong) ⊎ (result ≡ Status.Memory)) }
+        S.reached shelf.new name ≡ max_session_bytes + 1 → K.faults sink.new ≡ K.faults sink.old → (result ≡ Status.TooLong) ⊎ (result ≡ Status.Memory)) }
     ensures too_long_writes { result ≡ Status.TooLong → IfSome (session_file (map string_bytes words.now)) (λ name.
         IfSome (told_bytes (S.files shelf.old) name) (λ session.
         K.written sink.new ≡ with_text (K.written sink.old) (output_of_whole (take (S.reached shelf.new name) session)))) }
@@ -70,11 +71,11 @@ pub fn run<S: Shelf, K: Sink>(
     // Where nothing fails and the session isn't too long, it is answered, unless memory runs out.
     ensures complete { IfSome (session_file (map string_bytes words.now)) (λ name.
         S.faults shelf.new name ≡ S.faults shelf.old name → K.faults sink.new ≡ K.faults sink.old →
-        IfSome (told_bytes (S.files shelf.old) name) (λ session. length session ≤ 67108864 →
+        IfSome (told_bytes (S.files shelf.old) name) (λ session. length session ≤ max_session_bytes →
         IsFinished result ⊎ (result ≡ Status.Memory))) }
 
     // Whatever the status, one byte more than a session may have is the last that is read.
-    ensures reached_most { IfSome (session_file (map string_bytes words.now)) (λ name. S.reached shelf.new name ≤ 67108865) }
+    ensures reached_most { IfSome (session_file (map string_bytes words.now)) (λ name. S.reached shelf.new name ≤ max_session_bytes + 1) }
 {
     let Some(name) = file_of(words) else {
         return Status::Usage;

@@ -7,7 +7,7 @@ ghost use Rattle.ordered_tree.specs.Numbered.{plain};
 ghost use Rattle.plan_compiler.specs.Lexicon.{lexicon};
 ghost use Rattle.plan_compiler.specs.PlanMeant.{plan_form, plan_lists};
 ghost use Rattle.tokenizer.specs.Tokens.{tokens};
-ghost use Rattle.ft_session.specs.Limits.{max_tokens};
+ghost use Rattle.ft_base.specs.Limits.{max_tokens};
 
 use ft_base::Memory;
 use ordered_tree::{DocTree, NodeRef};

@@ -16,7 +16,7 @@ pub enum Status {
     WriteFault,
     /// There was not enough memory.
     Memory,
-    /// The session has more than 67,108,864 bytes.
+    /// The session has more than `MAX_SESSION_BYTES` bytes.
     TooLong,
 }
 

@@ -10,6 +10,7 @@ use Rattle.match_options.specs.declared.atom.Atom.TheVariants.{Letter, Gap}
 use Rattle.match_options.specs.declared.atom.SizedAtom.{SizedAtom}
 use Rattle.match_options.specs.declared.atom.Number.{Number}
 use Rattle.ft_base.specs.Letters.{is_digit, number_of, begins_with}
+use Rattle.ft_base.specs.Limits.{max_number}
 use Rattle.match_options.specs.Patterns.{is_period, is_backslash, sized, number_before, upper_bound, bounds, braces_at, period_before, backslash_before, front_atom, atoms_behind, atoms_of}
 use Rattle.match_options.specs.Grammar.{IsNumber, goes_on_with_period, Spells, letter, escaped, one, at_most_one, any_number, at_least_one, from_to, Pattern, last, before}
 use Rattle.match_options.proofs.Reading.{passed, atoms_front, atoms_bad}
@@ -37,7 +38,7 @@ number_spelled digits rest closing number other =
 behind_closing : (digits rest : List ℕ) (closing : ℕ) → drop (length digits + 1) (digits ++ closing ∷ rest) ≡ rest
 behind_closing digits rest closing = ap (λ xs. drop (length digits + 1) xs) (sym (append_assoc digits (closing ∷ []) rest)) ∙ ap (λ n. drop n ((digits ++ closing ∷ []) ++ rest)) (sym (length-append digits (closing ∷ []))) ∙ drop-append_seam (digits ++ closing ∷ []) rest
 
-braces_spelled : (low high rest : List ℕ) → IsNumber low → IsNumber high → number_of low ≤ number_of high → number_of high ≤ 1000000
+braces_spelled : (low high rest : List ℕ) → IsNumber low → IsNumber high → number_of low ≤ number_of high → number_of high ≤ max_number
     → braces_at ((low ++ 44 ∷ (high ++ 125 ∷ [])) ++ rest) ≡ sized (Gap (number_of low) (Some (number_of high))) (suc (suc (length (low ++ 44 ∷ (high ++ 125 ∷ [])))))
 braces_spelled low high rest nl nh ordered small =
     let regrouped : (low ++ 44 ∷ (high ++ 125 ∷ [])) ++ rest ≡ low ++ 44 ∷ (high ++ 125 ∷ rest) = append_assoc low (44 ∷ (high ++ 125 ∷ [])) rest ∙ ap (λ xs. low ++ 44 ∷ xs) (append_assoc high (125 ∷ []) rest) in
@@ -46,7 +47,7 @@ braces_spelled low high rest nl nh ordered small =
     ∙ ap (λ n. bounds n (low ++ 44 ∷ (high ++ 125 ∷ rest))) (number_spelled low (high ++ 125 ∷ rest) 44 nl refl)
     ∙ ap (λ xs. upper_bound (number_of low) (length low + 1) (number_before 125 xs)) (behind_closing low (high ++ 125 ∷ rest) 44)
     ∙ ap (upper_bound (number_of low) (length low + 1)) (number_spelled high rest 125 nh refl)
-    ∙ cond-true _ _ _ (and_from _ _ (le-leb (number_of low) (number_of high) ordered) (le-leb (number_of high) 1000000 small))
+    ∙ cond-true _ _ _ (and_from _ _ (le-leb (number_of low) (number_of high) ordered) (le-leb (number_of high) max_number small))
     ∙ ap (sized (Gap (number_of low) (Some (number_of high)))) sizes
 
 or_parts : (a b : Bool) → (a || b) ≡ false → (a ≡ false) × (b ≡ false)
@@ -180,14 +181,14 @@ sized_is atom size first e = cc
 upper_read : (rest : List ℕ) (low : Number) (first : SizedAtom) → NumberOf 44 rest low → (o : Option Number) → number_before 125 (drop low.size rest) ≡ o → upper_bound low.value low.size o ≡ Some first → FrontOf 46 (123 ∷ rest) first
 upper_read rest low first l None h e = cc
 upper_read rest low first l (Some high) h e =
-    elim (chosen (nat_le low.value high.value && nat_le high.value 1000000) (sized (Gap low.value (Some high.value)) (low.size + high.size + 2)) None (Some first) e) [
+    elim (chosen (nat_le low.value high.value && nat_le high.value max_number) (sized (Gap low.value (Some high.value)) (low.size + high.size + 2)) None (Some first) e) [
       | inl (test, same) ↦
           let left : drop low.size rest ≡ l.behind = (λ i. drop (l.size i) (l.split i)) ∙ behind_closing l.digits l.behind 44 in
           let r = number_read 125 l.behind high (ap (number_before 125) (sym left) ∙ h) in
-          let parts = and_parts (nat_le low.value high.value) (nat_le high.value 1000000) test in
+          let parts = and_parts (nat_le low.value high.value) (nat_le high.value max_number) test in
           let is = sized_is (Gap low.value (Some high.value)) (low.size + high.size + 2) first same in
           let ordered = leb-true low.value high.value parts.0 in
-          let small = leb-true high.value 1000000 parts.1 in
+          let small = leb-true high.value max_number parts.1 in
           let text = l.digits ++ 44 ∷ (r.digits ++ 125 ∷ []) in
           let lv = l.value in
           let rv = r.value in
@@ -195,7 +196,7 @@ upper_read rest low first l (Some high) h e =
           let rs = r.size in
           let sizes : low.size + high.size + 2 ≡ suc (length (123 ∷ text)) = omega (arith, length-append l.digits (44 ∷ (r.digits ++ 125 ∷ [])), length-append r.digits (125 ∷ [])) in
           let ordered_too : number_of l.digits ≤ number_of r.digits = omega arith in
-          let small_too : number_of r.digits ≤ 1000000 = omega arith in
+          let small_too : number_of r.digits ≤ max_number = omega arith in
           record {
             front = 123 ∷ text;
             behind = r.behind;

@@ -4,6 +4,7 @@ use Rattle.std.specs.List.{list_all}
 use Rattle.match_options.specs.declared.atom.Atom.{Atom}
 use Rattle.match_options.specs.declared.atom.Atom.TheVariants.{Letter, Gap}
 use Rattle.ft_base.specs.Letters.{is_digit, number_of}
+use Rattle.ft_base.specs.Limits.{max_number}
 use Rattle.match_options.specs.Patterns.{is_period, is_backslash}
 
 -- digits, at least one
@@ -30,8 +31,8 @@ pub data Spells : List ℕ → Atom → List ℕ → Type 0 where
   any_number : (rest : List ℕ) → Spells (46 ∷ 42 ∷ []) (Gap 0 None) rest
   -- `.+`: at least one
   at_least_one : (rest : List ℕ) → Spells (46 ∷ 43 ∷ []) (Gap 1 None) rest
-  -- `.{n,m}`: from n to m, where n isn't above m and no number is above a million
-  from_to : (low high rest : List ℕ) → IsNumber low → IsNumber high → number_of low ≤ number_of high → number_of high ≤ 1000000
+  -- `.{n,m}`: from n to m, where n isn't above m and no number is too great
+  from_to : (low high rest : List ℕ) → IsNumber low → IsNumber high → number_of low ≤ number_of high → number_of high ≤ max_number
       → Spells (46 ∷ 123 ∷ (low ++ 44 ∷ (high ++ 125 ∷ []))) (Gap (number_of low) (Some (number_of high))) rest
 
 -- a pattern is one atom or more

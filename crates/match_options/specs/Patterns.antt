@@ -5,6 +5,7 @@ use Rattle.std.specs.List.{list_any, prefix_len, slice_split}
 use Rattle.std.specs.Option.{is_none}
 use Rattle.std.specs.Char.{is_whitespace}
 use Rattle.ft_base.specs.Letters.{is_digit, number_of, begins_with}
+use Rattle.ft_base.specs.Limits.{max_number}
 use Rattle.match_options.specs.declared.atom.Atom.{Atom}
 use Rattle.match_options.specs.declared.atom.Atom.TheVariants.{Letter, Gap}
 use Rattle.match_options.specs.declared.atom.SizedAtom.{SizedAtom}
@@ -40,9 +41,9 @@ number_before closing letters =
     then Some record { value = number_of (take (prefix_len is_digit letters) letters); size = prefix_len is_digit letters + 1 }
     else None
 
--- from `low` to `high` characters, where `low` isn't above `high` and `high` isn't above a million
+-- from `low` to `high` characters, where `low` isn't above `high` and `high` isn't too great
 abbrev pub bounded_gap : ℕ → ℕ → ℕ → Option SizedAtom
-bounded_gap low high size = if nat_le low high && nat_le high 1000000 then sized (Gap low (Some high)) size else None
+bounded_gap low high size = if nat_le low high && nat_le high max_number then sized (Gap low (Some high)) size else None
 
 abbrev pub upper_bound : ℕ → ℕ → Option Number → Option SizedAtom
 upper_bound low size None = None

@@ -4,7 +4,7 @@ ghost use Rattle.std.specs.Prelude.{◌≡◌, ◌+◌, ◌≤◌, ◌<◌, IfSo
 ghost use Rattle.match_options.specs.Patterns as spec;
 
 use crate::atom::{Atom, Number, SizedAtom};
-use ft_base::{begins_with, digit_run, number_of};
+use ft_base::{MAX_NUMBER, begins_with, digit_run, number_of};
 
 /// The atom that begins with the character, where one does.
 pub(crate) fn front_atom(first: char, behind: &[char]) -> Option<SizedAtom>
@@ -64,7 +64,7 @@ fn braces(letters: &[char]) -> Option<SizedAtom>
     let Some(high) = number_before(&letters[low.size..], '}') else {
         return None;
     };
-    if low.value > high.value || high.value > 1_000_000 {
+    if low.value > high.value || high.value > MAX_NUMBER {
         return None;
     }
     sized(

@@ -4,6 +4,7 @@ use Rattle.std.proofs.Math.Dec.{leb}
 use Rattle.std.proofs.lemmas.Bool.{leb-true, leb-false, le-leb, ltb-true, ltb-false}
 use Rattle.std.specs.Option.{is_some}
 use Rattle.std.specs.Prelude.{nat_le}
+use Rattle.ft_base.specs.Limits.{max_number, max_open}
 use Rattle.selection_grammar.specs.declared.symbol.Symbol.{Symbol}
 use Rattle.selection_grammar.specs.declared.symbol.Symbol.TheVariants as S
 use Rattle.selection_grammar.specs.declared.symbol.Placed.{Placed}
@@ -95,47 +96,47 @@ selecting_keeps (m.along root s) next p g e = by_stage s.stage refl
     by_stage other k = let two : true ≡ false = sym g ∙ ap (λ z. goes_on_at z p) k in cc
 
 -- the limits of one symbol
-opens_past : (depth : ℕ) (z : Symbol) → opens z ≡ true → passes depth z ≡ nat_le 64 depth
+opens_past : (depth : ℕ) (z : Symbol) → opens z ≡ true → passes depth z ≡ nat_le max_open depth
 opens_past depth S.OpenBracket h = refl
 opens_past depth S.OpenParenthesis h = refl
 opens_past depth other h = cc
 
-past_opens : (depth : ℕ) (z : Symbol) → passes depth z ≡ true → ((n : ℕ) → z ≡ S.Number n → n ≤ 1000000) → (opens z ≡ true) × (64 ≤ depth)
-past_opens depth S.OpenBracket h few = (refl, leb-true 64 depth h)
-past_opens depth S.OpenParenthesis h few = (refl, leb-true 64 depth h)
-past_opens depth (S.Number n) h few = absurd (omega (arith, ltb-true 1000000 n h, few n refl))
+past_opens : (depth : ℕ) (z : Symbol) → passes depth z ≡ true → ((n : ℕ) → z ≡ S.Number n → n ≤ max_number) → (opens z ≡ true) × (max_open ≤ depth)
+past_opens depth S.OpenBracket h few = (refl, leb-true max_open depth h)
+past_opens depth S.OpenParenthesis h few = (refl, leb-true max_open depth h)
+past_opens depth (S.Number n) h few = absurd (omega (arith, ltb-true max_number n h, few n refl))
 past_opens depth other h few = cc
 
 grown_opens : (z : Symbol) → (z ≡ S.OpenBracket) ⊎ (z ≡ S.OpenParenthesis) → opens z ≡ true
 grown_opens z (inl e) = ap opens e
 grown_opens z (inr e) = ap opens e
 
--- not more than 64 are open behind a symbol within the limits
-one_few : (s next : State) (p : Placed) → advance s p ≡ Some next → (goes_on s p ≡ false → passes (open_count s) p.symbol ≡ false) → open_count s ≤ 64 → open_count next ≤ 64
+-- not more are open than may be behind a symbol within the limits
+one_few : (s next : State) (p : Placed) → advance s p ≡ Some next → (goes_on s p ≡ false → passes (open_count s) p.symbol ≡ false) → open_count s ≤ max_open → open_count next ≤ max_open
 one_few s next p a l few = by_growth (leb (open_count next) (open_count s)) refl
   where
-    by_opening : (open_count next ≡ suc (open_count s)) ⊎ (open_count s + open_count next ≡ 0) → open_count s < 64 → open_count next ≤ 64
+    by_opening : (open_count next ≡ suc (open_count s)) ⊎ (open_count s + open_count next ≡ 0) → open_count s < max_open → open_count next ≤ max_open
     by_opening (inl one) below = omega (arith, one, below)
     by_opening (inr none) below = omega (arith, none)
 
-    by_going : (b : Bool) → goes_on s p ≡ b → opens p.symbol ≡ true → open_count s < open_count next → open_count next ≤ 64
+    by_going : (b : Bool) → goes_on s p ≡ b → opens p.symbol ≡ true → open_count s < open_count next → open_count next ≤ max_open
     by_going true g h more = let same = selecting_keeps s next p g a in absurd (omega (arith, same, more))
-    by_going false g h more = by_opening (opens_one s next p h g a) (leb-false 64 (open_count s) (sym (opens_past (open_count s) p.symbol h) ∙ l g))
+    by_going false g h more = by_opening (opens_one s next p h g a) (leb-false max_open (open_count s) (sym (opens_past (open_count s) p.symbol h) ∙ l g))
 
-    by_growth : (b : Bool) → leb (open_count next) (open_count s) ≡ b → open_count next ≤ 64
+    by_growth : (b : Bool) → leb (open_count next) (open_count s) ≡ b → open_count next ≤ max_open
     by_growth true h = omega (arith, leb-true (open_count next) (open_count s) h, few)
     by_growth false h =
         let more : open_count s < open_count next = leb-false (open_count next) (open_count s) h in
         by_going (goes_on s p) refl (grown_opens p.symbol (grows_by s next p a more)) more
 
-within_most : (u : List Placed) (s last : State) → WithinFrom s u → run_on (Some s) u ≡ Some last → open_count s ≤ 64 → most_open_on (Some s) u ≤ 64
+within_most : (u : List Placed) (s last : State) → WithinFrom s u → run_on (Some s) u ≡ Some last → open_count s ≤ max_open → most_open_on (Some s) u ≤ max_open
 within_most [] s last w r few = few
 within_most (p ∷ u) s last w r few = by (advance s p) refl r (λ next. within_most u next last)
   where
-    by : (o : Option State) → advance s p ≡ o → run_on o u ≡ Some last → ((next : State) → WithinFrom next u → run_on (Some next) u ≡ Some last → open_count next ≤ 64 → most_open_on (Some next) u ≤ 64) → most_open_on (Some s) (p ∷ u) ≤ 64
+    by : (o : Option State) → advance s p ≡ o → run_on o u ≡ Some last → ((next : State) → WithinFrom next u → run_on (Some next) u ≡ Some last → open_count next ≤ max_open → most_open_on (Some next) u ≤ max_open) → most_open_on (Some s) (p ∷ u) ≤ max_open
     by None a k again = cc
     by (Some next) a k again =
-        let behind : most_open_on (Some next) u ≤ 64 =
+        let behind : most_open_on (Some next) u ≤ max_open =
         again next (λ before q z t e f g. w (p ∷ before) q z t (ap (λ x. p ∷ x) e) (ap (λ o. run_on o before) a ∙ f) g) k (one_few s next p a (w [] p u s refl refl) few) in
         omega (arith, few, behind, ap (λ o. most_open_on o u) a)
 
@@ -148,16 +149,16 @@ passing_most (Some s) (p ∷ u) v t e = omega (arith, passing_most (advance s p)
 
 module _ (symbols : List Placed) (last : State) (r : read symbols ≡ Some last) where
   abbrev Few : Type 0
-  Few = most_open symbols ≤ 64
+  Few = most_open symbols ≤ max_open
 
   number_within : Within symbols → AreNumbersWithin symbols
-  number_within w before p rest t n e k g is = ltb-false 1000000 n (sym (ap (passes (open_count t)) is) ∙ w before p rest t e k g)
+  number_within w before p rest t n e k g is = ltb-false max_number n (sym (ap (passes (open_count t)) is) ∙ w before p rest t e k g)
 
   few_within : Within symbols → Few × AreNumbersWithin symbols
   few_within w = (within_most symbols (m.at_root m.nothing) last w r (omega arith), number_within w)
 
   -- where a symbol passes a limit
-  too_many : Few → (before : List Placed) (p : Placed) (rest : List Placed) (t next : State) → symbols ≡ before ++ p ∷ rest → read before ≡ Some t → goes_on t p ≡ false → opens p.symbol ≡ true → advance t p ≡ Some next → 64 ≤ open_count t → ⊥
+  too_many : Few → (before : List Placed) (p : Placed) (rest : List Placed) (t next : State) → symbols ≡ before ++ p ∷ rest → read before ≡ Some t → goes_on t p ≡ false → opens p.symbol ≡ true → advance t p ≡ Some next → max_open ≤ open_count t → ⊥
   too_many few before p rest t next e k g h a deep = by (opens_one t next p h g a)
     where
       there : open_count next ≤ most_open symbols
@@ -172,7 +173,7 @@ module _ (symbols : List Placed) (last : State) (r : read symbols ≡ Some last)
   within_few : Few → AreNumbersWithin symbols → Within symbols
   within_few few numbers before p rest t e k g = by_limit (passes (open_count t) p.symbol) refl
     where
-      by_next : (o : Option State) → advance t p ≡ o → run_on o rest ≡ Some last → opens p.symbol ≡ true → 64 ≤ open_count t → ⊥
+      by_next : (o : Option State) → advance t p ≡ o → run_on o rest ≡ Some last → opens p.symbol ≡ true → max_open ≤ open_count t → ⊥
       by_next None a h o deep = cc
       by_next (Some next) a h o deep = too_many few before p rest t next e k g o a deep
 
@@ -182,25 +183,25 @@ module _ (symbols : List Placed) (last : State) (r : read symbols ≡ Some last)
           let opening = past_opens (open_count t) p.symbol h (λ n is. numbers before p rest t n e k g is) in
           absurd (by_next (advance t p) refl (sym (read-append before (p ∷ rest) ∙ ap (λ o. run_on o (p ∷ rest)) k) ∙ ap read (sym e) ∙ r) opening.0 opening.1)
 
-pub path_depth : (symbols : List Placed) (value : form.Path) (insides : List Inside) (whole : Path symbols value insides) → Within symbols ↔ ((levels whole ≤ 64) × AreNumbersWithin symbols)
+pub path_depth : (symbols : List Placed) (value : form.Path) (insides : List Inside) (whole : Path symbols value insides) → Within symbols ↔ ((levels whole ≤ max_open) × AreNumbersWithin symbols)
 path_depth symbols value insides whole = by (completed.path_read symbols value insides whole)
   where
-    by : (x : State) × (read symbols ≡ Some x) × (m.finished x ≡ Some (value, insides)) → Within symbols ↔ ((levels whole ≤ 64) × AreNumbersWithin symbols)
+    by : (x : State) × (read symbols ≡ Some x) × (m.finished x ≡ Some (value, insides)) → Within symbols ↔ ((levels whole ≤ max_open) × AreNumbersWithin symbols)
     by (x, r, f) = (
       (λ w. let h = few_within symbols x r w in (omega (arith, h.0, levels_most symbols value insides whole), h.1)),
       λ h. within_few symbols x r (omega (arith, h.0, levels_most symbols value insides whole)) h.1,
     )
 
-pub front_depth : (symbols : List Placed) → Begins symbols → Within symbols ↔ (BeginsWithin 64 symbols × AreNumbersWithin symbols)
+pub front_depth : (symbols : List Placed) → Begins symbols → Within symbols ↔ (BeginsWithin max_open symbols × AreNumbersWithin symbols)
 front_depth symbols begins = by (begins_read symbols begins)
   where
-    most : (x : State) → read symbols ≡ Some x → (y : State) × (read symbols ≡ Some y) × (most_open symbols ≤ 64) → AreNumbersWithin symbols → Within symbols
+    most : (x : State) → read symbols ≡ Some x → (y : State) × (read symbols ≡ Some y) × (most_open symbols ≤ max_open) → AreNumbersWithin symbols → Within symbols
     most x r h numbers = within_few symbols x r h.2 numbers
 
-    by : (x : State) × (read symbols ≡ Some x) → Within symbols ↔ (BeginsWithin 64 symbols × AreNumbersWithin symbols)
+    by : (x : State) × (read symbols ≡ Some x) → Within symbols ↔ (BeginsWithin max_open symbols × AreNumbersWithin symbols)
     by (x, r) = (
-      (λ w. let h = few_within symbols x r w in (read_within 64 symbols x r h.0, h.1)),
-      λ h. most x r (begins_within 64 symbols h.0) h.1,
+      (λ w. let h = few_within symbols x r w in (read_within max_open symbols x r h.0, h.1)),
+      λ h. most x r (begins_within max_open symbols h.0) h.1,
     )
 
 -- a bracket or a parenthesis that may stand
@@ -209,35 +210,35 @@ leads_to None t e = e
 leads_to (Some s) t e = e
 
 module _ (before : List Placed) (p : Placed) (s : State) (r : read before ≡ Some s) (w : Within before) (h : opens p.symbol ≡ true) (g : goes_on s p ≡ false) where
-  within : BeginsWithin 64 before
-  within = read_within 64 before s r (few_within before s r w).0
+  within : BeginsWithin max_open before
+  within = read_within max_open before s r (few_within before s r w).0
 
   module _ (next : State) (k : read (before ++ p ∷ []) ≡ Some next) where
     one : (open_count next ≡ suc (open_count s)) ⊎ (open_count s + open_count next ≡ 0)
     one = opens_one s next p h g (leads_to (advance s p) next (sym (read-append before (p ∷ []) ∙ ap (λ o. run_on o (p ∷ [])) r) ∙ k))
 
-    many : 64 ≤ open_count s → (open_count next ≡ suc (open_count s)) ⊎ (open_count s + open_count next ≡ 0) → 64 < open_count next
+    many : max_open ≤ open_count s → (open_count next ≡ suc (open_count s)) ⊎ (open_count s + open_count next ≡ 0) → max_open < open_count next
     many deep (inl more) = omega (arith, more, deep)
     many deep (inr none) = absurd (omega (arith, none, deep))
 
-    full : 64 < open_count next → (open_count next ≡ suc (open_count s)) ⊎ (open_count s + open_count next ≡ 0) → 64 ≤ open_count s
+    full : max_open < open_count next → (open_count next ≡ suc (open_count s)) ⊎ (open_count s + open_count next ≡ 0) → max_open ≤ open_count s
     full deep (inl more) = omega (arith, more, deep)
     full deep (inr none) = absurd (omega (arith, none, deep))
 
-    same_full : (t : State) × (read (before ++ p ∷ []) ≡ Some t) × (64 < open_count t) → 64 ≤ open_count s
+    same_full : (t : State) × (read (before ++ p ∷ []) ≡ Some t) × (max_open < open_count t) → max_open ≤ open_count s
     same_full (t, j, deep) =
         let both : Some t ≡ Some next = sym j ∙ k in
         let same : t ≡ next = cc in
         full (omega (arith, deep, ap open_count same)) one
 
-    too_deep : (passes (open_count s) p.symbol ≡ true) ↔ OpensTooDeep 64 before p
+    too_deep : (passes (open_count s) p.symbol ≡ true) ↔ OpensTooDeep max_open before p
     too_deep = (
-      (λ l. opened 64 before p within (next, k, many (leb-true 64 (open_count s) (sym (opens_past (open_count s) p.symbol h) ∙ l)) one)),
-      λ o. opens_past (open_count s) p.symbol h ∙ le-leb 64 (open_count s) (same_full (depths.opens 64 before p o)),
+      (λ l. opened max_open before p within (next, k, many (leb-true max_open (open_count s) (sym (opens_past (open_count s) p.symbol h) ∙ l)) one)),
+      λ o. opens_past (open_count s) p.symbol h ∙ le-leb max_open (open_count s) (same_full (depths.opens max_open before p o)),
     )
 
-pub symbol_depth : (before : List Placed) (p : Placed) (s : State) → read before ≡ Some s → Within before → Begins (before ++ p ∷ []) → opens p.symbol ≡ true → goes_on s p ≡ false → (passes (open_count s) p.symbol ≡ true) ↔ OpensTooDeep 64 before p
+pub symbol_depth : (before : List Placed) (p : Placed) (s : State) → read before ≡ Some s → Within before → Begins (before ++ p ∷ []) → opens p.symbol ≡ true → goes_on s p ≡ false → (passes (open_count s) p.symbol ≡ true) ↔ OpensTooDeep max_open before p
 symbol_depth before p s r w begins h g = by (begins_read (before ++ p ∷ []) begins)
   where
-    by : (next : State) × (read (before ++ p ∷ []) ≡ Some next) → (passes (open_count s) p.symbol ≡ true) ↔ OpensTooDeep 64 before p
+    by : (next : State) × (read (before ++ p ∷ []) ≡ Some next) → (passes (open_count s) p.symbol ≡ true) ↔ OpensTooDeep max_open before p
     by (next, k) = too_deep before p s r w h g next k

@@ -1,6 +1,7 @@
 -- The limits of a path outside its selections: how great numbers are, and how many brackets and parentheses are open at once.
 use Rattle.std.specs.Prelude.{◌≡◌, ◌≤◌, ℕ, Bool, true, false, nat_lt, nat_le, if◌then◌else◌, List, ◌∷◌, ◌++◌, Some}
 use Rattle.std.specs.Option.{is_some}
+use Rattle.ft_base.specs.Limits.{max_number, max_open}
 use Rattle.ft_base.specs.declared.fault.QueryFault.{QueryFault}
 use Rattle.ft_base.specs.declared.fault.QueryFault.TheVariants as Q
 use Rattle.selection_grammar.specs.Machine as selection
@@ -14,12 +15,12 @@ opens S.OpenBracket = true
 opens S.OpenParenthesis = true
 opens other = false
 
--- Whether a symbol passes a limit where so many brackets and parentheses are open: it opens one more than 64, or is a number over
--- a million.
+-- Whether a symbol passes a limit where so many brackets and parentheses are open: it opens one more than may be, or is a number
+-- that is too great.
 abbrev pub passes : ℕ → Symbol → Bool
-passes depth S.OpenBracket = nat_le 64 depth
-passes depth S.OpenParenthesis = nat_le 64 depth
-passes depth (S.Number n) = nat_lt 1000000 n
+passes depth S.OpenBracket = nat_le max_open depth
+passes depth S.OpenParenthesis = nat_le max_open depth
+passes depth (S.Number n) = nat_lt max_number n
 passes depth other = false
 
 abbrev pub limit_fault : Placed → QueryFault
@@ -41,6 +42,6 @@ WithinFrom s symbols = (before : List Placed) (p : Placed) (rest : List Placed) 
 abbrev pub Within : List Placed → Type 0
 Within symbols = (before : List Placed) (p : Placed) (rest : List Placed) (t : State) → symbols ≡ before ++ p ∷ rest → read before ≡ Some t → goes_on t p ≡ false → passes (open_count t) p.symbol ≡ false
 
--- Outside of all selections no number is over a million.
+-- Outside of all selections no number is too great.
 abbrev pub AreNumbersWithin : List Placed → Type 0
-AreNumbersWithin symbols = (before : List Placed) (p : Placed) (rest : List Placed) (t : State) (n : ℕ) → symbols ≡ before ++ p ∷ rest → read before ≡ Some t → goes_on t p ≡ false → p.symbol ≡ S.Number n → n ≤ 1000000
+AreNumbersWithin symbols = (before : List Placed) (p : Placed) (rest : List Placed) (t : State) (n : ℕ) → symbols ≡ before ++ p ∷ rest → read before ≡ Some t → goes_on t p ≡ false → p.symbol ≡ S.Number n → n ≤ max_number

@@ -28,7 +28,7 @@ pub record MayStand (before behind : List Placed) : Type 0 where
 -- that the first fault counts. Any fault of a selection counts where the selection begins: before all that stands behind the selection, and behind
 -- the faults of the selections before it.
 pub data Refuses (symbols : List Placed) (bad : Option ℕ) (size : ℕ) : QueryFault → Type 0 where
-  -- a number is over a million, or a bracket or parenthesis opens where 64 are open
+  -- a number is too great, or a bracket or parenthesis opens where as many are open as may be
   limit : (before : List Placed) (p : Placed) (rest : List Placed) (s : State) → symbols ≡ before ++ p ∷ rest → MayStand before (p ∷ rest) → read before ≡ Some s → passes (open_count s) p.symbol ≡ true → Refuses symbols bad size (limit_fault p)
   -- with the symbol there, which passes no limit, they begin no path
   symbol : (before : List Placed) (p : Placed) (rest : List Placed) (s : State) → symbols ≡ before ++ p ∷ rest → MayStand before (p ∷ rest) → read before ≡ Some s → passes (open_count s) p.symbol ≡ false → (Begins (before ++ p ∷ []) → ⊥)

@@ -7,14 +7,8 @@ ghost use Rattle.path_subset.specs.Limits as spec;
 ghost use Rattle.path_subset.specs.State.{state_of};
 
 use crate::state::State;
-use ft_base::QueryFault;
+use ft_base::{MAX_NUMBER, MAX_OPEN, QueryFault};
 use selection_grammar::{Placed, Symbol};
-
-/// How many brackets and parentheses may be open at once.
-const MAX_OPEN: usize = 64;
-
-/// The greatest number.
-const MAX_NUMBER: u32 = 1_000_000;
 
 /// How many brackets and parentheses are open.
 pub(crate) fn open_count(state: &State) -> usize

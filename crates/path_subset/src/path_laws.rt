@@ -1,6 +1,7 @@
 //! What holds of the paths that texts are read as.
 
 ghost use Rattle.std.specs.Prelude.{◌≡◌, ◌↔◌, ◌≤◌, ℕ, true, false, List, [], ◌∷◌, ◌++◌, Some, Ok, Err};
+ghost use Rattle.ft_base.specs.Limits.{max_open};
 ghost use Rattle.ft_base.specs.declared.fault.QueryFault.{QueryFault};
 ghost use Rattle.path_grammar.specs.Form as form;
 ghost use Rattle.path_grammar.specs.Grammar.{Begins, Inside, Path};
@@ -27,11 +28,11 @@ pub fn refused_law()
     ensures { (text : List ℕ) (fault : QueryFault) → (path_read text ≡ Err fault) ↔ IsFaultOf text fault }
 {}
 
-/// The limits outside of selections by the grammar: a path is within them exactly where its brackets and parentheses stand at most 64
-/// levels deep in one another and no number is over a million; symbols that begin a path, where some path of at most 64 levels goes on
-/// with them. A bracket or parenthesis that may stand behind them passes the limit exactly where none does with it.
+/// The limits outside of selections by the grammar: a path is within them exactly where its brackets and parentheses stand no more
+/// levels deep in one another than may be open at once and no number is too great; symbols that begin a path, where some path of no more
+/// levels goes on with them. A bracket or parenthesis that may stand behind them passes the limit exactly where none does with it.
 pub fn depth_law()
-    ensures path { (symbols : List Placed) (value : form.Path) (insides : List Inside) → (whole : Path symbols value insides) → Within symbols ↔ ((levels whole ≤ 64) × AreNumbersWithin symbols) }
-    ensures front { (symbols : List Placed) → Begins symbols → Within symbols ↔ (BeginsWithin 64 symbols × AreNumbersWithin symbols) }
-    ensures symbol { (before : List Placed) (p : Placed) (state : State) → read before ≡ Some state → Within before → Begins (before ++ p ∷ []) → opens p.symbol ≡ true → goes_on state p ≡ false → (passes (open_count state) p.symbol ≡ true) ↔ OpensTooDeep 64 before p }
+    ensures path { (symbols : List Placed) (value : form.Path) (insides : List Inside) → (whole : Path symbols value insides) → Within symbols ↔ ((levels whole ≤ max_open) × AreNumbersWithin symbols) }
+    ensures front { (symbols : List Placed) → Begins symbols → Within symbols ↔ (BeginsWithin max_open symbols × AreNumbersWithin symbols) }
+    ensures symbol { (before : List Placed) (p : Placed) (state : State) → read before ≡ Some state → Within before → Begins (before ++ p ∷ []) → opens p.symbol ≡ true → goes_on state p ≡ false → (passes (open_count state) p.symbol ≡ true) ↔ OpensTooDeep max_open before p }
 {}

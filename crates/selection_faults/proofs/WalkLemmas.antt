@@ -1,6 +1,7 @@
 -- What a walk over strings keeps.
 use Rattle.std.proofs.Common.{◌≡◌, ℕ, ◌+◌, ◌<◌, Bool, true, false, cond, List, [], ◌∷◌, ◌++◌, Option, Some, None, map, filter, refl, sym, ap, ◌∙◌, ltb, length, take, get_or, append_assoc}
 use Rattle.std.proofs.lemmas.List.{take_more}
+use Rattle.ft_base.specs.Limits.{max_phrases}
 use Rattle.selection_grammar.specs.Tree.{Tree, trees_of}
 use Rattle.selection_faults.specs.Least.{earlier, itself, least_place}
 use Rattle.selection_faults.specs.Strings.{Written, strings_inside, strings_inside_all, phrases_of, phrases_past, is_bad, bad_wildcards}
@@ -23,7 +24,7 @@ strings_append around (x ∷ xs) ys =
 abbrev made : ℕ → Option ℕ → Option ℕ → StringWalk
 made phrases past_at bad_at = record { phrases = phrases; past_at = past_at; bad_at = bad_at }
 
--- where the phrases are more than 64, the place stays
+-- where the phrases are too many, the place stays
 past_stays : (n at : ℕ) (bad : Option ℕ) (strings : List Written) → (after_all (made n (Some at) bad) strings).past_at ≡ Some at
 unfolding after_all
 past_stays n at bad [] = refl
@@ -37,7 +38,7 @@ past_next n p at bad after_bad rest false further = further (n + p) after_bad
 pub past_walked : (n : ℕ) (bad : Option ℕ) (strings : List Written) → (after_all (made n None bad) strings).past_at ≡ phrases_past n strings
 unfolding after_all
 past_walked n bad [] = refl
-past_walked n bad (s ∷ rest) = past_next n (phrases_of s) s.string.at bad (bad_after bad (is_bad s) s.string.at) rest (ltb 64 (n + phrases_of s)) (λ m b. past_walked m b rest)
+past_walked n bad (s ∷ rest) = past_next n (phrases_of s) s.string.at bad (bad_after bad (is_bad s) s.string.at) rest (ltb max_phrases (n + phrases_of s)) (λ m b. past_walked m b rest)
 
 bad_next : (bad : Option ℕ) (s : Written) (rest : List Written) (bad_here : Bool)
     → earlier itself (bad_after bad bad_here s.string.at) (least_place (map (λ w. w.string.at) rest)) ≡ earlier itself bad (least_place (map (λ (w : Written). w.string.at) (cond bad_here (s ∷ rest) rest)))

@@ -2,6 +2,7 @@
 -- hold a badly formed pattern ([err:FTDY0020]).
 use Rattle.std.specs.Prelude.{ℕ, ◌+◌, max, Bool, true, false, ◌&&◌, nat_lt, if◌then◌else◌, List, [], ◌∷◌, ◌++◌, length, map, filter, Option, Some, None}
 use Rattle.std.specs.Option.{unwrap_or}
+use Rattle.ft_base.specs.Limits.{max_phrases}
 use Rattle.ft_base.specs.declared.words.Mode.{Mode}
 use Rattle.ft_base.specs.declared.words.Mode.TheVariants as M
 use Rattle.match_options.specs.Items.{items_of}
@@ -57,10 +58,10 @@ is_by_word other = false
 abbrev pub phrases_of : Written → ℕ
 phrases_of s = if is_by_word s.mode then max 1 (length (items_of s.wildcards s.string.text)) else 1
 
--- the first string with which the phrases, so many before it, are more than 64
+-- the first string with which the phrases, so many before it, are too many
 abbrev pub phrases_past : ℕ → List Written → Option ℕ
 phrases_past count [] = None
-phrases_past count (s ∷ rest) = if nat_lt 64 (count + phrases_of s) then Some s.string.at else phrases_past (count + phrases_of s) rest
+phrases_past count (s ∷ rest) = if nat_lt max_phrases (count + phrases_of s) then Some s.string.at else phrases_past (count + phrases_of s) rest
 
 -- each string that holds a badly formed pattern where wildcards are on for it
 abbrev pub is_bad : Written → Bool

@@ -1,6 +1,7 @@
 -- What is known of the strings that were passed, string by string.
 use Rattle.std.specs.Prelude.{ℕ, ◌+◌, Bool, nat_lt, if◌then◌else◌, List, [], ◌∷◌, Option, Some, None}
 use Rattle.std.specs.Option.{is_some}
+use Rattle.ft_base.specs.Limits.{max_phrases}
 use Rattle.selection_grammar.specs.declared.parsed.MatchOption.{MatchOption}
 use Rattle.selection_grammar.specs.declared.parsed.MatchOption.TheVariants as O
 use Rattle.selection_faults.specs.Least.{earlier, itself}
@@ -13,7 +14,7 @@ start = record { phrases = 0; past_at = None; bad_at = None }
 abbrev pub counted : StringWalk → ℕ → ℕ → StringWalk
 counted walk phrases at =
     if is_some walk.past_at then walk
-    else (if nat_lt 64 (walk.phrases + phrases) then record walk { past_at = Some at } else record walk { phrases = walk.phrases + phrases })
+    else (if nat_lt max_phrases (walk.phrases + phrases) then record walk { past_at = Some at } else record walk { phrases = walk.phrases + phrases })
 
 abbrev pub bad_after : Option ℕ → Bool → ℕ → Option ℕ
 bad_after bad_at is_bad at = if is_bad then earlier itself bad_at (Some at) else bad_at

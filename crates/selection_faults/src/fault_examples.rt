@@ -11,7 +11,7 @@ ghost use Rattle.selection_grammar.specs.declared.parsed.MatchOption.TheVariants
 ghost use Rattle.selection_faults.specs.Examples.{quoted, quoted_with, counted, using_at, strings_from, value};
 ghost use Rattle.selection_faults.specs.Faults.{fault_of};
 
-/// 64 phrases are read, and the string with which there are more is named.
+/// As many phrases are read as a selection may have, and the string with which there are more is named.
 pub fn phrases()
     ensures sixty_four { fault_of (value M.Any (strings_from 32 64)) ≡ None }
     ensures sixty_five { fault_of (value M.Any (strings_from 32 65)) ≡ Some (Q.Phrases 608) }

@@ -9,18 +9,15 @@ ghost use Rattle.selection_faults.specs.Walk as walks;
 
 use crate::least_places::sooner;
 use crate::options::wildcards_inside;
-use ft_base::{Items, Memory, Mode};
+use ft_base::{Items, MAX_PHRASES, Memory, Mode};
 use match_options::{has_bad_pattern, items_of};
 use selection_grammar::{Parsed, ParsedWords, PlacedString};
 use std::alloc::Global;
 
-/// How many phrases a selection may have.
-const MAX_PHRASES: usize = 64;
-
 /// What is known of the strings of a selection that were passed.
 #[derive(Clone, Copy)]
 pub(crate) struct StringWalk {
-    /// How many phrases they make, up to 64.
+    /// How many phrases they make, up to `MAX_PHRASES`.
     pub phrases: usize,
     /// The place of the string with which there were more.
     pub past_at: Option<usize>,

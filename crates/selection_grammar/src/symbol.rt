@@ -5,7 +5,7 @@ use ft_base::{Items, Line};
 pub enum Symbol {
     /// The longest run of name characters.
     Name(Line),
-    /// A number; 1,000,001 stands for every number past a million.
+    /// A number; the one behind the greatest stands for every number past it.
     Number(u32),
     /// The text of a string, its quotes taken away.
     Text(Line),

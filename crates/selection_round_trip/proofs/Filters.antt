@@ -1,6 +1,7 @@
 -- How many filters stand directly round one another is told by the form of a selection.
 use Rattle.std.proofs.Common.{◌≡◌, ℕ, zero, suc, Bool, true, ◌&&◌, nat_le, refl, sym, ◌∙◌, ap}
 use Rattle.std.specs.Prelude.{not}
+use Rattle.ft_base.specs.Limits.{max_filters}
 use Rattle.ft_base.specs.Selection as form
 use Rattle.ft_base.specs.Selection.{Form, Forms}
 use Rattle.ft_parser.specs.FilterLimit.{are_filters_within, are_all_within}
@@ -25,7 +26,7 @@ unfoldable mutual
   within (form.and_of forms) = all_within forms
   within (form.mild_not left right) = within left && within right
   within (form.not_of x) = within x
-  within (form.filtered x filter) = within x && not (nat_le 64 (round x))
+  within (form.filtered x filter) = within x && not (nat_le max_filters (round x))
   within (form.with_options x options) = within x
 
   all_within : Forms → Bool
@@ -54,7 +55,7 @@ mutual
   within_same (tree.and_of trees) = all_same trees
   within_same (tree.mild_not left right) = both (within_same left) (within_same right)
   within_same (tree.not_of at operand) = within_same operand
-  within_same (tree.filtered operand filter) = both (within_same operand) (ap (λ n. not (nat_le 64 n)) (round_same operand))
+  within_same (tree.filtered operand filter) = both (within_same operand) (ap (λ n. not (nat_le max_filters n)) (round_same operand))
   within_same (tree.with_options operand options) = within_same operand
 
   all_same : (trees : Trees) → are_all_within trees ≡ all_within (forms_of trees)

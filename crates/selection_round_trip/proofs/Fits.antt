@@ -2,6 +2,7 @@
 use Rattle.std.proofs.Common.{◌≡◌, ◌≤◌, ◌+◌, ℕ, Bool, true, false, List, [], ◌∷◌, Option, Some, None, refl, sym, ◌∙◌, arith}
 use Rattle.std.proofs.lemmas.Bool.{leb-false, lt-leb, ltb-true, lt-ltb}
 use Rattle.std.specs.Prelude.{nat_le, nat_lt}
+use Rattle.ft_base.specs.Limits.{max_number, max_open}
 use Rattle.ft_base.specs.declared.filter.Filter.{Filter}
 use Rattle.ft_base.specs.declared.filter.Filter.TheVariants as F
 use Rattle.ft_base.specs.declared.range.Range.{Range}
@@ -25,20 +26,20 @@ use Rattle.selection_round_trip.specs.Printable.{IsEncoded}
 
 -- one more parenthesis may open where so many are open
 abbrev pub Room : ℕ → Type 0
-Room d = nat_le 64 d ≡ false
+Room d = nat_le max_open d ≡ false
 
 abbrev pub FitRange : Range → Type 0
-FitRange (Exactly n) = n ≤ 1000000
-FitRange (AtLeast n) = n ≤ 1000000
-FitRange (AtMost n) = n ≤ 1000000
-FitRange (FromTo low high) = (low ≤ 1000000) × (high ≤ 1000000)
+FitRange (Exactly n) = n ≤ max_number
+FitRange (AtLeast n) = n ≤ max_number
+FitRange (AtMost n) = n ≤ max_number
+FitRange (FromTo low high) = (low ≤ max_number) × (high ≤ max_number)
 
 abbrev pub FitTimes : Option Range → Type 0
 FitTimes None = Unit {0}
 FitTimes (Some range) = FitRange range
 
 abbrev pub FitFilter : Filter → Type 0
-FitFilter (F.Window n kind) = n ≤ 1000000
+FitFilter (F.Window n kind) = n ≤ max_number
 FitFilter (F.Distance range kind) = FitRange range
 FitFilter other = Unit {0}
 
@@ -114,7 +115,7 @@ FitAt wanted x d = If (nat_lt (level x) wanted) (Room d × Fit x (d + 1)) (Fit x
 
 -- where fewer parentheses are open
 room_lower : (d : ℕ) → Room (d + 1) → Room d
-room_lower d h = lt-leb 64 d (omega (arith, leb-false 64 (d + 1) h))
+room_lower d h = lt-leb max_open d (omega (arith, leb-false max_open (d + 1) h))
 
 thesaurus_lower : (c : Option ThesaurusChoice) (d : ℕ) → FitThesaurus c (d + 1) → FitThesaurus c d
 thesaurus_lower None d h = h

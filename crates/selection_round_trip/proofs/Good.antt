@@ -5,6 +5,7 @@ use Rattle.std.specs.Prelude.{nat_le, nat_lt}
 use Rattle.ft_parser.specs.Limits.{open_behind, passes}
 use Rattle.ft_parser.specs.Selected.{open_after}
 use Rattle.ft_parser.proofs.SelectedLaws.{open_on}
+use Rattle.ft_base.specs.Limits.{max_number, max_open}
 use Rattle.selection_grammar.specs.declared.symbol.Placed.{Placed}
 use Rattle.selection_grammar.specs.declared.symbol.Symbol.TheVariants as S
 use Rattle.selection_grammar.specs.Grammar.{Spot, at, name, string}
@@ -32,14 +33,14 @@ good_append u v d h k = record {
   closed = open_on u v d ∙ ap (λ n. open_after n v) h.closed ∙ k.closed;
 }
 
-no_limit : (d : ℕ) → (nat_le 64 d && false) ≡ false
-no_limit d = and_right (nat_le 64 d) false refl
+no_limit : (d : ℕ) → (nat_le max_open d && false) ≡ false
+no_limit d = and_right (nat_le max_open d) false refl
 
 pub good_word : (p : Spot) (key : List ℕ) (u : List Placed) (d : ℕ) → is_keyword key ≡ true → Good d u → Good d (name p key ∷ u)
 good_word p key u d e h = record { within = (e, no_limit d, h.within); closed = h.closed }
 
-pub good_number : (p : Spot) (n : ℕ) (u : List Placed) (d : ℕ) → n ≤ 1000000 → Good d u → Good d (at p (S.Number n) ∷ u)
-good_number p n u d e h = record { within = (e, or_from (nat_lt 1000000 n) (nat_le 64 d && false) (le-ltb 1000000 n e) (no_limit d), h.within); closed = h.closed }
+pub good_number : (p : Spot) (n : ℕ) (u : List Placed) (d : ℕ) → n ≤ max_number → Good d u → Good d (at p (S.Number n) ∷ u)
+good_number p n u d e h = record { within = (e, or_from (nat_lt max_number n) (nat_le max_open d && false) (le-ltb max_number n e) (no_limit d), h.within); closed = h.closed }
 
 pub good_text : (p : Spot) (t : List ℕ) (u : List Placed) (d : ℕ) → IsEncoded t → Good d u → Good d (string p t ∷ u)
 good_text p t u d e h = record { within = (e, no_limit d, h.within); closed = h.closed }
@@ -58,6 +59,6 @@ good_closed p q u d room h =
     let last : List Placed = at q S.CloseParenthesis ∷ [] in
     let back : (d + 1) - 1 ≡ d = omega arith in
     record {
-      within = (tt, and_left (nat_le 64 d) true room, within_append u last (d + 1) h.within (tt, no_limit (open_after (d + 1) u), tt));
+      within = (tt, and_left (nat_le max_open d) true room, within_append u last (d + 1) h.within (tt, no_limit (open_after (d + 1) u), tt));
       closed = open_on u last (d + 1) ∙ ap (λ n. n - 1) h.closed ∙ back;
     }

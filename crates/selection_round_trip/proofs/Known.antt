@@ -5,6 +5,7 @@ use Rattle.std.specs.Prelude.{nat_le, nat_lt}
 use Rattle.ft_parser.specs.Limits.{open_behind, passes}
 use Rattle.ft_parser.specs.Selected.{open_after}
 use Rattle.ft_parser.proofs.SelectedLaws.{open_on}
+use Rattle.ft_base.specs.Limits.{max_number, max_open}
 use Rattle.selection_grammar.specs.declared.symbol.Placed.{Placed}
 use Rattle.selection_grammar.specs.declared.symbol.Symbol.{Symbol}
 use Rattle.selection_grammar.specs.declared.symbol.Symbol.TheVariants as S
@@ -63,7 +64,7 @@ pub kept_closed : {F : ℕ → Type 0} (p q : Spot) (u : List Placed) → Kept F
 kept_closed {F} p q u f d h =
     let last : List Placed = at q S.CloseParenthesis ∷ [] in
     let x = f (d + 1) (known_front u last (d + 1) h.2) in
-    let room : Room d = one (nat_le 64 d) h.1 in
+    let room : Room d = one (nat_le max_open d) h.1 in
     ((room, x.0), open_on u last (d + 1) ∙ ap (λ n. n - 1) x.1 ∙ back)
   where
     one : (b : Bool) → (false || (b && true)) ≡ false → b ≡ false
@@ -81,7 +82,7 @@ abbrev pub Ends : {A : Type 0} → (A → Type 0) → Shape A → Type 0
 Ends P (s.whole a) = P a
 Ends P s.nothing = Unit {0}
 Ends P (s.word key to rest) = ((p : ℕ) → Ends P (to p)) × Ends P rest
-Ends P (s.number to rest) = ((n : ℕ) → n ≤ 1000000 → Ends P (to n)) × Ends P rest
+Ends P (s.number to rest) = ((n : ℕ) → n ≤ max_number → Ends P (to n)) × Ends P rest
 Ends P (s.text to rest) = ((p : ℕ) (t : List ℕ) → IsEncoded t → Ends P (to p t)) × Ends P rest
 Ends P (s.mark m to rest) = ⊥
 
@@ -97,8 +98,8 @@ by_word : {A : Type 0} (P : A → Type 0) (d : ℕ) (key : List ℕ) (symbol : S
 by_word P d key symbol true e to rest h k = (h, word_open key symbol d e)
 by_word P d key symbol false e to rest h k = k
 
-by_number : {A : Type 0} (P : A → Type 0) (d : ℕ) (symbol : Symbol) → passes d symbol ≡ false → (to : ℕ → Shape A) (rest : Option (Shape A)) → ((n : ℕ) → n ≤ 1000000 → Ends P (to n)) → StepEnds P d symbol rest → StepEnds P d symbol (number_leads to rest (number_of symbol))
-by_number P d (S.Number n) e to rest h k = (h n (ltb-false 1000000 n (or_parts (nat_lt 1000000 n) (nat_le 64 d && false) e).0), refl)
+by_number : {A : Type 0} (P : A → Type 0) (d : ℕ) (symbol : Symbol) → passes d symbol ≡ false → (to : ℕ → Shape A) (rest : Option (Shape A)) → ((n : ℕ) → n ≤ max_number → Ends P (to n)) → StepEnds P d symbol rest → StepEnds P d symbol (number_leads to rest (number_of symbol))
+by_number P d (S.Number n) e to rest h k = (h n (ltb-false max_number n (or_parts (nat_lt max_number n) (nat_le max_open d && false) e).0), refl)
 by_number P d other e to rest h k = k
 
 by_text : {A : Type 0} (P : A → Type 0) (d : ℕ) (symbol : Symbol) → Content symbol → (to : List ℕ → Shape A) (rest : Option (Shape A)) → ((t : List ℕ) → IsEncoded t → Ends P (to t)) → StepEnds P d symbol rest → StepEnds P d symbol (text_leads to rest (text_of symbol))

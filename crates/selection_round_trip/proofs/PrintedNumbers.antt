@@ -12,6 +12,7 @@ use Rattle.std.specs.Prelude.{encode_utf8_all, fold, nat_le, nat_lt}
 use Rattle.std.specs.Str.Parse.{AllDigits, IsNumeral, digits_value, digits_value_after}
 use Rattle.ft_base.specs.Characters.{is_within, is_in, is_ascii_name_start, is_name_start, is_name_char, is_only_inside}
 use Rattle.ft_base.specs.Letters.{is_digit, number_of}
+use Rattle.ft_base.specs.Limits.{max_number}
 use Rattle.selection_grammar.specs.declared.symbol.Symbol.TheVariants.{Number}
 use Rattle.selection_grammar.specs.declared.symbol.Symbols.{Symbols}
 use Rattle.query_symbols.specs.Symbols.{front, front_number, front_string, name_at, number_at, goes_on_as_name, is_blank, run_of, with_further, symbols_within}
@@ -59,20 +60,20 @@ run_ends (d ∷ rest) h = go (is_digit d) refl
 least : (a b : ℕ) → a ≤ b → min a b ≡ a
 least a b h = grind (arith, h)
 
-one_digit : (n d : ℕ) → digit_value d < 10 → n * 10 + digit_value d ≤ 1000000 → min (n * 10 + (d - 48)) 1000001 ≡ n * 10 + digit_value d
+one_digit : (n d : ℕ) → digit_value d < 10 → n * 10 + digit_value d ≤ max_number → min (n * 10 + (d - 48)) (max_number + 1) ≡ n * 10 + digit_value d
 one_digit n d h k =
     let same : digit_value d ≡ d - 48 = omega (arith, digit_value_digit d (digit_from_value d h)) in
-    ap (λ v. min (n * 10 + v) 1000001) (sym same) ∙ least (n * 10 + digit_value d) 1000001 (omega (arith, k))
+    ap (λ v. min (n * 10 + v) (max_number + 1)) (sym same) ∙ least (n * 10 + digit_value d) (max_number + 1) (omega (arith, k))
 
 not_less : (n : ℕ) (ds : List ℕ) → n ≤ digits_value_after 10 n ds
 not_less n [] = omega arith
 not_less n (d ∷ ds) = omega (arith, not_less (n * 10 + digit_value d) ds)
 
-value_same : (ds : List ℕ) (n : ℕ) → AllDigits 10 ds → digits_value_after 10 n ds ≤ 1000000 → fold (λ n d. min (n * 10 + (d - 48)) 1000001) n ds ≡ digits_value_after 10 n ds
+value_same : (ds : List ℕ) (n : ℕ) → AllDigits 10 ds → digits_value_after 10 n ds ≤ max_number → fold (λ n d. min (n * 10 + (d - 48)) (max_number + 1)) n ds ≡ digits_value_after 10 n ds
 value_same [] n h k = refl
 value_same (d ∷ ds) n h k =
-    let next : n * 10 + digit_value d ≤ 1000000 = omega (arith, k, not_less (n * 10 + digit_value d) ds) in
-    ap (λ m. fold (λ n d. min (n * 10 + (d - 48)) 1000001) m ds) (one_digit n d h.0 next) ∙ value_same ds (n * 10 + digit_value d) h.1 k
+    let next : n * 10 + digit_value d ≤ max_number = omega (arith, k, not_less (n * 10 + digit_value d) ds) in
+    ap (λ m. fold (λ n d. min (n * 10 + (d - 48)) (max_number + 1)) m ds) (one_digit n d h.0 next) ∙ value_same ds (n * 10 + digit_value d) h.1 k
 
 -- the number
 abbrev numbered : ℕ → ℕ → ℕ → List ℕ → List ℕ → Symbols
@@ -97,7 +98,7 @@ digits_read bound place n c ds rest h v ascii r =
     ∙ ap (λ m. numbered bound place m word rest) v
     ∙ ap (λ w. with_symbol bound place (Number n) w rest) ascii
 
-pub number_read : (bound place n : ℕ) (rest : List ℕ) → n ≤ 1000000 → goes_on_as_name rest ≡ false → symbols_within (suc bound) place (decimal n ++ rest) ≡ with_symbol bound place (Number n) (decimal n) rest
+pub number_read : (bound place n : ℕ) (rest : List ℕ) → n ≤ max_number → goes_on_as_name rest ≡ false → symbols_within (suc bound) place (decimal n ++ rest) ≡ with_symbol bound place (Number n) (decimal n) rest
 number_read bound place n rest h r =
     let small : n < 2 ^ 64 = omega (arith, h) in
     let is = decimal_is_IsNumeral n small in

@@ -12,6 +12,7 @@ use Rattle.std.specs.Str.{IsAscii, bytes_eq}
 use Rattle.std.specs.Str.Parse.{IsNumeral}
 use Rattle.ft_base.specs.Characters.{is_name_start, is_name_char, is_within, is_in}
 use Rattle.ft_base.specs.Letters.{begins_with}
+use Rattle.ft_base.specs.Limits.{max_number}
 use Rattle.ft_syntax.specs.OptionSymbols.{in_quotes, string_symbol}
 use Rattle.ft_syntax.specs.Spacing.{opens, closes}
 use Rattle.selection_grammar.specs.declared.symbol.Symbol.{Symbol}
@@ -112,7 +113,7 @@ digit_mark c h k = record {
   closing_brace = λ e. omega (arith, k, e);
 }
 
-readable_number : (n : ℕ) → n ≤ 1000000 → Readable (S.Number n)
+readable_number : (n : ℕ) → n ≤ max_number → Readable (S.Number n)
 readable_number n h = let small : n < 2 ^ 64 = omega (arith, h) in go (decimal n) refl (decimal_is_IsNumeral n small).0 (IsAscii-decimal n small)
   where
     go : (ds : List ℕ) → decimal n ≡ ds → IsNumeral 10 ds → IsAscii ds → Readable (S.Number n)

@@ -4,6 +4,7 @@ use Rattle.std.proofs.lemmas.List.{map-append}
 use Rattle.std.specs.Prelude.{filter}
 use Rattle.std.specs.Option.{is_some, unwrap_or}
 use Rattle.ft_base.specs.declared.words.Mode.{Mode}
+use Rattle.ft_base.specs.Limits.{max_phrases}
 use Rattle.ft_base.specs.Selection as form
 use Rattle.ft_base.specs.Selection.{Form, Forms}
 use Rattle.selection_grammar.specs.Form.{form_of, forms_of}
@@ -64,7 +65,7 @@ past_by false x y p q e = e
 
 pub past_same : (n : ℕ) (strings : List Written) → is_some (phrases_past n strings) ≡ is_some (phrases_past n (map without_place strings))
 past_same n [] = refl
-past_same n (s ∷ rest) = past_by (nat_lt 64 (n + phrases_of s)) s.string.at 0 _ _ (past_same (n + phrases_of s) rest)
+past_same n (s ∷ rest) = past_by (nat_lt max_phrases (n + phrases_of s)) s.string.at 0 _ _ (past_same (n + phrases_of s) rest)
 
 bad_by : (b : Bool) (x y : Written) (p q : List Written) → has_some (map (λ (s : Written). s.string.at) p) ≡ has_some (map (λ (s : Written). s.string.at) q)
     → has_some (map (λ (s : Written). s.string.at) (cond b (x ∷ p) p)) ≡ has_some (map (λ (s : Written). s.string.at) (cond b (y ∷ q) q))

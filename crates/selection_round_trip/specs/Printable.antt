@@ -1,6 +1,7 @@
 -- The symbols that printed forms have, and what their text is read as.
 use Rattle.std.specs.Prelude.{◌≡◌, ◌≤◌, ℕ, Bool, true, false, nat_le, ◌&&◌, List, [], ◌∷◌, None, encode_utf8_all}
 use Rattle.std.specs.List.{list_all}
+use Rattle.ft_base.specs.Limits.{max_number}
 use Rattle.query_symbols.specs.Symbols.{symbols_of}
 use Rattle.selection_grammar.specs.declared.symbol.Placed.{Placed}
 use Rattle.selection_grammar.specs.declared.symbol.Symbol.{Symbol}
@@ -22,7 +23,7 @@ IsEncoded bytes = (letters : List ℕ) × (encode_utf8_all letters ≡ bytes)
 -- keywords, numbers within the limit, texts, and the marks that selections have
 abbrev pub Printable : Symbol → Type 0
 Printable (S.Name name) = is_keyword name ≡ true
-Printable (S.Number n) = n ≤ 1000000
+Printable (S.Number n) = n ≤ max_number
 Printable (S.Text text) = IsEncoded text
 Printable S.OpenParenthesis = Unit {0}
 Printable S.CloseParenthesis = Unit {0}

@@ -5,6 +5,7 @@ use Rattle.std.specs.Str.{IsUtf8, is_utf8, IsCharBoundary}
 use Rattle.std.proofs.lemmas.Str.{IsUtf8-from_is_utf8, is_utf8-from_IsUtf8, IsUtf8-drop, IsCharBoundary-after_ascii, IsCharBoundary-from_drop}
 use Rattle.std.proofs.lemmas.Bool.Decides.{nat_tests}
 use Rattle.std.proofs.lemmas.List.Sums.{prefix_len_stops}
+use Rattle.ft_base.specs.Limits.{max_line_bytes}
 use Rattle.text_lines.specs.Lines.{is_blank, trimmed_start, trimmed_line, without_return}
 use Rattle.session_text.specs.Words.{is_command_line}
 
@@ -51,10 +52,10 @@ not_utf8 text true e refused = absurd (refused (IsUtf8-from_is_utf8 text e))
 not_utf8 text false e refused = e
 
 -- a command line is short enough, and UTF-8
-pub command_line_read : (line text : List ℕ) → text ≡ trimmed_line line → length (without_return line) ≤ 65536 → IsUtf8 text → is_command_line line ≡ true
+pub command_line_read : (line text : List ℕ) → text ≡ trimmed_line line → length (without_return line) ≤ max_line_bytes → IsUtf8 text → is_command_line line ≡ true
 command_line_read line text is short utf8 =
-    and_true (leb (length (without_return line)) 65536) (is_utf8 (trimmed_line line)) (le-leb _ _ short) (is_utf8-from_IsUtf8 (trimmed_line line) (subst IsUtf8 is utf8))
+    and_true (leb (length (without_return line)) max_line_bytes) (is_utf8 (trimmed_line line)) (le-leb _ _ short) (is_utf8-from_IsUtf8 (trimmed_line line) (subst IsUtf8 is utf8))
 
 pub command_line_refused : (line text : List ℕ) → text ≡ trimmed_line line → (IsUtf8 text → ⊥) → is_command_line line ≡ false
 command_line_refused line text is refused =
-    and_false (leb (length (without_return line)) 65536) (is_utf8 (trimmed_line line)) (not_utf8 (trimmed_line line) _ refl (λ utf8. refused (subst IsUtf8 (sym is) utf8)))
+    and_false (leb (length (without_return line)) max_line_bytes) (is_utf8 (trimmed_line line)) (not_utf8 (trimmed_line line) _ refl (λ utf8. refused (subst IsUtf8 (sym is) utf8)))

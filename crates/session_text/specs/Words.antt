@@ -4,6 +4,7 @@ use Rattle.std.specs.List.{list_all}
 use Rattle.std.specs.Cmp.Lexicographic.{pointwise}
 use Rattle.std.specs.Char.{is_ascii_alphanumeric}
 use Rattle.std.specs.Str.{is_utf8}
+use Rattle.ft_base.specs.Limits.{max_line_bytes, max_name_bytes}
 use Rattle.text_lines.specs.Lines.{without_return, trimmed_line, behind_first_word}
 
 -- whether two texts have the same bytes
@@ -13,16 +14,16 @@ is_text a b = pointwise nat_eq a b
 abbrev pub is_empty : List ℕ → Bool
 is_empty text = length text == 0
 
--- a name: 1 to 64 letters, digits, periods, low lines and hyphens
+-- a name: letters, digits, periods, low lines and hyphens, at least one and no more than a name may have
 abbrev pub is_name_byte : ℕ → Bool
 is_name_byte byte = is_ascii_alphanumeric byte || byte == 46 || byte == 95 || byte == 45
 
 abbrev pub is_name : List ℕ → Bool
-is_name text = not (is_empty text) && nat_le (length text) 64 && list_all is_name_byte text
+is_name text = not (is_empty text) && nat_le (length text) max_name_bytes && list_all is_name_byte text
 
--- a command line has at most 65,536 bytes, the blanks at both ends counted, and is UTF-8
+-- a command line has no more bytes than it may have, the blanks at both ends counted, and is UTF-8
 abbrev pub is_command_line : List ℕ → Bool
-is_command_line line = nat_le (length (without_return line)) 65536 && is_utf8 (trimmed_line line)
+is_command_line line = nat_le (length (without_return line)) max_line_bytes && is_utf8 (trimmed_line line)
 
 -- a text that is exactly one word
 abbrev pub is_one_word : List ℕ → Bool

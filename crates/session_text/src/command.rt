@@ -1,8 +1,8 @@
 use crate::How;
 use ft_base::{Bytes, Items, Line};
 
-/// A command of a session. A name is 1 to 64 letters, digits, periods, low lines and hyphens; a path or a selection is UTF-8
-/// that isn't empty, and is read where the command is carried out.
+/// A command of a session. A name is letters, digits, periods, low lines and hyphens, at least one and at most `MAX_NAME_BYTES`; a path
+/// or a selection is UTF-8 that isn't empty, and is read where the command is carried out.
 #[derive(Drop)]
 pub enum Command {
     /// Load the document in the block under the name.

@@ -10,12 +10,9 @@ use crate::named::{
 };
 use crate::words::{can_name, split_word};
 use crate::{Command, How};
-use ft_base::{Bytes, Line, Memory};
+use ft_base::{Bytes, Line, MAX_LINE_BYTES, Memory};
 use std::alloc::Global;
 use text_lines::{drop_return, trim_line, word_end};
-
-/// The longest command line, in bytes, without its line end.
-const MAX_LINE_BYTES: usize = 65_536;
 
 /// Where an insertion puts its content.
 fn read_how(word: &str) -> Option<How>

@@ -64,7 +64,7 @@ pub enum Refusal {
     Full { what: FullOf },
     /// The block isn't read as a document or a fragment.
     Document(DocFault),
-    /// The document has more than 1,000,000 tokens.
+    /// The document has more than `MAX_TOKENS` tokens.
     TooManyTokens,
     /// The block isn't a list: the line of the block, from 1.
     List { line: u64 },

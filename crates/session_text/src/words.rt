@@ -3,10 +3,8 @@ ghost use Rattle.std.specs.List.{list_all};
 ghost use Rattle.text_lines.specs.Lines.{trimmed_line, first_word, behind_first_word};
 ghost use Rattle.session_text.specs.Words.{is_name, is_name_byte, is_one_word};
 
+use ft_base::MAX_NAME_BYTES;
 use text_lines::{skip_blanks, word_end};
-
-/// The longest name, in bytes.
-const MAX_NAME_BYTES: usize = 64;
 
 /// The text's first word, and what stands behind it and the blanks after it.
 #[tactic(auto, using(crate::proofs::WordLemmas::word_boundary, crate::proofs::WordLemmas::rest_boundary))]
@@ -27,7 +25,7 @@ pub(crate) fn is_single_word(text: &str) -> bool
     !text.is_empty() && rest.is_empty()
 }
 
-/// Whether the text is a name: 1 to 64 letters, digits, periods, low lines and hyphens.
+/// Whether the text is a name: letters, digits, periods, low lines and hyphens, at least one and at most `MAX_NAME_BYTES`.
 pub(crate) fn can_name(text: &str) -> bool
     ensures { result ≡ is_name text.now }
 {

@@ -4,7 +4,7 @@ use Rattle.ordered_tree.specs.Stored.{Stored}
 use Rattle.path_nodes.specs.References.{HasSingleAttributes}
 use Rattle.path_nodes.proofs.PrintableLemmas.{printable-single}
 use Rattle.tokenizer.specs.Tokens.{tokens}
-use Rattle.ft_session.specs.Limits.{max_tokens}
+use Rattle.ft_base.specs.Limits.{max_tokens}
 use Rattle.ft_session.proofs.SessionLemmas.{at-most, greater, tree-is, with_few_tokens-few, with_few_tokens-many}
 use Rattle.ft_session.proofs.loading.load.Goals as goal
 

@@ -2,6 +2,7 @@
 use Rattle.std.proofs.Common.{◌≡◌, ◌∙◌, ap, refl, subst, arith, ◌+◌, ◌<◌, ◌≤◌, [], ℕ, length, take}
 use Rattle.std.proofs.lemmas.List.{length-take-le}
 use Rattle.std.specs.Prelude.{Option, IfSome, string_bytes}
+use Rattle.ft_base.specs.Limits.{max_session_bytes}
 use Rattle.ft_io.specs.Shelf.{Files, Reads, told_bytes}
 use Rattle.session_text.specs.Reading.{commands_left}
 use Rattle.ft_session.specs.Output.{texts_of}
@@ -39,7 +40,7 @@ pub returns-clause-longer : goal.returns-clause-longer
 returns-clause-longer g c = λ stopped.
     let within = progress_within (told_bytes (g.S.Shelf.files c.args.shelf.now) (string_bytes c.args.name.now)) (g.K.Sink.written c.args.sink.now) (g.K.Sink.written c.loop-taken.sink) c.loop-taken.taken
     c.loop-taken.answering.lines c.loop-taken.answering.session c.loop-taken.refused c.loop-taken.invariant.progress in
-    let most : c.loop-taken.taken ≡ 67108865 = omega arith in
+    let most : c.loop-taken.taken ≡ max_session_bytes + 1 = omega arith in
     subst (λ (n : ℕ). IfSome (told_bytes (g.S.Shelf.files c.args.shelf.now) (string_bytes c.args.name.now)) (λ session. n ≤ length session)) most within
 
 pub returns-in_err-refused-clause-front : goal.returns-in_err-refused-clause-front

@@ -1,14 +1,15 @@
 -- What was read is as long as the file was reached, and all that became whole with it is answered.
-use Rattle.std.proofs.Common.{◌≡◌, ◌-◌, ◌≤◌}
+use Rattle.std.proofs.Common.{◌≡◌, ◌+◌, ◌-◌, ◌≤◌}
 use Rattle.std.specs.Prelude.{string_bytes, vec_len}
+use Rattle.ft_base.specs.Limits.{max_piece_bytes, max_session_bytes}
 use Rattle.ft_io.specs.Shelf.{told_bytes}
 use Rattle.ft_session.proofs.ProgressLemmas.{Progress}
 use Rattle.ft_session.proofs.pieces.answer_pieces.Given as goal
 
 abbrev pub invariant-loop-taken : goal.invariant-loop-taken
 invariant-loop-taken g l = record {
-  below : l.taken ≤ 67108865;
-  room : vec_len l.piece ≡ 65536;
+  below : l.taken ≤ max_session_bytes + 1;
+  room : vec_len l.piece ≡ max_piece_bytes;
   reached : g.S.Shelf.reached l.shelf (string_bytes l.name) ≡ l.taken;
   read_faults : g.S.Shelf.faults l.shelf (string_bytes l.name) ≡ g.S.Shelf.faults l.fn.shelf (string_bytes l.name);
   files : g.S.Shelf.files l.shelf ≡ g.S.Shelf.files l.fn.shelf;
@@ -18,4 +19,4 @@ invariant-loop-taken g l = record {
 }
 
 abbrev pub decreases-loop-taken : goal.decreases-loop-taken
-decreases-loop-taken g l = 67108865 - l.taken
+decreases-loop-taken g l = (max_session_bytes + 1) - l.taken

@@ -10,7 +10,7 @@ use Rattle.indexmap.proofs.CallerLemmas.{insert_entry-new}
 use Rattle.session_text.specs.declared.reply.Reply.TheVariants.{Done, Refused}
 use Rattle.session_text.specs.declared.reply.Refusal.TheVariants.{NameTaken}
 use Rattle.ft_session.specs.LoadView.{outcome}
-use Rattle.ft_session.specs.Limits.{max_documents}
+use Rattle.ft_base.specs.Limits.{max_documents}
 use Rattle.ft_session.specs.State.{has_name, to_document}
 use Rattle.ft_session.specs.Step.{added, loadable}
 use Rattle.ft_session.proofs.SessionLemmas.{has_name-lookup, loaded-tests, none-from_test, with_reply}

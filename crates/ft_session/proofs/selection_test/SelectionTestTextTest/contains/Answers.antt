@@ -9,7 +9,7 @@ use Rattle.path_nodes.proofs.SpotLemmas.{spot-stand}
 use Rattle.plan_compiler.specs.Lexicon.{lexicon}
 use Rattle.plan_compiler.specs.PlanMeant.{plan_form, plan_lists}
 use Rattle.tokenizer.specs.Tokens.{tokens}
-use Rattle.ft_session.specs.Limits.{max_tokens}
+use Rattle.ft_base.specs.Limits.{max_tokens}
 use Rattle.ft_session.specs.PlannedPaths.{is_planned}
 use Rattle.ft_session.proofs.SelectionTestLemmas.{asked-node, asked-plan, few-there, planned-at, reference-there}
 use Rattle.ft_session.proofs.selection_test.SelectionTestTextTest.contains.Goals as goal
