@@ -6,6 +6,7 @@ use Rattle.std.proofs.lemmas.Bool.{and_parts}
 use Rattle.std.proofs.lemmas.List.Folds.{list_any-append}
 use Rattle.ft_base.specs.declared.hit.Hit.{Hit}
 use Rattle.ft_base.specs.declared.hit.Match.{Match}
+use Rattle.ft_base.proofs.Truth.{or_false}
 use Rattle.all_matches.specs.Boolean.{with_include, with_exclude, ft_not, is_clean, survives}
 use Rattle.all_matches.proofs.BooleanLaws.{neither}
 use Rattle.all_matches.proofs.ListTests.{list_any-alike, list_any-map, list_any-flat_map, list_any-and, list_any-and_first}
@@ -30,10 +31,6 @@ turned kept hits ms =
 nothing_turned : (kept : Hit → Bool) (is es : List Hit) (ms : List Match) → is_clean (record { includes = is; excludes = es }) ≡ true → list_any (survives kept) (flat_map (λ hit. map (with_include hit) ms) es) ≡ false
 nothing_turned kept is [] ms c = refl
 nothing_turned kept is (hit ∷ rest) ms c = cc
-
-or_false : (a b : Bool) → b ≡ false → (a || b) ≡ a
-or_false true b e = refl
-or_false false b e = e
 
 pub some_choice : (kept : Hit → Bool) (ms : List Match) → list_all is_clean ms ≡ true → list_any (survives kept) (ft_not ms) ≡ not (list_any (λ m. list_all kept m.includes) ms)
 some_choice kept [] c = refl

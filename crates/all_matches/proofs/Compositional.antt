@@ -1,10 +1,11 @@
 -- Selections outside filters and mild not, as truth values and counts.
-use Rattle.std.proofs.Common.{◌≡◌, refl, ap, ◌∙◌, ℕ, suc, ◌+◌, List, [], ◌∷◌, Bool, true, false, not, ◌&&◌, ◌||◌, length, arith}
+use Rattle.std.proofs.Common.{◌≡◌, refl, ap, ◌∙◌, ℕ, suc, ◌+◌, List, [], ◌∷◌, Bool, true, false, not, ◌&&◌, ◌||◌, length, arith, sym}
 use Rattle.std.specs.Prelude.{map, filter, fold, cond, nat_lt, Option, Some, None}
 use Rattle.std.specs.List.{list_any, list_all}
 use Rattle.std.proofs.lemmas.Bool.{and_parts}
 use Rattle.std.proofs.lemmas.Bool.Decides.{nat_tests}
 use Rattle.std.proofs.lemmas.List.Folds.{list_all-append}
+use Rattle.std.proofs.Math.Bool.{or-false, or_assoc, and-true, and_assoc}
 use Rattle.ft_base.specs.declared.token.Token.{Token}
 use Rattle.ft_base.specs.declared.hit.Hit.{Hit}
 use Rattle.ft_base.specs.declared.hit.Match.{Match}
@@ -25,31 +26,15 @@ use Rattle.all_matches.proofs.Numbering.{satisfied_by-any_number}
 
 -- Or and And of a list of operands
 or_fold : (acc : List Match) (operands : List (List Match)) → satisfied (fold ft_or acc operands) ≡ (satisfied acc || list_any satisfied operands)
-or_fold acc [] = or_false (satisfied acc)
-  where
-    or_false : (b : Bool) → b ≡ (b || false)
-    or_false true = refl
-    or_false false = refl
+or_fold acc [] = sym (or-false (satisfied acc))
 or_fold acc (a ∷ rest) = or_fold (ft_or acc a) rest ∙ ap (λ b. b || list_any satisfied rest) (satisfied-or acc a) ∙ or_assoc (satisfied acc) (satisfied a) (list_any satisfied rest)
-  where
-    or_assoc : (a b c : Bool) → ((a || b) || c) ≡ (a || (b || c))
-    or_assoc true b c = refl
-    or_assoc false b c = refl
 
 pub satisfied-or_of : (operands : List (List Match)) → satisfied (ft_or_of operands) ≡ list_any satisfied operands
 satisfied-or_of operands = or_fold [] operands
 
 and_fold : (acc : List Match) (operands : List (List Match)) → satisfied (fold ft_and acc operands) ≡ (satisfied acc && list_all satisfied operands)
-and_fold acc [] = and_true (satisfied acc)
-  where
-    and_true : (b : Bool) → b ≡ (b && true)
-    and_true true = refl
-    and_true false = refl
+and_fold acc [] = sym (and-true (satisfied acc))
 and_fold acc (a ∷ rest) = and_fold (ft_and acc a) rest ∙ ap (λ b. b && list_all satisfied rest) (satisfied-and acc a) ∙ and_assoc (satisfied acc) (satisfied a) (list_all satisfied rest)
-  where
-    and_assoc : (a b c : Bool) → ((a && b) && c) ≡ (a && (b && c))
-    and_assoc true b c = refl
-    and_assoc false b c = refl
 
 pub satisfied-and_of : (operands : List (List Match)) → satisfied (ft_and_of operands) ≡ list_all satisfied operands
 satisfied-and_of operands = and_fold (empty_match ∷ []) operands

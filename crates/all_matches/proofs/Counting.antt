@@ -1,9 +1,10 @@
 -- The number of the Matches of a value, and of the hits of a phrase.
-use Rattle.std.proofs.Common.{◌≡◌, refl, sym, ap, ◌∙◌, ℕ, zero, suc, ◌+◌, ◌-◌, ◌*◌, List, [], ◌∷◌, ◌++◌, Bool, true, false, ◌&&◌, cond, length, take, drop, arith, length-append, sum, zero-add}
+use Rattle.std.proofs.Common.{◌≡◌, refl, sym, ap, ◌∙◌, ℕ, zero, suc, ◌+◌, ◌-◌, ◌*◌, List, [], ◌∷◌, ◌++◌, Bool, true, false, cond, length, take, drop, arith, length-append, sum, zero-add}
 use Rattle.std.specs.Prelude.{map, flat_map, fold}
 use Rattle.std.specs.List.{list_any, list_all, count_by, sum_by, range_with_len}
 use Rattle.std.proofs.Math.Nat.{suc-mul, mul_assoc, one-mul}
 use Rattle.std.proofs.lemmas.List.Sums.{length-filter, sum_by-cons, sum_by-append}
+use Rattle.std.proofs.lemmas.List.{length-map}
 use Rattle.ft_base.specs.declared.token.Token.{Token}
 use Rattle.ft_base.specs.declared.hit.Match.{Match}
 use Rattle.ft_base.specs.declared.options.Options.{Options}
@@ -19,15 +20,11 @@ use Rattle.all_matches.specs.Counting.{product, joined_count, hit_count, value_c
 
 -- ---- sums and products
 
-length-map : {X Y : Type 0} (f : X → Y) (xs : List X) → length (map f xs) ≡ length xs
-length-map f [] = refl
-length-map f (x ∷ xs) = ap suc (length-map f xs)
-
 length-pairs : (left right : List Match) → length (ft_and left right) ≡ length left * length right
 length-pairs [] right = omega arith
 length-pairs (a ∷ rest) right =
     let this = length-append (map (both a) right) (ft_and rest right) in
-    let row = length-map (both a) right in
+    let row = length-map right (both a) in
     let further = length-pairs rest right in
     let product_of = suc-mul (length rest) (length right) in
     omega arith
@@ -61,7 +58,7 @@ phrase_counts : (lexicon : Lexicon) (options : Options) (first : ℕ) (phrases :
 unfolding counts
 phrase_counts lexicon options first [] tokens = refl
 phrase_counts lexicon options first (phrase ∷ rest) tokens =
-    λ i. (length-map match_of_hit (hits lexicon options first phrase tokens) ∙ length-map (hit_on tokens first) (intervals_of lexicon options phrase tokens)) i
+    λ i. (length-map (hits lexicon options first phrase tokens) match_of_hit ∙ length-map (intervals_of lexicon options phrase tokens) (hit_on tokens first)) i
     ∷ phrase_counts lexicon options (first + 1) rest tokens i
 
 length-cond : {X : Type 0} (b : Bool) (xs ys : List X) (m n : ℕ) → length xs ≡ m → length ys ≡ n → length (cond b xs ys) ≡ cond b m n
@@ -107,10 +104,6 @@ moved b (suc n) = further (moved (b + 1) n) (moved 1 n)
 
     further : range_with_len (b + 1) n ≡ map (λ k. (b + 1) + k) (range_with_len 0 n) → range_with_len 1 n ≡ map (λ k. 1 + k) (range_with_len 0 n) → range_with_len b (suc n) ≡ map (λ k. b + k) (range_with_len 0 (suc n))
     further here one = let first : b ≡ b + 0 = omega arith in λ i. first i ∷ (here ∙ shifted (range_with_len 0 n) ∙ ap (map (λ k. b + k)) (sym one)) i
-
-count_by-and : {X : Type 0} (b : Bool) (q : X → Bool) (xs : List X) → count_by (λ x. b && q x) xs ≡ cond b (count_by q xs) 0
-count_by-and true q xs = refl
-count_by-and false q xs = count_by-never xs
 
 count_by-flat_map : {X Y : Type 0} (p : Y → Bool) (f : X → List Y) (xs : List X) → count_by p (flat_map f xs) ≡ sum_by (λ x. count_by p (f x)) xs
 count_by-flat_map p f [] = refl

@@ -3,6 +3,7 @@ use Rattle.std.proofs.Common.{◌≡◌, refl, ap, sym, ◌∙◌, ℕ, ◌+◌,
 use Rattle.std.specs.Prelude.{◌==◌, map, cond, Option, Some, None, option_map, option_to_list, nat_le}
 use Rattle.std.specs.List.{list_any, list_all, range_with_len}
 use Rattle.std.proofs.lemmas.Bool.Decides.{nat_tests}
+use Rattle.std.proofs.lemmas.List.{map-append}
 use Rattle.ft_base.specs.declared.hit.Hit.{Hit}
 use Rattle.ft_base.specs.declared.hit.Match.{Match}
 use Rattle.ft_base.specs.declared.filter.Filter.{Filter}
@@ -17,7 +18,7 @@ use Rattle.all_matches.specs.Distance.{gap_in_range, stands_before, put_in_order
 use Rattle.ft_base.specs.Hits.{every_two}
 use Rattle.all_matches.specs.Filters.{passes, choices, keeps, after, through, filtered_match, ft_filtered}
 use Rattle.all_matches.specs.Numbering.{raised_hit, raised_match, raised}
-use Rattle.all_matches.proofs.Raised.{map-append, map-cond, any-raised, all-raised, filter-raised}
+use Rattle.all_matches.proofs.Raised.{map-cond, any-raised, all-raised, filter-raised}
 
 module _ (by : ℕ) where
   start-raised : (kind : TextUnit) (hit : Hit) → start_in kind (raised_hit by hit) ≡ start_in kind hit

@@ -1,10 +1,12 @@
 -- The hits of a phrase with several variants, counted by the places at which variants of one length begin.
 use Rattle.std.proofs.Common.{◌≡◌, refl, sym, ap, ◌∙◌, ℕ, zero, suc, ◌+◌, ◌<◌, ◌≤◌, ◌==◌, Bool, true, false, ◌&&◌, ◌||◌, List, [], ◌∷◌, ◌++◌, map, sum, fold, cond, length, take, arith}
-use Rattle.std.proofs.Math.Bool.{or_assoc}
+use Rattle.std.proofs.Math.Bool.{or_assoc, or-false, and-true, and-false, and-or_distrib_left}
 use Rattle.std.specs.Prelude.{⊤}
 use Rattle.std.specs.List.{list_any, range_with_len, count_by}
 use Rattle.std.proofs.lemmas.Bool.Decides.{nat_tests}
 use Rattle.std.proofs.lemmas.List.Sums.{sum_by-cons}
+use Rattle.std.proofs.lemmas.Bool.{eqb-true, and_parts}
+use Rattle.std.proofs.Math.Dec.{eqb-zero-suc, eqb-suc-zero, eqb-suc-suc}
 use Rattle.ft_base.specs.declared.token.Token.{Token}
 use Rattle.ft_base.specs.declared.options.Options.{Options}
 use Rattle.all_matches.specs.Variants.{Item, Lexicon, variants}
@@ -19,36 +21,12 @@ swapped true b c = refl
 swapped false true c = refl
 swapped false false c = refl
 
-shared : (a b c : Bool) → ((a && b) || (a && c)) ≡ (a && (b || c))
-shared true b c = refl
-shared false b c = refl
-
 regrouped : (a b c : Bool) → ((a || b) || c) ≡ ((a || c) || b)
 regrouped true b c = refl
 regrouped false true true = refl
 regrouped false true false = refl
 regrouped false false true = refl
 regrouped false false false = refl
-
-nothing_first : (b : Bool) → ((b || false) || false) ≡ (false || b)
-nothing_first true = refl
-nothing_first false = refl
-
-next_equal : (m n : ℕ) → (suc m == suc n) ≡ (m == n)
-next_equal m n = by_test (m == n) refl
-  where
-    by_test : (b : Bool) → (m == n) ≡ b → (suc m == suc n) ≡ b
-    by_test true e = grind (arith, nat_tests)
-    by_test false e = grind (arith, nat_tests)
-
-never_next : (n : ℕ) → (0 == suc n) ≡ false
-never_next n = grind (arith, nat_tests)
-
-not_zero : (n : ℕ) → (suc n == 0) ≡ false
-not_zero n = grind (arith, nat_tests)
-
-is_equal : (m n : ℕ) → (m == n) ≡ true → m ≡ n
-is_equal m n h = grind (arith, nat_tests)
 
 differ_back : (m n : ℕ) → (m == n) ≡ false → (n == m) ≡ false
 differ_back m n h = grind (arith, nat_tests)
@@ -89,13 +67,13 @@ module _ {X : Type 0} where
   put_grouped (group ∷ groups) items some h = by_test (put_grouped groups items some h.3) (length items == group.0) refl
     where
       by_test : Grouped (put_variant items groups) → (b : Bool) → (length items == group.0) ≡ b → Grouped (cond b ((group.0, group.1 ++ items ∷ []) ∷ groups) (group ∷ put_variant items groups))
-      by_test further true e = (h.0, one_longer group.0 group.1 items h.1 (is_equal (length items) group.0 e), h.2, h.3)
+      by_test further true e = (h.0, one_longer group.0 group.1 items h.1 (eqb-true (length items) group.0 e), h.2, h.3)
       by_test further false e = (h.0, h.1, still_apart group.0 groups items h.2 (differ_back (length items) group.0 e), further)
 
   all_grouped : (groups : List (ℕ × List (List X))) (lists : List (List X)) → Grouped groups → Grouped (fold with_variant groups lists)
   all_grouped groups [] h = h
   all_grouped groups ([] ∷ lists) h = all_grouped groups lists h
-  all_grouped groups ((item ∷ items) ∷ lists) h = all_grouped (put_variant (item ∷ items) groups) lists (put_grouped groups (item ∷ items) (never_next (length items)) h)
+  all_grouped groups ((item ∷ items) ∷ lists) h = all_grouped (put_variant (item ∷ items) groups) lists (put_grouped groups (item ∷ items) (eqb-zero-suc (length items)) h)
 
   module _ (test : List X → Bool) where
     -- whether one of the lists passes
@@ -103,16 +81,12 @@ module _ {X : Type 0} where
     some_group groups = list_any (λ group. list_any test group.1) groups
 
     any_behind : (lists : List (List X)) (items : List X) → list_any test (lists ++ items ∷ []) ≡ (list_any test lists || test items)
-    any_behind [] items = or_nothing (test items)
-      where
-        or_nothing : (b : Bool) → (b || false) ≡ (false || b)
-        or_nothing true = refl
-        or_nothing false = refl
+    any_behind [] items = or-false (test items)
     any_behind (first ∷ rest) items = ap (λ b. test first || b) (any_behind rest items) ∙ sym (or_assoc (test first) (list_any test rest) (test items))
 
     put_any : (groups : List (ℕ × List (List X))) (items : List X) → some_group (put_variant items groups) ≡ (some_group groups || test items)
     unfolding some_group
-    put_any [] items = nothing_first (test items)
+    put_any [] items = or-false (test items || false) ∙ or-false (test items)
     put_any (group ∷ groups) items =
         elim (length items == group.0) as (λ t. some_group (cond t ((group.0, group.1 ++ items ∷ []) ∷ groups) (group ∷ put_variant items groups)) ≡ (some_group (group ∷ groups) || test items)) [
           | true ↦ ap (λ b. b || some_group groups) (any_behind group.1 items) ∙ regrouped (list_any test group.1) (test items) (some_group groups)
@@ -120,11 +94,7 @@ module _ {X : Type 0} where
         ]
 
     all_any : test [] ≡ false → (groups : List (ℕ × List (List X))) (lists : List (List X)) → some_group (fold with_variant groups lists) ≡ (some_group groups || list_any test lists)
-    all_any none groups [] = or_nothing (some_group groups)
-      where
-        or_nothing : (b : Bool) → b ≡ (b || false)
-        or_nothing true = refl
-        or_nothing false = refl
+    all_any none groups [] = sym (or-false (some_group groups))
     all_any none groups ([] ∷ lists) = all_any none groups lists ∙ ap (λ b. some_group groups || (b || list_any test lists)) (sym none)
     all_any none groups ((item ∷ items) ∷ lists) =
         all_any none (put_variant (item ∷ items) groups) lists
@@ -160,10 +130,10 @@ one_number : (m many : ℕ) → m < many → count_by (λ j. m == j) (range_with
 one_number m zero h = absurd (omega arith)
 one_number zero (suc many) h =
     first_number (λ j. 0 == j) many
-    ∙ ap (λ n. 1 + n) (count_by-alike (λ j. 0 == suc j) (λ j. false) (range_with_len 0 many) never_next ∙ count_by-never (range_with_len 0 many))
+    ∙ ap (λ n. 1 + n) (count_by-alike (λ j. 0 == suc j) (λ j. false) (range_with_len 0 many) eqb-zero-suc ∙ count_by-never (range_with_len 0 many))
 one_number (suc m) (suc many) h =
     first_number (λ j. suc m == j) many
-    ∙ (λ i. cond (not_zero m i) 1 0 + (count_by-alike (λ j. suc m == suc j) (λ j. m == j) (range_with_len 0 many) (next_equal m) ∙ one_number m many (omega arith)) i)
+    ∙ (λ i. cond (eqb-suc-zero m i) 1 0 + (count_by-alike (λ j. suc m == suc j) (λ j. m == j) (range_with_len 0 many) (eqb-suc-suc m) ∙ one_number m many (omega arith)) i)
 
 module _ (lexicon : Lexicon) (options : Options) where
   begins : List Token → List Item → Bool
@@ -174,35 +144,27 @@ module _ (lexicon : Lexicon) (options : Options) where
   unfolding begins
   front_stands [] tokens zero h = refl
   front_stands [] [] (suc k) h = absurd (omega arith)
-  front_stands [] (token ∷ tokens) (suc k) h = ap (λ b. b && true) (sym (never_next k))
-  front_stands (item ∷ items) tokens zero h = ap (λ b. b && begins tokens (item ∷ items)) (sym (not_zero (length items)))
+  front_stands [] (token ∷ tokens) (suc k) h = ap (λ b. b && true) (sym (eqb-zero-suc k))
+  front_stands (item ∷ items) tokens zero h = ap (λ b. b && begins tokens (item ∷ items)) (sym (eqb-suc-zero (length items)))
   front_stands (item ∷ items) [] (suc k) h = absurd (omega arith)
   front_stands (item ∷ items) (token ∷ tokens) (suc k) h =
       ap (λ b. passes_item lexicon options item token && b) (front_stands items tokens k (omega arith))
       ∙ swapped (passes_item lexicon options item token) (length items == k) (begins tokens items)
-      ∙ ap (λ b. b && (passes_item lexicon options item token && begins tokens items)) (sym (next_equal (length items) k))
+      ∙ ap (λ b. b && (passes_item lexicon options item token && begins tokens items)) (sym (eqb-suc-suc (length items) k))
 
   long_enough : (items : List Item) (tokens : List Token) → begins tokens items ≡ true → length items ≤ length tokens
   unfolding begins
   long_enough [] tokens h = omega arith
   long_enough (item ∷ items) [] h = cc
-  long_enough (item ∷ items) (token ∷ tokens) h = let further = long_enough items tokens (rest_true (passes_item lexicon options item token) (begins_as (passes_item lexicon options) items tokens) h) in omega (arith, further)
-    where
-      rest_true : (a b : Bool) → (a && b) ≡ true → b ≡ true
-      rest_true true b h = h
-      rest_true false b h = cc
+  long_enough (item ∷ items) (token ∷ tokens) h = let further = long_enough items tokens (and_parts (passes_item lexicon options item token) (begins_as (passes_item lexicon options) items tokens) h).1 in omega (arith, further)
 
   group_stands : (n : ℕ) (lists : List (List Item)) (tokens : List Token) (k : ℕ) → AllLong n lists → k ≤ length tokens
       → list_any (λ items. stands_as lexicon options items (take k tokens)) lists ≡ ((n == k) && list_any (begins tokens) lists)
   unfolding AllLong
-  group_stands n [] tokens k long h = none (n == k)
-    where
-      none : (b : Bool) → false ≡ (b && false)
-      none true = refl
-      none false = refl
+  group_stands n [] tokens k long h = sym (and-false (n == k))
   group_stands n (items ∷ lists) tokens k long h =
       (λ i. (front_stands items tokens k h ∙ ap (λ m. (m == k) && begins tokens items) long.0) i || group_stands n lists tokens k long.1 h i)
-      ∙ shared (n == k) (begins tokens items) (list_any (begins tokens) lists)
+      ∙ sym (and-or_distrib_left (n == k) (begins tokens items) (list_any (begins tokens) lists))
 
   group_fits : (n : ℕ) (lists : List (List Item)) (tokens : List Token) → AllLong n lists → list_any (begins tokens) lists ≡ true → n ≤ length tokens
   unfolding AllLong
@@ -225,37 +187,25 @@ module _ (lexicon : Lexicon) (options : Options) where
   group_counted zero lists tokens some long = cc
   group_counted (suc m) lists tokens some long = by_any (list_any (begins tokens) lists) refl
     where
-      with_true : (b : Bool) → (b && true) ≡ b
-      with_true true = refl
-      with_true false = refl
-
-      with_false : (b : Bool) → (b && false) ≡ false
-      with_false true = refl
-      with_false false = refl
-
       by_any : (b : Bool) → list_any (begins tokens) lists ≡ b → ◌≡◌ {A = ℕ} (count_by (λ j. (suc m == suc j) && b) (range_with_len 0 (length tokens))) (cond b 1 0)
       by_any true e =
           let fits = group_fits (suc m) lists tokens long e in
-          count_by-alike (λ j. (suc m == suc j) && true) (λ j. m == j) (range_with_len 0 (length tokens)) (λ j. with_true (suc m == suc j) ∙ next_equal m j) ∙ one_number m (length tokens) (omega (arith, fits))
-      by_any false e = count_by-alike (λ j. (suc m == suc j) && false) (λ j. false) (range_with_len 0 (length tokens)) (λ j. with_false (suc m == suc j)) ∙ count_by-never (range_with_len 0 (length tokens))
+          count_by-alike (λ j. (suc m == suc j) && true) (λ j. m == j) (range_with_len 0 (length tokens)) (λ j. and-true (suc m == suc j) ∙ eqb-suc-suc m j) ∙ one_number m (length tokens) (omega (arith, fits))
+      by_any false e = count_by-alike (λ j. (suc m == suc j) && false) (λ j. false) (range_with_len 0 (length tokens)) (λ j. and-false (suc m == suc j)) ∙ count_by-never (range_with_len 0 (length tokens))
 
   never_both : (n m k : ℕ) → (n == m) ≡ false → ((n == k) && (m == k)) ≡ false
   never_both n m k h = by_tests (n == k) (m == k) refl refl
     where
       by_tests : (a b : Bool) → (n == k) ≡ a → (m == k) ≡ b → (a && b) ≡ false
       by_tests true true e f =
-          let same : n ≡ m = is_equal n k e ∙ sym (is_equal m k f) in
+          let same : n ≡ m = eqb-true n k e ∙ sym (eqb-true m k f) in
           let one : (n == m) ≡ true = grind (arith, nat_tests, same) in absurd (let no : true ≡ false = sym one ∙ h in cc)
       by_tests true false e f = refl
       by_tests false b e f = refl
 
   groups_apart : (n : ℕ) (some : Bool) (groups : List (ℕ × List (List Item))) (tokens : List Token) (j : ℕ) → Apart n groups → (((n == suc j) && some) && list_any (stands_at tokens j) groups) ≡ false
   unfolding Apart
-  groups_apart n some [] tokens j h = none ((n == suc j) && some)
-    where
-      none : (b : Bool) → (b && false) ≡ false
-      none true = refl
-      none false = refl
+  groups_apart n some [] tokens j h = and-false ((n == suc j) && some)
   groups_apart n some (group ∷ groups) tokens j h =
       apart (n == suc j) (group.0 == suc j) some (list_any (begins tokens) group.1) (list_any (stands_at tokens j) groups) (never_both n group.0 (suc j) h.0) (groups_apart n some groups tokens j h.1)
     where

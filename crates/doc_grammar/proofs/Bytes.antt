@@ -1,25 +1,18 @@
 -- Lists of bytes: when a test says that they are equal, or that one begins with the other.
-use Rattle.std.proofs.Common.{◌≡◌, ℕ, Bool, true, false, ◌&&◌, List, [], ◌∷◌, ◌++◌, length, take, drop, refl, ◌∙◌, ap}
-use Rattle.std.proofs.lemmas.Bool.{eqb-true, eq-eqb}
+use Rattle.std.proofs.Common.{◌≡◌, ℕ, true, List, [], ◌∷◌, ◌++◌, length, take, drop, refl, ◌∙◌, ap}
+use Rattle.std.proofs.lemmas.Bool.{eqb-true, and_parts}
 use Rattle.std.proofs.lemmas.List.{take-append-drop}
 use Rattle.std.proofs.Math.Seq.{take-append_seam}
 use Rattle.std.specs.Prelude.{nat_eq}
 use Rattle.std.specs.List.{starts_with}
 use Rattle.std.specs.Cmp.Lexicographic.{pointwise}
-
-pub both : (x y : Bool) → (x && y) ≡ true → (x ≡ true) × (y ≡ true)
-both true y h = (refl, h)
-both false y h = cc
+use Rattle.ft_base.proofs.Truth.{pointwise_refl}
 
 pub pointwise_same : (xs ys : List ℕ) → pointwise nat_eq xs ys ≡ true → xs ≡ ys
 pointwise_same [] [] h = refl
 pointwise_same [] (y ∷ ys) h = cc
 pointwise_same (x ∷ xs) [] h = cc
-pointwise_same (x ∷ xs) (y ∷ ys) h = let two = both _ _ h in ap (λ z. z ∷ xs) (eqb-true x y two.0) ∙ ap (λ zs. y ∷ zs) (pointwise_same xs ys two.1)
-
-pub pointwise_refl : (xs : List ℕ) → pointwise nat_eq xs xs ≡ true
-pointwise_refl [] = refl
-pointwise_refl (x ∷ xs) = ap (λ b. b && pointwise nat_eq xs xs) (eq-eqb x x refl) ∙ pointwise_refl xs
+pointwise_same (x ∷ xs) (y ∷ ys) h = let two = and_parts _ _ h in ap (λ z. z ∷ xs) (eqb-true x y two.0) ∙ ap (λ zs. y ∷ zs) (pointwise_same xs ys two.1)
 
 pub starts_with-true : (xs front : List ℕ) → starts_with nat_eq xs front ≡ true → front ++ drop (length front) xs ≡ xs
 starts_with-true xs front h = ap (λ z. z ++ drop (length front) xs) (pointwise_same front (take (length front) xs) h) ∙ take-append-drop (length front) xs

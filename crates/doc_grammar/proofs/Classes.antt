@@ -1,11 +1,10 @@
 -- What the classes of characters tell of one another.
-use Rattle.std.proofs.Common.{◌≡◌, ℕ, ◌≤◌, Bool, true, false, ◌||◌, ◌⊎◌, inl, inr, List, [], ◌∷◌, refl, sym, ◌∙◌, ap, arith}
-use Rattle.std.proofs.lemmas.Bool.{eqb-true, leb-true}
+use Rattle.std.proofs.Common.{◌≡◌, ℕ, ◌≤◌, Bool, true, false, ◌⊎◌, inl, inr, List, [], ◌∷◌, refl, sym, ◌∙◌, ap, arith}
+use Rattle.std.proofs.lemmas.Bool.{eqb-true, leb-true, and_parts, or_cases}
 use Rattle.std.proofs.lemmas.Bool.Decides.{nat_tests}
 use Rattle.std.specs.Prelude.{◌==◌, nat_le}
 use Rattle.std.specs.List.{list_all}
 use Rattle.ft_base.specs.Characters.{is_within, is_in, is_char, is_space, is_name_start, is_name_char}
-use Rattle.doc_grammar.proofs.Bytes.{both}
 
 -- a character of a class isn't one outside it
 pub differs : (p : ℕ → Bool) (c k : ℕ) → p c ≡ true → p k ≡ false → (c == k) ≡ false
@@ -15,17 +14,13 @@ differs p c k h n = go (c == k) refl
     go false e = refl
     go true e = let same : c ≡ k = eqb-true c k e in let t : p k ≡ true = ap p (sym same) ∙ h in cc
 
-pub either : (x y : Bool) → (x || y) ≡ true → (x ≡ true) ⊎ (y ≡ true)
-either true y h = inl refl
-either false y h = inr h
-
 -- a class of which each range ends at k or before has no character above k
 pub in_below : (ranges : List (ℕ × ℕ)) (k c : ℕ) → list_all (λ (r : ℕ × ℕ). nat_le r.1 k) ranges ≡ true → is_in ranges c ≡ true → c ≤ k
 in_below [] k c small h = cc
-in_below (r ∷ ranges) k c small h = go (either _ _ h) (in_below ranges k c (both _ _ small).1)
+in_below (r ∷ ranges) k c small h = go (or_cases _ _ h) (in_below ranges k c (and_parts _ _ small).1)
   where
     go : ((is_within c r ≡ true) ⊎ (is_in ranges c ≡ true)) → (is_in ranges c ≡ true → c ≤ k) → c ≤ k
-    go (inl g) rest = omega (arith, leb-true r.1 k (both _ _ small).0, leb-true c r.1 (both _ _ g).1)
+    go (inl g) rest = omega (arith, leb-true r.1 k (and_parts _ _ small).0, leb-true c r.1 (and_parts _ _ g).1)
     go (inr g) rest = rest g
 
 pub char_le : (c : ℕ) → is_char c ≡ true → c ≤ 0x10_FFFF

@@ -1,13 +1,12 @@
 -- Whatever state the machine is in, some continuation brings it to the end of the part that is under way.
 use Rattle.std.proofs.Common.{leb, ◌≡◌, ℕ, zero, suc, ◌+◌, ◌*◌, ◌≤◌, ◌<◌, Bool, true, false, ◌&&◌, cond, ◌⊎◌, inl, inr, List, [], ◌∷◌, ◌++◌, Some, refl, sym, ◌∙◌, ap, subst, arith}
-use Rattle.std.proofs.lemmas.Bool.{eq-eqb}
+use Rattle.std.proofs.lemmas.Bool.{eq-eqb, and_parts}
 use Rattle.std.proofs.lemmas.Bool.Decides.{nat_tests, leb_tells}
 use Rattle.std.specs.Prelude.{◌==◌, codes}
 use Rattle.ft_base.specs.Characters.{is_char}
 use Rattle.doc_grammar.specs.Grammar.{is_digit, one_dash_more}
 use Rattle.doc_grammar.specs.Machine as m
 use Rattle.doc_grammar.specs.Machine.{Outer, document, fragment, level, Place, Refer, Phase, State, Judged, is_content, with_text, base, step_at, run_on}
-use Rattle.doc_grammar.proofs.Bytes.{both}
 use Rattle.doc_grammar.proofs.Spelled.{no_return, ReferPart}
 use Rattle.doc_grammar.proofs.Walks.{st, Runs, Gives, join, Refers, refers, refers_then, refers_join, digit_goes_on, digits_end}
 
@@ -20,7 +19,7 @@ pub record Ends (s : State) : Type 0 where
 
 pub no_return-append : (u v : List ℕ) → no_return u ≡ true → no_return v ≡ true → no_return (u ++ v) ≡ true
 no_return-append [] v a b = b
-no_return-append (c ∷ u) v a b = let two = both _ _ a in ap (λ z. z && no_return (u ++ v)) two.0 ∙ no_return-append u v two.1 b
+no_return-append (c ∷ u) v a b = let two = and_parts _ _ a in ap (λ z. z && no_return (u ++ v)) two.0 ∙ no_return-append u v two.1 b
 
 pub ends_after : {s t : State} {u : List ℕ} → Runs s u t → no_return u ≡ true → Ends t → Ends s
 ends_after {u = u} r plain e = record { rest = u ++ e.rest; place = e.place; runs = join r e.runs; is_plain = no_return-append u e.rest plain e.is_plain }

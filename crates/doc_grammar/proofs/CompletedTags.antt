@@ -1,7 +1,7 @@
 -- Tags under way can be ended, so every state has a continuation to a place between items.
 use Rattle.std.proofs.Common.{◌≡◌, ℕ, zero, suc, ◌+◌, ◌<◌, Bool, true, false, ◌&&◌, ◌||◌, not, List, [], ◌∷◌, ◌++◌, length, replicate, refl, sym, ◌∙◌, ap, subst, append_assoc, arith}
 use Rattle.std.proofs.lemmas.List.{append-nil, length-append}
-use Rattle.std.proofs.lemmas.Bool.{eq-eqb}
+use Rattle.std.proofs.lemmas.Bool.{eq-eqb, and_parts}
 use Rattle.std.proofs.lemmas.Str.{encode_ascii, cons_from_encodes, encodes-append}
 use Rattle.std.proofs.lemmas.List.Folds.{list_all-append}
 use Rattle.std.specs.Prelude.{◌==◌, encode_utf8, encode_utf8_all, nat_eq}
@@ -12,7 +12,7 @@ use Rattle.ft_base.specs.Characters.{is_name_start, is_name_char}
 use Rattle.doc_grammar.specs.Grammar.{is_quote, has_name, Name, Tag}
 use Rattle.doc_grammar.specs.Machine as m
 use Rattle.doc_grammar.specs.Machine.{Outer, document, fragment, level, Place, Phase, State, is_content, with_node, step_at, run_on}
-use Rattle.doc_grammar.proofs.Bytes.{both, pointwise_same}
+use Rattle.doc_grammar.proofs.Bytes.{pointwise_same}
 use Rattle.doc_grammar.proofs.Spelled.{no_return, ReferPart, EndPart, Part, Spelled}
 use Rattle.doc_grammar.specs.Opened.{At, before, after, in_fragment, within}
 use Rattle.doc_grammar.proofs.Classes.{differs}
@@ -142,7 +142,7 @@ end_name_ends kids text (level name attrs ok ot o) n cs bytes part =
     let rest = rest_of cs n.0 bytes (part ∙ sym (name_bytes n.1)) in
     let p = content_of ok ot o in
     let q = content_of kids text (level name attrs ok ot o) in
-    let plain : no_return rest.0 ≡ true = (both _ _ (sym (list_all-append (λ c. not (c == 13)) cs rest.0) ∙ ap no_return (sym rest.2) ∙ name_plain n.1)).1 in
+    let plain : no_return rest.0 ≡ true = (and_parts _ _ (sym (list_all-append (λ c. not (c == 13)) cs rest.0) ∙ ap no_return (sym rest.2) ∙ name_plain n.1)).1 in
     ends_after (subst (λ z. Runs (st q (m.end_name z)) rest.0 (st q (m.end_name []))) rest.1 (end_name_runs q rest.0)) plain (ends_at (one (end_name_close p kids text name attrs)) refl)
 
 end_spaced_ends : (kids : List Node) (text : List ℕ) (o : Outer) (cs : List ℕ) → EndPart o cs [] → Ends (st (content_of kids text o) m.end_spaced)

@@ -2,7 +2,7 @@
 use Rattle.std.proofs.Common.{◌≡◌, ℕ, ◌+◌, ◌<◌, Bool, true, false, ◌&&◌, not, cond, List, [], ◌∷◌, ◌++◌, length, Option, Some, None, refl, sym, ◌∙◌, ap, arith}
 use Rattle.std.proofs.lemmas.Str.{length-encode, len_utf8_bounds}
 use Rattle.std.proofs.lemmas.List.{length-append}
-use Rattle.std.proofs.lemmas.Bool.{eqb-true}
+use Rattle.std.proofs.lemmas.Bool.{eqb-true, and_right, and_left, and_from}
 use Rattle.std.specs.Prelude.{◌==◌, nat_eq, encode_utf8}
 use Rattle.std.specs.List.{starts_with}
 use Rattle.plain_tree.specs.Document.{Node, element, nodes, no_nodes, is_empty}
@@ -11,7 +11,6 @@ use Rattle.ft_base.specs.Characters.{is_char, is_space, is_name_start, is_name_c
 use Rattle.doc_grammar.specs.Grammar.{text_node, is_quote, has_name}
 use Rattle.doc_grammar.specs.Machine as m
 use Rattle.doc_grammar.specs.Machine.{Outer, document, fragment, level, Place, Phase, State, Judged, is_content, takes_element, step_at}
-use Rattle.doc_grammar.proofs.Walks.{and-intro}
 use Rattle.doc_grammar.specs.Limits.{one_if, node_count, nodes_count, list_count, text_count, outer_count, place_count, begins_text, begins_element}
 
 -- a node under way counts
@@ -102,24 +101,16 @@ no_line_feed true = refl
 no_line_feed false = refl
 
 begun_text : (p : Place) (c : ℕ) → (c == 60) ≡ false → is_content p.outer ≡ true → is_empty p.text ≡ true → is_char c ≡ true → begins_text p false c ≡ true
-begun_text p c a b d e = and-intro (no_line_feed (c == 10)) (and-intro (ap not a) (and-intro b (and-intro d e)))
-
-pub and-no : (x y : Bool) → y ≡ false → (x && y) ≡ false
-and-no true y h = h
-and-no false y h = refl
-
-pub no-and : (x y : Bool) → x ≡ false → (x && y) ≡ false
-no-and true y h = cc
-no-and false y h = refl
+begun_text p c a b d e = and_from _ _ (no_line_feed (c == 10)) (and_from _ _ (ap not a) (and_from _ _ b (and_from _ _ d e)))
 
 no_markup : (p : Place) (c : ℕ) → (c == 60) ≡ true → begins_text p false c ≡ false
-no_markup p c h = and-no (not ((c == 10) && false)) _ (no-and (not (c == 60)) _ (ap not h))
+no_markup p c h = and_right (not ((c == 10) && false)) _ (and_left (not (c == 60)) _ (ap not h))
 
 no_content : (p : Place) (c : ℕ) → is_content p.outer ≡ false → begins_text p false c ≡ false
-no_content p c h = and-no (not ((c == 10) && false)) _ (and-no (not (c == 60)) _ (no-and (is_content p.outer) _ h))
+no_content p c h = and_right (not ((c == 10) && false)) _ (and_right (not (c == 60)) _ (and_left (is_content p.outer) _ h))
 
-no_room : (p : Place) (c : ℕ) → is_empty p.text ≡ false → begins_text p false c ≡ false
-no_room p c h = and-no (not ((c == 10) && false)) _ (and-no (not (c == 60)) _ (and-no (is_content p.outer) _ (no-and (is_empty p.text) _ h)))
+pub no_room : (p : Place) (c : ℕ) → is_empty p.text ≡ false → begins_text p false c ≡ false
+no_room p c h = and_right (not ((c == 10) && false)) _ (and_right (not (c == 60)) _ (and_right (is_content p.outer) _ (and_left (is_empty p.text) _ h)))
 
 missing_is : (t : List ℕ) → missing t ≡ one_if (is_empty t)
 missing_is [] = refl
@@ -146,7 +137,7 @@ ready_counts p c =
     (λ h. choose (is_space c) (λ _. yes (omega (arith, ap one_if (no_content p c h)))) (λ _. no)))
 
 not_start : (p : Place) (c k : ℕ) → (c == k) ≡ true → is_name_start k ≡ false → one_if (begins_element p c) ≡ 0
-not_start p c k h n = ap one_if (no-and (is_name_start c) (takes_element p) (ap is_name_start (eqb-true c k h) ∙ n))
+not_start p c k h n = ap one_if (and_left (is_name_start c) (takes_element p) (ap is_name_start (eqb-true c k h) ∙ n))
 
 end_tag_counts : (p : Place) (o : Outer) (n : ℕ) → place_count p + 0 ≡ n → Counts n (m.end_tag p o)
 end_tag_counts p document n e = no

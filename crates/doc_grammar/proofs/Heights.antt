@@ -1,6 +1,6 @@
 -- The machine's steps and the levels of elements that were reached.
 use Rattle.std.proofs.Common.{◌≡◌, ℕ, ◌+◌, max, Bool, true, false, ◌&&◌, cond, List, [], ◌∷◌, ◌++◌, Option, Some, None, refl, sym, ◌∙◌, ap, arith}
-use Rattle.std.proofs.lemmas.Bool.{eqb-true}
+use Rattle.std.proofs.lemmas.Bool.{eqb-true, and_left}
 use Rattle.std.specs.Prelude.{◌==◌, nat_eq, encode_utf8}
 use Rattle.std.specs.List.{starts_with}
 use Rattle.plain_tree.specs.Document.{Node, element, nodes, no_nodes}
@@ -10,7 +10,6 @@ use Rattle.doc_grammar.specs.Grammar.{text_node, is_quote, has_name}
 use Rattle.doc_grammar.specs.Machine as m
 use Rattle.doc_grammar.specs.Machine.{Outer, document, fragment, level, Place, Phase, State, Judged, is_content, takes_element, step_at}
 use Rattle.doc_grammar.specs.Limits.{height, heights, depth, is_opened, begins_element}
-use Rattle.doc_grammar.proofs.Counts.{no-and}
 
 abbrev pub list_height : List Node → ℕ
 list_height [] = 0
@@ -84,7 +83,7 @@ ready_reaches p c =
     (λ _. choose (is_space c) (λ _. yes (omega arith)) (λ _. no)))
 
 not_start : (p : Place) (c k : ℕ) → (c == k) ≡ true → is_name_start k ≡ false → one_level_if (begins_element p c) (depth p.outer) ≡ 0
-not_start p c k h n = ap (λ b. one_level_if b (depth p.outer)) (no-and (is_name_start c) (takes_element p) (ap is_name_start (eqb-true c k h) ∙ n))
+not_start p c k h n = ap (λ b. one_level_if b (depth p.outer)) (and_left (is_name_start c) (takes_element p) (ap is_name_start (eqb-true c k h) ∙ n))
 
 end_tag_reaches : (p : Place) (o : Outer) (n : ℕ) → max (place_height p) 0 ≡ n → Reaches n (m.end_tag p o)
 end_tag_reaches p document n e = no

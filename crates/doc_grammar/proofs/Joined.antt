@@ -1,10 +1,9 @@
 -- What the grammar spells has joined texts.
 use Rattle.std.proofs.Common.{◌≡◌, ℕ, Bool, true, false, ◌&&◌, not, List, [], ◌∷◌, ◌++◌, refl, ◌∙◌, ap}
 use Rattle.std.proofs.lemmas.List.{append-nil}
+use Rattle.std.proofs.lemmas.Bool.{and_parts, and_from}
 use Rattle.plain_tree.specs.Document.{Node, text, nodes, is_text, is_joined, are_joined, is_document}
 use Rattle.doc_grammar.specs.Grammar.{text_node, Element, Content, Document}
-use Rattle.doc_grammar.proofs.Bytes.{both}
-use Rattle.doc_grammar.proofs.Walks.{and-intro}
 
 pub ends_with_text : List Node → Bool
 ends_with_text [] = false
@@ -17,13 +16,13 @@ pub record Joined (ks : List Node) : Type 0 where
   pub ends : ends_with_text ks ≡ false
 
 element_behind : (ks : List Node) (n : Node) → are_joined (nodes ks) ≡ true → is_joined n ≡ true → is_text n ≡ false → are_joined (nodes (ks ++ n ∷ [])) ≡ true
-element_behind [] n h j t = and-intro (and-intro j (ap (λ b. not (b && false)) t)) refl
-element_behind (k ∷ []) n h j t = let two = both _ _ h in and-intro (and-intro (both _ _ two.0).0 (ap (λ b. not (is_text k && b)) t ∙ no_and (is_text k))) (element_behind [] n refl j t)
+element_behind [] n h j t = and_from _ _ (and_from _ _ j (ap (λ b. not (b && false)) t)) refl
+element_behind (k ∷ []) n h j t = let two = and_parts _ _ h in and_from _ _ (and_from _ _ (and_parts _ _ two.0).0 (ap (λ b. not (is_text k && b)) t ∙ no_and (is_text k))) (element_behind [] n refl j t)
   where
     no_and : (b : Bool) → not (b && false) ≡ true
     no_and true = refl
     no_and false = refl
-element_behind (k ∷ l ∷ ks) n h j t = let two = both _ _ h in and-intro two.0 (element_behind (l ∷ ks) n two.1 j t)
+element_behind (k ∷ l ∷ ks) n h j t = let two = and_parts _ _ h in and_from _ _ two.0 (element_behind (l ∷ ks) n two.1 j t)
 
 ends_behind : (ks : List Node) (n : Node) → is_text n ≡ false → ends_with_text (ks ++ n ∷ []) ≡ false
 unfolding ends_with_text
@@ -34,8 +33,8 @@ ends_behind (k ∷ l ∷ ks) n t = ends_behind (l ∷ ks) n t
 text_behind : (ks : List Node) (b : ℕ) (bytes : List ℕ) → are_joined (nodes ks) ≡ true → ends_with_text ks ≡ false → are_joined (nodes (ks ++ text (b ∷ bytes) ∷ [])) ≡ true
 unfolding ends_with_text
 text_behind [] b bytes h e = refl
-text_behind (k ∷ []) b bytes h e = let two = both _ _ h in and-intro (and-intro (both _ _ two.0).0 (ap (λ z. not (z && true)) e)) refl
-text_behind (k ∷ l ∷ ks) b bytes h e = let two = both _ _ h in and-intro two.0 (text_behind (l ∷ ks) b bytes two.1 e)
+text_behind (k ∷ []) b bytes h e = let two = and_parts _ _ h in and_from _ _ (and_from _ _ (and_parts _ _ two.0).0 (ap (λ z. not (z && true)) e)) refl
+text_behind (k ∷ l ∷ ks) b bytes h e = let two = and_parts _ _ h in and_from _ _ two.0 (text_behind (l ∷ ks) b bytes two.1 e)
 
 with_text_node : (ks : List Node) (bytes : List ℕ) → Joined ks → are_joined (nodes (ks ++ text_node bytes)) ≡ true
 with_text_node ks [] j = ap (λ z. are_joined (nodes z)) (append-nil ks) ∙ j.joined
@@ -60,4 +59,4 @@ mutual
       record { joined = element_behind (kids ++ text_node bytes) n (with_text_node kids bytes (content_joined x)) j.0 j.1; ends = ends_behind (kids ++ text_node bytes) n j.1 }
 
 pub document_joined : {w : List ℕ} {n : Node} → Document w n → is_document n ≡ true
-document_joined (Document.document {node = n} x e y) = let j = element_joined e in and-intro (ap not j.1) j.0
+document_joined (Document.document {node = n} x e y) = let j = element_joined e in and_from _ _ (ap not j.1) j.0

@@ -2,6 +2,7 @@
 use Rattle.std.proofs.Common.{◌≡◌, ℕ, Bool, true, false, ◌&&◌, not, cond, ◌⊎◌, inl, inr, List, [], ◌∷◌, ◌++◌, Option, Some, None, refl, sym, ◌∙◌, ap, subst}
 use Rattle.std.proofs.lemmas.List.{append-nil}
 use Rattle.std.specs.Prelude.{◌==◌, codes, encode_utf8, is_some}
+use Rattle.std.proofs.Math.Bool.{and-false}
 use Rattle.plain_tree.specs.Document.{Node, element, no_nodes}
 use Rattle.ft_base.specs.Characters.{is_name_start, is_name_char}
 use Rattle.doc_grammar.specs.Grammar.{text_node, Document, Fragment, lines_from, with_line_ends}
@@ -108,10 +109,6 @@ lines-append b (c ∷ u) v = go (c == 13) ((c == 10) && b) refl refl (lines-appe
 not_and : (x y : Bool) → (not x && y) ≡ true → (x ≡ false) × (y ≡ true)
 not_and true y h = cc
 not_and false y h = (refl, h)
-
-pub and-false : (x : Bool) → (x && false) ≡ false
-and-false true = refl
-and-false false = refl
 
 pub lines-plain : (u : List ℕ) → no_return u ≡ true → lines_from false u ≡ u
 lines-plain [] h = refl
@@ -261,13 +258,6 @@ in_finished document (n ∷ []) ks text e = cc
 in_finished document (n ∷ k ∷ kids) ks text e = cc
 in_finished fragment kids ks text e = cc
 in_finished (level name attrs k t o) kids ks text e = cc
-
-pub finished_nodes : (s : State) → is_some (finished s) ≡ true → finished s ≡ Some (s.place.kids ++ text_node s.place.text)
-finished_nodes s h = go (finished s) refl h
-  where
-    go : (o : Option (List Node)) → finished s ≡ o → is_some o ≡ true → finished s ≡ Some (s.place.kids ++ text_node s.place.text)
-    go None e k = cc
-    go (Some ks) e k = e ∙ ap Some (in_finished s.place.outer s.place.kids ks s.place.text (finished_parts (is_ready s.phase) (finished_in s.place.outer s.place.kids s.place.text) ks e).1)
 
 pub not_finished : (s : State) → is_some (finished s) ≡ false → finished s ≡ None
 not_finished s h = go (finished s) refl h

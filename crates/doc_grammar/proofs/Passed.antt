@@ -2,6 +2,7 @@
 use Rattle.std.proofs.Common.{◌≡◌, ℕ, suc, ◌≤◌, ◌<◌, Bool, true, false, ◌&&◌, ◌⊎◌, inl, inr, List, [], ◌∷◌, ◌++◌, length, Some, refl, sym, ◌∙◌, ap, subst, append_assoc, arith}
 use Rattle.std.proofs.lemmas.List.{length-append}
 use Rattle.std.specs.Prelude.{◌==◌}
+use Rattle.std.proofs.Math.Bool.{and-false}
 use Rattle.doc_grammar.specs.Grammar.{lines_from, with_line_ends}
 use Rattle.doc_grammar.specs.Texts.{Kind}
 use Rattle.doc_grammar.specs.Machine as m
@@ -11,7 +12,7 @@ use Rattle.doc_grammar.specs.Reading.{outer_of, read, returned}
 use Rattle.doc_grammar.specs.Limits.{text_here, element_here, place_count, depth, begins_text, begins_element, TextBegins, ElementBegins, Limit, Passes, too_deep, element_too_many, text_too_many, KeepsLimits}
 use Rattle.doc_grammar.proofs.Walks.{st}
 use Rattle.doc_grammar.proofs.WalksOfElements.{at_runs}
-use Rattle.doc_grammar.proofs.Laws.{lines-return, lines-skipped, lines-kept, and-false, read-append}
+use Rattle.doc_grammar.proofs.Laws.{lines-return, lines-skipped, lines-kept, read-append}
 
 -- the machine stands where the grammar says
 pub at_read : (kind : Kind) (front : List ℕ) (p : Place) → At (with_line_ends front) p → bottom p.outer ≡ outer_of kind → read kind front ≡ Some (st p m.ready)

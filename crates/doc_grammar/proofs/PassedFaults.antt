@@ -1,8 +1,8 @@
 -- Where a limit is passed, said by the state of the machine; and that refused characters come before any limit.
 use Rattle.std.proofs.Common.{◌≡◌, ℕ, suc, ◌+◌, ◌≤◌, ◌<◌, Bool, true, false, ◌&&◌, ◌||◌, not, ◌⊎◌, inl, inr, List, [], ◌∷◌, ◌++◌, length, Option, Some, None, refl, sym, ◌∙◌, ap, subst, append_assoc, arith}
 use Rattle.std.proofs.lemmas.List.{length-append}
-use Rattle.std.proofs.lemmas.Bool.{eqb-true}
-use Rattle.std.proofs.Math.Bool.{or-false}
+use Rattle.std.proofs.lemmas.Bool.{eqb-true, and_parts, or_cases, and_right, and_left}
+use Rattle.std.proofs.Math.Bool.{or-false, and-false}
 use Rattle.std.specs.Prelude.{◌==◌}
 use Rattle.plain_tree.specs.Document.{is_empty}
 use Rattle.ft_base.specs.Characters.{is_char, is_name_start}
@@ -14,12 +14,11 @@ use Rattle.doc_grammar.specs.Opened.{At, bottom}
 use Rattle.doc_grammar.specs.Reading.{outer_of, read, returned}
 use Rattle.doc_grammar.specs.Limits.{node_here, one_if, is_opened, text_here, element_here, place_count, depth, begins_text, begins_element, TextBegins, ElementBegins, Limit, depth_limit, Passes, too_deep, element_too_many, text_too_many, KeepsLimits}
 use Rattle.doc_grammar.proofs.Bottom.{run_bottom}
-use Rattle.doc_grammar.proofs.Bytes.{both}
-use Rattle.doc_grammar.proofs.Classes.{start-is, either}
-use Rattle.doc_grammar.proofs.Counts.{and-no, no-and, phase_count, begins, begun, step_counts, counted}
+use Rattle.doc_grammar.proofs.Classes.{start-is}
+use Rattle.doc_grammar.proofs.Counts.{phase_count, begins, begun, step_counts, counted}
 use Rattle.doc_grammar.proofs.Spelled.{Spelled, Part}
 use Rattle.doc_grammar.proofs.Walks.{opened_start, run_on-nil}
-use Rattle.doc_grammar.proofs.Laws.{lines-return, lines-skipped, lines-kept, and-false, read_spelled, spelled_ready, ready_is}
+use Rattle.doc_grammar.proofs.Laws.{lines-return, lines-skipped, lines-kept, read_spelled, spelled_ready, ready_is}
 use Rattle.doc_grammar.proofs.Passed.{Clean, element_same, same_front, raw_last}
 
 opened_is : (phase : Phase) → is_opened phase ≡ true → phase ≡ m.opened
@@ -59,7 +58,7 @@ pub element_begins : (kind : Kind) (whole front : List ℕ) (c : ℕ) (more : Li
 element_begins kind whole front c more s e r h = go (read_spelled kind front s r)
   where
     two : (is_opened s.phase ≡ true) × (begins_element s.place c ≡ true)
-    two = both _ _ h
+    two = and_parts _ _ h
 
     go : Spelled (with_line_ends front) s → Before kind whole front s
     go x =
@@ -80,7 +79,7 @@ element_begins kind whole front c more s e r h = go (read_spelled kind front s r
 
 pub text_begins : (kind : Kind) (whole front : List ℕ) (c : ℕ) (more : List ℕ) (s : State) → whole ≡ front ++ c ∷ more → read kind front ≡ Some s → text_here s (returned false front) c ≡ true → TextBegins kind whole front s.place
 text_begins kind whole front c more s e r h =
-    let two = both (m.is_ready s.phase) (begins_text s.place (returned false front) c) h in
+    let two = and_parts (m.is_ready s.phase) (begins_text s.place (returned false front) c) h in
     record { c = c; rest = more; spelled = e; is_at = spelled_ready (read_spelled kind front s r) two.0; is_kind = kind_is kind front s r; begins = two.1 }
 
 -- limits passed at a `<`, or later
@@ -108,8 +107,8 @@ pub text_not_deep : (max_depth max_nodes : ℕ) (kind : Kind) (whole front : Lis
 text_not_deep max_depth max_nodes kind whole front c more s e h (too_deep p x k) =
     let tails = (same_front front front (c ∷ more) (60 ∷ x.c ∷ x.rest) (sym e ∙ x.spelled) refl).1 in
     let is_markup : c ≡ 60 = cc in
-    let begun_here : begins_text s.place (returned false front) c ≡ true = (both (m.is_ready s.phase) (begins_text s.place (returned false front) c) h).1 in
-    let no_markup : not (c == 60) ≡ true = (both (not (c == 60)) (is_content s.place.outer && (is_empty s.place.text && is_char c)) (both (not ((c == 10) && returned false front)) (not (c == 60) && (is_content s.place.outer && (is_empty s.place.text && is_char c))) begun_here).1).0 in
+    let begun_here : begins_text s.place (returned false front) c ≡ true = (and_parts (m.is_ready s.phase) (begins_text s.place (returned false front) c) h).1 in
+    let no_markup : not (c == 60) ≡ true = (and_parts (not (c == 60)) (is_content s.place.outer && (is_empty s.place.text && is_char c)) (and_parts (not ((c == 10) && returned false front)) (not (c == 60) && (is_content s.place.outer && (is_empty s.place.text && is_char c))) begun_here).1).0 in
     let two : not (60 == 60) ≡ true = subst (λ (d : ℕ). not (d == 60) ≡ true) is_markup no_markup in
     cc
 
@@ -117,14 +116,14 @@ ready_not_opened : (phase : Phase) → m.is_ready phase ≡ true → is_opened p
 ready_not_opened phase h = ap is_opened (ready_is phase h)
 
 pub text_no_element : (s : State) (b : Bool) (c : ℕ) → text_here s b c ≡ true → element_here s c ≡ false
-text_no_element s b c h = no-and (is_opened s.phase) (begins_element s.place c) (ready_not_opened s.phase (both (m.is_ready s.phase) (begins_text s.place b c) h).0)
+text_no_element s b c h = and_left (is_opened s.phase) (begins_element s.place c) (ready_not_opened s.phase (and_parts (m.is_ready s.phase) (begins_text s.place b c) h).0)
 
 start_lines : (b : Bool) (c : ℕ) → is_name_start c ≡ true → lines_from b (c ∷ []) ≡ c ∷ []
 unfolding is_name_start
-start_lines b c h = lines-kept b c [] (start-is c 13 h refl) (no-and (c == 10) b (start-is c 10 h refl))
+start_lines b c h = lines-kept b c [] (start-is c 13 h refl) (and_left (c == 10) b (start-is c 10 h refl))
 
 accepted : (s : State) (c : ℕ) → is_opened s.phase ≡ true → begins_element s.place c ≡ true → (t : State) × (step s c ≡ Some t)
-accepted s c h k = let two = both (is_name_start c) (takes_element s.place) k in (_, ap (λ (f : Phase). step_at s.place f c) (opened_is s.phase h) ∙ (opened_start s.place c two.1 two.0).gives.is)
+accepted s c h k = let two = and_parts (is_name_start c) (takes_element s.place) k in (_, ap (λ (f : Phase). step_at s.place f c) (opened_is s.phase h) ∙ (opened_start s.place c two.1 two.0).gives.is)
 
 -- a character that is refused begins no element
 pub refused_no_element : (s : State) (b : Bool) (c : ℕ) → run_on (Some s) (lines_from b (c ∷ [])) ≡ None → element_here s c ≡ false
@@ -133,9 +132,9 @@ refused_no_element s b c e = go (element_here s c) refl
     go : (x : Bool) → element_here s c ≡ x → x ≡ false
     go false h = refl
     go true h =
-        let two = both (is_opened s.phase) (begins_element s.place c) h in
+        let two = and_parts (is_opened s.phase) (begins_element s.place c) h in
         let next = accepted s c two.0 two.1 in
-        let ended : Some next.0 ≡ None = sym (ap (λ (o : Option State). run_on o []) next.1) ∙ sym (ap (λ (cs : List ℕ). run_on (Some s) cs) (start_lines b c (both (is_name_start c) (takes_element s.place) two.1).0)) ∙ e in
+        let ended : Some next.0 ≡ None = sym (ap (λ (o : Option State). run_on o []) next.1) ∙ sym (ap (λ (cs : List ℕ). run_on (Some s) cs) (start_lines b c (and_parts (is_name_start c) (takes_element s.place) two.1).0)) ∙ e in
         cc
 
 -- what a character as it is written adds to the nodes that have begun
@@ -173,9 +172,9 @@ kept_here s b c h = ap (λ (x : Bool). (m.is_ready s.phase && (not x && (not (c 
 skipped_here : (s : State) (b : Bool) (c : ℕ) → ((c == 10) && b) ≡ true → node_here s b c ≡ false
 unfolding is_name_start
 skipped_here s b c h =
-    let is_feed : c ≡ 10 = eqb-true c 10 (both (c == 10) b h).0 in
-    let no_text : text_here s b c ≡ false = and-no (m.is_ready s.phase) (begins_text s.place b c) (no-and (not ((c == 10) && b)) _ (ap not h)) in
-    let no_element : element_here s c ≡ false = and-no (is_opened s.phase) (begins_element s.place c) (no-and (is_name_start c) (takes_element s.place) (ap is_name_start is_feed)) in
+    let is_feed : c ≡ 10 = eqb-true c 10 (and_parts (c == 10) b h).0 in
+    let no_text : text_here s b c ≡ false = and_right (m.is_ready s.phase) (begins_text s.place b c) (and_left (not ((c == 10) && b)) _ (ap not h)) in
+    let no_element : element_here s c ≡ false = and_right (is_opened s.phase) (begins_element s.place c) (and_left (is_name_start c) (takes_element s.place) (ap is_name_start is_feed)) in
     ap (λ (x : Bool). x || element_here s c) no_text ∙ no_element
 
 pub taken_adds : (s t : State) (b : Bool) (c : ℕ) → run_on (Some s) (lines_from b (c ∷ [])) ≡ Some t → begun t ≡ begun s + one_if (node_here s b c)
@@ -195,8 +194,8 @@ taken_adds s t b c e = go (c == 13) ((c == 10) && b) refl refl
 
 -- between two items and behind a `<` every node that has begun is in its place
 pub here_count : (s : State) (b : Bool) (c : ℕ) → node_here s b c ≡ true → begun s ≡ place_count s.place
-here_count s b c h = go (either (text_here s b c) (element_here s c) h)
+here_count s b c h = go (or_cases (text_here s b c) (element_here s c) h)
   where
     go : ((text_here s b c ≡ true) ⊎ (element_here s c ≡ true)) → begun s ≡ place_count s.place
-    go (inl x) = ap (λ (f : Phase). place_count s.place + phase_count f s.place.text) (ready_is s.phase (both (m.is_ready s.phase) (begins_text s.place b c) x).0) ∙ omega arith
-    go (inr x) = ap (λ (f : Phase). place_count s.place + phase_count f s.place.text) (opened_is s.phase (both (is_opened s.phase) (begins_element s.place c) x).0) ∙ omega arith
+    go (inl x) = ap (λ (f : Phase). place_count s.place + phase_count f s.place.text) (ready_is s.phase (and_parts (m.is_ready s.phase) (begins_text s.place b c) x).0) ∙ omega arith
+    go (inr x) = ap (λ (f : Phase). place_count s.place + phase_count f s.place.text) (opened_is s.phase (and_parts (is_opened s.phase) (begins_element s.place c) x).0) ∙ omega arith

@@ -2,20 +2,20 @@
 use Rattle.std.proofs.Common.{◌≡◌, ℕ, Bool, true, false, cond, List, [], ◌∷◌, ◌++◌, refl, sym, ◌∙◌, ap, subst, append_assoc, arith}
 use Rattle.std.proofs.lemmas.List.{append-nil}
 use Rattle.std.proofs.lemmas.Bool.Decides.{nat_tests}
-use Rattle.std.proofs.lemmas.Str.{chars-encodes, encodes-append}
+use Rattle.std.proofs.lemmas.Str.{chars-encodes}
 use Rattle.std.proofs.Math.Utf8.{scalar, scalars}
 use Rattle.std.specs.Prelude.{encode_utf8, encode_utf8_all}
 use Rattle.std.specs.List.{list_all}
 use Rattle.std.specs.Str.{chars}
+use Rattle.std.proofs.lemmas.Bool.{and_parts, and_from}
 use Rattle.plain_tree.specs.Document.{Node, nodes}
 use Rattle.plain_tree.specs.declared.tree.Attr.{Attr}
 use Rattle.ft_base.specs.Characters.{is_char, is_space, is_name_start, is_name_char}
+use Rattle.ft_base.proofs.WalkLemmas.{encodes-last}
 use Rattle.doc_grammar.specs.Grammar.{text_node, has_name, in_value, Name, Reference, Value, Attribute, Tag, Element, Content, Document, Fragment}
 use Rattle.doc_grammar.specs.Printed.{IsName, AreChars, AreAttributes, IsPrintable, ArePrintable}
 use Rattle.doc_grammar.specs.Texts.{Kind, Spells}
-use Rattle.doc_grammar.proofs.Bytes.{both}
 use Rattle.doc_grammar.proofs.CompletedTags.{name_bytes}
-use Rattle.doc_grammar.proofs.Walks.{and-intro}
 
 char_scalar : (c : ℕ) → is_char c ≡ true → scalar c ≡ true
 unfolding is_char
@@ -37,7 +37,7 @@ record Chars (bytes : List ℕ) : Type 0 where
 
 scalars_by : (p : ℕ → Bool) → ((c : ℕ) → p c ≡ true → scalar c ≡ true) → (cs : List ℕ) → list_all p cs ≡ true → scalars cs ≡ true
 scalars_by p each [] h = refl
-scalars_by p each (c ∷ cs) h = let two = both _ _ h in and-intro (each c two.0) (scalars_by p each cs two.1)
+scalars_by p each (c ∷ cs) h = let two = and_parts _ _ h in and_from _ _ (each c two.0) (scalars_by p each cs two.1)
 
 are_chars : {bytes : List ℕ} → Chars bytes → AreChars bytes
 are_chars {bytes = bytes} x =
@@ -49,23 +49,20 @@ no_chars : Chars []
 no_chars = record { cs = []; spelled = refl; all = refl }
 
 all_behind : (p : ℕ → Bool) (cs : List ℕ) (c : ℕ) → list_all p cs ≡ true → p c ≡ true → list_all p (cs ++ c ∷ []) ≡ true
-all_behind p [] c h k = and-intro k refl
-all_behind p (d ∷ cs) c h k = let two = both _ _ h in and-intro two.0 (all_behind p cs c two.1 k)
-
-encodes-last : (cs : List ℕ) (c : ℕ) → encode_utf8_all (cs ++ c ∷ []) ≡ encode_utf8_all cs ++ encode_utf8 c
-encodes-last cs c = encodes-append cs (c ∷ []) ∙ ap (λ z. encode_utf8_all cs ++ z) (append-nil (encode_utf8 c))
+all_behind p [] c h k = and_from _ _ k refl
+all_behind p (d ∷ cs) c h k = let two = and_parts _ _ h in and_from _ _ two.0 (all_behind p cs c two.1 k)
 
 one_more : {bytes : List ℕ} → Chars bytes → (c : ℕ) → is_char c ≡ true → Chars (bytes ++ encode_utf8 c)
 one_more x c h = record { cs = x.cs ++ c ∷ []; spelled = encodes-last x.cs c ∙ ap (λ z. z ++ encode_utf8 c) x.spelled; all = all_behind is_char x.cs c x.all h }
 
 -- names
 name_all : {u bytes : List ℕ} → Name u bytes → scalars u ≡ true
-name_all (Name.first c h) = and-intro (start_scalar c h) refl
+name_all (Name.first c h) = and_from _ _ (start_scalar c h) refl
 name_all (Name.further {u = u} x c h) = scalars_behind u c (name_all x) (name_scalar c h)
   where
     scalars_behind : (cs : List ℕ) (c : ℕ) → scalars cs ≡ true → scalar c ≡ true → scalars (cs ++ c ∷ []) ≡ true
-    scalars_behind [] c h k = and-intro k refl
-    scalars_behind (d ∷ cs) c h k = let two = both _ _ h in and-intro two.0 (scalars_behind cs c two.1 k)
+    scalars_behind [] c h k = and_from _ _ k refl
+    scalars_behind (d ∷ cs) c h k = let two = and_parts _ _ h in and_from _ _ two.0 (scalars_behind cs c two.1 k)
 
 is_name : {u bytes : List ℕ} → Name u bytes → IsName bytes
 is_name {u = u} {bytes = bytes} x = subst (λ z. Name z bytes) (sym (chars-encodes u (name_all x)) ∙ ap chars (name_bytes x)) x

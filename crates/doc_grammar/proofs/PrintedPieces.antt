@@ -1,7 +1,7 @@
 -- Escaped characters, texts and values are read back.
 use Rattle.std.proofs.Common.{◌≡◌, ℕ, Bool, true, false, cond, ◌⊎◌, inl, inr, List, [], ◌∷◌, ◌++◌, refl, sym, ◌∙◌, ap, subst, append_assoc}
 use Rattle.std.proofs.lemmas.List.{append-nil}
-use Rattle.std.proofs.lemmas.Bool.{eqb-true}
+use Rattle.std.proofs.lemmas.Bool.{eqb-true, and_parts}
 use Rattle.std.specs.Prelude.{◌==◌, codes, encode_utf8, encode_utf8_all}
 use Rattle.std.specs.List.{flat_map, list_all}
 use Rattle.plain_tree.specs.Document.{Node}
@@ -9,7 +9,6 @@ use Rattle.ft_base.specs.Characters.{is_char, is_space}
 use Rattle.doc_grammar.specs.Grammar as g
 use Rattle.doc_grammar.specs.Grammar.{Digits, Reference, Value, Content, in_value}
 use Rattle.doc_grammar.specs.Printed.{escaped_in_text, escaped_in_value}
-use Rattle.doc_grammar.proofs.Bytes.{both}
 use Rattle.doc_grammar.proofs.Classes.{space_is}
 
 -- the numeric references that are printed
@@ -46,7 +45,7 @@ text_escaped {u = u} {bytes = bytes} {kids = kids} x c ok =
 pub text_printed : (cs : List ℕ) → list_all is_char cs ≡ true → {u bytes : List ℕ} {kids : List Node} → Content u kids bytes → Content (u ++ flat_map escaped_in_text cs) kids (bytes ++ encode_utf8_all cs)
 text_printed [] ok {u = u} {bytes = bytes} {kids = kids} x = subst (λ z. Content z kids (bytes ++ [])) (sym (append-nil u)) (subst (λ z. Content u kids z) (sym (append-nil bytes)) x)
 text_printed (c ∷ cs) ok {u = u} {bytes = bytes} {kids = kids} x =
-    let two = both _ _ ok in
+    let two = and_parts _ _ ok in
     let rest = text_printed cs two.1 (text_escaped x c two.0) in
     subst (λ z. Content z kids (bytes ++ encode_utf8_all (c ∷ cs))) (append_assoc u (escaped_in_text c) (flat_map escaped_in_text cs))
     (subst (λ z. Content ((u ++ escaped_in_text c) ++ flat_map escaped_in_text cs) kids z) (append_assoc bytes (encode_utf8 c) (encode_utf8_all cs)) rest)
@@ -81,7 +80,7 @@ value_escaped {u = u} {bytes = bytes} x c ok =
 pub value_printed : (cs : List ℕ) → list_all is_char cs ≡ true → {u bytes : List ℕ} → Value 34 u bytes → Value 34 (u ++ flat_map escaped_in_value cs) (bytes ++ encode_utf8_all cs)
 value_printed [] ok {u = u} {bytes = bytes} x = subst (λ z. Value 34 z (bytes ++ [])) (sym (append-nil u)) (subst (λ z. Value 34 u z) (sym (append-nil bytes)) x)
 value_printed (c ∷ cs) ok {u = u} {bytes = bytes} x =
-    let two = both _ _ ok in
+    let two = and_parts _ _ ok in
     let rest = value_printed cs two.1 (value_escaped x c two.0) in
     subst (λ z. Value 34 z (bytes ++ encode_utf8_all (c ∷ cs))) (append_assoc u (escaped_in_value c) (flat_map escaped_in_value cs))
     (subst (λ z. Value 34 ((u ++ escaped_in_value c) ++ flat_map escaped_in_value cs) z) (append_assoc bytes (encode_utf8 c) (encode_utf8_all cs)) rest)

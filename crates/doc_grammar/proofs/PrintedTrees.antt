@@ -5,13 +5,13 @@ use Rattle.std.proofs.lemmas.Str.{encodes-chars}
 use Rattle.std.specs.Prelude.{◌==◌, codes, encode_utf8_all}
 use Rattle.std.specs.List.{flat_map}
 use Rattle.std.specs.Str.{chars}
+use Rattle.std.proofs.lemmas.Bool.{and_parts, not-true}
 use Rattle.plain_tree.specs.Document.{Node, element, text, Nodes, no_nodes, node_then, nodes, is_text, is_joined, are_joined, begins_with_text, is_empty, is_document}
 use Rattle.plain_tree.specs.declared.tree.Attr.{Attr}
 use Rattle.ft_base.specs.Characters.{is_space}
 use Rattle.doc_grammar.specs.Grammar as g
 use Rattle.doc_grammar.specs.Grammar.{text_node, Spaces, Value, Attribute, Tag, Element, Content, Misc, Document}
 use Rattle.doc_grammar.specs.Printed.{escaped_in_text, escaped_in_value, printed_value, printed_attribute, printed_attributes, printed, printed_all, IsName, AreChars, AreAttributes, IsPrintable, ArePrintable}
-use Rattle.doc_grammar.proofs.Bytes.{both}
 use Rattle.doc_grammar.specs.Texts.{Kind, Spells}
 use Rattle.doc_grammar.proofs.Spelled.{no_return}
 use Rattle.doc_grammar.proofs.Completed.{no_return-append}
@@ -80,7 +80,7 @@ behind_text false h = refl
 
 -- the parts of the test that texts are joined
 first_joined : (n : Node) (ns : Nodes) → are_joined (node_then n ns) ≡ true → (is_joined n ≡ true) × (not (is_text n && begins_with_text ns) ≡ true) × (are_joined ns ≡ true)
-first_joined n ns h = let two = both (is_joined n && not (is_text n && begins_with_text ns)) (are_joined ns) h in let one = both (is_joined n) (not (is_text n && begins_with_text ns)) two.0 in (one.0, one.1, two.1)
+first_joined n ns h = let two = and_parts (is_joined n && not (is_text n && begins_with_text ns)) (are_joined ns) h in let one = and_parts (is_joined n) (not (is_text n && begins_with_text ns)) two.0 in (one.0, one.1, two.1)
 
 nodes_regrouped : (xs : List Node) (n : Node) (ls : List Node) → ((xs ++ n ∷ []) ++ []) ++ ls ≡ xs ++ (n ∷ ls)
 nodes_regrouped xs n ls = simp (append-nil, append_assoc)
@@ -91,10 +91,6 @@ text_regrouped kids bs bytes ls e h = ap (λ z. (kids ++ z) ++ ls) e ∙ append_
 no_text : (bytes : List ℕ) → ((bytes ≡ []) ⊎ (true ≡ false)) → bytes ≡ []
 no_text bytes (inl e) = e
 no_text bytes (inr e) = cc
-
-no_text_root : (b : Bool) → not b ≡ true → b ≡ false
-no_text_root true h = cc
-no_text_root false h = refl
 
 mutual
   pub element_printed : (n : Node) → IsPrintable n → is_joined n ≡ true → is_text n ≡ false → Element (printed n) n
@@ -124,8 +120,8 @@ mutual
 
 pub document_printed : (n : Node) → IsPrintable n → is_document n ≡ true → Document (printed n) n
 document_printed n ok h =
-    let two = both (not (is_text n)) (is_joined n) h in
-    subst (λ z. Document z n) (append-nil (printed n)) (Document.document Misc.nothing (element_printed n ok two.1 (no_text_root (is_text n) two.0)) Misc.nothing)
+    let two = and_parts (not (is_text n)) (is_joined n) h in
+    subst (λ z. Document z n) (append-nil (printed n)) (Document.document Misc.nothing (element_printed n ok two.1 (not-true (is_text n) two.0)) Misc.nothing)
 
 -- no carriage return is printed
 plain_if : (b : Bool) (x y : List ℕ) → (b ≡ true → no_return x ≡ true) → (b ≡ false → no_return y ≡ true) → no_return (cond b x y) ≡ true

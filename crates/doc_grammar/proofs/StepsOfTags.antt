@@ -2,6 +2,7 @@
 use Rattle.std.proofs.Common.{◌≡◌, ℕ, false, List, [], ◌∷◌, ◌++◌, refl, sym, ◌∙◌, ap, subst, append_assoc}
 use Rattle.std.proofs.lemmas.List.{append-nil}
 use Rattle.std.specs.Prelude.{IsTrue, ◌==◌, codes, encode_utf8}
+use Rattle.std.proofs.lemmas.Bool.{eqb-true}
 use Rattle.plain_tree.specs.declared.tree.Attr.{Attr}
 use Rattle.ft_base.specs.Characters.{is_char, is_space, is_name_start, is_name_char}
 use Rattle.doc_grammar.specs.Grammar as g
@@ -11,7 +12,7 @@ use Rattle.doc_grammar.specs.Machine.{Place, Refer, Phase, State, takes_element,
 use Rattle.doc_grammar.proofs.Spelled.{Gap, NamedPart, QuotePart, Part, Next, stop}
 use Rattle.doc_grammar.specs.Opened.{within}
 use Rattle.doc_grammar.proofs.Moves.{at_same, at_child}
-use Rattle.doc_grammar.proofs.Steps.{Reading, choose, stay, done, is, grown, literal, Judges, no, on, yes, refer_judged}
+use Rattle.doc_grammar.proofs.Steps.{Reading, choose, stay, done, grown, literal, Judges, no, on, yes, refer_judged}
 
 enter_regrouped : (v t s : List ℕ) → ((((v ++ t) ++ s) ++ codes ">") ++ []) ≡ v ++ ((t ++ s) ++ codes ">")
 enter_regrouped v t s = simp (append-nil, append_assoc)
@@ -20,8 +21,8 @@ enter_regrouped v t s = simp (append-nil, append_assoc)
 tag_step : {p : Place} {v u w name : List ℕ} {attrs : List Attr} → Reading p v u w → (c : ℕ) → IsTrue (takes_element p) → (t s : List ℕ) → Tag t name attrs → Spaces s → u ≡ t ++ s → Next (w ++ c ∷ []) (m.from_tag p name attrs c)
 unfolding m.from_tag
 tag_step {p = p} {v = v} {name = name} {attrs = attrs} r c takes t s tag sp e =
-    choose (c == 62) (λ h. done r c (at_same (within r.is_at takes tag sp g.Content.nothing) (enter_regrouped v t s ∙ ap (λ z. v ++ z) (sym (literal (t ++ s) e (is c 62 h))))))
-    (λ _. choose (c == 47) (λ h. stay r c (m.slashed name attrs) (t, s, takes, tag, sp, literal (t ++ s) e (is c 47 h)))
+    choose (c == 62) (λ h. done r c (at_same (within r.is_at takes tag sp g.Content.nothing) (enter_regrouped v t s ∙ ap (λ z. v ++ z) (sym (literal (t ++ s) e (eqb-true c 62 h))))))
+    (λ _. choose (c == 47) (λ h. stay r c (m.slashed name attrs) (t, s, takes, tag, sp, literal (t ++ s) e (eqb-true c 47 h)))
     (λ _. choose (is_space c) (λ h. stay r c (m.spaced name attrs) (t, s ++ c ∷ [], takes, tag, record { spaces = s; last = c; are_spaces = sp; is_last = h; spelled = refl }, grown t s c e)) (λ _. stop)))
 
 pub start_name_step : {p : Place} {v u w : List ℕ} → Reading p v u w → (name : List ℕ) (c : ℕ) → Part p (m.start_name name) u → Next (w ++ c ∷ []) (m.from_start_name p name c)
@@ -45,7 +46,7 @@ spaced_step r name attrs c (t, s, takes, tag, gap, e) =
 named_step : {p : Place} {v u w name attr : List ℕ} {attrs : List Attr} → Reading p v u w → (c : ℕ) → IsTrue (takes_element p) → (x s : List ℕ) → NamedPart name attrs attr x → Spaces s → has_name attr attrs ≡ false → u ≡ x ++ s → Next (w ++ c ∷ []) (m.from_attr_named p name attrs attr c)
 unfolding m.from_attr_named
 named_step {name = name} {attr = attr} {attrs = attrs} r c takes x s part sp new e =
-    choose (c == 61) (λ h. stay r c (m.equals name attrs attr) (x, s, [], takes, part, sp, Spaces.nothing, new, literal (x ++ s) e (is c 61 h) ∙ sym (append-nil ((x ++ s) ++ codes "="))))
+    choose (c == 61) (λ h. stay r c (m.equals name attrs attr) (x, s, [], takes, part, sp, Spaces.nothing, new, literal (x ++ s) e (eqb-true c 61 h) ∙ sym (append-nil ((x ++ s) ++ codes "="))))
     (λ _. choose (is_space c) (λ h. stay r c (m.attr_named name attrs attr) (x, s ++ c ∷ [], takes, part, Spaces.space sp c h, new, grown x s c e)) (λ _. stop))
 
 pub attr_named_step : {p : Place} {v u w : List ℕ} → Reading p v u w → (name : List ℕ) (attrs : List Attr) (attr : List ℕ) (c : ℕ) → Part p (m.attr_named name attrs attr) u → Next (w ++ c ∷ []) (m.from_attr_named p name attrs attr c)
@@ -80,8 +81,8 @@ tag_further {name = name} {attr = attr} {v = v} {value = value} {attrs = attrs} 
 pub quoted_step : {p : Place} {v u w : List ℕ} → Reading p v u w → (name : List ℕ) (attrs : List Attr) (attr : List ℕ) (quote : ℕ) (value : List ℕ) (c : ℕ) → Part p (m.quoted name attrs attr quote value) u → Next (w ++ c ∷ []) (m.from_quoted p name attrs attr quote value c)
 unfolding m.from_quoted
 quoted_step {u = u} r name attrs attr quote value c (x, v, takes, part, val, e) =
-    choose (c == quote) (λ h. stay r c (m.valued name (attrs ++ record { name = attr; value = value } ∷ [])) (takes, tag_further part val (u ++ c ∷ []) (literal (x ++ v) e (is c quote h))))
-    (λ hq. choose (c == 38) (λ h. stay r c (m.quoted_reference name attrs attr quote value m.begun) (x, v, codes "&", takes, part, val, refl, literal (x ++ v) e (is c 38 h)))
+    choose (c == quote) (λ h. stay r c (m.valued name (attrs ++ record { name = attr; value = value } ∷ [])) (takes, tag_further part val (u ++ c ∷ []) (literal (x ++ v) e (eqb-true c quote h))))
+    (λ hq. choose (c == 38) (λ h. stay r c (m.quoted_reference name attrs attr quote value m.begun) (x, v, codes "&", takes, part, val, refl, literal (x ++ v) e (eqb-true c 38 h)))
     (λ h38. choose (c == 60) (λ _. stop)
     (λ h60. choose (is_char c) (λ h. stay r c (m.quoted name attrs attr quote (value ++ encode_utf8 (in_value c))) (x, v ++ c ∷ [], takes, part, Value.character val c h hq h38 h60, grown x v c e)) (λ _. stop))))
 
@@ -96,4 +97,4 @@ quoted_reference_step r name attrs attr quote value s c (x, y, z, takes, part, v
 pub slashed_step : {p : Place} {v u w : List ℕ} → Reading p v u w → (name : List ℕ) (attrs : List Attr) (c : ℕ) → Part p (m.slashed name attrs) u → Next (w ++ c ∷ []) (m.from_slashed p name attrs c)
 unfolding m.from_slashed
 slashed_step {v = v} r name attrs c (t, s, takes, tag, sp, e) =
-    choose (c == 62) (λ h. done r c (at_same (at_child r.is_at takes (Element.empty tag sp)) (ap (λ z. v ++ z) (sym (literal ((t ++ s) ++ codes "/") e (is c 62 h) ∙ append_assoc (t ++ s) (codes "/") (codes ">")))))) (λ _. stop)
+    choose (c == 62) (λ h. done r c (at_same (at_child r.is_at takes (Element.empty tag sp)) (ap (λ z. v ++ z) (sym (literal ((t ++ s) ++ codes "/") e (eqb-true c 62 h) ∙ append_assoc (t ++ s) (codes "/") (codes ">")))))) (λ _. stop)

@@ -1,6 +1,6 @@
 -- Runs of the machine: how they join, and what it reads of white space, names, references, comments and instructions.
 use Rattle.std.proofs.Common.{◌≡◌, ℕ, zero, suc, ◌+◌, ◌*◌, ◌≤◌, Bool, true, false, ◌&&◌, cond, List, [], ◌∷◌, ◌++◌, Option, Some, None, refl, sym, ◌∙◌, ap, subst, arith}
-use Rattle.std.proofs.lemmas.Bool.{eqb-true, le-leb}
+use Rattle.std.proofs.lemmas.Bool.{eqb-true, le-leb, and_from}
 use Rattle.std.specs.Prelude.{◌==◌, codes, encode_utf8}
 use Rattle.std.specs.Char.{digit_value}
 use Rattle.plain_tree.specs.declared.tree.Attr.{Attr}
@@ -43,9 +43,6 @@ past {A = A} {y = y} x e h = record { is = ap (λ c. cond {A = A} c x y) e ∙ h
 pub here : {A : Type 0} {b : Bool} {x z : A} (y : A) → b ≡ true → Gives x z → Gives (cond b x y) z
 here {A = A} {x = x} y e h = record { is = ap (λ c. cond {A = A} c x y) e ∙ h.is }
 
-pub and-intro : {x y : Bool} → x ≡ true → y ≡ true → (x && y) ≡ true
-and-intro {y = y} a b = ap (λ z. z && y) a ∙ b
-
 -- a step of the machine
 pub record Steps (s : State) (c : ℕ) (t : State) : Type 0 where
   pub gives : Gives (step s c) (Some t)
@@ -70,7 +67,7 @@ spaces_then s t r c to on a b (Spaces.space x d h) = then (spaces_then s t t d t
 -- names
 pub opened_start : (p : Place) (c : ℕ) → takes_element p ≡ true → is_name_start c ≡ true → Steps (st p m.opened) c (st p (m.start_name (encode_utf8 c)))
 unfolding step_at m.from_opened is_name_start
-opened_start p c takes h = record { gives = past _ (start-is c 33 h refl) (past _ (start-is c 63 h refl) (past _ (start-is c 47 h refl) (here _ (and-intro h takes) same))) }
+opened_start p c takes h = record { gives = past _ (start-is c 33 h refl) (past _ (start-is c 63 h refl) (past _ (start-is c 47 h refl) (here _ (and_from _ _ h takes) same))) }
 
 pub start_name_further : (p : Place) (name : List ℕ) (c : ℕ) → is_name_char c ≡ true → Steps (st p (m.start_name name)) c (st p (m.start_name (name ++ encode_utf8 c)))
 unfolding step_at m.from_start_name

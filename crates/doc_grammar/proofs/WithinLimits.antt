@@ -1,6 +1,6 @@
 -- A text whose nodes are within the limits passes none on the way.
 use Rattle.std.proofs.Common.{◌≡◌, ℕ, ◌+◌, ◌≤◌, max, Bool, true, false, ◌&&◌, ◌||◌, List, [], ◌∷◌, ◌++◌, Option, Some, None, refl, sym, ◌∙◌, ap, append_assoc, arith}
-use Rattle.std.proofs.lemmas.Bool.{eqb-true}
+use Rattle.std.proofs.lemmas.Bool.{eqb-true, and_parts, and_right, and_left}
 use Rattle.std.specs.Prelude.{◌==◌}
 use Rattle.plain_tree.specs.Document.{Node, nodes}
 use Rattle.ft_base.specs.Characters.{is_name_start}
@@ -10,8 +10,7 @@ use Rattle.doc_grammar.specs.Machine as m
 use Rattle.doc_grammar.specs.Machine.{Outer, document, fragment, level, Place, State, finished, finished_in, run_on, step, start, takes_element, is_ready}
 use Rattle.doc_grammar.specs.Reading.{read, returned}
 use Rattle.doc_grammar.specs.Limits.{heights, nodes_count, list_count, text_count, outer_count, place_count, depth, is_opened, begins_element, element_here, one_if, ElementBegins, TextBegins, Limit, Passes, too_deep, element_too_many, text_too_many}
-use Rattle.doc_grammar.proofs.Bytes.{both}
-use Rattle.doc_grammar.proofs.Counts.{and-no, no-and, begun, list_count-append, list_count-text, nodes_count-nodes}
+use Rattle.doc_grammar.proofs.Counts.{begun, list_count-append, list_count-text, nodes_count-nodes}
 use Rattle.doc_grammar.proofs.Heights.{heights-nodes, list_height, list_height-append, list_height-text, outer_height, one_level_if, reached, step_reaches, reached_by}
 use Rattle.doc_grammar.proofs.Laws.{lines-return, lines-skipped, lines-kept, read-append, spells_read, in_finished, finished_parts, ready_is}
 use Rattle.doc_grammar.proofs.Passed.{at_read, opened_read}
@@ -35,7 +34,7 @@ run_grows (c ∷ cs) s t e = go (step s c) refl e (run_grows cs)
 
 -- a character as it is written
 no_element : (s : State) (c k : ℕ) → (c == k) ≡ true → is_name_start k ≡ false → element_here s c ≡ false
-no_element s c k h n = and-no (is_opened s.phase) (begins_element s.place c) (no-and (is_name_start c) (takes_element s.place) (ap is_name_start (eqb-true c k h) ∙ n))
+no_element s c k h n = and_right (is_opened s.phase) (begins_element s.place c) (and_left (is_name_start c) (takes_element s.place) (ap is_name_start (eqb-true c k h) ∙ n))
 
 pub taken_reaches : (s t : State) (b : Bool) (c : ℕ) → run_on (Some s) (lines_from b (c ∷ [])) ≡ Some t → reached t ≡ max (reached s) (one_level_if (element_here s c) (depth s.place.outer))
 unfolding is_name_start
@@ -48,7 +47,7 @@ taken_reaches s t b c e = go (c == 13) ((c == 10) && b) refl refl
     go false true h k =
         let stays : Some s ≡ Some t = sym (ap (λ (cs : List ℕ). run_on (Some s) cs) (lines-skipped b c [] h k)) ∙ e in
         let same : s ≡ t = cc in
-        ap reached (sym same) ∙ omega (arith, ap (λ (x : Bool). one_level_if x (depth s.place.outer)) (no_element s c 10 (both (c == 10) b k).0 refl))
+        ap reached (sym same) ∙ omega (arith, ap (λ (x : Bool). one_level_if x (depth s.place.outer)) (no_element s c 10 (and_parts (c == 10) b k).0 refl))
     go false false h k =
         let one : step s c ≡ Some t = sym (run_on-nil (step s c)) ∙ sym (ap (λ (cs : List ℕ). run_on (Some s) cs) (lines-kept b c [] h k)) ∙ e in
         reached_by (step_reaches s.place s.phase c) t one

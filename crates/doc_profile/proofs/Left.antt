@@ -1,6 +1,6 @@
 -- Part of the way through a text: a walk over what is left is the walk over all.
-use Rattle.std.proofs.Common.{◌≡◌, ℕ, ◌+◌, ◌<◌, Bool, true, false, List, [], ◌∷◌, ◌++◌, length, Option, Some, None, Ok, Err, refl, sym, ◌∙◌, ap, arith}
-use Rattle.std.proofs.lemmas.List.{length-append, nil_from_length}
+use Rattle.std.proofs.Common.{◌≡◌, ℕ, ◌+◌, Bool, true, false, List, [], ◌∷◌, ◌++◌, length, Option, Some, None, Ok, Err, refl, sym, ◌∙◌, ap, arith}
+use Rattle.std.proofs.lemmas.List.{nil_from_length}
 use Rattle.std.proofs.lemmas.Str.{encodes-chars, encodes_same, cons_from_encodes}
 use Rattle.std.specs.Prelude.{Result, ◌==◌, encode_utf8, encode_utf8_all}
 use Rattle.std.specs.Str.{chars, IsUtf8}
@@ -78,9 +78,6 @@ stepped_false false next s h e = h
 pub stepped_true : (b : Bool) (next : Option State) (s : State) → Stepped b next s → b ≡ true → next ≡ Some s
 stepped_true true next s h e = h
 stepped_true false next s h e = cc
-
-pub room_further : (rest left : List ℕ) (offset further c most : ℕ) → offset + length rest < most → rest ≡ encode_utf8 c ++ left → further ≡ offset + length (encode_utf8 c) → further + length left < most
-room_further rest left offset further c most h e f = omega (arith, ap length e, length-append (encode_utf8 c) left)
 
 pub begun_none : (kind : Kind) (s : State) → s ≡ start (outer_of kind) → begun s ≡ 0
 begun_none Kind.document s e = ap begun e ∙ omega arith

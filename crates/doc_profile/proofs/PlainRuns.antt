@@ -5,17 +5,18 @@ use Rattle.std.proofs.lemmas.List.{append-nil, length-append, take_more}
 use Rattle.std.proofs.lemmas.Str.{encode_ascii}
 use Rattle.std.specs.Prelude.{Result, ◌==◌, ◌&&◌, not, nat_le, nat_lt, encode_utf8, encode_utf8_all}
 use Rattle.std.specs.List.{list_all}
+use Rattle.std.proofs.lemmas.Bool.{and_parts, and_from, not-true}
+use Rattle.std.proofs.Math.Bool.{and-false}
 use Rattle.plain_tree.specs.Document.{is_empty}
 use Rattle.ft_base.specs.Characters.{is_char}
 use Rattle.doc_grammar.specs.Grammar.{lines_from}
 use Rattle.doc_grammar.specs.Machine as m
 use Rattle.doc_grammar.specs.Machine.{Place, State, is_content, is_ready, with_text, run_on, step, step_at}
-use Rattle.doc_grammar.specs.Limits.{text_count, begins_text, text_here, element_here}
-use Rattle.doc_grammar.proofs.Bytes.{both}
+use Rattle.doc_grammar.specs.Limits.{text_count, text_here, element_here}
 use Rattle.doc_grammar.proofs.CompletedTags.{rest_of}
-use Rattle.doc_grammar.proofs.Counts.{begun, and-no, no-and}
-use Rattle.doc_grammar.proofs.Laws.{lines-kept, and-false, ready_is}
-use Rattle.doc_grammar.proofs.Walks.{st, Steps, one, past, here, same, and-intro}
+use Rattle.doc_grammar.proofs.Counts.{begun, no_room}
+use Rattle.doc_grammar.proofs.Laws.{lines-kept, ready_is}
+use Rattle.doc_grammar.proofs.Walks.{st, Steps, one, past, here, same}
 use Rattle.doc_profile.specs.Plain.{is_plain, is_in_text, with_run, Passed}
 use Rattle.doc_profile.specs.Readings.{text_passes, passes, taken, walk}
 use Rattle.doc_profile.specs.declared.fault.DocFault.{DocFault}
@@ -47,15 +48,11 @@ pub record InText (s : State) : Type 0 where
   pub in_content : is_content s.place.outer ≡ true
   pub some_text : is_empty s.place.text ≡ false
 
-not_true : (b : Bool) → not b ≡ true → b ≡ false
-not_true true h = cc
-not_true false h = refl
-
 in_text : (s : State) → is_in_text s ≡ true → InText s
 in_text s h =
-    let first = both (is_ready s.phase && is_content s.place.outer) (not (is_empty s.place.text)) h in
-    let two = both (is_ready s.phase) (is_content s.place.outer) first.0 in
-    record { is_ready = ready_is s.phase two.0; in_content = two.1; some_text = not_true (is_empty s.place.text) first.1 }
+    let first = and_parts (is_ready s.phase && is_content s.place.outer) (not (is_empty s.place.text)) h in
+    let two = and_parts (is_ready s.phase) (is_content s.place.outer) first.0 in
+    record { is_ready = ready_is s.phase two.0; in_content = two.1; some_text = not-true (is_empty s.place.text) first.1 }
 
 -- one of them
 plain_step : (p : Place) (c : ℕ) → Plain c → is_content p.outer ≡ true → Steps (st p m.ready) c (st (with_text p c) m.ready)
@@ -65,11 +62,8 @@ plain_step p c x h = record { gives = past _ x.no_markup (here _ h (past _ x.no_
 plain_taken : (p : Place) (c : ℕ) → Plain c → is_content p.outer ≡ true → taken (st p m.ready) false c ≡ Some (st (with_text p c) m.ready)
 plain_taken p c x h = ap (λ cs. run_on (Some (st p m.ready)) cs) (lines-kept false c [] x.no_return (and-false (c == 10))) ∙ (one (plain_step p c x h)).ends
 
-no_text : (p : Place) (c : ℕ) → is_empty p.text ≡ false → begins_text p false c ≡ false
-no_text p c h = and-no (not ((c == 10) && false)) _ (and-no (not (c == 60)) _ (and-no (is_content p.outer) _ (no-and (is_empty p.text) _ h)))
-
 plain_passes : (p : Place) (c at : ℕ) → is_empty p.text ≡ false → passes (st p m.ready) false c at ≡ None
-plain_passes p c at h = ap (λ b. cond b (text_passes (st p m.ready) at) None) (no_text p c h)
+plain_passes p c at h = ap (λ b. cond b (text_passes (st p m.ready) at) None) (no_room p c h)
 
 some_behind : (bytes : List ℕ) (c : ℕ) → c < 128 → is_empty (bytes ++ encode_utf8 c) ≡ false
 some_behind [] c h = ap is_empty (encode_ascii c h)
@@ -83,7 +77,7 @@ run_walks : (cs rest : List ℕ) (p : Place) (at : ℕ) → is_content p.outer �
 unfolding grown
 run_walks [] rest p at h e ok = ap (λ z. walk rest (st (record { kids = p.kids; text = z; outer = p.outer }) m.ready) false at) (sym (append-nil p.text)) ∙ ap (λ n. walk rest (st (grown p []) m.ready) false n) (omega arith)
 run_walks (c ∷ cs) rest p at h e ok =
-    let two = both _ _ ok in
+    let two = and_parts _ _ ok in
     let x = plain_is c two.0 in
     walk-further c (cs ++ rest) (st p m.ready) (st (with_text p c) m.ready) false at (plain_passes p c at e) (plain_taken p c x h)
     ∙ ap (λ b. walk (cs ++ rest) (st (with_text p c) m.ready) b (at + length (encode_utf8 c))) x.no_return
@@ -93,7 +87,7 @@ run_walks (c ∷ cs) rest p at h e ok =
 
 run_bytes : (cs : List ℕ) → list_all is_plain cs ≡ true → encode_utf8_all cs ≡ cs
 run_bytes [] h = refl
-run_bytes (c ∷ cs) h = let two = both _ _ h in ap (λ z. z ++ encode_utf8_all cs) (encode_ascii c (plain_is c two.0).ascii) ∙ ap (λ z. c ∷ z) (run_bytes cs two.1)
+run_bytes (c ∷ cs) h = let two = and_parts _ _ h in ap (λ z. z ++ encode_utf8_all cs) (encode_ascii c (plain_is c two.0).ascii) ∙ ap (λ z. c ∷ z) (run_bytes cs two.1)
 
 -- the walk over what is left stays the walk over all
 some_count : (bytes cs : List ℕ) → is_empty bytes ≡ false → text_count (bytes ++ cs) ≡ text_count bytes
@@ -130,8 +124,8 @@ passed_length rest behind s t b (Passed.run cs behind_none h ok split is) = omeg
 
 -- the front of a text grows by a plain character
 front_behind : (cs : List ℕ) (c : ℕ) → list_all is_plain cs ≡ true → is_plain c ≡ true → list_all is_plain (cs ++ c ∷ []) ≡ true
-front_behind [] c h k = and-intro k refl
-front_behind (d ∷ cs) c h k = let two = both _ _ h in and-intro two.0 (front_behind cs c two.1 k)
+front_behind [] c h k = and_from _ _ k refl
+front_behind (d ∷ cs) c h k = let two = and_parts _ _ h in and_from _ _ two.0 (front_behind cs c two.1 k)
 
 pub front_further : (bytes : List ℕ) (at d : ℕ) → at < length bytes → list_all is_plain (take at bytes) ≡ true → is_plain (get_or bytes at d) ≡ true → list_all is_plain (take (at + 1) bytes) ≡ true
 front_further bytes at d h ok k = ap (list_all is_plain) (take_more bytes at d h) ∙ front_behind (take at bytes) (get_or bytes at d) ok k

@@ -4,14 +4,13 @@ use Rattle.std.proofs.lemmas.List.{append-nil, nil_from_length, drop_more, drop_
 use Rattle.std.proofs.lemmas.Str.{encode_ascii, encodes-append, encodes-chars, encodes_same, cons_from_encodes}
 use Rattle.std.specs.Prelude.{true, nat_lt, encode_utf8, encode_utf8_all}
 use Rattle.std.specs.List.{flat_map, list_all}
-use Rattle.std.proofs.lemmas.Bool.Decides.{nat_tests}
 use Rattle.plain_tree.specs.Document.{element, nodes}
 use Rattle.plain_tree.specs.View.{node}
 use Rattle.plain_tree.specs.declared.tree.Attr.{Attr}
 use Rattle.plain_tree.specs.declared.tree.Tree.{Tree}
 use Rattle.doc_grammar.specs.Printed.{printed, printed_all, printed_attributes}
-use Rattle.doc_grammar.proofs.Bytes.{both}
 use Rattle.std.specs.Str.{chars, IsUtf8}
+use Rattle.std.proofs.lemmas.Bool.{and_parts, ltb-true}
 
 -- characters, of which some are written and some are left
 pub record Escapes (escape : ℕ → List ℕ) (out rest all : List ℕ) : Type 0 where
@@ -55,12 +54,9 @@ put_more {all = all} {out = out} {u = u} more v p f = record {
 pub put_char : {all out u : List ℕ} (more : List ℕ) (c : ℕ) → Put all u out → more ≡ out ++ encode_utf8 c → Put all (u ++ c ∷ []) more
 put_char {out = out} more c p f = put_more more (c ∷ []) p (f ∙ ap (λ z. out ++ z) (sym (append-nil (encode_utf8 c))))
 
-lt_true : (m n : ℕ) → nat_lt m n ≡ true → m < n
-lt_true m n h = grind (arith, nat_tests)
-
 word_bytes : (cs : List ℕ) → list_all (λ c. nat_lt c 128) cs ≡ true → encode_utf8_all cs ≡ cs
 word_bytes [] h = refl
-word_bytes (c ∷ cs) h = let two = both _ _ h in ap (λ z. z ++ encode_utf8_all cs) (encode_ascii c (lt_true c 128 two.0)) ∙ ap (λ z. c ∷ z) (word_bytes cs two.1)
+word_bytes (c ∷ cs) h = let two = and_parts _ _ h in ap (λ z. z ++ encode_utf8_all cs) (encode_ascii c (ltb-true c 128 two.0)) ∙ ap (λ z. c ∷ z) (word_bytes cs two.1)
 
 pub put_word : {all out u : List ℕ} (more cs : List ℕ) → list_all (λ c. nat_lt c 128) cs ≡ true → Put all u out → more ≡ out ++ cs → Put all (u ++ cs) more
 put_word {out = out} more cs h p f = put_more more cs p (f ∙ ap (λ z. out ++ z) (sym (word_bytes cs h)))

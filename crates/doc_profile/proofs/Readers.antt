@@ -16,7 +16,7 @@ use Rattle.plain_tree.specs.Document.{Node}
 use Rattle.plain_tree.specs.View.{node}
 use Rattle.plain_tree.specs.declared.tree.Tree.TheVariants.{Text}
 use Rattle.plain_tree.proofs.Views.{node_text}
-use Rattle.std.proofs.lemmas.List.{append-nil, map-append}
+use Rattle.std.proofs.lemmas.List.{map-append}
 use Rattle.doc_grammar.specs.Grammar.{text_node}
 use Rattle.plain_tree.specs.declared.tree.Tree.{Tree}
 use Rattle.plain_tree.specs.declared.tree.Attr.{Attr}
@@ -44,10 +44,6 @@ outer_push fragment ls l = fold-append level_on _ ls (l ∷ [])
 pub none_is : (ts : List Tree) → m.is_none (map node ts) ≡ (length ts == 0)
 none_is [] = refl
 none_is (t ∷ ts) = sym (eqb-suc-zero (length ts))
-
-pub left_of_base : (fragment : Bool) (kids : List Node) (text : List ℕ) → m.left_from kids text (outer_of fragment []) ≡ None
-left_of_base true kids text = refl
-left_of_base false kids text = refl
 
 pub end_name_left : (p : Place) (left : List ℕ) (c : ℕ) → 0 < length left → m.from_end_name p left c ≡ m.from_end_left p left c
 unfolding m.from_end_name
@@ -94,9 +90,6 @@ end_name_differs p name read c h s =
 pub named_refused_over : (t s : List ℕ) (read x c : ℕ) → t ≡ s → length t ≤ read → m.refused ≡ m.refer (m.named (drop read s) x) c
 named_refused_over t s read x c e h = sym (named_over s read x c (omega (arith, ap length e)))
 
-char_is : (b : Bool) (c k : ℕ) → (c == k) ≡ b → c ≡ k → b ≡ true
-char_is b c k e h = sym e ∙ eq-eqb c k h
-
 pub named_refused : (t s : List ℕ) (read x c : ℕ) → t ≡ s → read < length t → (get_or t read 0 ≡ c → ⊥) → m.refused ≡ m.refer (m.named (drop read s) x) c
 named_refused t s read x c e h n = sym (named_further s read x c (omega (arith, ap length e)) ∙ ap (λ b. cond b (m.name_left (drop (read + 1) s) x) m.refused) (go (c == get_or s read 0) refl))
   where
@@ -112,10 +105,6 @@ named_gives t s read x y c e h k last f = ap m.gives f ∙ sym (named_taken t s 
 
 pub named_going : (t s : List ℕ) (read x c : ℕ) → t ≡ s → read < length t → get_or t read 0 ≡ c → (read + 1 ≡ length t → ⊥) → m.going (m.named (drop (read + 1) s) x) ≡ m.refer (m.named (drop read s) x) c
 named_going t s read x c e h k n = sym (named_taken t s read x c e h k ∙ name_goes_on s (read + 1) x (omega (arith, ap length e, n)))
-
-pub text_none : (ks : List Node) (bytes : List ℕ) → length bytes ≡ 0 → ks ≡ ks ++ text_node bytes
-text_none ks [] h = sym (append-nil ks)
-text_none ks (b ∷ bytes) h = absurd (omega arith)
 
 pub text_some : (ts : List Tree) (bytes : List ℕ) → 0 < length bytes → map node (ts ++ Text bytes ∷ []) ≡ map node ts ++ text_node bytes
 text_some ts [] h = absurd (omega arith)

@@ -1,15 +1,15 @@
 -- How far a text is read: the characters of the front, where the machine stands behind them, and that no limit is passed.
 use Rattle.std.proofs.Common.{◌≡◌, ℕ, ◌+◌, ◌-◌, ◌≤◌, ◌<◌, ◌⊎◌, inl, inr, Bool, true, false, cond, List, [], ◌∷◌, ◌++◌, length, Option, Some, None, refl, sym, ◌∙◌, ap, subst, append_assoc, arith}
-use Rattle.std.proofs.lemmas.Bool.Decides.{nat_tests}
 use Rattle.std.proofs.lemmas.List.{append-nil, length-append}
-use Rattle.std.proofs.lemmas.Str.{encodes-append, length-encode}
+use Rattle.std.proofs.lemmas.Str.{length-encode}
 use Rattle.std.specs.Prelude.{◌==◌, nat_le, encode_utf8, encode_utf8_all}
+use Rattle.std.proofs.lemmas.Bool.{or_cases, leb-false, leb-true}
+use Rattle.ft_base.proofs.WalkLemmas.{encodes-last}
 use Rattle.doc_grammar.specs.Grammar.{lines_from}
 use Rattle.doc_grammar.specs.Machine.{State, run_on, start}
 use Rattle.doc_grammar.specs.Texts.{Kind}
 use Rattle.doc_grammar.specs.Limits.{text_here, element_here, node_here, one_if, place_count, depth, too_deep, element_too_many, text_too_many}
 use Rattle.doc_grammar.specs.Reading.{outer_of, read, returned}
-use Rattle.doc_grammar.proofs.Classes.{either}
 use Rattle.doc_grammar.proofs.Counts.{begun}
 use Rattle.doc_grammar.proofs.Heights.{reached, one_level_if}
 use Rattle.doc_grammar.proofs.Laws.{read-append, goes_wrong}
@@ -47,9 +47,6 @@ returned-append : (b : Bool) (u : List ℕ) (c : ℕ) → returned b (u ++ c ∷
 returned-append b [] c = refl
 returned-append b (d ∷ u) c = returned-append (d == 13) u c
 
-encodes-last : (u : List ℕ) (c : ℕ) → encode_utf8_all (u ++ c ∷ []) ≡ encode_utf8_all u ++ encode_utf8 c
-encodes-last u c = encodes-append u (c ∷ []) ∙ ap (λ z. encode_utf8_all u ++ z) (append-nil (encode_utf8 c))
-
 read_one : {kind : Kind} {text rest : List ℕ} {from at : ℕ} {s : State} {b : Bool} (w : Walked kind text rest from at s b) (c : ℕ) (t : Option State) → taken s b c ≡ t → read kind (w.front ++ c ∷ []) ≡ t
 read_one {kind = kind} {s = s} {b = b} w c t e =
     read-append kind w.front (c ∷ []) ∙ ap (λ o. run_on o (lines_from (returned false w.front) (c ∷ []))) w.is_read ∙ ap (λ x. run_on (Some s) (lines_from x (c ∷ []))) w.behind ∙ e
@@ -63,9 +60,6 @@ not_some : {A : Type 0} (b : Bool) (x : A) (y : Option A) → cond b (Some x) y 
 not_some true x y e = cc
 not_some false x y e = (refl, e)
 
-not_le : (m n : ℕ) → nat_le m n ≡ false → n < m
-not_le m n h = grind (arith, nat_tests)
-
 checked : (s : State) (b : Bool) (c at : ℕ) → passes s b c at ≡ None → Checked max_depth max_nodes s b c
 checked s b c at e = go (if_none (element_here s c) (element_passes s at) _ e)
   where
@@ -76,9 +70,9 @@ checked s b c at e = go (if_none (element_here s c) (element_passes s at) _ e)
     go (inl (h, k)) =
         let deep = not_some _ _ _ k in
         let full = not_some _ _ _ deep.1 in
-        record { text_fits = λ t. absurd (no_text h t); shallow = λ _. not_le max_depth (depth s.place.outer) deep.0; element_fits = λ _. not_le max_nodes (place_count s.place) full.0 }
+        record { text_fits = λ t. absurd (no_text h t); shallow = λ _. leb-false max_depth (depth s.place.outer) deep.0; element_fits = λ _. leb-false max_nodes (place_count s.place) full.0 }
     go (inr (h, k)) = record {
-      text_fits = λ t. not_le max_nodes (place_count s.place) (not_some _ _ _ (sym (ap (λ x. cond x (text_passes s at) None) t) ∙ k)).0;
+      text_fits = λ t. leb-false max_nodes (place_count s.place) (not_some _ _ _ (sym (ap (λ x. cond x (text_passes s at) None) t) ∙ k)).0;
       shallow = λ t. let both : true ≡ false = sym t ∙ h in cc;
       element_fits = λ t. let both : true ≡ false = sym t ∙ h in cc;
     }
@@ -98,7 +92,7 @@ still_few s t b c h k e = go (node_here s b c) refl
     room (inr i) = k.element_fits i
 
     go : (x : Bool) → node_here s b c ≡ x → begun t ≤ max_nodes
-    go true i = omega (arith, taken_adds s t b c e, ap one_if i, here_count s b c i, room (either (text_here s b c) (element_here s c) i))
+    go true i = omega (arith, taken_adds s t b c e, ap one_if i, here_count s b c i, room (or_cases (text_here s b c) (element_here s c) i))
     go false i = omega (arith, taken_adds s t b c e, ap one_if i)
 
 pub walked_further : (kind : Kind) (text rest : List ℕ) (from at : ℕ) (s t : State) (b : Bool) (c : ℕ) → Walked kind text (c ∷ rest) from at s b → passes s b c at ≡ None → taken s b c ≡ Some t
@@ -126,16 +120,12 @@ walked_refused kind text rest from at s b c w r = record {
 place_before : (front before : List ℕ) (from at : ℕ) → front ≡ before ++ 60 ∷ [] → IsPlace from front at → at - 1 ≡ from + length (encode_utf8_all before)
 place_before front before from at e f = omega (arith, f, ap (λ z. length (encode_utf8_all z)) e, ap length (encodes-last before 60), length-append (encode_utf8_all before) (encode_utf8 60), length-encode 60)
 
--- a limit is passed
-le_true : (m n : ℕ) → nat_le m n ≡ true → m ≤ n
-le_true m n h = grind (arith, nat_tests)
-
 deep_stops : (kind : Kind) (text rest : List ℕ) (from at : ℕ) (s : State) (b : Bool) (c : ℕ) → Walked kind text (c ∷ rest) from at s b → element_here s c ≡ true → nat_le max_depth (depth s.place.outer) ≡ true → DepthAt kind text from (at - 1)
 deep_stops kind text rest from at s b c w h deep =
     let x = element_begins kind text w.front c rest s w.split w.is_read h in
     record {
       front = x.before;
-      passes = too_deep s.place x.begins (le_true max_depth (depth s.place.outer) deep);
+      passes = too_deep s.place x.begins (leb-true max_depth (depth s.place.outer) deep);
       keeps = element_keeps max_depth max_nodes kind text w.front x.before w.clean x.spelled;
       is_place = place_before w.front x.before from at x.spelled w.is_place;
     }
@@ -146,8 +136,8 @@ element_stops kind text rest from at s b c w h shallow full =
     let x = element_begins kind text w.front c rest s w.split w.is_read h in
     record {
       front = x.before;
-      passes = element_too_many s.place x.begins (le_true max_nodes (place_count s.place) full);
-      not_deep = not_deep max_depth max_nodes kind text w.front x.before c rest s w.split w.is_read x.spelled (not_le max_depth (depth s.place.outer) shallow);
+      passes = element_too_many s.place x.begins (leb-true max_nodes (place_count s.place) full);
+      not_deep = not_deep max_depth max_nodes kind text w.front x.before c rest s w.split w.is_read x.spelled (leb-false max_depth (depth s.place.outer) shallow);
       keeps = element_keeps max_depth max_nodes kind text w.front x.before w.clean x.spelled;
       is_place = place_before w.front x.before from at x.spelled w.is_place;
     }
@@ -157,7 +147,7 @@ text_stops kind text rest from at s b c w h full =
     let here : text_here s (returned false w.front) c ≡ true = subst (λ x. text_here s x c ≡ true) (sym w.behind) h in
     record {
       front = w.front;
-      passes = text_too_many s.place (text_begins kind text w.front c rest s w.split w.is_read here) (le_true max_nodes (place_count s.place) full);
+      passes = text_too_many s.place (text_begins kind text w.front c rest s w.split w.is_read here) (leb-true max_nodes (place_count s.place) full);
       not_deep = text_not_deep max_depth max_nodes kind text w.front c rest s w.split here;
       keeps = clean_keeps max_depth max_nodes kind text w.front c rest s w.clean w.split w.is_read (text_no_element s b c h);
       is_place = w.is_place;

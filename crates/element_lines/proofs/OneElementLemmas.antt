@@ -5,6 +5,7 @@ use Rattle.std.proofs.Math.Seq.{take-add}
 use Rattle.std.proofs.lemmas.Bool.{cases_lt}
 use Rattle.std.proofs.lemmas.List.Sums.{sum_by-append, count_by_more_yes}
 use Rattle.std.proofs.lemmas.Slice.Eq.{bytes_eq-Decides}
+use Rattle.std.proofs.lemmas.Option.{same_Some}
 use Rattle.plain_tree.specs.Document.{Node, text}
 use Rattle.ordered_tree.specs.Numbered as numbered
 use Rattle.ordered_tree.specs.Numbered.{Numbered, element_at, text_at, plain, is_element}
@@ -15,7 +16,7 @@ use Rattle.path_nodes.specs.References.{IsElement, element_of}
 use Rattle.path_nodes.proofs.PlaceLemmas.{element-is, led, one-reference}
 use Rattle.element_lines.specs.Steps.{Step, step, children, child, name_of, is_named, step_to, steps_below, steps_to}
 use Rattle.element_lines.proofs.NumberLemmas.{element-named}
-use Rattle.element_lines.proofs.StepLemmas.{Between, between, child-is, child-some, child-number, same-node}
+use Rattle.element_lines.proofs.StepLemmas.{Between, between, child-is, child-some, child-number}
 
 -- ---- the counts of a name differ from child to child of that name
 
@@ -83,7 +84,7 @@ one-place (j ∷ p) (k ∷ q) n m o at-p at-q element element' same =
     let d : Between q (places.child k (numbered.children n)) o = between q (places.child k (numbered.children n)) o at-q in
     let first : step_to (plain n) j ≡ step_to (plain n) k = same-head (step_to (plain n) j) (step_to (plain n) k) (steps_below (child (plain n) j) p) (steps_below (child (plain n) k) q) same in
     let e : j ≡ k = one-child n j k b.n d.n b.is d.is (above-element p b.n m b.leads element) (above-element q d.n o d.leads element') first in
-    let one : b.n ≡ d.n = same-node b.n d.n (sym b.is ∙ ap (λ i. places.child i (numbered.children n)) e ∙ d.is) in
+    let one : b.n ≡ d.n = same_Some b.n d.n (sym b.is ∙ ap (λ i. places.child i (numbered.children n)) e ∙ d.is) in
     let rest : steps_below (plain b.n) p ≡ steps_below (plain b.n) q =
     ap (λ c. steps_below c p) (sym (child-is j n b.n b.is))
     ∙ same-tail (step_to (plain n) j) (step_to (plain n) k) (steps_below (child (plain n) j) p) (steps_below (child (plain n) k) q) same

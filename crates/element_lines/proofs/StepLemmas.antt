@@ -1,6 +1,7 @@
 -- The steps to an element are those to its parent, and one more.
 use Rattle.std.proofs.Common.{◌≡◌, ◌-◌, ◌<◌, ◌≤◌, ℕ, zero, suc, List, [], ◌∷◌, ◌++◌, length, get_or, Option, Some, None, refl, sym, ap, ap₂, ◌∙◌, arith}
 use Rattle.std.specs.Prelude.{option_and_then}
+use Rattle.std.proofs.lemmas.Option.{same_Some}
 use Rattle.plain_tree.specs.Document.{Node, text}
 use Rattle.ordered_tree.specs.Numbered as numbered
 use Rattle.ordered_tree.specs.Numbered.{Numbered, element_at, text_at, Children, no_children, child_then, plain, plain_children, is_element}
@@ -102,16 +103,13 @@ above-child (j ∷ place) k n m is =
 
 -- ---- elements and their parents
 
-pub same-node : (m n : Numbered) → Some m ≡ Some n → m ≡ n
-same-node m n h = cc
-
 -- the numbers of children count from 1 to that of all children
 pub number-within : (root : Numbered) (parent r : NodeRef) → IsElement root parent → IsElement root r → (k : ℕ) → (element_of root r).place ≡ (element_of root parent).place ++ k ∷ [] → (0 < k) × (k ≤ length (children (element_of root parent).node))
 number-within root parent r x y k at =
     let e = element-is root parent x in
     let place : y.spot.place ≡ x.spot.place ++ k ∷ [] = sym (ap (λ z. z.place) (element-is root r y)) ∙ at ∙ ap (λ z. z.place ++ k ∷ []) e in
     let a : Above x.spot.place k root y.spot.stand.node = above-child x.spot.place k root y.spot.stand.node (ap (λ p. at_place p root) (sym place) ∙ led root y.spot y.among) in
-    let same : a.above ≡ x.spot.stand.node = same-node a.above x.spot.stand.node (sym a.leads ∙ led root x.spot x.among) in
+    let same : a.above ≡ x.spot.stand.node = same_Some a.above x.spot.stand.node (sym a.leads ∙ led root x.spot x.among) in
     let some = child-some k (numbered.children a.above) y.spot.stand.node a.is in
     let few = child-number k a.above y.spot.stand.node a.is in
     let count : length (children (plain a.above)) ≡ length (children (element_of root parent).node) = ap (λ n. length (children (plain n))) same ∙ sym (ap (λ z. length (children z.node)) e) in

@@ -1,3 +1,4 @@
+pub mod Truth
 pub mod WalkLemmas
 pub mod PlacesLemmas
 pub mod CharacterLemmas

@@ -9,7 +9,7 @@ use Rattle.ft_base.specs.Walk.{Walk}
 pub walk_start : (text : List ℕ) → Walk text [] 0 text
 walk_start text = record { split = refl; counts = refl }
 
-encodes-last : (front : List ℕ) (c : ℕ) → encode_utf8_all (front ++ c ∷ []) ≡ encode_utf8_all front ++ encode_utf8 c
+pub encodes-last : (front : List ℕ) (c : ℕ) → encode_utf8_all (front ++ c ∷ []) ≡ encode_utf8_all front ++ encode_utf8 c
 encodes-last front c = encodes-append front (c ∷ []) ∙ ap (λ bytes. encode_utf8_all front ++ bytes) (append-nil (encode_utf8 c))
 
 -- one more character is passed

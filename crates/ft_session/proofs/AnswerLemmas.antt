@@ -1,5 +1,5 @@
 -- Replies that are written one after the other.
-use Rattle.std.proofs.Common.{◌≡◌, ◌∙◌, sym, ap, refl, ℕ, ◌+◌, ◌<◌, Bool, true, false, ◌||◌, List, [], ◌∷◌, ◌++◌, length, drop, get_or, append_assoc}
+use Rattle.std.proofs.Common.{◌≡◌, ◌∙◌, sym, ap, refl, ℕ, ◌+◌, ◌<◌, List, [], ◌∷◌, ◌++◌, length, drop, get_or, append_assoc}
 use Rattle.std.specs.Prelude.{Option, Some, None}
 use Rattle.std.proofs.lemmas.List.{append-nil, at_drop_more}
 use Rattle.session_text.specs.declared.command.Command.{Command}
@@ -43,9 +43,6 @@ front_nothing before text = record { front = []; rest = text; whole = refl; took
 pub front_all : (before after : Option (List ℕ)) (text : List ℕ) → after ≡ with_text before text → TookFront before after text
 front_all before after text wrote = record { front = text; rest = []; whole = append-nil text; took = wrote }
 
-pub written_all : (before now : Option (List ℕ)) (all : List ℕ) → WrittenSoFar before now [] all → now ≡ with_text before all
-written_all before now all so_far = so_far.holds ∙ ap (with_text before) (sym (append-nil so_far.done) ∙ so_far.whole)
-
 pub written_start : (before : Option (List ℕ)) (text all : List ℕ) → text ≡ all → WrittenSoFar before before text all
 written_start before text all same = record { done = []; whole = same; holds = with_nothing before }
 
@@ -63,7 +60,3 @@ pub state_after-next : (state next : State) (found : List Command) (at : ℕ) (c
 state_after-next state next found at command within is after =
     at_drop_more (state_after state) found at command within
     ∙ (ap (λ (c : Command). state_after state (c ∷ drop (at + 1) found)) (sym is) ∙ ap (λ s. state_after s (drop (at + 1) found)) (sym after))
-
-pub or_assoc : (a b c : Bool) → ((a || b) || c) ≡ (a || (b || c))
-or_assoc true b c = refl
-or_assoc false b c = refl

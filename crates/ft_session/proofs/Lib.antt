@@ -1,5 +1,4 @@
 pub mod AnswerLemmas
-pub mod ListLemmas
 pub mod NamedLemmas
 pub mod PathLemmas
 pub mod QueryLemmas

@@ -1,15 +1,12 @@
 -- Which elements plans select, and when a path is refused.
-use Rattle.std.proofs.Common.{◌≡◌, ◌≢◌, ◌∙◌, sym, ap, refl, ℕ, zero, suc, ◌+◌, ◌<◌, Bool, true, false, cond, ◌&&◌, List, [], ◌∷◌, length, map, drop, get_or, arith}
-use Rattle.std.specs.Prelude.{Option, Some, None, Result, Ok, Err, flat_map}
+use Rattle.std.proofs.Common.{◌≡◌, ◌∙◌, sym, ap, refl, ℕ, zero, suc, ◌+◌, ◌<◌, Bool, true, cond, List, [], ◌∷◌, length, map, drop, get_or, arith}
+use Rattle.std.specs.Prelude.{Option, Some, None, Ok, flat_map}
 use Rattle.std.specs.Option.{option_or}
 use Rattle.std.proofs.lemmas.List.{at_drop_more}
 use Rattle.std.specs.List.{list_all}
 use Rattle.all_matches.specs.Meaning.{sat}
 use Rattle.element_lines.specs.Lines.{element_line, printed_line}
 use Rattle.ft_base.specs.Selection.{Form}
-use Rattle.ft_base.specs.declared.fault.QueryFault.{QueryFault}
-use Rattle.ft_base.specs.declared.fault.QueryFault.TheVariants as Q
-use Rattle.ft_parser.specs.Answer.{Answered}
 use Rattle.ordered_tree.specs.Numbered.{Numbered, plain}
 use Rattle.ft_base.specs.declared.ids.NodeRef.{NodeRef}
 use Rattle.path_meaning.specs.Collection.{Named, documents}
@@ -44,14 +41,6 @@ first-none (Some x) b h = h
 second-none : {A : Type 0} (a b : Option A) → option_or a b ≡ None → b ≡ None
 second-none None b h = h
 second-none (Some x) b h = let no : ⊥ = cc in absurd no
-
-first-true : (a b : Bool) → (a && b) ≡ true → a ≡ true
-first-true true b h = refl
-first-true false b h = h
-
-second-true : (a b : Bool) → (a && b) ≡ true → b ≡ true
-second-true true b h = h
-second-true false b h = let no : ⊥ = cc in absurd no
 
 -- the document with which a path begins is there or missing
 pub missing-document : (root : PathRoot) (name : List ℕ) (documents : List Named) (there : Bool) → root ≡ Doc name → has_name name documents ≡ there → missing_document root documents ≡ cond there None (Some name)
@@ -100,18 +89,6 @@ mutual
   conditions-weaker P R w no_conditions h = tt
   conditions-weaker P R w (condition_then c rest) h = (condition-weaker P R w c h.0, conditions-weaker P R w rest h.1)
 
--- a fault that isn't want of memory is the one that is expected
-pub answered_fault : {A B : Type 0} (view : A → B) (expected : Result B QueryFault) (fault : QueryFault) → Answered view expected (Err fault) → fault ≢ Q.Memory → expected ≡ Err fault
-answered_fault view expected (Q.Syntax at) h other = sym h
-answered_fault view expected (Q.Deep at) h other = sym h
-answered_fault view expected (Q.Number at) h other = sym h
-answered_fault view expected (Q.Phrases at) h other = sym h
-answered_fault view expected (Q.OptionTwice at) h other = sym h
-answered_fault view expected (Q.BadWildcard at) h other = sym h
-answered_fault view expected (Q.MildNotExclude at) h other = sym h
-answered_fault view expected (Q.InsideFilter at) h other = sym h
-answered_fault view expected Q.Memory h other = absurd (other refl)
-
 -- a selection among others, the lists that it names, and whether plans decide it
 module _ (forms : List Form) (k : ℕ) (form : Form) (within : k < length forms) (is : form ≡ get_or forms k form) where
   pub missing-more : (lists : NamedLists) → missing_list lists (drop k forms) ≡ option_or (first_missing lists form) (missing_list lists (drop (k + 1) forms))
@@ -119,20 +96,12 @@ module _ (forms : List Form) (k : ℕ) (form : Form) (within : k < length forms)
       at_drop_more (missing_list lists) forms k form within
       ∙ (ap (λ f. missing_list lists (f ∷ drop (k + 1) forms)) (sym is) ∙ missing_append lists (names form) (flat_map names (drop (k + 1) forms)))
 
-  pub decided-more : list_all is_decided (drop k forms) ≡ (is_decided form && list_all is_decided (drop (k + 1) forms))
-  decided-more = at_drop_more (list_all is_decided) forms k form within ∙ ap (λ f. is_decided f && list_all is_decided (drop (k + 1) forms)) (sym is)
-
 pub none-missing : (lists : NamedLists) (forms : List Form) (k : ℕ) (form : Form) → k < length forms → form ≡ get_or forms k form → missing_list lists forms ≡ None → first_missing lists form ≡ None
 none-missing lists [] k form within is none = absurd (omega (arith, within))
 none-missing lists (f ∷ forms) zero form within is none =
     ap (first_missing lists) is ∙ first-none (first_missing lists f) (missing_list lists forms) (sym (missing_append lists (names f) (flat_map names forms)) ∙ none)
 none-missing lists (f ∷ forms) (suc k) form within is none =
     none-missing lists forms k form (omega (arith, within)) is (second-none (first_missing lists f) (missing_list lists forms) (sym (missing_append lists (names f) (flat_map names forms)) ∙ none))
-
-pub all-decided : (forms : List Form) (k : ℕ) (form : Form) → k < length forms → form ≡ get_or forms k form → list_all is_decided forms ≡ true → is_decided form ≡ true
-all-decided [] k form within is all = absurd (omega (arith, within))
-all-decided (f ∷ forms) zero form within is all = ap is_decided is ∙ first-true (is_decided f) (list_all is_decided forms) all
-all-decided (f ∷ forms) (suc k) form within is all = all-decided forms k form (omega (arith, within)) is (second-true (is_decided f) (list_all is_decided forms) all)
 
 map-map : {A B C : Type 0} (xs : List A) (f : A → B) (g : B → C) → map (λ x. g (f x)) xs ≡ map g (map f xs)
 map-map [] f g = refl

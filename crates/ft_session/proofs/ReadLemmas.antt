@@ -6,16 +6,6 @@ use Rattle.std.proofs.lemmas.List.{take-append-le, take-take, length-take-le}
 use Rattle.ft_io.specs.Shelf.{Reads}
 use Rattle.ft_session.specs.Run.{BeginsWith}
 
--- a read into the front of a buffer is a read into the buffer
-pub told_reads_front : (told : Option (List ℕ)) (at count : ℕ) (front rest buffer : List ℕ) → count ≤ length front → buffer ≡ front ++ rest
-    → IfSome told (λ bytes. Reads bytes at count front) → IfSome told (λ bytes. Reads bytes at count buffer)
-told_reads_front None at count front rest buffer within made reads = reads
-told_reads_front (Some bytes) at count front rest buffer within made reads = record {
-  within = reads.within;
-  read = ap (take count) made ∙ (take-append-le count front rest within ∙ reads.read);
-  ends = reads.ends;
-}
-
 -- a piece that was read behind the front of a file makes a longer front
 pub front_grows : (bytes old buffer new : List ℕ) (at count : ℕ) → at ≡ length old → count ≤ length buffer
     → old ≡ take (length old) bytes → Reads bytes at count buffer → new ≡ old ++ take count buffer → new ≡ take (length new) bytes

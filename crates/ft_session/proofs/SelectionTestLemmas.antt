@@ -4,6 +4,7 @@ use Rattle.std.specs.Prelude.{nat_lt}
 use Rattle.std.specs.List.{list_any, Contains}
 use Rattle.std.proofs.lemmas.Bool.Decides.{nat_tests}
 use Rattle.std.proofs.lemmas.List.Elements.{All-contains}
+use Rattle.std.proofs.lemmas.Bool.{and_parts, ltb-true}
 use Rattle.all_matches.specs.Meaning.{sat}
 use Rattle.ordered_tree.specs.Counts.{word_count}
 use Rattle.ordered_tree.specs.Numbered.{Numbered, plain}
@@ -65,20 +66,12 @@ node-there root r h =
     let n = found (spots_in root) r (placed [] (plain root)) h in
     record { spot = n.spot; among = n.among; refers = n.refers; is = n.is }
 
-second-true : (a b : Bool) → IsTrue (a && b) → b ≡ true
-second-true true b h = h
-second-true false b h = let no : ⊥ = cc in absurd no
-
 -- what plans may be asked for is a node
 pub asked-node : (plans : List Plan) (root : Numbered) (k : ℕ) (r : NodeRef) → IsTrue (may_ask plans root k r) → Node root r
-asked-node plans root k r h = node-there root r (second-true (nat_lt k (length plans)) (is_there root r) h)
-
-first-true : (a b : Bool) → IsTrue (a && b) → a ≡ true
-first-true true b h = refl
-first-true false b h = let no : ⊥ = cc in absurd no
+asked-node plans root k r h = node-there root r (and_parts (nat_lt k (length plans)) (is_there root r) h).1
 
 pub asked-plan : (plans : List Plan) (root : Numbered) (k : ℕ) (r : NodeRef) → IsTrue (may_ask plans root k r) → k < length plans
-asked-plan plans root k r h = let less = first-true (nat_lt k (length plans)) (is_there root r) h in grind (arith, nat_tests, less)
+asked-plan plans root k r h = ltb-true k (length plans) (and_parts (nat_lt k (length plans)) (is_there root r) h).0
 
 pub reference-there : (root : Numbered) (r : NodeRef) → Node root r → Contains (references root) r
 reference-there root r n = subst (Contains (references root)) n.refers (spot-there root n.spot n.among)

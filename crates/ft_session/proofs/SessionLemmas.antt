@@ -1,9 +1,10 @@
 -- When a document is loaded or taken out, and when that is refused.
 use Rattle.std.proofs.Common.{◌≡◌, ◌≢◌, ◌∙◌, sym, ap, refl, ℕ, ◌<◌, ◌≤◌, arith, Bool, true, false, cond, ◌||◌, List, [], ◌∷◌, length, map}
-use Rattle.std.specs.Prelude.{Option, Some, None, Result, Ok, Err, is_some, nat_le, nat_lt}
+use Rattle.std.specs.Prelude.{Some, Result, Ok, Err, is_some, nat_le}
 use Rattle.std.proofs.lemmas.Bool.Decides.{nat_tests}
 use Rattle.std.specs.Map.{lookup, remove_entry}
 use Rattle.std.specs.Str.{bytes_eq}
+use Rattle.std.proofs.lemmas.Bool.{lt-ltb, le-ltb}
 use Rattle.doc_profile.specs.declared.fault.DocFault.{DocFault}
 use Rattle.doc_profile.specs.declared.fault.DocFault.TheVariants as faults
 use Rattle.doc_grammar.specs.Limits.{node_count}
@@ -51,25 +52,15 @@ without-removed name (e ∷ es) =
     elim (bytes_eq name e.0) as (λ t. map to_document (cond t es (e ∷ remove_entry (bytes_eq name) es)) ≡ cond t (map to_document es) (to_document e ∷ without name (map to_document es)))
     [ true ↦ refl | false ↦ ap (λ ds. to_document e ∷ ds) (without-removed name es) ]
 
-pub none-from_test : {A : Type 0} (o : Option A) → is_some o ≡ false → o ≡ None
-none-from_test None h = refl
-none-from_test (Some x) h = absurd (let no : ⊥ = cc in no)
-
-test_true : (a b : ℕ) → a < b → nat_lt a b ≡ true
-test_true a b h = grind (arith, nat_tests)
-
-test_false : (a b : ℕ) → b ≤ a → nat_lt a b ≡ false
-test_false a b h = grind (arith, nat_tests)
-
 abbrev pub with_reply : List Named → Reply → List Named × Reply
 with_reply state reply = (state, reply)
 
 -- a document that was read, and too many tokens
 pub with_few_tokens-many : (root : Node) → max_tokens < length (tokens root) → with_few_tokens (Ok root) ≡ Err TooManyTokens
-with_few_tokens-many root many = ap (λ t. cond t (Err TooManyTokens) (Ok root)) (test_true max_tokens (length (tokens root)) many)
+with_few_tokens-many root many = ap (λ t. cond t (Err TooManyTokens) (Ok root)) (lt-ltb max_tokens (length (tokens root)) many)
 
 pub with_few_tokens-few : (root : Node) → length (tokens root) ≤ max_tokens → with_few_tokens (Ok root) ≡ Ok root
-with_few_tokens-few root few = ap (λ t. cond t (Err TooManyTokens) (Ok root)) (test_false max_tokens (length (tokens root)) few)
+with_few_tokens-few root few = ap (λ t. cond t (Err TooManyTokens) (Ok root)) (le-ltb max_tokens (length (tokens root)) few)
 
 -- a block's fault, or its document
 module _ (block : List ℕ) where

@@ -1,7 +1,7 @@
 -- Symbols that are added one behind the other.
 use Rattle.std.proofs.Common.{◌≡◌, ℕ, ◌+◌, ◌<◌, ◌≤◌, List, [], ◌∷◌, ◌++◌, length, get_or, take, map, refl, sym, ap, ◌∙◌, append-nil, append_assoc}
 use Rattle.std.specs.Prelude.{flat_map, ◌||◌, if◌then◌else◌}
-use Rattle.std.proofs.lemmas.List.{take_more, take_all}
+use Rattle.std.proofs.lemmas.List.{take_more, take_all, map_more}
 use Rattle.std.proofs.lemmas.List.Concat.{flat_map-append}
 use Rattle.ft_syntax.specs.Spacing.{Symbol, closes, gap, set_out}
 use Rattle.ft_syntax.specs.Page.{Page, empty_page, put, put_all}
@@ -15,15 +15,10 @@ pub in_brackets : (page opened filled closed : Page) (left right : Symbol) (symb
 in_brackets page opened filled closed left right symbols first inside last =
     last ∙ ap (λ p. put p right) (inside ∙ ap (λ p. put_all p symbols) first) ∙ sym (put_all_append (put page left) symbols (right ∷ []))
 
-map-append : {X Y : Type 0} (f : X → Y) (xs ys : List X) → map f (xs ++ ys) ≡ map f xs ++ map f ys
-map-append f [] ys = refl
-map-append f (x ∷ xs) ys = ap (λ rest. f x ∷ rest) (map-append f xs ys)
-
 -- one more symbol of a list, and the symbols of one more item
 pub put_map_more : {X : Type 0} (page : Page) (f : X → Symbol) (xs : List X) (i : ℕ) (x : X) → i < length xs → put_all page (map f (take (i + 1) xs)) ≡ put (put_all page (map f (take i xs))) (f (get_or xs i x))
 put_map_more page f xs i x h =
-    ap (λ ys. put_all page (map f ys)) (take_more xs i x h)
-    ∙ ap (put_all page) (map-append f (take i xs) (get_or xs i x ∷ []))
+    ap (put_all page) (map_more f xs i x h)
     ∙ put_all_append page (map f (take i xs)) (f (get_or xs i x) ∷ [])
 
 pub put_flat_map_more : {X : Type 0} (page : Page) (f : X → List Symbol) (xs : List X) (i : ℕ) (x : X) → i < length xs → put_all page (flat_map f (take (i + 1) xs)) ≡ put_all (put_all page (flat_map f (take i xs))) (f (get_or xs i x))

@@ -3,8 +3,8 @@ use Rattle.std.proofs.Common.{◌≡◌, refl, sym, ap, ◌∙◌, ℕ, suc, ◌
 use Rattle.std.specs.Prelude.{encode_utf8, ◌==◌}
 use Rattle.std.specs.List.{list_any, range_with_len}
 use Rattle.std.proofs.lemmas.Bool.{ne_eqb}
-use Rattle.std.proofs.lemmas.List.{nil_from_length}
-use Rattle.std.proofs.lemmas.Str.{chars_from_encodes, encodes-chars, IsUtf8-past_char, length-le-encodes, chars-nil}
+use Rattle.std.proofs.lemmas.Str.{chars_from_encodes, encodes-chars, IsUtf8-past_char, length-le-encodes}
+use Rattle.std.proofs.StrCases.{chars_of_empty}
 use Rattle.match_options.specs.declared.atom.Atom.{Atom}
 use Rattle.match_options.specs.declared.atom.Atom.TheVariants.{Letter, Gap}
 use Rattle.match_options.specs.Wildcards.{fits_gap, covers}
@@ -14,9 +14,6 @@ pub behind_first : (text rest : List ℕ) (c : ℕ) → IsUtf8 text → text ≡
 behind_first text rest c utf8 split =
     let utf8_rest = IsUtf8-past_char text rest c utf8 split in
     sym (chars_from_encodes (c ∷ chars rest) text utf8 (ap (λ bs. encode_utf8 c ++ bs) (encodes-chars rest utf8_rest) ∙ sym split))
-
-pub no_chars : (text : List ℕ) → length text ≡ 0 → chars text ≡ []
-no_chars text none = ap chars (nil_from_length text none) ∙ chars-nil
 
 -- no atom is left
 no_atom : (text : List ℕ) → IsUtf8 text → (letters : List ℕ) → chars text ≡ letters → (length text == 0) ≡ covers [] letters
@@ -32,7 +29,7 @@ covers_none text utf8 = no_atom text utf8 (chars text) refl
 -- a letter
 pub no_letter : (a : ℕ) (atoms : List Atom) (text : List ℕ) → length text ≡ 0 → false ≡ covers (Letter a ∷ atoms) (chars text)
 unfolding covers
-no_letter a atoms text none = ap (covers (Letter a ∷ atoms)) (sym (no_chars text none))
+no_letter a atoms text none = ap (covers (Letter a ∷ atoms)) (sym (chars_of_empty text none))
 
 pub letter_first : (a c : ℕ) (atoms : List Atom) (text rest : List ℕ) → IsUtf8 text → text ≡ encode_utf8 c ++ rest → ((a == c) && covers atoms (chars rest)) ≡ covers (Letter a ∷ atoms) (chars text)
 unfolding covers

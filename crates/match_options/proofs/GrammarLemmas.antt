@@ -3,7 +3,7 @@ use Rattle.std.proofs.Common.{◌≡◌, refl, sym, ap, ◌∙◌, subst, ℕ, z
 use Rattle.std.specs.Prelude.{option_map, nat_lt, nat_le, ◌==◌}
 use Rattle.std.specs.List.{prefix_len, list_all}
 use Rattle.std.proofs.Math.Seq.{take-append_seam, drop-append_seam}
-use Rattle.std.proofs.lemmas.Bool.{cond-true, cond-false, eqb-true, eq-eqb, and_parts, and_from, ltb-true, lt-ltb, leb-true, le-leb}
+use Rattle.std.proofs.lemmas.Bool.{cond-true, cond-false, eqb-true, eq-eqb, and_parts, and_from, ltb-true, lt-ltb, leb-true, le-leb, or_parts}
 use Rattle.std.proofs.lemmas.List.Folds.{length-prefix_len}
 use Rattle.match_options.specs.declared.atom.Atom.{Atom}
 use Rattle.match_options.specs.declared.atom.Atom.TheVariants.{Letter, Gap}
@@ -49,10 +49,6 @@ braces_spelled low high rest nl nh ordered small =
     ∙ ap (upper_bound (number_of low) (length low + 1)) (number_spelled high rest 125 nh refl)
     ∙ cond-true _ _ _ (and_from _ _ (le-leb (number_of low) (number_of high) ordered) (le-leb (number_of high) max_number small))
     ∙ ap (sized (Gap (number_of low) (Some (number_of high)))) sizes
-
-or_parts : (a b : Bool) → (a || b) ≡ false → (a ≡ false) × (b ≡ false)
-or_parts true b h = cc
-or_parts false b h = (refl, h)
 
 record SpelledFront (text : List ℕ) (atom : Atom) (rest : List ℕ) : Type 0 where
   first : ℕ

@@ -70,14 +70,6 @@ pub letter_passed : (done : List (List ℕ)) (part more : List ℕ) (c : ℕ) (r
 unfolding parts_left
 letter_passed done part more c rest other put = ap (λ p. done ++ parts_left p rest) put ∙ ap (λ ts. done ++ ts) (sym (cond-false _ _ _ other))
 
-pub part_ended : (part : List ℕ) (text : List ℕ) → 0 < length part → text ≡ encode_utf8_all part → text ∷ [] ≡ ended part
-part_ended [] text some e = absurd (omega arith)
-part_ended (c ∷ part) text some e = ap (λ t. t ∷ []) e
-
-pub nothing_ended : (part : List ℕ) (done : List (List ℕ)) → length part ≡ 0 → done ≡ done ++ ended part
-nothing_ended [] done none = sym (append-nil done)
-nothing_ended (c ∷ part) done none = absurd (omega arith)
-
 -- nothing is left
 pub nothing_left : (part : List ℕ) → parts_left part [] ≡ ended part
 unfolding parts_left

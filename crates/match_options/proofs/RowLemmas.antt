@@ -7,17 +7,11 @@ use Rattle.std.proofs.lemmas.List.{drop_more, drop_all, get_or_past, get_or-drop
 use Rattle.std.proofs.lemmas.List.Sums.{prefix_len_passes, prefix_len_stops}
 use Rattle.std.proofs.lemmas.List.Folds.{list_any_at, Any-from_list_any}
 use Rattle.std.proofs.lemmas.List.FromFn.{length-range_with_len, get_or-range_with_len}
+use Rattle.ft_base.proofs.Truth.{same_tests}
 use Rattle.match_options.specs.declared.atom.Atom.{Atom}
 use Rattle.match_options.specs.declared.atom.Atom.TheVariants.{Letter, Gap}
 use Rattle.match_options.specs.Wildcards.{fits_gap, covers}
 use Rattle.match_options.specs.Row.{IsRow, at_place, nearest, reaches}
-
--- two truth values, where each follows from the other
-alike : (a b : Bool) → (a ≡ true → b ≡ true) → (b ≡ true → a ≡ true) → a ≡ b
-alike true true f g = refl
-alike false false f g = refl
-alike true false f g = sym (f refl)
-alike false true f g = g refl
 
 -- no atom is left: the end alone is covered
 end_covered : (place size : ℕ) (left : List ℕ) → length left + (place + 1) ≡ size → (place + 1 == size) ≡ covers [] left
@@ -145,7 +139,7 @@ module _ (atoms : List Atom) (letters : List ℕ) (old : List Bool) (row : IsRow
             so_many x (omega (arith, same, less)) fit
 
     gap_told : reaches low high (drop place least) ≡ covers (Gap low high ∷ atoms) (drop place letters)
-    gap_told = alike (reaches low high (drop place least)) (covers (Gap low high ∷ atoms) (drop place letters)) found reached
+    gap_told = same_tests (reaches low high (drop place least)) (covers (Gap low high ∷ atoms) (drop place letters)) found reached
 
   pub row_gap : (low : ℕ) (high : Option ℕ) (least new : List Bool) → length least ≡ length old → ((place : ℕ) → at_place least place ≡ at_place old (place + low))
       → length new ≡ length least → ((place : ℕ) → at_place new place ≡ reaches low high (drop place least)) → IsRow new (Gap low high ∷ atoms) letters

@@ -3,7 +3,7 @@ use Rattle.std.proofs.Common.{Bool, ◌≡◌, refl, sym, ap, ◌∙◌, ℕ, Li
 use Rattle.std.proofs.lemmas.Str.{chars_from_encodes}
 use Rattle.match_options.specs.declared.atom.Atom.{Atom}
 use Rattle.match_options.specs.declared.atom.Atom.TheVariants.{Letter, Gap}
-use Rattle.std.specs.Prelude.{Option, Some, None, option_map}
+use Rattle.std.specs.Prelude.{Option, None, option_map}
 use Rattle.ft_base.specs.declared.options.Case.{Case}
 use Rattle.match_options.specs.Patterns.{atoms_of}
 use Rattle.match_options.specs.Wildcards.{formed, form_by, pattern_in}
@@ -36,9 +36,5 @@ module _ (form : List ℕ → List ℕ) where
 
 -- the atoms of a pattern in their form, and a badly formed pattern
 module _ (case : Case) (marks : Bool) (pattern : List ℕ) (read : Option (Vec Atom Global)) (told : option_map (λ (v : Vec Atom Global). v.items) read ≡ atoms_of (chars pattern)) where
-  pub pattern_formed : (atoms : Vec Atom Global) → read ≡ Some atoms → (found : List Atom) → found ≡ formed (form_by case marks) [] atoms.items → Some found ≡ pattern_in case marks pattern
-  pattern_formed atoms some found is =
-      ap Some is ∙ ap (option_map (formed (form_by case marks) [])) (ap (option_map (λ (v : Vec Atom Global). v.items)) (sym some) ∙ told)
-
   pub pattern_bad : read ≡ None → None ≡ pattern_in case marks pattern
   pattern_bad none = ap (option_map (formed (form_by case marks) [])) (sym (ap (option_map (λ (v : Vec Atom Global). v.items)) none) ∙ told)

@@ -1,15 +1,14 @@
 -- What the slot of a node says of it.
-use Rattle.std.proofs.Common.{◌≡◌, ℕ, ◌+◌, ◌<◌, ◌≤◌, true, false, List, Some, length, get_or, IsTrue, refl, sym, ap, ◌∙◌, arith}
+use Rattle.std.proofs.Common.{◌≡◌, ◌+◌, ◌<◌, ◌≤◌, true, List, length, get_or, IsTrue, refl, sym, ap, ◌∙◌, arith}
 use Rattle.std.specs.List.{All, Contains}
 use Rattle.std.proofs.lemmas.List.{get_or-map, length-map}
 use Rattle.std.proofs.lemmas.List.Elements.{All-contains, Contains-get_or}
 use Rattle.plain_tree.specs.Document.{is_document}
 use Rattle.ordered_tree.specs.Counts.{word_count}
-use Rattle.ordered_tree.specs.Numbered.{Numbered, element_at, text_at, plain, reference, is_element, name_of}
-use Rattle.ordered_tree.specs.Slots.{held, slot, IsIn}
+use Rattle.ordered_tree.specs.Numbered.{Numbered, element_at, text_at, plain, reference, is_element}
+use Rattle.ordered_tree.specs.Slots.{slot, IsIn}
 use Rattle.ordered_tree.specs.Stands.{Stand, round_root, stands_in, references}
 use Rattle.ft_base.specs.declared.ids.NodeRef.{NodeRef}
-use Rattle.ordered_tree.specs.declared.slot.Held.TheVariants.{Element, Text, Free}
 use Rattle.ordered_tree.specs.declared.slot.Slot.{Slot}
 use Rattle.ordered_tree.proofs.ShiftLemmas.{stands-few}
 
@@ -47,22 +46,6 @@ module _ (slots : List Slot) (root : Numbered) (all : All (IsIn slots) (stands_i
       let is : get_or slots r.0 d ≡ slot f.stand = slot-reads f.stand f.among f.refers d in
       let inside = All-contains (λ s. s.around.before + word_count (plain s.node) ≤ word_count (plain root)) (stands_in root) f.stand (stands-few root) f.among in
       omega (arith, inside, ap (λ s. s.around.before) is, ap (λ s. s.words) is)
-
-pub held-element : (n : Numbered) (name : List ℕ) (attrs : _) → held n ≡ Element name attrs → is_element n ≡ true
-held-element (element_at r name' attrs' kids) name attrs h = refl
-held-element (text_at r bytes) name attrs h = cc
-
-pub held-text : (n : Numbered) (bytes : List ℕ) → held n ≡ Text bytes → is_element n ≡ false
-held-text (element_at r name attrs kids) bytes h = cc
-held-text (text_at r bytes') bytes h = refl
-
-pub held-free : (n : Numbered) → held n ≡ Free → ⊥
-held-free (element_at r name attrs kids) h = cc
-held-free (text_at r bytes) h = cc
-
-pub held-name : (n : Numbered) (name : List ℕ) (attrs : _) → held n ≡ Element name attrs → name_of n ≡ Some name
-held-name (element_at r name' attrs' kids) name attrs h = cc
-held-name (text_at r bytes) name attrs h = cc
 
 -- a document is an element
 pub document-element : (n : Numbered) → IsTrue (is_document (plain n)) → is_element n ≡ true

@@ -119,9 +119,6 @@ get_or-consecutive (suc c) s zero d lt = let e : s ≡ s + 0 = omega arith in ap
 get_or-consecutive (suc c) s (suc i) d lt =
     get_or-consecutive c (suc s) i d (omega arith) ∙ (let e : suc s + i ≡ s + suc i = omega arith in ap (λ x. record { 0 = x }) e)
 
-ref_of : Stand → NodeRef
-ref_of s = reference s.node
-
 mutual
   unfolding stands child_stands numbered children_numbered
 

@@ -1,19 +1,11 @@
 -- Phrases grouped by their lengths, and what becomes of their words.
-use Rattle.std.proofs.Common.{◌≡◌, refl, sym, ap, ◌∙◌, ℕ, ◌==◌, Bool, true, false, List, [], ◌∷◌, ◌++◌, map, fold, cond, length, suc, ◌+◌, ◌<◌, get_or, take, arith, Option, Some, None}
+use Rattle.std.proofs.Common.{◌≡◌, refl, sym, ap, ◌∙◌, ℕ, ◌==◌, Bool, true, false, List, [], ◌∷◌, ◌++◌, map, fold, cond, length, ◌+◌, ◌<◌, get_or, take, arith, Option, Some, None}
 use Rattle.std.specs.Prelude.{flat_map, nat_eq}
 use Rattle.std.specs.Map.{lookup, set_value}
-use Rattle.std.proofs.lemmas.List.{take_more}
+use Rattle.std.proofs.lemmas.List.{take_more, map-append, length-map}
 use Rattle.all_matches.specs.Counting.{put_variant, with_variant, by_length}
 use Rattle.indexmap.specs.IndexMap.{insert_entry}
 use Rattle.plan_compiler.specs.GroupsMeant.{put_behind}
-
-pub map-append : {X Y : Type 0} (f : X → Y) (xs ys : List X) → map f (xs ++ ys) ≡ map f xs ++ map f ys
-map-append f [] ys = refl
-map-append f (x ∷ xs) ys = ap (λ zs. f x ∷ zs) (map-append f xs ys)
-
-length-map : {X Y : Type 0} (f : X → Y) (xs : List X) → length (map f xs) ≡ length xs
-length-map f [] = refl
-length-map f (x ∷ xs) = ap suc (length-map f xs)
 
 pub flat_map-map : {X Y : Type 0} (f : X → List Y) (xs : List X) → flat_map (λ ys. ys) (map f xs) ≡ flat_map f xs
 flat_map-map f [] = refl
@@ -43,9 +35,9 @@ module _ {X Y : Type 0} (f : X → Y) where
   without_lengths (group ∷ groups) = ap (λ gs. map (map f) group.1 ∷ gs) (without_lengths groups)
 
   put_variant-map : (items : List X) (groups : List (ℕ × List (List X))) → put_variant (map f items) (map map_group groups) ≡ map map_group (put_variant items groups)
-  put_variant-map items [] = λ i. (length-map f items i, map f items ∷ []) ∷ []
+  put_variant-map items [] = λ i. (length-map items f i, map f items ∷ []) ∷ []
   put_variant-map items (group ∷ groups) =
-      ap (λ n. cond (n == group.0) ((group.0, map (map f) group.1 ++ map f items ∷ []) ∷ map map_group groups) (map_group group ∷ put_variant (map f items) (map map_group groups))) (length-map f items)
+      ap (λ n. cond (n == group.0) ((group.0, map (map f) group.1 ++ map f items ∷ []) ∷ map map_group groups) (map_group group ∷ put_variant (map f items) (map map_group groups))) (length-map items f)
       ∙ elim (length items == group.0) as (λ t. cond t ((group.0, map (map f) group.1 ++ map f items ∷ []) ∷ map map_group groups) (map_group group ∷ put_variant (map f items) (map map_group groups))
       ≡ map map_group (cond t ((group.0, group.1 ++ items ∷ []) ∷ groups) (group ∷ put_variant items groups)))
       [ true ↦ ap (λ vs. (group.0, vs) ∷ map map_group groups) (sym (map-append (map f) group.1 (items ∷ []))) | false ↦ ap (λ gs. map_group group ∷ gs) (put_variant-map items groups) ]

@@ -2,9 +2,9 @@
 use Rattle.std.proofs.Common.{◌≡◌, refl, sym, ap, ◌∙◌, ℕ, Bool, true, false, cond, not, ◌&&◌, ◌||◌, List, [], ◌∷◌, ◌++◌, map, Option, Some, None}
 use Rattle.std.specs.Prelude.{flat_map, fold, bytes_eq, if◌then◌else◌}
 use Rattle.std.specs.List.{list_any}
-use Rattle.std.proofs.lemmas.Bool.{both_ways}
 use Rattle.std.proofs.lemmas.List.Folds.{list_any-append}
 use Rattle.std.proofs.lemmas.Slice.Eq.{bytes_eq-Decides}
+use Rattle.std.proofs.Math.Bool.{or-true, or-false, or_assoc}
 use Rattle.ft_base.specs.declared.options.Case.{Case}
 use Rattle.ft_base.specs.declared.options.Case.TheVariants.{Insensitive, Sensitive, Lower, Upper}
 use Rattle.ft_base.specs.declared.options.StopChoice.{StopChoice}
@@ -12,6 +12,7 @@ use Rattle.ft_base.specs.declared.options.StopChoice.TheVariants as Stop
 use Rattle.ft_base.specs.declared.options.StopTerm.{StopTerm}
 use Rattle.ft_base.specs.declared.options.StopSource.{StopSource}
 use Rattle.ft_base.specs.declared.options.StopSource.TheVariants.{At, Written}
+use Rattle.ft_base.proofs.Truth.{bytes_eq_turned}
 use Rattle.text_forms.specs.Forms.{key_of}
 use Rattle.tokenizer.specs.Words.{words}
 use Rattle.all_matches.specs.Variants.{Item, any_word, word, pattern, source_holds, after_term, is_stop_word}
@@ -61,48 +62,21 @@ case_by_forms false choice w h = case_by_key choice.case choice.diacritics_sensi
 
 -- ---- sets of keys
 
-same_back : (a b : List ℕ) → bytes_eq a b ≡ bytes_eq b a
-same_back a b = by_test (bytes_eq a b) refl
-  where
-    by_test : (t : Bool) → bytes_eq a b ≡ t → t ≡ bytes_eq b a
-    by_test true e = sym ((bytes_eq-Decides b a).1 (sym ((bytes_eq-Decides a b).0 e)))
-    by_test false e = by_back (bytes_eq b a) refl
-      where
-        by_back : (s : Bool) → bytes_eq b a ≡ s → false ≡ s
-        by_back true f = absurd (both_ways (bytes_eq a b) e ((bytes_eq-Decides a b).1 (sym ((bytes_eq-Decides b a).0 f))))
-        by_back false f = refl
-
 -- one key more
 put_key : (q : List ℕ) (keys : List (List ℕ)) (key : List ℕ) → has_key (with_key keys key) q ≡ (has_key keys q || bytes_eq q key)
 put_key q keys key = by_test (list_any (bytes_eq key) keys) refl
   where
-    or_nothing : (b : Bool) → (b || false) ≡ b
-    or_nothing true = refl
-    or_nothing false = refl
-
-    or_true : (b : Bool) → (b || true) ≡ true
-    or_true true = refl
-    or_true false = refl
-
     there : list_any (bytes_eq key) keys ≡ true → (t : Bool) → bytes_eq q key ≡ t → has_key keys q ≡ (has_key keys q || t)
-    there e true f = ap (λ k. list_any (bytes_eq k) keys) ((bytes_eq-Decides q key).0 f) ∙ e ∙ sym (or_true (has_key keys q))
-    there e false f = sym (or_nothing (has_key keys q))
+    there e true f = ap (λ k. list_any (bytes_eq k) keys) ((bytes_eq-Decides q key).0 f) ∙ e ∙ sym (or-true (has_key keys q))
+    there e false f = sym (or-false (has_key keys q))
 
     by_test : (b : Bool) → list_any (bytes_eq key) keys ≡ b → has_key (cond b keys (keys ++ key ∷ [])) q ≡ (has_key keys q || bytes_eq q key)
     by_test true e = there e (bytes_eq q key) refl
-    by_test false e = list_any-append (bytes_eq q) keys (key ∷ []) ∙ ap (λ b. has_key keys q || b) (or_nothing (bytes_eq q key))
+    by_test false e = list_any-append (bytes_eq q) keys (key ∷ []) ∙ ap (λ b. has_key keys q || b) (or-false (bytes_eq q key))
 
 put_keys : (q : List ℕ) (keys more : List (List ℕ)) → has_key (fold with_key keys more) q ≡ (has_key keys q || has_key more q)
-put_keys q keys [] = or_nothing (has_key keys q)
-  where
-    or_nothing : (b : Bool) → b ≡ (b || false)
-    or_nothing true = refl
-    or_nothing false = refl
-put_keys q keys (key ∷ more) = put_keys q (with_key keys key) more ∙ ap (λ b. b || has_key more q) (put_key q keys key) ∙ joined (has_key keys q) (bytes_eq q key) (has_key more q)
-  where
-    joined : (a b c : Bool) → ((a || b) || c) ≡ (a || (b || c))
-    joined true b c = refl
-    joined false b c = refl
+put_keys q keys [] = sym (or-false (has_key keys q))
+put_keys q keys (key ∷ more) = put_keys q (with_key keys key) more ∙ ap (λ b. b || has_key more q) (put_key q keys key) ∙ or_assoc (has_key keys q) (bytes_eq q key) (has_key more q)
 
 -- ---- stop words
 
@@ -113,7 +87,7 @@ map-map (w ∷ ws) = ap (λ keys. key_of w ∷ keys) (map-map ws)
 text_has : (text key : List ℕ) → has_key (string_keys text) key ≡ list_any (λ w. bytes_eq (key_of w) key) (words text)
 text_has text key =
     ap (λ keys. has_key keys key) (map-map (words text)) ∙ list_any-map (bytes_eq key) key_of (words text)
-    ∙ list_any-alike (λ w. bytes_eq key (key_of w)) (λ w. bytes_eq (key_of w) key) (words text) (λ w. same_back key (key_of w))
+    ∙ list_any-alike (λ w. bytes_eq key (key_of w)) (λ w. bytes_eq (key_of w) key) (words text) (λ w. bytes_eq_turned key (key_of w))
 
 texts_have : (texts : List (List ℕ)) (key : List ℕ) → has_key (fold with_key [] (flat_map string_keys texts)) key ≡ list_any (λ text. list_any (λ w. bytes_eq (key_of w) key) (words text)) texts
 texts_have texts key =

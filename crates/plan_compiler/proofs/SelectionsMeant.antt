@@ -3,7 +3,7 @@ use Rattle.std.proofs.Common.{◌≡◌, refl, sym, ap, ◌∙◌, ℕ, zero, su
 use Rattle.std.specs.List.{list_any, list_all}
 use Rattle.std.specs.Option.{option_or}
 use Rattle.std.proofs.lemmas.Bool.{and_parts, and_from}
-use Rattle.std.proofs.lemmas.List.{take_more}
+use Rattle.std.proofs.lemmas.List.{take_more, map-append}
 use Rattle.ft_base.specs.declared.token.Token.{Token}
 use Rattle.ft_base.specs.declared.options.Options.{Options}
 use Rattle.ft_base.specs.declared.words.Words.{Words}
@@ -12,7 +12,6 @@ use Rattle.ft_syntax.specs.View.{form, forms_of}
 use Rattle.ft_syntax.specs.declared.selection.Selection.{Selection}
 use Rattle.ft_syntax.specs.declared.selection.Selection as S
 use Rattle.ft_syntax.proofs.Views.{form-Or, form-And}
-use Rattle.ft_base.specs.Selection.{no_options}
 use Rattle.all_matches.specs.Meaning.{inside, sat_under}
 use Rattle.all_matches.specs.Compositional.{some_form, each_form_passes, enough}
 use Rattle.all_matches.proofs.Compositional.{sat-or_of, sat-and_of, sat-not_of, sat-with_options, sat-words}
@@ -31,9 +30,8 @@ use Rattle.plan_compiler.specs.CompiledMeant.{IsCompiled}
 use Rattle.plan_compiler.specs.declared.words_plan.WordsPlan.{WordsPlan}
 use Rattle.plan_compiler.specs.declared.node.Node.{Node}
 use Rattle.plan_compiler.specs.declared.node.Node as N
-use Rattle.plan_compiler.proofs.DecidedLemmas.{form-Words, form-Not, form-With}
+use Rattle.plan_compiler.proofs.DecidedLemmas.{form-Not, form-With}
 use Rattle.plan_compiler.proofs.NodeViews.{truth-Or, truth-And, truth-Not}
-use Rattle.plan_compiler.proofs.GroupLemmas.{map-append}
 use Rattle.plan_compiler.proofs.PhrasesMeant.{compiled_count}
 
 -- what holds of both options of a group holds of the one that stands further in
@@ -63,15 +61,6 @@ served_inside looks inner outer h k =
     let b = and_parts (looks.all_forms || is_by_key (choice_of outer)) (looks.stems || not (is_on outer.stemming)) k in
     and_from (looks.all_forms || is_by_key (choice_of (inside inner outer))) (looks.stems || not (is_on (option_or inner.stemming outer.stemming)))
     (forms_inside looks.all_forms inner outer a.0 b.0) (stems_inside looks.stems inner.stemming outer.stemming a.1 b.1)
-
-pub none_served : (looks : Looks) → are_served looks no_options ≡ true
-none_served looks = by_looks looks.all_forms looks.stems
-  where
-    by_looks : (all stems : Bool) → ((all || true) && (stems || true)) ≡ true
-    by_looks true true = refl
-    by_looks true false = refl
-    by_looks false true = refl
-    by_looks false false = refl
 
 pub words_mean : (looks : Looks) (lists : NamedLists) (outer : Options) (value : Words) (plan : WordsPlan) (tokens : List Token) → IsCompiled plan lists (inside value.options outer) value
     → are_served looks (inside value.options outer) ≡ true → words_truth plan (words_of_tokens looks lists.stems tokens) ≡ sat_under (lexicon lists) outer (words value) tokens
@@ -119,9 +108,6 @@ decided_at looks (first ∷ parts) (suc i) part h below is = decided_at looks pa
 -- ---- what a compiled selection says, of each kind
 
 module _ (looks : Looks) (lists : NamedLists) (options : Options) (selection : Selection) where
-  pub words_selection : (value : Words) → selection ≡ S.Words value → (tokens : List Token) → sat_under (lexicon lists) options (words value) tokens ≡ sat_under (lexicon lists) options (form selection) tokens
-  words_selection value e tokens = ap (λ f. sat_under (lexicon lists) options f tokens) (sym (ap form e ∙ form-Words value))
-
   pub with_selection : (operand : Box Selection Global) (inner : Options) → selection ≡ S.With operand inner → (tokens : List Token)
       → sat_under (lexicon lists) (inside inner options) (form operand.value) tokens ≡ sat_under (lexicon lists) options (form selection) tokens
   with_selection operand inner e tokens =

@@ -1,15 +1,16 @@
 -- As many steps as there are characters are enough: each symbol has a character.
-use Rattle.std.proofs.Common.{◌≡◌, ℕ, zero, suc, ◌+◌, ◌≤◌, List, [], ◌∷◌, length, drop, refl, ap, arith, Bool, true, ◌||◌, cond, Option, Some, None, length-drop}
+use Rattle.std.proofs.Common.{◌≡◌, ℕ, zero, suc, ◌+◌, ◌≤◌, List, [], ◌∷◌, length, drop, refl, ap, arith, Bool, true, cond, Option, Some, None, length-drop}
 use Rattle.std.specs.Prelude.{IfSome, option_map}
 use Rattle.std.specs.List.{prefix_len}
 use Rattle.std.proofs.lemmas.Bool.{cond_both}
-use Rattle.ft_base.specs.Characters.{is_name_start, is_only_inside, is_name_char}
+use Rattle.ft_base.specs.Characters.{is_name_start, is_name_char}
 use Rattle.query_symbols.specs.declared.lexeme.Lexeme.{Lexeme}
 use Rattle.query_symbols.specs.declared.lexeme.Quoted.{Quoted}
 use Rattle.selection_grammar.specs.declared.symbol.Symbol.{Symbol}
 use Rattle.selection_grammar.specs.declared.symbol.Symbol.TheVariants.{Text}
 use Rattle.selection_grammar.specs.declared.symbol.Symbols.{Symbols}
 use Rattle.ft_base.specs.Letters.{is_digit, begins_with}
+use Rattle.ft_base.proofs.CharacterLemmas.{start_is_inside}
 use Rattle.query_symbols.specs.Symbols.{run_of, is_quote, is_slash, is_blank, goes_on_as_name, number_at, name_at, quoted_at, string_at, slash_at, mark_of, mark_at, front_mark, front_string, front_number, front, before, bytes_of_first, with_further, symbols_within}
 
 abbrev HasLetter : Option Lexeme → Type 0
@@ -18,12 +19,8 @@ HasLetter found = IfSome found (λ lexeme. 1 ≤ lexeme.size)
 run_from : (test : ℕ → Bool) (c : ℕ) (rest : List ℕ) → test c ≡ true → 1 ≤ run_of test (c ∷ rest)
 run_from test c rest h = let step : run_of test (c ∷ rest) ≡ 1 + run_of test rest = ap (λ b. cond b (1 + prefix_len test rest) 0) h in omega arith
 
-start_goes_on : (c : ℕ) → is_name_start c ≡ true → is_name_char c ≡ true
-unfolding is_name_char
-start_goes_on c h = ap (λ b. b || is_only_inside c) h
-
 name_letter : (c : ℕ) (rest : List ℕ) → is_name_start c ≡ true → HasLetter (name_at (c ∷ rest))
-name_letter c rest h = run_from is_name_char c rest (start_goes_on c h)
+name_letter c rest h = run_from is_name_char c rest (start_is_inside c h)
 
 number_letter : (c : ℕ) (rest : List ℕ) → is_digit c ≡ true → HasLetter (number_at (c ∷ rest))
 number_letter c rest h = cond_both (goes_on_as_name (drop (run_of is_digit (c ∷ rest)) (c ∷ rest))) _ _ HasLetter (λ e. tt) (λ e. run_from is_digit c rest h)

@@ -10,6 +10,7 @@ use Rattle.ft_base.specs.declared.options.StopTerm.{StopTerm}
 use Rattle.ft_base.specs.declared.options.StopSource.{StopSource}
 use Rattle.ft_base.specs.declared.options.StopSource.TheVariants.{At, Written}
 use Rattle.ft_base.specs.declared.options.ThesaurusUse.{ThesaurusUse}
+use Rattle.ft_base.proofs.Truth.{pointwise_refl}
 use Rattle.selection_grammar.specs.declared.symbol.Symbol.TheVariants as S
 use Rattle.selection_grammar.specs.declared.symbol.Placed.{Placed}
 use Rattle.selection_grammar.specs.declared.parsed.PlacedString.{PlacedString}
@@ -25,7 +26,7 @@ use Rattle.selection_grammar.specs.Machine as m
 use Rattle.selection_grammar.specs.Machine.{Left, nothing_left_of, Frame, Stage, State, next, advance, run_on, selection_at, selection_with, ors_with, ands_with, mild_with, operand_of, filtered_state, thesaurus_option, thesaurus_use, stop_option, start, close_next}
 use Rattle.selection_grammar.specs.Keywords.{filters_without_at, range}
 use Rattle.selection_grammar.specs.Shapes.{is_mark, number_leads, text_leads, number_of, text_of}
-use Rattle.selection_grammar.proofs.Words.{pointwise_refl, is_mark_self, symbol_of}
+use Rattle.selection_grammar.proofs.Words.{is_mark_self, symbol_of}
 use Rattle.selection_grammar.proofs.Walks.{st, Walks, stays, goes_on, walk, takes_own, run_on_of, run_on-append}
 
 -- Every branch of a shape comes to an end. The Bool says whether the shape is what is left of a choice, which may have no branch but is no end.

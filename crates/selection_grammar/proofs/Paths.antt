@@ -6,7 +6,7 @@ use Rattle.selection_grammar.specs.declared.symbol.Placed.{Placed}
 use Rattle.selection_grammar.specs.Shapes as s
 use Rattle.selection_grammar.specs.Shapes.{Shape, whole, nothing, word, number, text, mark, Mark, is_word, number_of, text_of, is_mark, step, run, Spelled, or_else, and_then}
 use Rattle.selection_grammar.specs.Grammar.{Spot, at, name, string}
-use Rattle.selection_grammar.proofs.Words.{word_is, number_is, text_is, mark_is, symbol_of, pointwise_refl, is_mark_self}
+use Rattle.selection_grammar.proofs.Words.{word_is, number_is, text_is, mark_is, symbol_of, is_mark_self}
 
 pub run-append : {A : Type 0} → (o : Option (Shape A)) (u v : List Placed) → run o (u ++ v) ≡ run (run o u) v
 run-append None u v = refl

@@ -1,16 +1,10 @@
 -- What the tests of symbols tell.
-use Rattle.std.proofs.Common.{◌≡◌, ℕ, Bool, true, false, ◌&&◌, cond, List, [], ◌∷◌, Option, Some, None, refl, sym, ◌∙◌, ap, subst}
-use Rattle.std.proofs.lemmas.Bool.{eq-eqb}
-use Rattle.std.specs.Prelude.{nat_eq}
-use Rattle.std.specs.Cmp.Lexicographic.{pointwise, same_text}
+use Rattle.std.proofs.Common.{◌≡◌, ℕ, Bool, true, false, cond, List, Option, Some, None, refl, sym, ap, subst}
+use Rattle.std.specs.Cmp.Lexicographic.{same_text}
 use Rattle.selection_grammar.specs.declared.symbol.Symbol.{Symbol}
 use Rattle.selection_grammar.specs.declared.symbol.Symbol.TheVariants as S
 use Rattle.selection_grammar.specs.declared.symbol.Placed.{Placed}
 use Rattle.selection_grammar.specs.Shapes.{Mark, open_parenthesis, close_parenthesis, open_brace, close_brace, comma, is_word, number_of, text_of, is_mark}
-
-pub pointwise_refl : (xs : List ℕ) → pointwise nat_eq xs xs ≡ true
-pointwise_refl [] = refl
-pointwise_refl (x ∷ xs) = ap (λ b. b && pointwise nat_eq xs xs) (eq-eqb x x refl) ∙ pointwise_refl xs
 
 pub word_is : (key : List ℕ) (symbol : Symbol) → is_word key symbol ≡ true → symbol ≡ S.Name key
 word_is key (S.Name name) h = ap S.Name (same_text name key (sym h))

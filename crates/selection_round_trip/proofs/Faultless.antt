@@ -4,6 +4,7 @@ use Rattle.std.specs.Option.{is_some, option_to_list}
 use Rattle.ft_base.specs.Selection.{Form}
 use Rattle.ft_base.specs.declared.fault.QueryFault.{QueryFault}
 use Rattle.ft_base.specs.declared.fault.QueryFault.TheVariants as F
+use Rattle.ft_base.proofs.Truth.{none_from_test}
 use Rattle.selection_grammar.specs.Form.{form_of}
 use Rattle.selection_grammar.specs.Tree.{Tree}
 use Rattle.selection_faults.specs.Excludes.{mild_not_excludes, inside_filters}
@@ -70,10 +71,6 @@ without true t b m f e = e
 without false true b m f e = cc
 without false false b m f e = e
 
-pub none_of : {A : Type 0} (o : Option A) → is_some o ≡ false → o ≡ None
-none_of None e = refl
-none_of (Some x) e = cc
-
 -- whether there is a fault is told by the form, and by whether an option is given twice
 pub same_fault : (t u : Tree) → form_of u ≡ form_of t → has_some (options_twice u) ≡ has_some (options_twice t) → is_some (fault_of u) ≡ is_some (fault_of t)
 same_fault t u e twice =
@@ -83,7 +80,7 @@ same_fault t u e twice =
 
 -- a selection of the form of one without a fault has none, if it has no option twice
 pub faultless_again : (t u : Tree) → form_of u ≡ form_of t → Once u → fault_of t ≡ None → fault_of u ≡ None
-faultless_again t u e once h = none_of (fault_of u)
+faultless_again t u e once h = none_from_test (fault_of u)
     (has_fault u
     ∙ ap (λ x. (((past x || has_some (options_twice u)) || bad x) || (marks_of x).mild_not_excludes) || (marks_of x).inside_filters) e
     ∙ ap (λ o. (((past (form_of t) || o) || bad (form_of t)) || (marks_of (form_of t)).mild_not_excludes) || (marks_of (form_of t)).inside_filters) once

@@ -4,7 +4,8 @@ use Rattle.std.proofs.lemmas.Bool.{eqb-true}
 use Rattle.std.proofs.Math.Seq.{drop-append_seam}
 use Rattle.std.specs.Prelude.{encode_utf8_all}
 use Rattle.std.specs.List.{list_all, prefix_len}
-use Rattle.ft_base.specs.Characters.{is_name_start, is_name_char, is_only_inside}
+use Rattle.ft_base.specs.Characters.{is_name_start, is_name_char}
+use Rattle.ft_base.proofs.CharacterLemmas.{start_is_inside}
 use Rattle.selection_grammar.specs.declared.symbol.Symbol.TheVariants.{Name}
 use Rattle.selection_grammar.specs.declared.symbol.Symbols.{Symbols}
 use Rattle.query_symbols.specs.Symbols.{front, front_number, name_at, goes_on_as_name, is_blank, with_further, symbols_within}
@@ -32,10 +33,6 @@ not_blank c h true b e f = let two : is_name_start 32 ≡ true = ap is_name_star
 not_blank c h false true e f = let two : is_name_start 9 ≡ true = ap is_name_start (sym (eqb-true c 9 f)) ∙ h in cc
 not_blank c h false false e f = ap (λ a. a || eqb c 9) e ∙ f
 
-starts_inside : (c : ℕ) → is_name_start c ≡ true → is_name_char c ≡ true
-unfolding is_name_char
-starts_inside c h = ap (λ b. b || is_only_inside c) h
-
 -- a name with these letters, and what is left behind it
 abbrev named : ℕ → ℕ → List ℕ → List ℕ → Symbols
 named bound place taken left = with_symbol bound place (Name (encode_utf8_all taken)) (encode_utf8_all taken) left
@@ -44,7 +41,7 @@ pub name_read : (bound place c : ℕ) (letters rest : List ℕ) → is_name_star
     → symbols_within (suc bound) place (c ∷ letters ++ rest) ≡ with_symbol bound place (Name (encode_utf8_all (c ∷ letters))) (encode_utf8_all (c ∷ letters)) rest
 unfolding symbols_within front
 name_read bound place c letters rest h k r =
-    let all : list_all is_name_char (c ∷ letters) ≡ true = ap (λ b. b && list_all is_name_char letters) (starts_inside c h) ∙ k in
+    let all : list_all is_name_char (c ∷ letters) ≡ true = ap (λ b. b && list_all is_name_char letters) (start_is_inside c h) ∙ k in
     ap (λ b. cond b (symbols_within bound (place + 1) (letters ++ rest)) (with_further place (c ∷ letters ++ rest) (symbols_within bound) (front (c ∷ letters ++ rest)))) (not_blank c h (eqb c 32) (eqb c 9) refl refl)
     ∙ ap (λ b. with_further place (c ∷ letters ++ rest) (symbols_within bound) (cond b (name_at (c ∷ letters ++ rest)) (front_number c (letters ++ rest)))) h
     ∙ ap (λ n. named bound place (take n (c ∷ letters ++ rest)) (drop n (c ∷ letters ++ rest))) (run_all is_name_char (c ∷ letters) rest all (run_ends rest r))

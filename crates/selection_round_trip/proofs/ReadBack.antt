@@ -2,6 +2,7 @@
 use Rattle.std.proofs.Common.{◌≡◌, ℕ, List, [], ◌∷◌, length, Option, None, Ok, refl, sym, ◌∙◌, ap}
 use Rattle.std.specs.Option.{is_some}
 use Rattle.ft_base.specs.Selection.{Form}
+use Rattle.ft_base.proofs.Truth.{none_from_test}
 use Rattle.ft_syntax.specs.Spacing.{set_out}
 use Rattle.ft_syntax.specs.Symbols.{symbols, printed}
 use Rattle.ft_parser.specs.Answer.{selection_read, symbols_read}
@@ -15,7 +16,7 @@ use Rattle.selection_faults.specs.Faults.{fault_of}
 use Rattle.selection_round_trip.specs.Printable.{AllPrintable}
 use Rattle.selection_round_trip.specs.Printed.{spellings}
 use Rattle.selection_round_trip.proofs.Contents.{AllContent}
-use Rattle.selection_round_trip.proofs.Faultless.{faultless_again, none_of}
+use Rattle.selection_round_trip.proofs.Faultless.{faultless_again}
 use Rattle.selection_round_trip.proofs.Good.{Within}
 use Rattle.selection_round_trip.proofs.LaidOut.{symbols_laid}
 use Rattle.selection_round_trip.proofs.Places.{same_there}
@@ -41,7 +42,7 @@ selects_back u bad form contents x =
         tree = there.tree;
         all = refl;
         whole = record { spells = there.spells; limits = limited again.placed laid.placed 0 p.good.within laid.are; filters = there.filters ∙ (whole_again u x.tree x.whole p).filters };
-        faultless = none_of (fault_of there.tree) (there.faults ∙ ap is_some faultless);
+        faultless = none_from_test (fault_of there.tree) (there.faults ∙ ap is_some faultless);
         is = x.is ∙ sym again.is ∙ sym there.is;
       },
     )

@@ -8,8 +8,9 @@ use Rattle.session_text.specs.Commands.{opens_block, closes_block, unquoted, com
 use Rattle.session_text.specs.Blocks.{without_last}
 use Rattle.text_lines.specs.Lines.{is_skipped, lines}
 use Rattle.std.specs.List.{onto_first}
+use Rattle.std.proofs.lemmas.Bool.{and_parts, not-true}
 use Rattle.session_text.specs.Reading.{Opened, Place, behind_lines, commands_on, commands_from, ended_at, line_ended, open_at_end, place_behind, is_unended}
-use Rattle.session_text.proofs.ReadingLemmas.{commands_on-line, unended_behind, left, right, not_true}
+use Rattle.session_text.proofs.ReadingLemmas.{commands_on-line, unended_behind}
 
 -- an open block is all that is left behind the last line
 nothing_left : (number : ℕ) (before : Option Opened) → commands_on true number before [] ≡ open_at_end before
@@ -36,10 +37,10 @@ nothing_open number (Some o) line command is = by (closes_block line) is
 
 -- bytes without a line feed are one line
 one_line : (byte : ℕ) (bytes : List ℕ) → is_unended (byte ∷ bytes) ≡ true → lines (byte ∷ bytes) ≡ (byte ∷ bytes) ∷ []
-one_line byte [] h = ap (λ t. cond t ([] ∷ []) ((byte ∷ []) ∷ [])) (not_true _ (left _ _ h))
+one_line byte [] h = ap (λ t. cond t ([] ∷ []) ((byte ∷ []) ∷ [])) (not-true _ (and_parts _ _ h).0)
 one_line byte (next ∷ bytes) h =
-    ap (λ t. cond t ([] ∷ lines (next ∷ bytes)) (onto_first byte (lines (next ∷ bytes)))) (not_true _ (left _ _ h))
-    ∙ ap (onto_first byte) (one_line next bytes (right _ _ h))
+    ap (λ t. cond t ([] ∷ lines (next ∷ bytes)) (onto_first byte (lines (next ∷ bytes)))) (not-true _ (and_parts _ _ h).0)
+    ∙ ap (onto_first byte) (one_line next bytes (and_parts _ _ h).1)
 
 -- the last line, where it isn't empty
 last_line : (bytes : List ℕ) → is_unended bytes ≡ true → (length bytes == 0) ≡ false → lines bytes ≡ bytes ∷ []

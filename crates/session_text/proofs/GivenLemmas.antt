@@ -1,21 +1,18 @@
 -- Each command that a line makes whole is readable, and its block has no more bytes than were held and read.
-use Rattle.std.proofs.Common.{◌≡◌, ◌∙◌, ap, refl, ℕ, ◌+◌, ◌-◌, ◌≤◌, Bool, true, false, not, cond, ◌&&◌, List, [], ◌∷◌, ◌++◌, length, drop, arith, length-append, length-drop, length-take}
+use Rattle.std.proofs.Common.{◌≡◌, ◌∙◌, ap, refl, ℕ, ◌+◌, ◌-◌, ◌≤◌, Bool, true, false, not, cond, List, [], ◌∷◌, ◌++◌, length, drop, arith, length-append, length-drop, length-take}
 use Rattle.std.specs.Prelude.{Option, Some, None, nat_eq, codes, ◌==◌}
 use Rattle.std.specs.Option.{option_to_list}
 use Rattle.std.specs.List.{list_all, starts_with}
 use Rattle.std.proofs.lemmas.List.Folds.{list_all-append}
 use Rattle.std.proofs.lemmas.List.Sums.{sum_by-append}
+use Rattle.std.proofs.lemmas.Bool.{and_from}
 use Rattle.session_text.specs.declared.command.Command.{Command}
 use Rattle.session_text.specs.Blocks.{without_last}
 use Rattle.session_text.specs.Commands.{opens_block, closes_block, unquoted, command_of_line, command_of_block}
 use Rattle.text_lines.specs.Lines.{is_skipped}
 use Rattle.session_text.specs.Given.{block_length, block_lengths, is_readable}
-use Rattle.session_text.specs.Reading.{Opened, Place, behind_lines, ended_at, held_length, line_ended, open_at_end, opened_length, place_behind}
+use Rattle.session_text.specs.Reading.{Opened, Place, behind_lines, ended_at, held_length, line_ended, opened_length, place_behind}
 use Rattle.session_text.proofs.CommandLemmas.{holds_of_line, holds_of_block}
-
-both : (a b : Bool) → a ≡ true → b ≡ true → (a && b) ≡ true
-both true b h k = k
-both false b h k = h
 
 line_readable : (number : ℕ) (line : List ℕ) → is_readable (command_of_line number line) ≡ true
 line_readable = holds_of_line (λ c. is_readable c ≡ true) (record {
@@ -29,7 +26,7 @@ line_readable = holds_of_line (λ c. is_readable c ≡ true) (record {
   print = λ p h. ap not h;
   explain = λ p h. ap not h;
   query = λ p h. ap not h;
-  query_at = λ n p h k. both _ _ h (ap not k);
+  query_at = λ n p h k. and_from _ _ h (ap not k);
 })
 
 block_readable : (block : List ℕ) (number : ℕ) (line : List ℕ) → is_readable (command_of_block number line block) ≡ true
@@ -78,11 +75,11 @@ readable_ended number None line = by (is_skipped line) (opens_block line)
     by : (skipped opens : Bool) → list_all is_readable (option_to_list (let ended : Option Command × Option Opened = cond skipped (None, None) (cond opens (None, Some (record { line = line; number = number; block = [] })) (Some (command_of_line number line), None)) in ended.0)) ≡ true
     by true opens = refl
     by false true = refl
-    by false false = both _ _ (line_readable number line) refl
+    by false false = and_from _ _ (line_readable number line) refl
 readable_ended number (Some o) line = by (closes_block line)
   where
     by : (closes : Bool) → list_all is_readable (option_to_list (let ended : Option Command × Option Opened = cond closes (Some (command_of_block o.number o.line (without_last o.block)), None) (None, Some (record o { block = o.block ++ unquoted line ++ 10 ∷ [] })) in ended.0)) ≡ true
-    by true = both _ _ (block_readable (without_last o.block) o.number o.line) refl
+    by true = and_from _ _ (block_readable (without_last o.block) o.number o.line) refl
     by false = refl
 
 length-unquoted : (line : List ℕ) → length (unquoted line) ≤ length line
@@ -124,7 +121,7 @@ pub added_readable : (place : Place) (part : List ℕ) (found after : List Comma
 added_readable place part found after command says added readable =
     ap (list_all is_readable) (added ∙ ap (λ o. found ++ option_to_list o) says)
     ∙ (list_all-append is_readable found (option_to_list (ended_at place part).0)
-    ∙ both _ _ readable (readable_ended (place.lines + 1) place.opened (behind_lines place.lines (place.rest ++ part))))
+    ∙ and_from _ _ readable (readable_ended (place.lines + 1) place.opened (behind_lines place.lines (place.rest ++ part))))
 
 pub added_blocks : (place new : Place) (part : List ℕ) (found after : List Command) (command : Option Command)
     → command ≡ (ended_at place part).0 → new ≡ place_behind place part → after ≡ found ++ option_to_list command
@@ -133,15 +130,6 @@ added_blocks place new part found after command says moved added =
     let lengths : block_lengths after ≡ block_lengths found + block_lengths (option_to_list (ended_at place part).0) =
     ap block_lengths (added ∙ ap (λ o. found ++ option_to_list o) says) ∙ sum_by-append block_length found (option_to_list (ended_at place part).0) in
     omega (arith, lengths, ap held_length moved, blocks_behind place part)
-
--- the command that an open block is
-pub readable_at_end : (before : Option Opened) → list_all is_readable (open_at_end before) ≡ true
-readable_at_end None = refl
-readable_at_end (Some o) = refl
-
-pub blocks_at_end : (before : Option Opened) → block_lengths (open_at_end before) ≡ 0
-blocks_at_end None = refl
-blocks_at_end (Some o) = refl
 
 -- a block that a line closes was held
 pub whole_blocks : (number : ℕ) (before : Option Opened) (line : List ℕ) → block_lengths (option_to_list (line_ended number before line).0) ≤ opened_length before

@@ -5,6 +5,7 @@ use Rattle.std.specs.List.{starts_with}
 use Rattle.std.proofs.Math.Seq.{drop-nil, take-length}
 use Rattle.std.proofs.lemmas.Bool.Decides.{nat_tests}
 use Rattle.std.proofs.lemmas.List.{drop_all, length-drop, take-append-drop}
+use Rattle.std.proofs.lemmas.Bool.{leb-true}
 use Rattle.session_text.specs.declared.command.Command.{Command}
 use Rattle.session_text.specs.Commands.{closes_block, unquoted, command_of_block}
 use Rattle.session_text.specs.Blocks.{without_last}
@@ -31,9 +32,6 @@ behind_end : (test : Bool) (bytes : List ℕ) → EndsIn bytes (cond test (witho
 behind_end true bytes = chosen_end (starts_with nat_eq bytes (239 ∷ 187 ∷ 191 ∷ [])) bytes 3
 behind_end false bytes = (0, refl)
 
-within : (a b : ℕ) → nat_le a b ≡ true → a ≤ b
-within a b h = grind (arith, nat_tests)
-
 beyond : (a b : ℕ) → nat_le a b ≡ false → b ≤ a
 beyond a b h = grind (arith, nat_tests)
 
@@ -45,7 +43,7 @@ end_is bytes end (n, e) = by (nat_le n (length bytes)) refl
     long = ap length e ∙ length-drop n bytes
 
     by : (test : Bool) → nat_le n (length bytes) ≡ test → drop (length bytes - length end) bytes ≡ end
-    by true h = let here : length bytes - length end ≡ n = omega (arith, long, within n (length bytes) h) in ap (λ k. drop k bytes) here ∙ sym e
+    by true h = let here : length bytes - length end ≡ n = omega (arith, long, leb-true n (length bytes) h) in ap (λ k. drop k bytes) here ∙ sym e
     by false h =
         let none : length end ≡ 0 = omega (arith, long, beyond n (length bytes) h) in
         let all : length bytes - length end ≡ length bytes = omega (arith, none) in

@@ -1,22 +1,19 @@
 -- A piece that is read line by line: the commands so far and those of what is left are all.
-use Rattle.std.proofs.Common.{◌≡◌, ◌∙◌, sym, ap, refl, ℕ, suc, ◌+◌, ◌<◌, ◌≤◌, Bool, true, false, not, cond, ◌&&◌, get_or, eqb-true, List, [], ◌∷◌, ◌++◌, length, take, drop, arith, append_assoc}
+use Rattle.std.proofs.Common.{◌≡◌, ◌∙◌, sym, ap, refl, ℕ, suc, ◌+◌, ◌<◌, ◌≤◌, Bool, true, false, not, cond, get_or, eqb-true, List, [], ◌∷◌, ◌++◌, length, take, drop, arith, append_assoc}
 use Rattle.std.specs.Option.{option_to_list}
 use Rattle.std.specs.Prelude.{Option}
 use Rattle.std.specs.List.{position_or_len}
 use Rattle.std.proofs.lemmas.List.{take_all}
 use Rattle.std.proofs.lemmas.List.Sums.{split_at_first, passes_at_first}
+use Rattle.std.proofs.lemmas.Bool.{and_from}
 use Rattle.session_text.specs.declared.command.Command.{Command}
 use Rattle.text_lines.specs.Lines.{is_line_feed}
 use Rattle.session_text.specs.Reading.{Place, commands_from, ended_at, place_behind, is_unended}
-use Rattle.session_text.proofs.ReadingLemmas.{commands_from-line, commands_from-rest, unended_append}
+use Rattle.session_text.proofs.ReadingLemmas.{commands_from-line, unended_append}
 
 -- bytes up to the first line feed
 abbrev pub feed_at : List ℕ → ℕ
 feed_at bytes = position_or_len is_line_feed bytes
-
-both : (a b : Bool) → a ≡ true → b ≡ true → (a && b) ≡ true
-both true b h k = k
-both false b h k = h
 
 -- the bytes before the first line feed hold none
 unended_front : (bytes : List ℕ) → is_unended (take (feed_at bytes) bytes) ≡ true
@@ -27,7 +24,7 @@ unended_front (byte ∷ bytes) = by (is_line_feed byte) refl (unended_front byte
     by true e h = refl
     by false e h =
         let next : 1 + feed_at bytes ≡ suc (feed_at bytes) = omega arith in
-        ap (λ n. is_unended (take n (byte ∷ bytes))) next ∙ both (not (is_line_feed byte)) _ (ap not e) h
+        ap (λ n. is_unended (take n (byte ∷ bytes))) next ∙ and_from (not (is_line_feed byte)) _ (ap not e) h
 
 -- and the line feed stands behind them
 at_feed : (bytes : List ℕ) → feed_at bytes < length bytes → bytes ≡ take (feed_at bytes) bytes ++ 10 ∷ drop (feed_at bytes + 1) bytes
@@ -59,10 +56,6 @@ line_added at_end place new bytes behind more end found after command rest_open 
     ∙ ap (λ b. option_to_list command ++ commands_from at_end new (b ++ more)) (sym left))))
     ∙ (sym (append_assoc found (option_to_list command) (commands_from at_end new (behind ++ more)))
     ∙ ap (λ commands. commands ++ commands_from at_end new (behind ++ more)) (sym added))
-
--- the last line of a piece goes on
-pub piece_rest : (at_end : Bool) (place : Place) (behind more : List ℕ) → commands_from at_end (record place { rest = place.rest ++ behind }) more ≡ commands_from at_end place (behind ++ more)
-piece_rest at_end place behind more = commands_from-rest at_end place behind more
 
 pub unended_rest : (rest behind : List ℕ) → is_unended rest ≡ true → length behind ≤ position_or_len is_line_feed behind → is_unended (rest ++ behind) ≡ true
 unended_rest rest behind rest_open past = unended_append rest behind rest_open (ap is_unended (sym (take_all (feed_at behind) behind past)) ∙ unended_front behind)

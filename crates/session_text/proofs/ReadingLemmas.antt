@@ -5,6 +5,7 @@ use Rattle.std.specs.Option.{option_to_list}
 use Rattle.std.specs.List.{starts_with, onto_first}
 use Rattle.std.proofs.lemmas.List.{append-nil}
 use Rattle.std.proofs.lemmas.Bool.Decides.{nat_tests}
+use Rattle.std.proofs.lemmas.Bool.{and_parts, and_from, not-true}
 use Rattle.session_text.specs.declared.command.Command.{Command}
 use Rattle.session_text.specs.Blocks.{block_behind, without_last}
 use Rattle.session_text.specs.Commands.{commands_of_lines, opened, opens_block, closes_block, unquoted, command_of_line, command_of_block, block_of}
@@ -45,33 +46,16 @@ pub commands_on-line : (at_end : Bool) (number : ℕ) (before : Option Opened) (
 commands_on-line at_end number None line behind = command_line at_end number line behind
 commands_on-line at_end number (Some o) line behind = block_line at_end number o line behind
 
--- both parts of a conjunction
-pub left : (a b : Bool) → (a && b) ≡ true → a ≡ true
-left true b h = refl
-left false b h = h
-
-pub right : (a b : Bool) → (a && b) ≡ true → b ≡ true
-right true b h = h
-right false b h = absurd (let impossible : ⊥ = cc in impossible)
-
-pub not_true : (b : Bool) → not b ≡ true → b ≡ false
-not_true true h = cc
-not_true false h = refl
-
-pub both : (a b : Bool) → a ≡ true → b ≡ true → (a && b) ≡ true
-both true b h k = k
-both false b h k = h
-
 -- a line up to its line feed is the first of the lines
 pub lines_of-line : (at_end : Bool) (line more : List ℕ) → is_unended line ≡ true → lines_of at_end (line ++ 10 ∷ more) ≡ line ∷ lines_of at_end more
 lines_of-line true [] more h = refl
 lines_of-line false [] more h = refl
 lines_of-line true (byte ∷ line) more h =
-    ap (λ t. cond t ([] ∷ lines (line ++ 10 ∷ more)) (onto_first byte (lines (line ++ 10 ∷ more)))) (not_true _ (left _ _ h))
-    ∙ ap (onto_first byte) (lines_of-line true line more (right _ _ h))
+    ap (λ t. cond t ([] ∷ lines (line ++ 10 ∷ more)) (onto_first byte (lines (line ++ 10 ∷ more)))) (not-true _ (and_parts _ _ h).0)
+    ∙ ap (onto_first byte) (lines_of-line true line more (and_parts _ _ h).1)
 lines_of-line false (byte ∷ line) more h =
-    ap (λ t. cond t ([] ∷ ended_lines (line ++ 10 ∷ more)) (onto_ended byte (ended_lines (line ++ 10 ∷ more)))) (not_true _ (left _ _ h))
-    ∙ ap (onto_ended byte) (lines_of-line false line more (right _ _ h))
+    ap (λ t. cond t ([] ∷ ended_lines (line ++ 10 ∷ more)) (onto_ended byte (ended_lines (line ++ 10 ∷ more)))) (not-true _ (and_parts _ _ h).0)
+    ∙ ap (onto_ended byte) (lines_of-line false line more (and_parts _ _ h).1)
 
 unmarked : (t u : Bool) (xs ys : List ℕ) → cond (t && (u && false)) ys xs ≡ xs
 unmarked true true xs ys = refl
@@ -102,7 +86,7 @@ behind_lines-line n line more = by (n == 0)
 unended_drop : (n : ℕ) (bytes : List ℕ) → is_unended bytes ≡ true → is_unended (drop n bytes) ≡ true
 unended_drop zero bytes h = h
 unended_drop (suc n) [] h = h
-unended_drop (suc n) (byte ∷ bytes) h = unended_drop n bytes (right _ _ h)
+unended_drop (suc n) (byte ∷ bytes) h = unended_drop n bytes (and_parts _ _ h).1
 
 pub unended_behind : (n : ℕ) (bytes : List ℕ) → is_unended bytes ≡ true → is_unended (behind_lines n bytes) ≡ true
 unended_behind n bytes h = by (n == 0) (starts_with nat_eq bytes (239 ∷ 187 ∷ 191 ∷ []))
@@ -114,7 +98,7 @@ unended_behind n bytes h = by (n == 0) (starts_with nat_eq bytes (239 ∷ 187 �
 
 pub unended_append : (xs ys : List ℕ) → is_unended xs ≡ true → is_unended ys ≡ true → is_unended (xs ++ ys) ≡ true
 unended_append [] ys h k = k
-unended_append (byte ∷ xs) ys h k = both (not (is_line_feed byte)) (is_unended (xs ++ ys)) (left _ _ h) (unended_append xs ys (right _ _ h) k)
+unended_append (byte ∷ xs) ys h k = and_from (not (is_line_feed byte)) (is_unended (xs ++ ys)) (and_parts _ _ h).0 (unended_append xs ys (and_parts _ _ h).1 k)
 
 later_line : (n : ℕ) (bytes : List ℕ) → behind_lines (n + 1) bytes ≡ bytes
 later_line n bytes = ap (λ t. cond t (without_mark bytes) bytes) (let later : (n + 1 == 0) ≡ false = grind (arith, nat_tests) in later)
@@ -131,16 +115,16 @@ commands_from-line at_end place part more rest_open part_open =
     ∙ (commands_on-line at_end (place.lines + 1) place.opened line (lines_of at_end more)
     ∙ ap (λ w. commands_behind at_end (place.lines + 1) (lines_of at_end w) (ended_at place part)) (sym (later_line place.lines more)))))
 
--- bytes of a line that hasn't ended
-pub commands_from-rest : (at_end : Bool) (place : Place) (bytes more : List ℕ) → commands_from at_end (record place { rest = place.rest ++ bytes }) more ≡ commands_from at_end place (bytes ++ more)
-commands_from-rest at_end place bytes more = ap (λ w. commands_on at_end (place.lines + 1) place.opened (lines_of at_end (behind_lines place.lines w))) (append_assoc place.rest bytes more)
+-- bytes of a line that hasn't ended, as the last of a piece
+pub piece_rest : (at_end : Bool) (place : Place) (bytes more : List ℕ) → commands_from at_end (record place { rest = place.rest ++ bytes }) more ≡ commands_from at_end place (bytes ++ more)
+piece_rest at_end place bytes more = ap (λ w. commands_on at_end (place.lines + 1) place.opened (lines_of at_end (behind_lines place.lines w))) (append_assoc place.rest bytes more)
 
 -- none of these ends a line
 ended_lines-unended : (bytes : List ℕ) → is_unended bytes ≡ true → ended_lines bytes ≡ []
 ended_lines-unended [] h = refl
 ended_lines-unended (byte ∷ bytes) h =
-    ap (λ t. cond t ([] ∷ ended_lines bytes) (onto_ended byte (ended_lines bytes))) (not_true _ (left _ _ h))
-    ∙ ap (onto_ended byte) (ended_lines-unended bytes (right _ _ h))
+    ap (λ t. cond t ([] ∷ ended_lines bytes) (onto_ended byte (ended_lines bytes))) (not-true _ (and_parts _ _ h).0)
+    ∙ ap (onto_ended byte) (ended_lines-unended bytes (and_parts _ _ h).1)
 
 none_whole : (number : ℕ) (before : Option Opened) → commands_on false number before [] ≡ []
 none_whole number None = refl

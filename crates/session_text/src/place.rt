@@ -352,7 +352,7 @@ impl Unfinished {
     }
 
     /// Takes the next piece, and gives the commands that are whole with it.
-    #[tactic(auto, using(crate::proofs::PlaceLemmas::piece_rest, crate::proofs::PlaceLemmas::unended_rest))]
+    #[tactic(auto, using(crate::proofs::ReadingLemmas::piece_rest, crate::proofs::PlaceLemmas::unended_rest))]
     pub(crate) fn take_piece(&mut self, alloc: Global, piece: &[u8]) -> Result<Commands, Memory>
         requires room { self.old.lines + length piece.now < 2 ^ 64 }
         requires unended { is_unended self.old.rest ≡ true }

@@ -1,9 +1,9 @@
 -- The forms of ASCII text, and the forms of a text that is itself a form.
-use Rattle.std.proofs.Common.{◌≡◌, ℕ, zero, suc, ◌<◌, true, not, List, [], ◌∷◌, map, All, chars, encode_utf8_all, IsAscii, IsUtf8, refl, sym, ap, ◌∙◌, suc-le-suc, zero-le, arith}
+use Rattle.std.proofs.Common.{◌≡◌, ℕ, zero, suc, ◌<◌, true, not, List, [], ◌∷◌, map, All, chars, encode_utf8_all, IsAscii, IsUtf8, refl, sym, ap, ◌∙◌, suc-le-suc, zero-le}
 use Rattle.std.proofs.lemmas.Bool.{cond-true}
-use Rattle.std.proofs.lemmas.Bool.Decides.{nat_tests}
 use Rattle.std.proofs.lemmas.Str.{chars-IsAscii, encodes-IsAscii, chars_from_encodes}
 use Rattle.std.specs.Char.{to_ascii_lowercase}
+use Rattle.std.proofs.lemmas.Str.Ascii.{lowercase_ascii}
 use Rattle.ucd_table.proofs.Facts.{Stepped-below}
 use Rattle.ucd_category.specs.GeneralCategory.{general_category, general_category_eq}
 use Rattle.ucd_category.specs.declared.GeneralCategory.TheVariants.{NonspacingMark}
@@ -28,12 +28,9 @@ without_marks-ascii (c ∷ cs) all =
     cond-true _ _ _ (is_no_mark-ascii c (all zero 0 (suc-le-suc zero-le)))
     ∙ ap (λ l. c ∷ l) (without_marks-ascii cs (λ k d lt. all (suc k) d (suc-le-suc lt)))
 
-to_ascii_lowercase-ascii : (c : ℕ) → c < 128 → to_ascii_lowercase c < 128
-to_ascii_lowercase-ascii c h = grind (arith, nat_tests)
-
 IsAscii-lower : (bs : List ℕ) → IsAscii bs → IsAscii (map to_ascii_lowercase bs)
 IsAscii-lower [] ascii i = ascii i
-IsAscii-lower (b ∷ bs) ascii zero = to_ascii_lowercase-ascii b (ascii zero)
+IsAscii-lower (b ∷ bs) ascii zero = lowercase_ascii b (ascii zero)
 IsAscii-lower (b ∷ bs) ascii (suc i) = IsAscii-lower bs (λ j. ascii (suc j)) i
 
 module _ (bs : List ℕ) (ascii : IsAscii bs) where

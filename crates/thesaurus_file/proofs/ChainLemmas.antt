@@ -2,13 +2,14 @@
 use Rattle.std.proofs.Common.{◌≡◌, ◌∙◌, sym, ap, subst, refl, ℕ, zero, suc, ◌<◌, ◌↔◌, Bool, true, false, not, ◌&&◌, ◌||◌, List, [], ◌∷◌, Option, Contains, true≢false, arith, ◌⊎◌, inl, inr, ◌≤◌}
 use Rattle.std.specs.List.{list_any}
 use Rattle.std.specs.Cmp.{eq_by_cmp_equiv}
-use Rattle.std.proofs.lemmas.Bool.{cases_lt}
+use Rattle.std.proofs.lemmas.Bool.{cases_lt, and_parts, not-true}
 use Rattle.std.proofs.lemmas.Map.Views.{Contains-from_any, list_any-from_Contains}
+use Rattle.std.proofs.Math.Bool.{or-true, or-false}
 use Rattle.thesaurus_file.specs.Chains.{IsChain, IsLevel}
 use Rattle.thesaurus_file.specs.Phrases.{Phrase, phrase_eq}
 use Rattle.thesaurus_file.specs.Links.{Links}
 use Rattle.thesaurus_file.specs.Expansion.{next, ends, is_nearer, level}
-use Rattle.thesaurus_file.proofs.OrderLemmas.{or_true, phrase_total, same_from_eq}
+use Rattle.thesaurus_file.proofs.OrderLemmas.{phrase_total, same_from_eq}
 use Rattle.thesaurus_file.proofs.LevelLemmas.{among_level, any_held, ends_suc}
 
 -- one that passes, from a list in which one does
@@ -26,14 +27,6 @@ is_among q xs h = Contains-from_any same_from_eq q xs h
 pub among : (q : Phrase) (xs : List Phrase) → Contains xs q → list_any (phrase_eq q) xs ≡ true
 among q xs h = list_any-from_Contains (eq_by_cmp_equiv phrase_total) q xs h
 
-pub not_first : (a b : Bool) → (not a && b) ≡ true → a ≡ false
-not_first true b h = sym h
-not_first false b h = refl
-
-pub second : (a b : Bool) → (a && b) ≡ true → b ≡ true
-second true b h = h
-second false b h = absurd (true≢false (sym h))
-
 cases_below : (m n : ℕ) → m < suc n → (m < n) ⊎ (m ≡ n)
 cases_below m n h = by (cases_lt m n)
   where
@@ -44,11 +37,7 @@ cases_below m n h = by (cases_lt m n)
 module _ (thesaurus : Links) (relation : Option (List ℕ)) (start : Phrase) where
   pub chain_from_ends : (n : ℕ) (q : Phrase) → list_any (phrase_eq q) (ends thesaurus relation n start) ≡ true → IsChain thesaurus relation n start q
   unfolding IsChain ends
-  chain_from_ends zero q h = same_from_eq q start (first_of (phrase_eq q start) h)
-    where
-      first_of : (b : Bool) → (b || false) ≡ true → b ≡ true
-      first_of true e = refl
-      first_of false e = e
+  chain_from_ends zero q h = same_from_eq q start (sym (or-false (phrase_eq q start)) ∙ h)
   chain_from_ends (suc n) q h =
       let r = some_passes (λ p. list_any (phrase_eq q) (next thesaurus relation p)) (ends thesaurus relation n start) (sym (ends_suc thesaurus relation start n q) ∙ h) in
       (r.0, chain_from_ends n r.0 (among r.0 (ends thesaurus relation n start) r.2), is_among q (next thesaurus relation r.0) r.1)
@@ -67,7 +56,7 @@ module _ (thesaurus : Links) (relation : Option (List ℕ)) (start : Phrase) whe
   nearer_from_chain (suc n) fewer q below h =
       elim (cases_below fewer n (omega (arith, below))) [
         | inl less ↦ ap (λ b. b || list_any (phrase_eq q) (ends thesaurus relation n start)) (nearer_from_chain n fewer q less h)
-        | inr same ↦ ap (λ b. is_nearer thesaurus relation n start q || b) (ends_from_chain n q (subst (λ k. IsChain thesaurus relation k start q) same h)) ∙ or_true (is_nearer thesaurus relation n start q)
+        | inr same ↦ ap (λ b. is_nearer thesaurus relation n start q || b) (ends_from_chain n q (subst (λ k. IsChain thesaurus relation k start q) same h)) ∙ or-true (is_nearer thesaurus relation n start q)
       ]
 
   chain_from_nearer : (n : ℕ) (q : Phrase) → is_nearer thesaurus relation n start q ≡ true → (fewer : ℕ) × (fewer < n) × IsChain thesaurus relation fewer start q
@@ -82,9 +71,9 @@ module _ (thesaurus : Links) (relation : Option (List ℕ)) (start : Phrase) whe
   pub level_from_among : (n : ℕ) (q : Phrase) → list_any (phrase_eq q) (level thesaurus relation n start) ≡ true → IsLevel thesaurus relation n start q
   level_from_among n q h =
       let both : (not (is_nearer thesaurus relation n start q) && list_any (phrase_eq q) (ends thesaurus relation n start)) ≡ true = sym (among_level thesaurus relation start n q) ∙ h in
-      let far : is_nearer thesaurus relation n start q ≡ false = not_first (is_nearer thesaurus relation n start q) (list_any (phrase_eq q) (ends thesaurus relation n start)) both in
+      let far : is_nearer thesaurus relation n start q ≡ false = not-true (is_nearer thesaurus relation n start q) (and_parts (not (is_nearer thesaurus relation n start q)) (list_any (phrase_eq q) (ends thesaurus relation n start)) both).0 in
       record {
-        chain = chain_from_ends n q (second (not (is_nearer thesaurus relation n start q)) (list_any (phrase_eq q) (ends thesaurus relation n start)) both);
+        chain = chain_from_ends n q (and_parts (not (is_nearer thesaurus relation n start q)) (list_any (phrase_eq q) (ends thesaurus relation n start)) both).1;
         shortest = λ fewer below h. true≢false (sym (nearer_from_chain n fewer q below h) ∙ far);
       }
 

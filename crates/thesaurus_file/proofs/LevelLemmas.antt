@@ -5,13 +5,14 @@ use Rattle.std.specs.BTreeSet.{insert_key}
 use Rattle.std.proofs.lemmas.List.Folds.{list_any-append}
 use Rattle.std.proofs.lemmas.List.Elements.{filter-append}
 use Rattle.std.proofs.lemmas.Map.Views.{any-filter_same}
+use Rattle.std.proofs.Math.Bool.{or-true}
 use Rattle.thesaurus_file.specs.Phrases.{Phrase, phrase_cmp, phrase_eq}
 use Rattle.thesaurus_file.specs.Levels.{in_range, is_up_to}
 use Rattle.thesaurus_file.specs.Links.{Links, links_from}
 use Rattle.thesaurus_file.specs.Walks.{is_unseen, unseen_ends, level_behind}
 use Rattle.thesaurus_file.specs.Expansion.{next, ends, is_nearer, level, asked_level}
 use Rattle.thesaurus_file.specs.declared.levels.Levels.{Levels}
-use Rattle.thesaurus_file.proofs.OrderLemmas.{any_fold, any_in_order, in_order_same, or_true, same_from_eq}
+use Rattle.thesaurus_file.proofs.OrderLemmas.{any_fold, any_in_order, in_order_same, same_from_eq}
 
 -- ---- lists
 
@@ -29,7 +30,7 @@ any_held t r [] h held = held
 any_held t r (x ∷ xs) h held =
     elim (phrase_eq r x) as (λ b. phrase_eq r x ≡ b → (b || list_any (phrase_eq r) xs) ≡ true → (t x || list_any t xs) ≡ true) [
       | true ↦ λ e _. ap (λ b. b || list_any t xs) (ap t (sym (same_from_eq r x e)) ∙ h)
-      | false ↦ λ e rest. ap (λ b. t x || b) (any_held t r xs h rest) ∙ or_true (t x)
+      | false ↦ λ e rest. ap (λ b. t x || b) (any_held t r xs h rest) ∙ or-true (t x)
     ] refl held
 
 either_way : (a b : Bool) → (a ≡ false → b ≡ true) → (a || b) ≡ true

@@ -10,6 +10,7 @@ use Rattle.std.specs.List.Sorted.{IsStrictlySortedBy}
 use Rattle.std.specs.BTreeSet.{insert_key}
 use Rattle.std.specs.FinMap.{slice_cmp-IsAntisymmetric, nat_cmp-IsAntisymmetric}
 use Rattle.std.specs.FinMap.Entries.{below_all, by_order, put, find, is_sorted, is_some-find, is_sorted-put, same_entries}
+use Rattle.std.proofs.Math.Bool.{or-false, or_self_left}
 use Rattle.thesaurus_file.specs.Phrases.{Phrase, in_order, phrase_cmp, phrase_eq}
 
 pub phrase_total : IsTotalOrder phrase_cmp
@@ -23,25 +24,17 @@ same_from_eq x y h = same_phrase x y ((Equal-is (phrase_cmp x y)).0 h)
 
 -- ---- what is among them
 
-pub or_true : (a : Bool) → (a || true) ≡ true
-or_true true = refl
-or_true false = refl
-
 or_swap : (a b c : Bool) → (a || (b || c)) ≡ (b || (a || c))
 or_swap true true c = refl
 or_swap true false c = refl
 or_swap false b c = refl
-
-or_twice : (a b : Bool) → (a || b) ≡ (a || (a || b))
-or_twice true b = refl
-or_twice false b = refl
 
 pub any_insert_key : (t : Phrase → Bool) (k : Phrase) (ks : List Phrase) → list_any t (insert_key phrase_cmp ks k) ≡ (t k || list_any t ks)
 any_insert_key t k [] = refl
 any_insert_key t k (x ∷ xs) =
     elim (phrase_cmp k x) as (λ r. phrase_cmp k x ≡ r → list_any t (match_ordering r (k ∷ x ∷ xs) (x ∷ xs) (x ∷ insert_key phrase_cmp xs k)) ≡ (t k || (t x || list_any t xs))) [
       | Less ↦ λ p. refl
-      | Equal ↦ λ p. or_twice (t x) (list_any t xs) ∙ ap (λ y. t y || (t x || list_any t xs)) (sym (same_phrase k x p))
+      | Equal ↦ λ p. sym (or_self_left (t x) (list_any t xs)) ∙ ap (λ y. t y || (t x || list_any t xs)) (sym (same_phrase k x p))
       | Greater ↦ λ p. ap (λ b. t x || b) (any_insert_key t k xs) ∙ or_swap (t x) (t k) (list_any t xs)
     ] refl
 
@@ -59,11 +52,7 @@ any_fold t (k ∷ ks) seen =
     turned false false c = refl
 
 pub any_in_order : (t : Phrase → Bool) (ks : List Phrase) → list_any t (in_order ks) ≡ list_any t ks
-any_in_order t ks = any_fold t ks [] ∙ or_false (list_any t ks)
-  where
-    or_false : (a : Bool) → (a || false) ≡ a
-    or_false true = refl
-    or_false false = refl
+any_in_order t ks = any_fold t ks [] ∙ or-false (list_any t ks)
 
 -- ---- the order
 

@@ -5,7 +5,8 @@ use Rattle.std.specs.Prelude.{unwrap_or}
 use Rattle.std.specs.List.{list_any, range_with_len}
 use Rattle.std.specs.Map.{lookup}
 use Rattle.std.specs.Cmp.{eq_by_cmp_equiv}
-use Rattle.std.proofs.lemmas.Bool.{cases_lt}
+use Rattle.std.proofs.lemmas.Bool.{cases_lt, and_parts, not-true}
+use Rattle.std.proofs.Math.Bool.{or-true}
 use Rattle.thesaurus_file.specs.Chains.{IsChain, IsLevel, IsReached, itself, at_level}
 use Rattle.thesaurus_file.specs.Expansion.{next, ends, is_nearer, level, asked_level, expanded, reached}
 use Rattle.thesaurus_file.specs.Levels.{in_range}
@@ -13,9 +14,9 @@ use Rattle.thesaurus_file.specs.Links.{Links, is_wanted}
 use Rattle.thesaurus_file.specs.Phrases.{Phrase, phrase_eq}
 use Rattle.thesaurus_file.specs.declared.levels.Levels.{Levels}
 use Rattle.thesaurus_file.specs.declared.link.Link.{Link}
-use Rattle.thesaurus_file.proofs.OrderLemmas.{or_true, phrase_total, same_from_eq}
+use Rattle.thesaurus_file.proofs.OrderLemmas.{phrase_total, same_from_eq}
 use Rattle.thesaurus_file.proofs.LevelLemmas.{among_level, any_flat_map, ends_suc, leads_from_level, nearer_suc}
-use Rattle.thesaurus_file.proofs.ChainLemmas.{among, among_from_level, is_among, level_from_among, not_first, second, some_passes}
+use Rattle.thesaurus_file.proofs.ChainLemmas.{among, among_from_level, is_among, level_from_among, some_passes}
 
 -- ---- lists
 
@@ -24,7 +25,7 @@ any_weaker t u [] each h = h
 any_weaker t u (x ∷ xs) each h =
     elim (t x) as (λ b. t x ≡ b → (b || list_any t xs) ≡ true → (u x || list_any u xs) ≡ true) [
       | true ↦ λ e _. ap (λ b. b || list_any u xs) (each x e)
-      | false ↦ λ e rest. ap (λ b. u x || b) (any_weaker t u xs each rest) ∙ or_true (u x)
+      | false ↦ λ e rest. ap (λ b. u x || b) (any_weaker t u xs each rest) ∙ or-true (u x)
     ] refl h
 
 module _ {X : Type 0} (p q : X → Bool) (sub : (x : X) → q x ≡ true → p x ≡ true) where
@@ -57,7 +58,7 @@ any_range : (t : ℕ → Bool) (first count n : ℕ) → first ≤ n → n < fir
 any_range t first zero n low high h = absurd (omega (arith, low, high))
 any_range t first (suc count) n low high h =
     elim (cases_lt first n) [
-      | inl less ↦ ap (λ b. t first || b) (any_range t (first + 1) count n (omega (arith, less)) (omega (arith, high)) h) ∙ or_true (t first)
+      | inl less ↦ ap (λ b. t first || b) (any_range t (first + 1) count n (omega (arith, less)) (omega (arith, high)) h) ∙ or-true (t first)
       | inr more ↦ let e : n ≡ first = omega (arith, low, more) in ap (λ b. b || list_any t (range_with_len (first + 1) count)) (ap t (sym e) ∙ h)
     ]
 
@@ -95,8 +96,8 @@ module _ (thesaurus : Links) (relation : Option (List ℕ)) (start : Phrase) whe
   one_before : (n : ℕ) (q : Phrase) → list_any (phrase_eq q) (level thesaurus relation (suc n) start) ≡ true → Before n q
   one_before n q h =
       let both = sym (among_level thesaurus relation start (suc n) q) ∙ h in
-      let far = not_first (nearer (suc n) q) (list_any (phrase_eq q) (ends thesaurus relation (suc n) start)) both in
-      let led = sym (ends_suc thesaurus relation start n q) ∙ second (not (nearer (suc n) q)) (list_any (phrase_eq q) (ends thesaurus relation (suc n) start)) both in
+      let far = not-true (nearer (suc n) q) (and_parts (not (nearer (suc n) q)) (list_any (phrase_eq q) (ends thesaurus relation (suc n) start)) both).0 in
+      let led = sym (ends_suc thesaurus relation start n q) ∙ (and_parts (not (nearer (suc n) q)) (list_any (phrase_eq q) (ends thesaurus relation (suc n) start)) both).1 in
       let r = some_passes (λ p. list_any (phrase_eq q) (next thesaurus relation p)) (level thesaurus relation n start) (leads_from_level thesaurus relation start n q far ∙ led) in
       (r.0, among r.0 (level thesaurus relation n start) r.2, r.1)
 
@@ -111,8 +112,8 @@ module _ (thesaurus : Links) (relation : Option (List ℕ)) (start : Phrase) whe
   fewer_far n q before =
       let r = before.0 in
       let both = sym (among_level thesaurus relation start n r) ∙ before.1 in
-      let far : nearer n r ≡ false = not_first (nearer n r) (list_any (phrase_eq r) (ends thesaurus relation n start)) both in
-      let near : nearer (suc n) r ≡ true = nearer_suc thesaurus relation start n r ∙ ap (λ b. nearer n r || b) (second (not (nearer n r)) (list_any (phrase_eq r) (ends thesaurus relation n start)) both) ∙ or_true (nearer n r) in
+      let far : nearer n r ≡ false = not-true (nearer n r) (and_parts (not (nearer n r)) (list_any (phrase_eq r) (ends thesaurus relation n start)) both).0 in
+      let near : nearer (suc n) r ≡ true = nearer_suc thesaurus relation start n r ∙ ap (λ b. nearer n r || b) (and_parts (not (nearer n r)) (list_any (phrase_eq r) (ends thesaurus relation n start)) both).1 ∙ or-true (nearer n r) in
       fewer (λ (e : Phrase × List Link). not (nearer n e.0)) (λ (e : Phrase × List Link). not (nearer (suc n) e.0)) (λ e. stays_near n e.0) thesaurus
       (any_weaker (λ (e : Phrase × List Link). phrase_eq r e.0) (λ (e : Phrase × List Link). not (nearer n e.0) && not (not (nearer (suc n) e.0))) thesaurus
       (λ e same. let k = same_from_eq r e.0 same in subst (λ p. (not (nearer n p) && not (not (nearer (suc n) p))) ≡ true) k (λ i. not (far i) && not (not (near i))))
@@ -162,7 +163,7 @@ module _ (thesaurus : Links) (relation : Option (List ℕ)) (start : Phrase) whe
       among_expanded levels q
       ∙ ap (λ b. phrase_eq q start || b) (any_range (λ n. list_any (phrase_eq q) (asked_level thesaurus relation levels start n)) 1 (length thesaurus) (suc n) (omega arith) (omega (arith, bound))
       (ap (λ b. list_any (phrase_eq q) (cond b (level thesaurus relation (suc n) start) [])) asked ∙ held))
-      ∙ or_true (phrase_eq q start)
+      ∙ or-true (phrase_eq q start)
 
   among_if_reached : (levels : Levels) (q : Phrase) → IsReached thesaurus relation levels start q → Contains (expanded thesaurus relation levels start) q
   among_if_reached levels q (itself is) = is_among q (expanded thesaurus relation levels start) (start_among levels q is)

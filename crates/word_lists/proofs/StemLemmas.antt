@@ -28,7 +28,3 @@ stem_refused stems stem h = ap (λ b. cond b None (Some (stems ++ stem ∷ [])))
 
 pub stem_added : (stems : List Stem) (stem : Stem) → has_stem stem.0 stems ≡ false → with_stem stems stem ≡ Some (stems ++ stem ∷ [])
 stem_added stems stem h = ap (λ b. cond b None (Some (stems ++ stem ∷ []))) h
-
-pub none_held : {A : Type 0} (found : Option A) → is_some found ≡ false → found ≡ None
-none_held None h = refl
-none_held (Some x) h = cc

@@ -2,11 +2,12 @@
 use Rattle.std.proofs.Common.{◌∙◌, sym, ap, refl, subst, ◌||◌, ◌+◌, List, drop}
 use Rattle.std.specs.List.{list_any}
 use Rattle.std.proofs.lemmas.Result.{err_from_is_err_and}
+use Rattle.std.proofs.Math.Bool.{or_assoc}
 use Rattle.session_text.specs.declared.reply.Reply.{Reply}
 use Rattle.session_text.specs.Replies.{is_refusal, reply_text}
 use Rattle.ft_session.specs.Output.{texts_of}
 use Rattle.ft_session.specs.Step.{replies, step}
-use Rattle.ft_session.proofs.AnswerLemmas.{WrittenSoFar, front_more, or_assoc, replies-next, state_after-next, written_more, written_start}
+use Rattle.ft_session.proofs.AnswerLemmas.{WrittenSoFar, front_more, replies-next, state_after-next, written_more, written_start}
 use Rattle.ft_session.proofs.answering.answer_all.Goals as goal
 
 pub loop-command-init : goal.loop-command-init

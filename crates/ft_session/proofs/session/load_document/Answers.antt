@@ -5,6 +5,7 @@ use Rattle.std.specs.Str.{bytes_eq}
 use Rattle.std.specs.HashMap.{get}
 use Rattle.std.proofs.lemmas.Bool.Decides.{nat_tests}
 use Rattle.std.proofs.lemmas.List.{length-map, map_push}
+use Rattle.ft_base.proofs.Truth.{none_from_test}
 use Rattle.ordered_tree.specs.Numbered.{plain}
 use Rattle.indexmap.proofs.CallerLemmas.{insert_entry-new}
 use Rattle.session_text.specs.declared.reply.Reply.TheVariants.{Done, Refused}
@@ -13,7 +14,7 @@ use Rattle.ft_session.specs.LoadView.{outcome}
 use Rattle.ft_base.specs.Limits.{max_documents}
 use Rattle.ft_session.specs.State.{has_name, to_document}
 use Rattle.ft_session.specs.Step.{added, loadable}
-use Rattle.ft_session.proofs.SessionLemmas.{has_name-lookup, loaded-tests, none-from_test, with_reply}
+use Rattle.ft_session.proofs.SessionLemmas.{has_name-lookup, loaded-tests, with_reply}
 use Rattle.ft_session.proofs.session.load_document.Goals as goal
 
 pub returns-then-contains_key-clause-answer : goal.returns-then-contains_key-clause-answer
@@ -55,7 +56,7 @@ returns-in_ok-insert-in-Document-clause-answer c =
     let room : nat_le max_documents (length documents) ≡ false = ap (nat_le max_documents) long ∙ grind (arith, nat_tests) in
     let taken : has_name c.args.name.now documents ≡ false = ap (λ n. has_name n documents) (sym same) ∙ (has_name-lookup name m.entries ∙ (sym c.contains_key.ensures ∙ c.if-contains_key.false)) in
     let read : loadable c.args.block.now ≡ Ok (plain c.in-Document.document.tree.root) = sym c.in_ok-refusal.ensures ∙ ap outcome c.in-Document.is in
-    let absent : get bytes_eq m name ≡ None = none-from_test (get bytes_eq m name) (sym c.contains_key.ensures ∙ c.if-contains_key.false) in
+    let absent : get bytes_eq m name ≡ None = none_from_test (get bytes_eq m name) (sym c.contains_key.ensures ∙ c.if-contains_key.false) in
     let entries = c.in_ok-insert-in-Document.ensures.entries ∙ insert_entry-new bytes_eq m name c.in-Document.document absent in
     ap (λ es. with_reply (map to_document es) Done) entries
     ∙ (ap (λ ds. with_reply ds Done) (map_push to_document m.entries (name, c.in-Document.document))

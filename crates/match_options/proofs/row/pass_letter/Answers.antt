@@ -3,8 +3,9 @@ use Rattle.std.proofs.Common.{◌+◌, ◌<◌, ◌&&◌, sym, ◌∙◌, ap, ar
 use Rattle.std.specs.Prelude.{ℕ, Bool, ◌==◌}
 use Rattle.std.specs.Str.Iter.{chars_rest}
 use Rattle.std.proofs.lemmas.Str.{IsUtf8-past_char}
+use Rattle.std.proofs.StrCases.{chars_of_empty}
 use Rattle.match_options.specs.Row.{at_place}
-use Rattle.match_options.proofs.CoverLemmas.{behind_first, char_passed, no_chars}
+use Rattle.match_options.proofs.CoverLemmas.{behind_first, char_passed}
 use Rattle.match_options.proofs.RowLemmas.{row_letter, front_told, front_left, char_here, letter_same, letter_other, letter_none}
 use Rattle.match_options.proofs.row.pass_letter.Goals.{in-Some+then-letter-first, in-Some+else-letter-first, in-None}
 use Rattle.match_options.proofs.row.pass_letter.Goals as goal
@@ -49,7 +50,7 @@ loop-place-preserved c =
             left = front_left f old row place c.match-next.row before is inv.left;
           }
       | in-None w ↦
-          let none = sym inv.here ∙ no_chars bytes w.in-None.ensures.steps.0.0 in
+          let none = sym inv.here ∙ chars_of_empty bytes w.in-None.ensures.steps.0.0 in
           let is = letter_none letters old c.args.letter place c.match-next.row c.requires none w.row-is in
           record {
             size = length-set row place c.match-next.row ∙ inv.size;

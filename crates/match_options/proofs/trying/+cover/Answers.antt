@@ -4,8 +4,9 @@ use Rattle.std.specs.Str.Iter.{chars_rest}
 use Rattle.std.proofs.lemmas.List.{drop_all}
 use Rattle.std.proofs.lemmas.Bool.{ne_eqb, eq-eqb}
 use Rattle.std.proofs.lemmas.Str.{IsUtf8-past_char}
+use Rattle.std.proofs.StrCases.{chars_of_empty}
 use Rattle.match_options.specs.Wildcards.{covers, fits_gap}
-use Rattle.match_options.proofs.CoverLemmas.{covers_none, no_letter, letter_first, from_none, this_count, next_count, past_counts, few_chars, char_passed, no_chars}
+use Rattle.match_options.proofs.CoverLemmas.{covers_none, no_letter, letter_first, from_none, this_count, next_count, past_counts, few_chars, char_passed}
 use Rattle.match_options.proofs.trying.+cover.Goals as goal
 
 pub covers_from-returns-then-next-atoms : goal.covers_from-returns-then-next-atoms
@@ -28,7 +29,7 @@ gap_covers-returns-then-so_many_covers t c =
 
 pub gap_covers-returns-in_default : goal.gap_covers-returns-in_default
 gap_covers-returns-in_default t c =
-    let none = no_chars (chars_rest c.loop-count.rest) c.in_default.ensures.steps.0.0 in
+    let none = chars_of_empty (chars_rest c.loop-count.rest) c.in_default.ensures.steps.0.0 in
     let left = ap length (sym c.loop-count.invariant.here ∙ none) in
     sym (past_counts c.args.low c.args.high (drop c.args.next c.args.atoms.now) (chars c.args.text.now) (c.loop-count.count + 1) (omega (arith, left, length-drop c.loop-count.count (chars c.args.text.now))))
     ∙ sym (next_count c.args.low c.args.high (drop c.args.next c.args.atoms.now) (chars c.args.text.now) c.loop-count.count (chars (chars_rest c.loop-count.rest)) c.loop-count.invariant.within c.loop-count.invariant.here (ap (λ s. fits_gap c.args.low c.args.high c.loop-count.count && covers (drop c.args.next c.args.atoms.now) (chars s)) (sym c.as_str.ensures) ∙ sym c.so_many_covers.ensures ∙ c.if-so_many_covers.false))

@@ -5,12 +5,13 @@ use Rattle.std.specs.Option.{option_and_then}
 use Rattle.std.specs.String.{string_eq}
 use Rattle.std.specs.HashMap.{get}
 use Rattle.std.proofs.lemmas.List.{map_push}
+use Rattle.ft_base.proofs.Truth.{none_from_test}
 use Rattle.indexmap.proofs.CallerLemmas.{insert_entry-new}
 use Rattle.text_forms.specs.Forms.{key_of}
 use Rattle.word_lists.specs.Words.{only_two, words_of_line}
 use Rattle.word_lists.specs.Stems.{Stem, has_stem, with_stem, with_stem_line}
 use Rattle.word_lists.specs.View.{bytes_of_both}
-use Rattle.word_lists.proofs.StemLemmas.{found_in, none_held, stem_added, stem_held, stem_refused}
+use Rattle.word_lists.proofs.StemLemmas.{found_in, stem_added, stem_held, stem_refused}
 use Rattle.word_lists.proofs.stems.Stems.add_line.Goals as goal
 
 -- the line has these two words
@@ -37,7 +38,7 @@ returns c =
     let stem = string_bytes c.in_ok-stem.stem in
     let looked : is_some (found_in key c.self.inside.stems.entries) ≡ c.contains_key.result = ap (λ k. is_some (found_in k c.self.inside.stems.entries)) (sym c.as_str.ensures.value) ∙ sym c.contains_key.ensures in
     let fresh : has_stem key c.args.self.now ≡ false = ap (has_stem key) (sym c.self.view_is) ∙ stem_held key c.self.inside.stems.entries ∙ looked ∙ c.if-contains_key.false in
-    let absent : get string_eq c.self.inside.stems c.in_ok-word-2.word ≡ None = none_held _ (looked ∙ c.if-contains_key.false) in
+    let absent : get string_eq c.self.inside.stems c.in_ok-word-2.word ≡ None = none_from_test _ (looked ∙ c.if-contains_key.false) in
     with_two c.args.self.now c.args.line.now c.in-Some.word.now c.in-Some.stem.now key stem two c.in_ok-word-2.ensures c.in_ok-stem.ensures
     ∙ stem_added c.args.self.now (key, stem) fresh
     ∙ ap Some (ap (λ s. s ++ (key, stem) ∷ []) (sym c.self.view_is)

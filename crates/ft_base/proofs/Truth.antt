@@ -1,0 +1,26 @@
+-- What tests answer: a disjunct that is false, two tests of which each follows from the other, an equality of bytes, an option that is asked whether it has something.
+use Rattle.std.proofs.Common.{◌≡◌, ℕ, Bool, true, false, ◌||◌, ◌&&◌, List, [], ◌∷◌, Option, Some, None, refl, sym, ap, ◌∙◌}
+use Rattle.std.proofs.lemmas.Bool.{eq-eqb}
+use Rattle.std.proofs.lemmas.Slice.Eq.{bytes_eq-Decides}
+use Rattle.std.specs.Prelude.{nat_eq, bytes_eq, is_some}
+use Rattle.std.specs.Cmp.Lexicographic.{pointwise}
+
+pub or_false : (a b : Bool) → b ≡ false → (a || b) ≡ a
+or_false true b h = refl
+or_false false b h = h
+
+pub same_tests : (a b : Bool) → (a ≡ true → b ≡ true) → (b ≡ true → a ≡ true) → a ≡ b
+same_tests true b f g = sym (f refl)
+same_tests false true f g = g refl
+same_tests false false f g = refl
+
+pub pointwise_refl : (xs : List ℕ) → pointwise nat_eq xs xs ≡ true
+pointwise_refl [] = refl
+pointwise_refl (x ∷ xs) = ap (λ b. b && pointwise nat_eq xs xs) (eq-eqb x x refl) ∙ pointwise_refl xs
+
+pub bytes_eq_turned : (a b : List ℕ) → bytes_eq a b ≡ bytes_eq b a
+bytes_eq_turned a b = same_tests (bytes_eq a b) (bytes_eq b a) (λ h. (bytes_eq-Decides b a).1 (sym ((bytes_eq-Decides a b).0 h))) (λ h. (bytes_eq-Decides a b).1 (sym ((bytes_eq-Decides b a).0 h)))
+
+pub none_from_test : {A : Type 0} (o : Option A) → is_some o ≡ false → o ≡ None
+none_from_test None h = refl
+none_from_test (Some x) h = cc
