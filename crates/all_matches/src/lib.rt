@@ -46,7 +46,7 @@ pub use sat_laws::{
 pub use scope_examples::{
     different_scopes, excludes_under_different_scopes, excludes_under_same_scope, same_scope,
 };
-pub use times_examples::times_under_filters;
+pub use times_examples::{times_in_an_empty_range, times_in_range, times_under_filters};
 pub use way_laws::ways_law;
 pub use window_examples::{excludes_in_windows, hits_in_windows, places_of_windows};
 pub use window_laws::some_window_law;
