@@ -3,8 +3,8 @@ use Rattle.std.proofs.Common.{◌≡◌, ℕ, List, [], ◌∷◌, ◌++◌, Opt
 use Rattle.std.proofs.lemmas.List.{append-nil}
 use Rattle.doc_grammar.specs.Grammar as g
 use Rattle.doc_grammar.specs.Grammar.{text_node, Document, Fragment}
-use Rattle.doc_grammar.specs.Machine as m
-use Rattle.doc_grammar.specs.Machine.{Place, Phase, State, run_on, step, step_at, start}
+use Rattle.doc_grammar.specs.steps.Machine as m
+use Rattle.doc_grammar.specs.steps.Machine.{Place, Phase, State, run_on, step, step_at, start}
 use Rattle.doc_grammar.proofs.Spelled.{Part, Spelled, Next, stop, go}
 use Rattle.doc_grammar.specs.Opened.{before, in_fragment}
 use Rattle.doc_grammar.proofs.Steps.{Reading, only_step, ready_step, opened_step, comment_step, instruction_step, reference_step, end_name_step, end_spaced_step, literal}

@@ -7,8 +7,8 @@ use Rattle.std.specs.List.{starts_with}
 use Rattle.ft_base.specs.Characters.{is_char, is_space, is_name_start, is_name_char}
 use Rattle.doc_grammar.specs.Grammar.{is_quote, has_name}
 use Rattle.doc_grammar.specs.Opened.{bottom}
-use Rattle.doc_grammar.specs.Machine as m
-use Rattle.doc_grammar.specs.Machine.{Outer, document, fragment, level, Place, Phase, State, Judged, is_content, takes_element, step, step_at, run_on}
+use Rattle.doc_grammar.specs.steps.Machine as m
+use Rattle.doc_grammar.specs.steps.Machine.{Outer, document, fragment, level, Place, Phase, State, Judged, is_content, takes_element, step, step_at, run_on}
 
 pub data Keeps (o : Outer) : Option State → Type 0 where
   no : Keeps o None

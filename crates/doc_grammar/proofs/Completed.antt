@@ -5,8 +5,8 @@ use Rattle.std.proofs.lemmas.Bool.Decides.{nat_tests, leb_tells}
 use Rattle.std.specs.Prelude.{◌==◌, codes}
 use Rattle.ft_base.specs.Characters.{is_char}
 use Rattle.doc_grammar.specs.Grammar.{is_digit, one_dash_more}
-use Rattle.doc_grammar.specs.Machine as m
-use Rattle.doc_grammar.specs.Machine.{Outer, document, fragment, level, Place, Refer, Phase, State, Judged, is_content, with_text, base, step_at, run_on}
+use Rattle.doc_grammar.specs.steps.Machine as m
+use Rattle.doc_grammar.specs.steps.Machine.{Outer, document, fragment, level, Place, Refer, Phase, State, Judged, is_content, with_text, base, step_at, run_on}
 use Rattle.doc_grammar.proofs.Spelled.{no_return, ReferPart}
 use Rattle.doc_grammar.proofs.Walks.{st, Runs, Gives, join, Refers, refers, refers_then, refers_join, digit_goes_on, digits_end}
 

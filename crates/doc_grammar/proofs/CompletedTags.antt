@@ -10,8 +10,8 @@ use Rattle.plain_tree.specs.Document.{Node}
 use Rattle.plain_tree.specs.declared.tree.Attr.{Attr}
 use Rattle.ft_base.specs.Characters.{is_name_start, is_name_char}
 use Rattle.doc_grammar.specs.Grammar.{is_quote, has_name, Name, Tag}
-use Rattle.doc_grammar.specs.Machine as m
-use Rattle.doc_grammar.specs.Machine.{Outer, document, fragment, level, Place, Phase, State, is_content, with_node, step_at, run_on}
+use Rattle.doc_grammar.specs.steps.Machine as m
+use Rattle.doc_grammar.specs.steps.Machine.{Outer, document, fragment, level, Place, Phase, State, is_content, with_node, step_at, run_on}
 use Rattle.doc_grammar.proofs.Bytes.{pointwise_same}
 use Rattle.doc_grammar.proofs.Spelled.{no_return, ReferPart, EndPart, Part, Spelled}
 use Rattle.doc_grammar.specs.Opened.{At, before, after, in_fragment, within}

@@ -9,8 +9,8 @@ use Rattle.plain_tree.specs.Document.{Node, element, nodes, no_nodes, is_empty}
 use Rattle.plain_tree.specs.declared.tree.Attr.{Attr}
 use Rattle.ft_base.specs.Characters.{is_char, is_space, is_name_start, is_name_char}
 use Rattle.doc_grammar.specs.Grammar.{text_node, is_quote, has_name}
-use Rattle.doc_grammar.specs.Machine as m
-use Rattle.doc_grammar.specs.Machine.{Outer, document, fragment, level, Place, Phase, State, Judged, is_content, takes_element, step_at}
+use Rattle.doc_grammar.specs.steps.Machine as m
+use Rattle.doc_grammar.specs.steps.Machine.{Outer, document, fragment, level, Place, Phase, State, Judged, is_content, takes_element, step_at}
 use Rattle.doc_grammar.specs.Limits.{one_if, node_count, nodes_count, list_count, text_count, outer_count, place_count, begins_text, begins_element}
 
 -- a node under way counts

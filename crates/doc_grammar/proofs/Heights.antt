@@ -7,8 +7,8 @@ use Rattle.plain_tree.specs.Document.{Node, element, nodes, no_nodes}
 use Rattle.plain_tree.specs.declared.tree.Attr.{Attr}
 use Rattle.ft_base.specs.Characters.{is_char, is_space, is_name_start, is_name_char}
 use Rattle.doc_grammar.specs.Grammar.{text_node, is_quote, has_name}
-use Rattle.doc_grammar.specs.Machine as m
-use Rattle.doc_grammar.specs.Machine.{Outer, document, fragment, level, Place, Phase, State, Judged, is_content, takes_element, step_at}
+use Rattle.doc_grammar.specs.steps.Machine as m
+use Rattle.doc_grammar.specs.steps.Machine.{Outer, document, fragment, level, Place, Phase, State, Judged, is_content, takes_element, step_at}
 use Rattle.doc_grammar.specs.Limits.{height, heights, depth, is_opened, begins_element}
 
 abbrev pub list_height : List Node → ℕ

@@ -10,7 +10,7 @@ pub mod WalksOfElements
 pub mod Completed
 pub mod CompletedTags
 pub mod Bottom
-pub mod Laws
+pub mod Decided
 pub mod Joined
 pub mod Counts
 pub mod Heights

@@ -6,7 +6,7 @@ use Rattle.plain_tree.specs.Document.{Node}
 use Rattle.ft_base.specs.Characters.{is_space}
 use Rattle.doc_grammar.specs.Grammar as g
 use Rattle.doc_grammar.specs.Grammar.{text_node, Spaces, Reference, Skipped, Misc, Tag, Element, Content}
-use Rattle.doc_grammar.specs.Machine.{Place, is_content, takes_element, with_node, left}
+use Rattle.doc_grammar.specs.steps.Machine.{Place, is_content, takes_element, with_node, left}
 use Rattle.doc_grammar.proofs.Spelled.{EndPart, Next, go}
 use Rattle.doc_grammar.specs.Opened.{At, before, after, in_fragment, within}
 

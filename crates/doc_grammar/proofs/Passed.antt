@@ -5,14 +5,14 @@ use Rattle.std.specs.Prelude.{◌==◌}
 use Rattle.std.proofs.Math.Bool.{and-false}
 use Rattle.doc_grammar.specs.Grammar.{lines_from, with_line_ends}
 use Rattle.doc_grammar.specs.Texts.{Kind}
-use Rattle.doc_grammar.specs.Machine as m
-use Rattle.doc_grammar.specs.Machine.{Outer, Place, Phase, State, run_on, step, step_at, start, is_content, takes_element}
+use Rattle.doc_grammar.specs.steps.Machine as m
+use Rattle.doc_grammar.specs.steps.Machine.{Outer, Place, Phase, State, run_on, step, step_at, start, is_content, takes_element}
 use Rattle.doc_grammar.specs.Opened.{At, bottom}
-use Rattle.doc_grammar.specs.Reading.{outer_of, read, returned}
+use Rattle.doc_grammar.specs.steps.Reading.{outer_of, read, returned}
 use Rattle.doc_grammar.specs.Limits.{text_here, element_here, place_count, depth, begins_text, begins_element, TextBegins, ElementBegins, Limit, Passes, too_deep, element_too_many, text_too_many, KeepsLimits}
 use Rattle.doc_grammar.proofs.Walks.{st}
 use Rattle.doc_grammar.proofs.WalksOfElements.{at_runs}
-use Rattle.doc_grammar.proofs.Laws.{lines-return, lines-skipped, lines-kept, read-append}
+use Rattle.doc_grammar.proofs.Decided.{lines-return, lines-skipped, lines-kept, read-append}
 
 -- the machine stands where the grammar says
 pub at_read : (kind : Kind) (front : List ℕ) (p : Place) → At (with_line_ends front) p → bottom p.outer ≡ outer_of kind → read kind front ≡ Some (st p m.ready)

@@ -8,17 +8,17 @@ use Rattle.plain_tree.specs.Document.{is_empty}
 use Rattle.ft_base.specs.Characters.{is_char, is_name_start}
 use Rattle.doc_grammar.specs.Grammar.{lines_from, with_line_ends}
 use Rattle.doc_grammar.specs.Texts.{Kind}
-use Rattle.doc_grammar.specs.Machine as m
-use Rattle.doc_grammar.specs.Machine.{Outer, Place, Phase, State, run_on, step, step_at, start, is_content, takes_element}
+use Rattle.doc_grammar.specs.steps.Machine as m
+use Rattle.doc_grammar.specs.steps.Machine.{Outer, Place, Phase, State, run_on, step, step_at, start, is_content, takes_element}
 use Rattle.doc_grammar.specs.Opened.{At, bottom}
-use Rattle.doc_grammar.specs.Reading.{outer_of, read, returned}
+use Rattle.doc_grammar.specs.steps.Reading.{outer_of, read, returned}
 use Rattle.doc_grammar.specs.Limits.{node_here, one_if, is_opened, text_here, element_here, place_count, depth, begins_text, begins_element, TextBegins, ElementBegins, Limit, depth_limit, Passes, too_deep, element_too_many, text_too_many, KeepsLimits}
 use Rattle.doc_grammar.proofs.Bottom.{run_bottom}
 use Rattle.doc_grammar.proofs.Classes.{start-is}
 use Rattle.doc_grammar.proofs.Counts.{phase_count, begins, begun, step_counts, counted}
 use Rattle.doc_grammar.proofs.Spelled.{Spelled, Part}
 use Rattle.doc_grammar.proofs.Walks.{opened_start, run_on-nil}
-use Rattle.doc_grammar.proofs.Laws.{lines-return, lines-skipped, lines-kept, read_spelled, spelled_ready, ready_is}
+use Rattle.doc_grammar.proofs.Decided.{lines-return, lines-skipped, lines-kept, read_spelled, spelled_ready, ready_is}
 use Rattle.doc_grammar.proofs.Passed.{Clean, element_same, same_front, raw_last}
 
 opened_is : (phase : Phase) → is_opened phase ≡ true → phase ≡ m.opened

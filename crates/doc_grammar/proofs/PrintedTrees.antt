@@ -15,7 +15,7 @@ use Rattle.doc_grammar.specs.Printed.{escaped_in_text, escaped_in_value, printed
 use Rattle.doc_grammar.specs.Texts.{Kind, Spells}
 use Rattle.doc_grammar.proofs.Spelled.{no_return}
 use Rattle.doc_grammar.proofs.Completed.{no_return-append}
-use Rattle.doc_grammar.proofs.Laws.{lines-plain}
+use Rattle.doc_grammar.proofs.Decided.{lines-plain}
 use Rattle.doc_grammar.proofs.CompletedTags.{name_bytes, name_plain}
 use Rattle.doc_grammar.proofs.PrintedPieces.{text_printed, value_printed}
 

@@ -6,8 +6,8 @@ use Rattle.plain_tree.specs.declared.tree.Attr.{Attr}
 use Rattle.ft_base.specs.Characters.{is_space}
 use Rattle.doc_grammar.specs.Grammar.{is_quote, has_name, Name, Spaces, Digits, Reference, Remark, Instruction, Value, Tag}
 use Rattle.doc_grammar.specs.Opened.{At}
-use Rattle.doc_grammar.specs.Machine as m
-use Rattle.doc_grammar.specs.Machine.{Outer, document, fragment, level, Place, Refer, Phase, State, takes_element, is_content, base}
+use Rattle.doc_grammar.specs.steps.Machine as m
+use Rattle.doc_grammar.specs.steps.Machine.{Outer, document, fragment, level, Place, Refer, Phase, State, takes_element, is_content, base}
 
 -- how a reference under way is spelled so far
 abbrev pub opening : Bool → List ℕ

@@ -10,8 +10,8 @@ use Rattle.plain_tree.specs.Document.{Node}
 use Rattle.ft_base.specs.Characters.{is_char, is_space, is_name_start}
 use Rattle.doc_grammar.specs.Grammar as g
 use Rattle.doc_grammar.specs.Grammar.{is_digit, one_dash_more, in_value, is_quote, has_name, text_node, Name, Spaces, Digits, Reference, Remark, Instruction, Skipped, Misc, Value, Attribute, Tag, Element, Content}
-use Rattle.doc_grammar.specs.Machine as m
-use Rattle.doc_grammar.specs.Machine.{Outer, document, fragment, level, Place, Refer, Phase, State, Judged, takes_element, is_content, with_text, with_node, entered, base}
+use Rattle.doc_grammar.specs.steps.Machine as m
+use Rattle.doc_grammar.specs.steps.Machine.{Outer, document, fragment, level, Place, Refer, Phase, State, Judged, takes_element, is_content, with_text, with_node, entered, base}
 use Rattle.doc_grammar.proofs.Bytes.{starts_with-true}
 use Rattle.doc_grammar.proofs.Spelled.{opening, no_return, ReferPart, EndPart, Part, Next, stop, go}
 use Rattle.doc_grammar.specs.Opened.{At}

@@ -7,8 +7,8 @@ use Rattle.plain_tree.specs.declared.tree.Attr.{Attr}
 use Rattle.ft_base.specs.Characters.{is_char, is_space, is_name_start, is_name_char}
 use Rattle.doc_grammar.specs.Grammar as g
 use Rattle.doc_grammar.specs.Grammar.{in_value, is_quote, has_name, Name, Spaces, Value, Attribute, Tag, Element, Content}
-use Rattle.doc_grammar.specs.Machine as m
-use Rattle.doc_grammar.specs.Machine.{Place, Refer, Phase, State, takes_element, with_node, entered}
+use Rattle.doc_grammar.specs.steps.Machine as m
+use Rattle.doc_grammar.specs.steps.Machine.{Place, Refer, Phase, State, takes_element, with_node, entered}
 use Rattle.doc_grammar.proofs.Spelled.{Gap, NamedPart, QuotePart, Part, Next, stop}
 use Rattle.doc_grammar.specs.Opened.{within}
 use Rattle.doc_grammar.proofs.Moves.{at_same, at_child}

@@ -7,8 +7,8 @@ use Rattle.plain_tree.specs.declared.tree.Attr.{Attr}
 use Rattle.ft_base.specs.Characters.{is_char, is_space, is_name_start, is_name_char}
 use Rattle.doc_grammar.specs.Grammar as g
 use Rattle.doc_grammar.specs.Grammar.{is_digit, one_dash_more, in_value, is_quote, has_name, Name, Spaces, Digits, Reference, Remark, Instruction, Skipped, Misc, Value}
-use Rattle.doc_grammar.specs.Machine as m
-use Rattle.doc_grammar.specs.Machine.{Outer, Place, Refer, Phase, State, Judged, takes_element, is_content, with_text, base, run_on, step, step_at}
+use Rattle.doc_grammar.specs.steps.Machine as m
+use Rattle.doc_grammar.specs.steps.Machine.{Outer, Place, Refer, Phase, State, Judged, takes_element, is_content, with_text, base, run_on, step, step_at}
 use Rattle.doc_grammar.proofs.Classes.{differs, char_le, space-is, start-is}
 
 abbrev pub st : Place → Phase → State

@@ -10,8 +10,8 @@ use Rattle.plain_tree.specs.declared.tree.Attr.{Attr}
 use Rattle.ft_base.specs.Characters.{is_char, is_space, is_name_start, is_name_char}
 use Rattle.doc_grammar.specs.Grammar.{is_quote, has_name, text_node, Attribute, Tag, Element, Content, Document}
 use Rattle.doc_grammar.specs.Opened.{At, before, after, in_fragment, within, bottom}
-use Rattle.doc_grammar.specs.Machine as m
-use Rattle.doc_grammar.specs.Machine.{Outer, document, fragment, level, Place, Phase, State, takes_element, is_content, with_text, with_node, entered, step_at, start}
+use Rattle.doc_grammar.specs.steps.Machine as m
+use Rattle.doc_grammar.specs.steps.Machine.{Outer, document, fragment, level, Place, Phase, State, takes_element, is_content, with_text, with_node, entered, step_at, start}
 use Rattle.doc_grammar.proofs.Bytes.{starts_with-append}
 use Rattle.std.proofs.lemmas.Bool.{eq-eqb}
 use Rattle.doc_grammar.proofs.Classes.{space_fails, space-start, space-name, space-is}

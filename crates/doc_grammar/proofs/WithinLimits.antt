@@ -6,13 +6,13 @@ use Rattle.plain_tree.specs.Document.{Node, nodes}
 use Rattle.ft_base.specs.Characters.{is_name_start}
 use Rattle.doc_grammar.specs.Grammar.{text_node, lines_from}
 use Rattle.doc_grammar.specs.Texts.{Kind, Spells}
-use Rattle.doc_grammar.specs.Machine as m
-use Rattle.doc_grammar.specs.Machine.{Outer, document, fragment, level, Place, State, finished, finished_in, run_on, step, start, takes_element, is_ready}
-use Rattle.doc_grammar.specs.Reading.{read, returned}
+use Rattle.doc_grammar.specs.steps.Machine as m
+use Rattle.doc_grammar.specs.steps.Machine.{Outer, document, fragment, level, Place, State, finished, finished_in, run_on, step, start, takes_element, is_ready}
+use Rattle.doc_grammar.specs.steps.Reading.{read, returned}
 use Rattle.doc_grammar.specs.Limits.{heights, nodes_count, list_count, text_count, outer_count, place_count, depth, is_opened, begins_element, element_here, one_if, ElementBegins, TextBegins, Limit, Passes, too_deep, element_too_many, text_too_many}
 use Rattle.doc_grammar.proofs.Counts.{begun, list_count-append, list_count-text, nodes_count-nodes}
 use Rattle.doc_grammar.proofs.Heights.{heights-nodes, list_height, list_height-append, list_height-text, outer_height, one_level_if, reached, step_reaches, reached_by}
-use Rattle.doc_grammar.proofs.Laws.{lines-return, lines-skipped, lines-kept, read-append, spells_read, in_finished, finished_parts, ready_is}
+use Rattle.doc_grammar.proofs.Decided.{lines-return, lines-skipped, lines-kept, read-append, spells_read, in_finished, finished_parts, ready_is}
 use Rattle.doc_grammar.proofs.Passed.{at_read, opened_read}
 use Rattle.doc_grammar.proofs.PassedFaults.{step_adds, taken_adds}
 use Rattle.doc_grammar.proofs.Walks.{st, run_on-nil}

@@ -3,10 +3,10 @@ use Rattle.std.specs.Prelude.{◌≡◌, ℕ, ◌+◌, ◌≤◌, max, Bool, tru
 use Rattle.plain_tree.specs.Document.{Node, element, text, Nodes, no_nodes, node_then, is_empty}
 use Rattle.ft_base.specs.Characters.{is_char, is_name_start}
 use Rattle.doc_grammar.specs.Grammar.{with_line_ends}
-use Rattle.doc_grammar.specs.Machine as m
-use Rattle.doc_grammar.specs.Machine.{Outer, Place, Phase, State, is_content, takes_element}
+use Rattle.doc_grammar.specs.steps.Machine as m
+use Rattle.doc_grammar.specs.steps.Machine.{Outer, Place, Phase, State, is_content, takes_element}
 use Rattle.doc_grammar.specs.Opened.{At, bottom}
-use Rattle.doc_grammar.specs.Reading.{outer_of, returned}
+use Rattle.doc_grammar.specs.steps.Reading.{outer_of, returned}
 use Rattle.doc_grammar.specs.Texts.{Kind}
 
 -- how many elements and texts there are

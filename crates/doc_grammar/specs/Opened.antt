@@ -3,7 +3,7 @@ use Rattle.std.specs.Prelude.{ℕ, List, [], ◌∷◌, ◌++◌, IsTrue, codes}
 use Rattle.plain_tree.specs.Document.{Node}
 use Rattle.plain_tree.specs.declared.tree.Attr.{Attr}
 use Rattle.doc_grammar.specs.Grammar.{Spaces, Misc, Tag, Element, Content}
-use Rattle.doc_grammar.specs.Machine.{Outer, document, fragment, level, Place, takes_element}
+use Rattle.doc_grammar.specs.steps.Machine.{Outer, document, fragment, level, Place, takes_element}
 
 -- The front is whole items of what is open, and the place is what they make.
 pub data At : List ℕ → Place → Type 0 where

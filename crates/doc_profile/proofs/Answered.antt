@@ -10,8 +10,8 @@ use Rattle.std.proofs.lemmas.Str.{IsUtf8-from_is_utf8, is_utf8-from_IsUtf8, utf8
 use Rattle.plain_tree.specs.Document.{Node}
 use Rattle.plain_tree.specs.View.{node}
 use Rattle.plain_tree.specs.declared.tree.Tree.{Tree}
-use Rattle.doc_grammar.specs.Machine.{start}
-use Rattle.doc_grammar.specs.Reading.{outer_of}
+use Rattle.doc_grammar.specs.steps.Machine.{start}
+use Rattle.doc_grammar.specs.steps.Reading.{outer_of}
 use Rattle.doc_grammar.specs.Texts.{Kind, without_mark, mark_len}
 use Rattle.doc_profile.specs.Faults.{FaultOf, IsFaultOf, IsNotUtf8}
 use Rattle.doc_profile.specs.Readings.{Faults, nodes_in, walk, document_of, fragment_of}

@@ -7,12 +7,12 @@ use Rattle.std.proofs.lemmas.Bool.{cases_lt, cond-true, cond-false, eqb-true}
 use Rattle.std.proofs.lemmas.List.{length-append}
 use Rattle.std.proofs.lemmas.Str.{IsUtf8-from_is_utf8, is_utf8-from_IsUtf8, encodes-chars, length-encode}
 use Rattle.plain_tree.specs.Document.{Node, nodes, is_document}
-use Rattle.doc_grammar.specs.Machine.{finished, start}
+use Rattle.doc_grammar.specs.steps.Machine.{finished, start}
 use Rattle.doc_grammar.specs.Limits.{depth_limit, node_limit}
-use Rattle.doc_grammar.specs.Reading.{outer_of}
+use Rattle.doc_grammar.specs.steps.Reading.{outer_of}
 use Rattle.doc_grammar.specs.Texts.{Kind, Spells, GoesWrong, without_mark, mark_len}
 use Rattle.doc_grammar.proofs.Joined.{document_joined}
-use Rattle.doc_grammar.proofs.Laws.{one_reading}
+use Rattle.doc_grammar.proofs.Decided.{one_reading}
 use Rattle.doc_grammar.proofs.WithinLimits.{passes_none}
 use Rattle.ft_base.specs.Limits.{max_depth, max_nodes}
 use Rattle.doc_profile.specs.Faults.{Fits, IsWithin, AreWithin, FaultIn, FaultOf, IsFaultOf}

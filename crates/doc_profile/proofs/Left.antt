@@ -4,14 +4,14 @@ use Rattle.std.proofs.lemmas.List.{nil_from_length}
 use Rattle.std.proofs.lemmas.Str.{encodes-chars, encodes_same, cons_from_encodes}
 use Rattle.std.specs.Prelude.{Result, ◌==◌, encode_utf8, encode_utf8_all}
 use Rattle.std.specs.Str.{chars, IsUtf8}
-use Rattle.doc_grammar.specs.Machine.{State, start}
-use Rattle.doc_grammar.specs.Reading.{outer_of}
+use Rattle.doc_grammar.specs.steps.Machine.{State, start}
+use Rattle.doc_grammar.specs.steps.Reading.{outer_of}
 use Rattle.doc_grammar.specs.Texts.{Kind}
 use Rattle.doc_grammar.specs.Limits.{node_here, one_if, place_count}
 use Rattle.doc_grammar.proofs.Counts.{begun}
 use Rattle.doc_grammar.proofs.PassedFaults.{here_count, taken_adds}
 use Rattle.doc_profile.specs.Readings.{passes, taken, or_fault, walk, Faults}
-use Rattle.doc_profile.specs.View.{Stepped}
+use Rattle.doc_profile.specs.steps.View.{Stepped}
 use Rattle.doc_profile.specs.declared.fault.DocFault.{DocFault}
 use Rattle.doc_profile.specs.declared.fault.DocFault.TheVariants as faults
 

@@ -10,14 +10,14 @@ use Rattle.std.proofs.Math.Bool.{and-false}
 use Rattle.plain_tree.specs.Document.{is_empty}
 use Rattle.ft_base.specs.Characters.{is_char}
 use Rattle.doc_grammar.specs.Grammar.{lines_from}
-use Rattle.doc_grammar.specs.Machine as m
-use Rattle.doc_grammar.specs.Machine.{Place, State, is_content, is_ready, with_text, run_on, step, step_at}
+use Rattle.doc_grammar.specs.steps.Machine as m
+use Rattle.doc_grammar.specs.steps.Machine.{Place, State, is_content, is_ready, with_text, run_on, step, step_at}
 use Rattle.doc_grammar.specs.Limits.{text_count, text_here, element_here}
 use Rattle.doc_grammar.proofs.CompletedTags.{rest_of}
 use Rattle.doc_grammar.proofs.Counts.{begun, no_room}
-use Rattle.doc_grammar.proofs.Laws.{lines-kept, ready_is}
+use Rattle.doc_grammar.proofs.Decided.{lines-kept, ready_is}
 use Rattle.doc_grammar.proofs.Walks.{st, Steps, one, past, here, same}
-use Rattle.doc_profile.specs.Plain.{is_plain, is_in_text, with_run, Passed}
+use Rattle.doc_profile.specs.steps.Plain.{is_plain, is_in_text, with_run, Passed}
 use Rattle.doc_profile.specs.Readings.{text_passes, passes, taken, walk}
 use Rattle.doc_profile.specs.declared.fault.DocFault.{DocFault}
 use Rattle.doc_profile.proofs.Left.{Left, walk-further}

@@ -6,7 +6,7 @@ use Rattle.std.proofs.lemmas.Str.{chars_from_encodes}
 use Rattle.plain_tree.specs.Document.{Node, element, text, no_nodes, node_then, is_document}
 use Rattle.doc_grammar.specs.Printed.{printed, IsPrintable}
 use Rattle.doc_grammar.specs.Texts.{Kind, Spells, without_mark}
-use Rattle.doc_grammar.proofs.Laws.{one_reading}
+use Rattle.doc_grammar.proofs.Decided.{one_reading}
 use Rattle.doc_grammar.proofs.PrintedTrees.{printed_spells}
 use Rattle.doc_profile.specs.Faults.{IsWithin}
 use Rattle.doc_profile.specs.Readings.{document_of}

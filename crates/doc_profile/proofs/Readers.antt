@@ -22,9 +22,9 @@ use Rattle.plain_tree.specs.declared.tree.Tree.{Tree}
 use Rattle.plain_tree.specs.declared.tree.Attr.{Attr}
 use Rattle.plain_tree.specs.Document.{is_empty}
 use Rattle.doc_grammar.specs.Limits.{depth}
-use Rattle.doc_grammar.specs.Machine as m
-use Rattle.doc_grammar.specs.Machine.{Outer, Place, is_content}
-use Rattle.doc_profile.specs.View.{level_on, outer_of}
+use Rattle.doc_grammar.specs.steps.Machine as m
+use Rattle.doc_grammar.specs.steps.Machine.{Outer, Place, is_content}
+use Rattle.doc_profile.specs.steps.View.{level_on, outer_of}
 use Rattle.doc_profile.specs.declared.reader.Level.{Level}
 
 content_stays : (o : Outer) (ls : List Level) → is_content o ≡ true → is_content (fold level_on o ls) ≡ true

@@ -1,10 +1,10 @@
 -- What bytes are read as is right by the grammar, and has the first fault.
 use Rattle.std.proofs.Common.{◌≡◌, ℕ, ◌+◌, ◌≤◌, Bool, false, List, [], ◌∷◌, length, Option, Some, None, Ok, Err, refl, sym, subst, arith}
 use Rattle.std.specs.Prelude.{Result, ◌==◌, encode_utf8, encode_utf8_all}
-use Rattle.doc_grammar.specs.Machine.{State, finished, start}
+use Rattle.doc_grammar.specs.steps.Machine.{State, finished, start}
 use Rattle.doc_grammar.specs.Texts.{Kind, Spells}
-use Rattle.doc_grammar.specs.Reading.{outer_of, read}
-use Rattle.doc_grammar.proofs.Laws.{read_spells, ends_wrong}
+use Rattle.doc_grammar.specs.steps.Reading.{outer_of, read}
+use Rattle.doc_grammar.proofs.Decided.{read_spells, ends_wrong}
 use Rattle.plain_tree.specs.Document.{Node, nodes}
 use Rattle.ft_base.specs.Limits.{max_depth, max_nodes}
 use Rattle.doc_profile.specs.Faults.{Fits, IsWithin, AreWithin}

@@ -6,13 +6,13 @@ use Rattle.std.specs.Prelude.{◌==◌, nat_le, encode_utf8, encode_utf8_all}
 use Rattle.std.proofs.lemmas.Bool.{or_cases, leb-false, leb-true}
 use Rattle.ft_base.proofs.WalkLemmas.{encodes-last}
 use Rattle.doc_grammar.specs.Grammar.{lines_from}
-use Rattle.doc_grammar.specs.Machine.{State, run_on, start}
+use Rattle.doc_grammar.specs.steps.Machine.{State, run_on, start}
 use Rattle.doc_grammar.specs.Texts.{Kind}
 use Rattle.doc_grammar.specs.Limits.{text_here, element_here, node_here, one_if, place_count, depth, too_deep, element_too_many, text_too_many}
-use Rattle.doc_grammar.specs.Reading.{outer_of, read, returned}
+use Rattle.doc_grammar.specs.steps.Reading.{outer_of, read, returned}
 use Rattle.doc_grammar.proofs.Counts.{begun}
 use Rattle.doc_grammar.proofs.Heights.{reached, one_level_if}
-use Rattle.doc_grammar.proofs.Laws.{read-append, goes_wrong}
+use Rattle.doc_grammar.proofs.Decided.{read-append, goes_wrong}
 use Rattle.doc_grammar.proofs.Passed.{Clean, Checked, clean_start, clean_further, clean_end, clean_keeps}
 use Rattle.doc_grammar.proofs.PassedFaults.{element_begins, text_begins, element_keeps, not_deep, text_not_deep, text_no_element, refused_no_element, taken_adds, here_count}
 use Rattle.doc_grammar.proofs.WithinLimits.{taken_reaches}

@@ -4,9 +4,9 @@ use Rattle.std.specs.Str.{chars, is_utf8}
 use Rattle.std.specs.Str.Lossy.{utf8_valid_len}
 use Rattle.plain_tree.specs.Document.{Node}
 use Rattle.doc_grammar.specs.Grammar.{lines_from}
-use Rattle.doc_grammar.specs.Machine.{State, run_on, start, finished}
+use Rattle.doc_grammar.specs.steps.Machine.{State, run_on, start, finished}
 use Rattle.doc_grammar.specs.Texts.{Kind, without_mark, mark_len}
-use Rattle.doc_grammar.specs.Reading.{outer_of}
+use Rattle.doc_grammar.specs.steps.Reading.{outer_of}
 use Rattle.doc_grammar.specs.Limits.{text_here, element_here, place_count, depth}
 use Rattle.ft_base.specs.Limits.{max_depth, max_nodes}
 use Rattle.doc_profile.specs.declared.fault.DocFault.{DocFault}

@@ -1,14 +1,14 @@
 ghost use Rattle.std.specs.Prelude.{◌≡◌};
-ghost use Rattle.doc_grammar.specs.Machine as m;
+ghost use Rattle.doc_grammar.specs.steps.Machine as m;
 ghost use Rattle.doc_grammar.specs.Limits.{begins_text, element_here, text_here};
-ghost use Rattle.doc_profile.specs.View.{Goes, Stepped, content_of, place_of, start_of, state_of};
+ghost use Rattle.doc_profile.specs.steps.View.{Goes, Stepped, content_of, place_of, start_of, state_of};
 
 use crate::phase::{Phase, Refer};
 use crate::reader::Reader;
 use ft_base::{Memory, is_char, is_name_start, is_space};
 
 impl Reader {
-    #[tactic(auto, using(std::proofs::lemmas::Bool::Decides::nat_tests), unfolding(doc_grammar::specs::Machine::from_ready))]
+    #[tactic(auto, using(std::proofs::lemmas::Bool::Decides::nat_tests), unfolding(doc_grammar::specs::steps::Machine::from_ready))]
     pub fn from_ready(&mut self, c: char) -> Result<bool, Memory>
         ensures { Goes result (m.from_ready (place_of self.old) c) (state_of self.new) }
     {
@@ -49,7 +49,7 @@ impl Reader {
         self.is_content() || self.kids.is_empty()
     }
 
-    #[tactic(auto, using(std::proofs::lemmas::Bool::Decides::nat_tests), unfolding(doc_grammar::specs::Machine::from_opened))]
+    #[tactic(auto, using(std::proofs::lemmas::Bool::Decides::nat_tests), unfolding(doc_grammar::specs::steps::Machine::from_opened))]
     pub fn from_opened(&mut self, c: char) -> Result<bool, Memory>
         ensures { Goes result (m.from_opened (place_of self.old) c) (state_of self.new) }
     {
@@ -82,7 +82,7 @@ impl Reader {
         }
     }
 
-    #[tactic(auto, using(std::proofs::lemmas::Bool::Decides::nat_tests), unfolding(doc_grammar::specs::Machine::from_comment))]
+    #[tactic(auto, using(std::proofs::lemmas::Bool::Decides::nat_tests), unfolding(doc_grammar::specs::steps::Machine::from_comment))]
     pub fn from_comment(&mut self, dashes: u8, c: char) -> bool
         ensures { Stepped result (m.from_comment (place_of self.old) dashes c) (state_of self.new) }
     {
@@ -99,7 +99,7 @@ impl Reader {
         }
     }
 
-    #[tactic(auto, using(std::proofs::lemmas::Bool::Decides::nat_tests), unfolding(doc_grammar::specs::Machine::from_instruction))]
+    #[tactic(auto, using(std::proofs::lemmas::Bool::Decides::nat_tests), unfolding(doc_grammar::specs::steps::Machine::from_instruction))]
     pub fn from_instruction(&mut self, mark: bool, c: char) -> bool
         ensures { Stepped result (m.from_instruction (place_of self.old) mark c) (state_of self.new) }
     {

@@ -2,8 +2,8 @@ ghost use Rattle.std.specs.Prelude.{◌≡◌, ◌≤◌, ◌<◌, ◌++◌, ◌
 ghost use Rattle.std.specs.List.{starts_with};
 ghost use Rattle.plain_tree.specs.View as nodes;
 ghost use Rattle.doc_grammar.specs.Grammar.{text_node};
-ghost use Rattle.doc_grammar.specs.Machine as m;
-ghost use Rattle.doc_profile.specs.View.{Goes, closed, name_of, nodes_of, place_of, state_of};
+ghost use Rattle.doc_grammar.specs.steps.Machine as m;
+ghost use Rattle.doc_profile.specs.steps.View.{Goes, closed, name_of, nodes_of, place_of, state_of};
 
 use crate::phase::Phase;
 use crate::reader::{Level, Reader};
@@ -78,7 +78,7 @@ impl Reader {
         }
     }
 
-    #[tactic(auto, using(std::proofs::lemmas::Bool::Decides::nat_tests), unfolding(doc_grammar::specs::Machine::from_end_spaced))]
+    #[tactic(auto, using(std::proofs::lemmas::Bool::Decides::nat_tests), unfolding(doc_grammar::specs::steps::Machine::from_end_spaced))]
     pub fn from_end_spaced(&mut self, c: char) -> Result<bool, Memory>
         ensures { Goes result (m.from_end_spaced (place_of self.old) c) (state_of self.new) }
     {
@@ -91,7 +91,7 @@ impl Reader {
     }
 
     /// Leaves the open element.
-    #[tactic(auto, using(std::proofs::lemmas::Bool::Decides::nat_tests), unfolding(doc_grammar::specs::Machine::left))]
+    #[tactic(auto, using(std::proofs::lemmas::Bool::Decides::nat_tests), unfolding(doc_grammar::specs::steps::Machine::left))]
     fn leave(&mut self) -> Result<bool, Memory>
         ensures { Goes result (m.left (place_of self.old)) (state_of self.new) }
     {

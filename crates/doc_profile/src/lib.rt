@@ -4,7 +4,7 @@
 mod content;
 mod end_tags;
 mod fault;
-mod law;
+pub mod laws;
 mod phase;
 mod plain;
 mod print;
@@ -15,6 +15,5 @@ mod start_tags;
 mod values;
 
 pub use fault::DocFault;
-pub use law::reading_law;
 pub use print::{print_doc, print_tree};
 pub use read::{read_doc, read_fragment};

@@ -1,8 +1,8 @@
 ghost use Rattle.std.specs.Prelude.{◌≡◌, ◌≤◌, ◌++◌, encode_utf8, length, take, IfNone, IfOk, IfSome, IsTrue};
 ghost use Rattle.std.specs.List.{list_all};
 ghost use Rattle.std.specs.Str.{IsCharBoundary};
-ghost use Rattle.doc_profile.specs.Plain as plain;
-ghost use Rattle.doc_profile.specs.View.{state_of};
+ghost use Rattle.doc_profile.specs.steps.Plain as plain;
+ghost use Rattle.doc_profile.specs.steps.View.{state_of};
 
 use crate::phase::Phase;
 use crate::reader::Reader;

@@ -3,14 +3,14 @@ ghost use Rattle.std.specs.Str.{IsUtf8, chars};
 ghost use Rattle.plain_tree.specs.Document.{nodes};
 ghost use Rattle.plain_tree.specs.View.{node};
 ghost use Rattle.doc_grammar.specs.Limits.{node_here, one_if, place_count};
-ghost use Rattle.doc_grammar.specs.Machine as m;
+ghost use Rattle.doc_grammar.specs.steps.Machine as m;
 ghost use Rattle.doc_grammar.specs.Printed.{ArePrintable, IsPrintable};
-ghost use Rattle.doc_grammar.specs.Reading.{outer_of};
+ghost use Rattle.doc_grammar.specs.steps.Reading.{outer_of};
 ghost use Rattle.doc_grammar.specs.Texts.{Kind, Spells, mark_len, without_mark};
 ghost use Rattle.doc_profile.specs.Faults.{AreWithin, FaultOf, Fits, IsNotUtf8, IsWithin};
 ghost use Rattle.doc_profile.specs.Readings as readings;
 ghost use Rattle.doc_profile.specs.Readings.{Faults, document_of, fragment_of, passes, taken, walk};
-ghost use Rattle.doc_profile.specs.View.{Goes, Walks, kind_of, nodes_of, state_of};
+ghost use Rattle.doc_profile.specs.steps.View.{Goes, Walks, kind_of, nodes_of, state_of};
 
 use crate::fault::DocFault;
 use crate::plain::{pass_plain, split_first};

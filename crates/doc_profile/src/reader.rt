@@ -1,6 +1,6 @@
 ghost use Rattle.std.specs.Prelude.{◌≡◌, [], string_bytes};
-ghost use Rattle.doc_grammar.specs.Machine as m;
-ghost use Rattle.doc_profile.specs.View.{Goes, Stepped, outer_of, phase_in, place_of, state_of};
+ghost use Rattle.doc_grammar.specs.steps.Machine as m;
+ghost use Rattle.doc_profile.specs.steps.View.{Goes, Stepped, outer_of, phase_in, place_of, state_of};
 
 use crate::phase::Phase;
 use ft_base::Memory;
@@ -64,7 +64,7 @@ impl Reader {
     }
 
     /// Takes one character; says whether it may stand here.
-    #[tactic(auto, using(std::proofs::lemmas::Bool::Decides::nat_tests), unfolding(doc_grammar::specs::Machine::step_at))]
+    #[tactic(auto, using(std::proofs::lemmas::Bool::Decides::nat_tests), unfolding(doc_grammar::specs::steps::Machine::step_at))]
     pub fn step(&mut self, c: char) -> Result<bool, Memory>
         ensures { Goes result (m.step (state_of self.old) c) (state_of self.new) }
     {

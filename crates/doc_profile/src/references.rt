@@ -1,7 +1,7 @@
 ghost use Rattle.std.specs.Prelude.{◌≡◌, ◌≤◌, ◌+◌, ◌*◌, if◌then◌else◌, nat_le};
 ghost use Rattle.ft_base.specs.Characters as chars;
-ghost use Rattle.doc_grammar.specs.Machine as m;
-ghost use Rattle.doc_profile.specs.View.{Goes, attr_of, judged_of, meaning_of, name_of, place_of, refer_of, spelling_of, state_of, value_of};
+ghost use Rattle.doc_grammar.specs.steps.Machine as m;
+ghost use Rattle.doc_profile.specs.steps.View.{Goes, attr_of, judged_of, meaning_of, name_of, place_of, refer_of, spelling_of, state_of, value_of};
 
 use crate::phase::{Entity, Phase, Refer};
 use crate::reader::Reader;
@@ -44,7 +44,7 @@ fn meaning(entity: Entity) -> char
 }
 
 /// What the next character makes of a reference.
-#[tactic(auto, using(std::proofs::lemmas::Bool::Decides::nat_tests), unfolding(doc_grammar::specs::Machine::refer))]
+#[tactic(auto, using(std::proofs::lemmas::Bool::Decides::nat_tests), unfolding(doc_grammar::specs::steps::Machine::refer))]
 pub fn judge(refer: Refer, c: char) -> Judged
     ensures { judged_of result ≡ m.refer (refer_of refer) c }
 {

@@ -1,7 +1,7 @@
 ghost use Rattle.std.specs.Prelude.{◌≡◌, OnOk};
 ghost use Rattle.doc_grammar.specs.Grammar as grammar;
-ghost use Rattle.doc_grammar.specs.Machine as m;
-ghost use Rattle.doc_profile.specs.View.{Goes, Stepped, attr_of, name_of, place_of, state_of};
+ghost use Rattle.doc_grammar.specs.steps.Machine as m;
+ghost use Rattle.doc_profile.specs.steps.View.{Goes, Stepped, attr_of, name_of, place_of, state_of};
 
 use crate::end_tags::with_node;
 use crate::phase::Phase;
@@ -17,7 +17,7 @@ fn has_name(attrs: &[Attr], name: &str) -> bool
 }
 
 impl Reader {
-    #[tactic(auto, using(std::proofs::lemmas::Bool::Decides::nat_tests), unfolding(doc_grammar::specs::Machine::from_start_name))]
+    #[tactic(auto, using(std::proofs::lemmas::Bool::Decides::nat_tests), unfolding(doc_grammar::specs::steps::Machine::from_start_name))]
     pub fn from_start_name(&mut self, c: char) -> Result<bool, Memory>
         ensures { Goes result (m.from_start_name (place_of self.old) (name_of self.old) c) (state_of self.new) }
     {
@@ -32,7 +32,7 @@ impl Reader {
     }
 
     /// Behind a tag's name or one of its attributes, and perhaps white space.
-    #[tactic(auto, using(std::proofs::lemmas::Bool::Decides::nat_tests), unfolding(doc_grammar::specs::Machine::from_tag))]
+    #[tactic(auto, using(std::proofs::lemmas::Bool::Decides::nat_tests), unfolding(doc_grammar::specs::steps::Machine::from_tag))]
     pub fn from_tag(&mut self, c: char) -> Result<bool, Memory>
         ensures { Goes result (m.from_tag (place_of self.old) (name_of self.old) self.old.attrs.items c) (state_of self.new) }
     {
@@ -64,7 +64,7 @@ impl Reader {
         Ok(())
     }
 
-    #[tactic(auto, using(std::proofs::lemmas::Bool::Decides::nat_tests), unfolding(doc_grammar::specs::Machine::from_spaced))]
+    #[tactic(auto, using(std::proofs::lemmas::Bool::Decides::nat_tests), unfolding(doc_grammar::specs::steps::Machine::from_spaced))]
     pub fn from_spaced(&mut self, c: char) -> Result<bool, Memory>
         ensures { Goes result (m.from_spaced (place_of self.old) (name_of self.old) self.old.attrs.items c) (state_of self.new) }
     {
@@ -78,7 +78,7 @@ impl Reader {
         }
     }
 
-    #[tactic(auto, using(std::proofs::lemmas::Bool::Decides::nat_tests, plain_tree::proofs::Views::views), unfolding(doc_grammar::specs::Machine::from_slashed))]
+    #[tactic(auto, using(std::proofs::lemmas::Bool::Decides::nat_tests, plain_tree::proofs::Views::views), unfolding(doc_grammar::specs::steps::Machine::from_slashed))]
     pub fn from_slashed(&mut self, c: char) -> Result<bool, Memory>
         ensures { Goes result (m.from_slashed (place_of self.old) (name_of self.old) self.old.attrs.items c) (state_of self.new) }
     {
@@ -97,7 +97,7 @@ impl Reader {
         Ok(true)
     }
 
-    #[tactic(auto, using(std::proofs::lemmas::Bool::Decides::nat_tests), unfolding(doc_grammar::specs::Machine::from_attr_name))]
+    #[tactic(auto, using(std::proofs::lemmas::Bool::Decides::nat_tests), unfolding(doc_grammar::specs::steps::Machine::from_attr_name))]
     pub fn from_attr_name(&mut self, c: char) -> Result<bool, Memory>
         ensures { Goes result (m.from_attr_name (place_of self.old) (name_of self.old) self.old.attrs.items (attr_of self.old) c) (state_of self.new) }
     {
@@ -112,7 +112,7 @@ impl Reader {
         }
     }
 
-    #[tactic(auto, using(std::proofs::lemmas::Bool::Decides::nat_tests), unfolding(doc_grammar::specs::Machine::from_attr_named))]
+    #[tactic(auto, using(std::proofs::lemmas::Bool::Decides::nat_tests), unfolding(doc_grammar::specs::steps::Machine::from_attr_named))]
     pub fn from_attr_named(&mut self, c: char) -> bool
         ensures { Stepped result (m.from_attr_named (place_of self.old) (name_of self.old) self.old.attrs.items (attr_of self.old) c) (state_of self.new) }
     {

@@ -1,6 +1,6 @@
 ghost use Rattle.std.specs.Prelude.{◌≡◌, ◌++◌, ◌∷◌, [], OnOk};
-ghost use Rattle.doc_grammar.specs.Machine as m;
-ghost use Rattle.doc_profile.specs.View.{Goes, Stepped, attr_of, name_of, place_of, state_of, value_of};
+ghost use Rattle.doc_grammar.specs.steps.Machine as m;
+ghost use Rattle.doc_profile.specs.steps.View.{Goes, Stepped, attr_of, name_of, place_of, state_of, value_of};
 
 use crate::phase::{Phase, Refer};
 use crate::reader::Reader;
@@ -9,7 +9,7 @@ use plain_tree::Attr;
 use std::mem;
 
 impl Reader {
-    #[tactic(auto, using(std::proofs::lemmas::Bool::Decides::nat_tests), unfolding(doc_grammar::specs::Machine::from_equals))]
+    #[tactic(auto, using(std::proofs::lemmas::Bool::Decides::nat_tests), unfolding(doc_grammar::specs::steps::Machine::from_equals))]
     pub fn from_equals(&mut self, c: char) -> bool
         ensures { Stepped result (m.from_equals (place_of self.old) (name_of self.old) self.old.attrs.items (attr_of self.old) c) (state_of self.new) }
     {
@@ -23,7 +23,7 @@ impl Reader {
         }
     }
 
-    #[tactic(auto, using(std::proofs::lemmas::Bool::Decides::nat_tests), unfolding(doc_grammar::specs::Machine::from_quoted))]
+    #[tactic(auto, using(std::proofs::lemmas::Bool::Decides::nat_tests), unfolding(doc_grammar::specs::steps::Machine::from_quoted))]
     pub fn from_quoted(&mut self, quote: char, c: char) -> Result<bool, Memory>
         ensures { Goes result (m.from_quoted (place_of self.old) (name_of self.old) self.old.attrs.items (attr_of self.old) quote (value_of self.old) c) (state_of self.new) }
     {

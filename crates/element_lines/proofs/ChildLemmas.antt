@@ -15,8 +15,8 @@ use Rattle.path_nodes.specs.References.{Spot, spots, child_spots, spots_in, spot
 use Rattle.path_nodes.proofs.PlaceLemmas.{element-is}
 use Rattle.path_nodes.proofs.SpotLemmas.{inside, element_of-is, spot-stand}
 use Rattle.path_nodes.proofs.WayLemmas.{Parent}
-use Rattle.element_lines.specs.Numbers.{number_of}
-use Rattle.element_lines.specs.Steps.{listed, children, child, name_of, is_named}
+use Rattle.element_lines.specs.steps.Numbers.{number_of}
+use Rattle.element_lines.specs.LocationSteps.{listed, children, child, name_of, is_named}
 use Rattle.element_lines.proofs.StepLemmas.{children-plain, number-child}
 
 All-behind : {X : Type 0} (P : X → Type 0) (xs ys : List X) → All P (xs ++ ys) → All P ys

@@ -13,7 +13,7 @@ use Rattle.ordered_tree.proofs.BuildingLemmas.{node_count-some}
 use Rattle.path_nodes.specs.References.{element_of, IsElement}
 use Rattle.path_nodes.proofs.PlaceLemmas.{element-is}
 use Rattle.path_nodes.proofs.SpotLemmas.{spot-stand}
-use Rattle.element_lines.specs.Steps.{listed, children}
+use Rattle.element_lines.specs.LocationSteps.{listed, children}
 use Rattle.element_lines.proofs.ChildLemmas.{Child}
 
 listed-few : (ns : Nodes) → length (listed ns) ≤ nodes_count ns

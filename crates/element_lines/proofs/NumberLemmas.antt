@@ -17,10 +17,10 @@ use Rattle.path_nodes.specs.References.{element_of, IsElement}
 use Rattle.path_nodes.proofs.ChildrenLemmas.{Reading, Next, next, there, on, left, smaller, past-text, past-element, is-child}
 use Rattle.path_nodes.proofs.PlaceLemmas.{element-is, one-place, one-reference}
 use Rattle.path_nodes.proofs.SpotLemmas.{of_number}
-use Rattle.element_lines.specs.Counts.{count_of}
-use Rattle.element_lines.specs.Numbers.{number_of, AreNumbers, IsChild}
-use Rattle.element_lines.specs.Steps as steps
-use Rattle.element_lines.specs.Steps.{is_named}
+use Rattle.element_lines.specs.steps.Counts.{count_of}
+use Rattle.element_lines.specs.steps.Numbers.{number_of, AreNumbers, IsChild}
+use Rattle.element_lines.specs.LocationSteps as steps
+use Rattle.element_lines.specs.LocationSteps.{is_named}
 use Rattle.element_lines.proofs.ChildLemmas.{Parted, Child, next-child, all-children, spot, spot-among, on-child, child-named, parted-next, child-numbered}
 use Rattle.element_lines.proofs.FewLemmas.{front-few}
 use Rattle.element_lines.proofs.StepLemmas.{name-plain, number-within}

@@ -14,7 +14,7 @@ use Rattle.ordered_tree.specs.Places.{at_place}
 use Rattle.ft_base.specs.declared.ids.NodeRef.{NodeRef}
 use Rattle.path_nodes.specs.References.{IsElement, element_of}
 use Rattle.path_nodes.proofs.PlaceLemmas.{element-is, led, one-reference}
-use Rattle.element_lines.specs.Steps.{Step, step, children, child, name_of, is_named, step_to, steps_below, steps_to}
+use Rattle.element_lines.specs.LocationSteps.{Step, step, children, child, name_of, is_named, step_to, steps_below, steps_to}
 use Rattle.element_lines.proofs.NumberLemmas.{element-named}
 use Rattle.element_lines.proofs.StepLemmas.{Between, between, child-is, child-some, child-number}
 

@@ -13,8 +13,8 @@ use Rattle.path_nodes.specs.References.{IsElement, element_of}
 use Rattle.path_nodes.proofs.ChildrenLemmas.{on_element}
 use Rattle.path_nodes.proofs.PlaceLemmas.{element-is, led}
 use Rattle.path_nodes.proofs.WayLemmas.{Parent}
-use Rattle.element_lines.specs.Numbers.{last, number_of}
-use Rattle.element_lines.specs.Steps.{Step, step, listed, children, child, name_of, step_to, steps_below, steps_to}
+use Rattle.element_lines.specs.steps.Numbers.{last, number_of}
+use Rattle.element_lines.specs.LocationSteps.{Step, step, listed, children, child, name_of, step_to, steps_below, steps_to}
 
 -- the node at a place
 abbrev pub below : Node → List ℕ → Node

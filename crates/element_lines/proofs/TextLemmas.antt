@@ -7,8 +7,8 @@ use Rattle.ft_base.specs.declared.ids.NodeRef.{NodeRef}
 use Rattle.path_nodes.specs.References.{IsElement, element_of}
 use Rattle.path_nodes.proofs.WayLemmas.{Parent}
 use Rattle.element_lines.specs.Lines.{step_text}
-use Rattle.element_lines.specs.Numbers.{number_of}
-use Rattle.element_lines.specs.Steps.{Step, step, name_of, steps_to}
+use Rattle.element_lines.specs.steps.Numbers.{number_of}
+use Rattle.element_lines.specs.LocationSteps.{Step, step, name_of, steps_to}
 use Rattle.element_lines.proofs.StepLemmas.{steps-further, steps-root}
 
 text-push : (steps : List Step) (s : Step) → flat_map step_text (steps ++ s ∷ []) ≡ flat_map step_text steps ++ step_text s

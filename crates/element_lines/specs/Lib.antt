@@ -1,5 +1,4 @@
-pub mod Counts
 pub mod Examples
 pub mod Lines
-pub mod Numbers
-pub mod Steps
+pub mod LocationSteps
+pub mod steps

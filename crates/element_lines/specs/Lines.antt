@@ -3,7 +3,7 @@ use Rattle.std.specs.Prelude.{ℕ, List, ◌++◌, codes, encode_utf8_all}
 use Rattle.std.specs.Fmt.{decimal}
 use Rattle.std.specs.List.{flat_map}
 use Rattle.doc_grammar.specs.Printed.{printed}
-use Rattle.element_lines.specs.Steps.{Step, steps_to}
+use Rattle.element_lines.specs.LocationSteps.{Step, steps_to}
 use Rattle.path_meaning.specs.Elements.{Element}
 use Rattle.plain_tree.specs.Document.{Node}
 

@@ -1,6 +1,6 @@
 ghost use Rattle.std.specs.Prelude.{◌≡◌, ◌+◌, ◌<◌, ◌^◌, ℕ, List, IfOk, OnOk, if◌then◌else◌};
 ghost use Rattle.std.specs.Str.{bytes_eq};
-ghost use Rattle.element_lines.specs.Counts.{count_of};
+ghost use Rattle.element_lines.specs.steps.Counts.{count_of};
 
 use ft_base::Memory;
 use std::collections::HashMap;

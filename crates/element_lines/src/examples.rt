@@ -1,10 +1,10 @@
 //! The steps and lines of elements in `<d><p>x</p><q/><p/></d>`, by computation.
-#![tactic(auto, unfolding(crate::specs::Steps::steps_below), using(std::proofs::lemmas::Fmt::decimal_digit))]
+#![tactic(auto, unfolding(crate::specs::LocationSteps::steps_below), using(std::proofs::lemmas::Fmt::decimal_digit))]
 
 ghost use Rattle.std.specs.Prelude.{◌≡◌, [], ◌∷◌, codes};
 ghost use Rattle.element_lines.specs.Examples.{paragraphs};
 ghost use Rattle.element_lines.specs.Lines.{place_line};
-ghost use Rattle.element_lines.specs.Steps.{step, steps_to};
+ghost use Rattle.element_lines.specs.LocationSteps.{step, steps_to};
 
 /// A step has the number of a child among the children of its name.
 pub fn steps_of_places()

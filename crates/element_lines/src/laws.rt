@@ -1,5 +1,7 @@
+//! What holds: each law is the contract of a function without a body.
+
 ghost use Rattle.std.specs.Prelude.{◌≡◌};
-ghost use Rattle.element_lines.specs.Steps.{steps_to};
+ghost use Rattle.element_lines.specs.LocationSteps.{steps_to};
 ghost use Rattle.ordered_tree.specs.Numbered.{Numbered, plain};
 ghost use Rattle.ft_base.specs.declared.ids.NodeRef.{NodeRef};
 ghost use Rattle.path_nodes.specs.References.{IsElement, element_of};

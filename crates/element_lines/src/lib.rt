@@ -2,13 +2,11 @@
 #![tactic(auto)]
 
 mod counts;
-mod examples;
-mod laws;
+pub mod examples;
+pub mod laws;
 mod names;
 mod numbers;
 mod printed;
 
-pub use examples::{lines_of_steps, steps_of_places};
-pub use laws::one_element_law;
 pub use names::push_names;
 pub use printed::push_printed;

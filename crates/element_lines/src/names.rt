@@ -1,8 +1,8 @@
 ghost use Rattle.std.specs.Prelude.{◌≡◌, ◌++◌, All, IfOk, OnOk, map, string_bytes};
 ghost use Rattle.std.specs.List.{flat_map};
 ghost use Rattle.element_lines.specs.Lines.{element_line, step_text};
-ghost use Rattle.element_lines.specs.Numbers.{AreNumbers};
-ghost use Rattle.element_lines.specs.Steps.{step, steps_to};
+ghost use Rattle.element_lines.specs.steps.Numbers.{AreNumbers};
+ghost use Rattle.element_lines.specs.LocationSteps.{step, steps_to};
 ghost use Rattle.ordered_tree.specs.Numbered.{plain};
 ghost use Rattle.path_nodes.specs.References.{IsElement, element_of};
 

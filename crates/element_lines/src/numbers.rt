@@ -1,6 +1,6 @@
 ghost use Rattle.std.specs.Prelude.{◌≡◌, IfOk, OnOk};
-ghost use Rattle.element_lines.specs.Numbers as spec;
-ghost use Rattle.element_lines.specs.Numbers.{AreNumbers, HasChildren, IsChild};
+ghost use Rattle.element_lines.specs.steps.Numbers as spec;
+ghost use Rattle.element_lines.specs.steps.Numbers.{AreNumbers, HasChildren, IsChild};
 ghost use Rattle.path_nodes.specs.References.{IsElement};
 
 use crate::counts::{Counts, count_name};

@@ -4,7 +4,7 @@ use Rattle.std.specs.Prelude.{encode_utf8, encode_utf8_all}
 use Rattle.std.specs.Str.{chars, IsUtf8}
 use Rattle.std.proofs.lemmas.List.{append-nil, length-append, nil_from_length}
 use Rattle.std.proofs.lemmas.Str.{encodes-append, chars_from_encodes}
-use Rattle.ft_base.specs.Walk.{Walk}
+use Rattle.ft_base.specs.steps.Walk.{Walk}
 
 pub walk_start : (text : List ℕ) → Walk text [] 0 text
 walk_start text = record { split = refl; counts = refl }

@@ -11,6 +11,7 @@ mod hit;
 mod hits;
 mod ids;
 mod items;
+pub mod laws;
 mod letters;
 mod limits;
 mod line;
@@ -22,7 +23,6 @@ mod span;
 mod steps;
 mod token;
 mod unit;
-mod walk;
 mod words;
 
 pub use characters::{is_char, is_name_char, is_name_start, is_space};
@@ -46,7 +46,6 @@ pub use span::Span;
 pub use steps::Steps;
 pub use token::Token;
 pub use unit::TextUnit as Unit;
-pub use walk::walks;
 pub use words::{Mode, Words};
 
 /// A list of bytes.

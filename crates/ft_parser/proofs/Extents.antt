@@ -7,14 +7,14 @@ use Rattle.std.proofs.lemmas.List.{drop_all, length-take}
 use Rattle.std.proofs.Math.Seq.{take-add}
 use Rattle.selection_grammar.specs.declared.symbol.Symbol.{Symbol}
 use Rattle.selection_grammar.specs.declared.symbol.Placed.{Placed}
-use Rattle.selection_grammar.specs.Machine.{State, start, read, finished, finished_at}
+use Rattle.selection_grammar.specs.steps.Machine.{State, start, read, finished, finished_at}
 use Rattle.selection_grammar.specs.Shapes.{whole, is_mark, open_parenthesis, close_parenthesis}
 use Rattle.ft_parser.proofs.Steps.{Reads, reads_at, stops_at}
-use Rattle.ft_parser.specs.Extent.{Suffices, Stands, Leads, all_read, open_within, may_end, part, stopped, unless}
+use Rattle.ft_parser.specs.steps.Extent.{Suffices, Stands, Leads, all_read, open_within, may_end, part, stopped, unless}
 use Rattle.ft_parser.specs.Limits.{open_behind, passes}
 use Rattle.ft_parser.specs.Prefix.{is_whole}
-use Rattle.ft_parser.specs.Scan.{begins_deep_filter}
-use Rattle.ft_parser.specs.Turns.{state_turn}
+use Rattle.ft_parser.specs.steps.Scan.{begins_deep_filter}
+use Rattle.ft_parser.specs.steps.Turns.{state_turn}
 use Rattle.ft_parser.proofs.Runs.{Fails, run_is, run_suffices, limit_fails, deep_fails, fails_suffices}
 use Rattle.ft_parser.proofs.TurnLaws.{state_law}
 

@@ -5,12 +5,12 @@ use Rattle.ft_base.specs.declared.words.Mode.TheVariants as M
 use Rattle.selection_grammar.specs.declared.parsed.PlacedString.{PlacedString}
 use Rattle.selection_grammar.specs.declared.parsed.PlacedOption.{PlacedOption}
 use Rattle.selection_grammar.specs.declared.parsed.Parsed.{Parsed}
-use Rattle.selection_grammar.specs.Machine.{Left, selection_with, operand_of, selection_at, stop_option, thesaurus_option, thesaurus_use}
+use Rattle.selection_grammar.specs.steps.Machine.{Left, selection_with, operand_of, selection_at, stop_option, thesaurus_option, thesaurus_use}
 use Rattle.selection_grammar.specs.Tree.{Tree, Primary, phrases, inner}
 use Rattle.ft_parser.specs.Limits.{has_all_filters}
-use Rattle.ft_parser.specs.Scan.{is_empty, stands_first}
-use Rattle.ft_parser.specs.State.{primary_of, stage_of}
-use Rattle.ft_parser.specs.Turns.{is_none}
+use Rattle.ft_parser.specs.steps.Scan.{is_empty, stands_first}
+use Rattle.ft_parser.specs.steps.State.{primary_of, stage_of}
+use Rattle.ft_parser.specs.steps.Turns.{is_none}
 use Rattle.ft_parser.specs.declared.state.Operand.{Operand}
 use Rattle.ft_parser.specs.declared.state.Stage.{Stage}
 use Rattle.ft_parser.specs.declared.state.Stage.TheVariants.{Wanted, InBraces, Valued, AnyOf, AllOf, Moded, Given, StopTerms, StopStrings, Thesaurus, ThesaurusIn, ThesauriIn, WithFilter}

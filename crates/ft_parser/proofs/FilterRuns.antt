@@ -6,11 +6,11 @@ use Rattle.selection_grammar.specs.declared.symbol.Symbol.{Symbol}
 use Rattle.selection_grammar.specs.declared.symbol.Symbol.TheVariants as S
 use Rattle.selection_grammar.specs.declared.symbol.Placed.{Placed}
 use Rattle.selection_grammar.specs.Grammar.{Selection, at}
-use Rattle.selection_grammar.specs.Machine as m
-use Rattle.selection_grammar.specs.Machine.{Left, Frame, Stage, State, start, next, advance, run_on, read, finished, finished_at, finished_in, selection_at, thesaurus_ended}
+use Rattle.selection_grammar.specs.steps.Machine as m
+use Rattle.selection_grammar.specs.steps.Machine.{Left, Frame, Stage, State, start, next, advance, run_on, read, finished, finished_at, finished_in, selection_at, thesaurus_ended}
 use Rattle.selection_grammar.specs.Shapes.{Shape, whole, nothing, word, number, text, mark}
 use Rattle.selection_grammar.specs.Tree.{Tree, phrases}
-use Rattle.selection_grammar.proofs.Laws.{spells_read, read-append, within_selection}
+use Rattle.selection_grammar.proofs.Decided.{spells_read, read-append, within_selection}
 use Rattle.selection_grammar.proofs.Reached.{stood}
 use Rattle.selection_grammar.proofs.Standing.{Outer, Stands}
 use Rattle.ft_parser.specs.FilterLimit.{are_filters_within}

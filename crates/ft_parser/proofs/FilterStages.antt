@@ -11,13 +11,13 @@ use Rattle.selection_grammar.specs.declared.parsed.PlacedString.{PlacedString}
 use Rattle.selection_grammar.specs.declared.parsed.PlacedOption.{PlacedOption}
 use Rattle.selection_grammar.specs.declared.parsed.PlacedTimes.{PlacedTimes}
 use Rattle.selection_grammar.specs.Keywords.{range, bound, one_number, two_bounds, side, key, filters_without_at, plain_option, times}
-use Rattle.selection_grammar.specs.Machine as m
-use Rattle.selection_grammar.specs.Machine.{Left, Frame, Stage, State, next, selection_at, selection_with, ands_with, ors_with, mild_with, operand_of, filtered_state, thesaurus_ended, thesaurus_selection}
+use Rattle.selection_grammar.specs.steps.Machine as m
+use Rattle.selection_grammar.specs.steps.Machine.{Left, Frame, Stage, State, next, selection_at, selection_with, ands_with, ors_with, mild_with, operand_of, filtered_state, thesaurus_ended, thesaurus_selection}
 use Rattle.selection_grammar.specs.Shapes.{Shape, whole, nothing, word, number, text, mark, or_else, and_then}
 use Rattle.selection_grammar.specs.Tree.{Tree, Trees, joined, Primary, phrases, inner, or_of, and_of}
 use Rattle.ft_parser.specs.FilterLimit.{are_filters_within}
 use Rattle.ft_parser.specs.Limits.{filters_round, has_all_filters}
-use Rattle.ft_parser.specs.Turns.{stands}
+use Rattle.ft_parser.specs.steps.Turns.{stands}
 use Rattle.ft_parser.proofs.FilterShapes.{AllEnds, all_and_then, First, first_or_else, first_filters, first_side, whole_of}
 use Rattle.ft_parser.proofs.FilterStates.{old, left_within, primary_within, operand_within, frames_within, state_within, whole_within, filter_within, close_first, joint_first}
 

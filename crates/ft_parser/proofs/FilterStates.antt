@@ -4,8 +4,8 @@ use Rattle.std.specs.Prelude.{not, nat_le}
 use Rattle.ft_base.specs.Limits.{max_filters}
 use Rattle.ft_base.specs.declared.filter.Filter.{Filter}
 use Rattle.selection_grammar.specs.declared.parsed.PlacedOption.{PlacedOption}
-use Rattle.selection_grammar.specs.Machine as m
-use Rattle.selection_grammar.specs.Machine.{Left, Frame, Stage, State, next, selection_at, selection_with, ors_with, ands_with, mild_with, operand_of, filtered_state, thesaurus_ended, thesaurus_selection}
+use Rattle.selection_grammar.specs.steps.Machine as m
+use Rattle.selection_grammar.specs.steps.Machine.{Left, Frame, Stage, State, next, selection_at, selection_with, ors_with, ands_with, mild_with, operand_of, filtered_state, thesaurus_ended, thesaurus_selection}
 use Rattle.selection_grammar.specs.Tree.{Tree, trees_of, joined, Primary, phrases, inner, and_of, or_of}
 use Rattle.ft_parser.specs.FilterLimit.{are_filters_within, are_all_within}
 use Rattle.ft_parser.specs.Limits.{filters_round}

@@ -1,10 +1,10 @@
 -- The run is the longest front that begins a selection.
 use Rattle.std.proofs.Common.{◌≡◌, ◌≤◌, ◌+◌, ℕ, suc, List, [], ◌∷◌, length, take, drop, Option, Some, None, refl, ◌∙◌, ap, arith}
 use Rattle.selection_grammar.specs.declared.symbol.Placed.{Placed}
-use Rattle.selection_grammar.specs.Machine.{State, start, advance, run_on, read}
+use Rattle.selection_grammar.specs.steps.Machine.{State, start, advance, run_on, read}
 use Rattle.selection_grammar.specs.Shapes.{Shape, whole}
 use Rattle.selection_grammar.specs.Texts.{Begins}
-use Rattle.selection_grammar.proofs.Laws.{read_begins, refused_begins}
+use Rattle.selection_grammar.proofs.Decided.{read_begins, refused_begins}
 use Rattle.ft_parser.specs.Prefix.{one_and, leading_from, run_length}
 use Rattle.ft_parser.proofs.Runs.{run_from_read}
 

@@ -5,11 +5,11 @@ use Rattle.std.proofs.Math.Seq.{take-add}
 use Rattle.ft_base.specs.declared.fault.QueryFault.{QueryFault}
 use Rattle.ft_base.specs.declared.fault.QueryFault.TheVariants as Q
 use Rattle.selection_grammar.specs.declared.symbol.Placed.{Placed}
-use Rattle.selection_grammar.specs.Machine.{State, start, advance, run_on, read}
+use Rattle.selection_grammar.specs.steps.Machine.{State, start, advance, run_on, read}
 use Rattle.selection_grammar.specs.Shapes.{Shape, whole}
-use Rattle.selection_grammar.proofs.Laws.{read-append}
+use Rattle.selection_grammar.proofs.Decided.{read-append}
 use Rattle.ft_parser.specs.Answer.{symbols_read, symbols_with}
-use Rattle.ft_parser.specs.Extent.{Suffices, open_within}
+use Rattle.ft_parser.specs.steps.Extent.{Suffices, open_within}
 use Rattle.ft_parser.specs.Limits.{open_behind, passes, limit_fault, is_deep_filter}
 use Rattle.ft_parser.specs.Prefix.{one_and, leading_from, run_length, is_whole, with_number, counted, run_read}
 use Rattle.ft_parser.proofs.FilterRuns.{led}

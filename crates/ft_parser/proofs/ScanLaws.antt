@@ -4,14 +4,14 @@ use Rattle.std.proofs.lemmas.List.{length-append, take-append-drop, length-take-
 use Rattle.std.proofs.Math.Seq.{drop-append_seam}
 use Rattle.ft_base.specs.declared.fault.QueryFault.TheVariants as Q
 use Rattle.selection_grammar.specs.declared.symbol.Placed.{Placed}
-use Rattle.selection_grammar.specs.Machine.{State, next, finished_at}
-use Rattle.selection_grammar.specs.Reading.{reading}
+use Rattle.selection_grammar.specs.steps.Machine.{State, next, finished_at}
+use Rattle.selection_grammar.specs.steps.Reading.{reading}
 use Rattle.selection_grammar.specs.Shapes.{Shape, whole, nothing, word, number, text, mark, step, run}
 use Rattle.selection_grammar.proofs.Ended.{Ends, next_ends}
 use Rattle.selection_grammar.proofs.Readings.{Outcome, outcome, is_whole}
 use Rattle.ft_parser.specs.Answer.{scanned_on, scanned_from}
-use Rattle.ft_parser.specs.Scan.{stopped_before, begins_deep_filter}
-use Rattle.ft_parser.specs.Turns.{state_turn}
+use Rattle.ft_parser.specs.steps.Scan.{stopped_before, begins_deep_filter}
+use Rattle.ft_parser.specs.steps.Turns.{state_turn}
 use Rattle.ft_parser.proofs.TurnLaws.{state_law}
 
 -- within a construct no filter begins

@@ -8,11 +8,11 @@ use Rattle.ft_base.specs.declared.fault.QueryFault.{QueryFault}
 use Rattle.ft_base.specs.declared.fault.QueryFault.TheVariants as Q
 use Rattle.selection_grammar.specs.declared.symbol.Placed.{Placed}
 use Rattle.selection_grammar.specs.Grammar.{Selection}
-use Rattle.selection_grammar.specs.Machine.{State, start, advance, run_on, read, finished, finished_at}
+use Rattle.selection_grammar.specs.steps.Machine.{State, start, advance, run_on, read, finished, finished_at}
 use Rattle.selection_grammar.specs.Shapes.{Shape, whole, is_mark, open_parenthesis, number_of}
 use Rattle.selection_grammar.specs.Texts.{Begins}
 use Rattle.selection_grammar.specs.Tree.{Tree}
-use Rattle.selection_grammar.proofs.Laws.{spells_read, read_spells, read_begins, refused_begins, read-append}
+use Rattle.selection_grammar.proofs.Decided.{spells_read, read_spells, read_begins, refused_begins, read-append}
 use Rattle.ft_parser.specs.Answer.{scanned_on, scanned_from, faultless, ended, read_as}
 use Rattle.ft_parser.specs.Limits.{is_great, open_behind, passes, before_limit, from_limit, limit_fault, is_deep_filter}
 use Rattle.ft_parser.specs.Selected.{open_in, is_deep_there, is_deep_behind, passes_limit, MayStand, IsWhole, Selects, Refuses}

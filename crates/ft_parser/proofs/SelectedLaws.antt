@@ -10,11 +10,11 @@ use Rattle.selection_grammar.specs.declared.symbol.Symbol.{Symbol}
 use Rattle.selection_grammar.specs.declared.symbol.Symbol.TheVariants as S
 use Rattle.selection_grammar.specs.declared.symbol.Placed.{Placed}
 use Rattle.selection_grammar.specs.Grammar.{Selection}
-use Rattle.selection_grammar.specs.Machine.{State, start, advance, run_on, read, finished, finished_at}
+use Rattle.selection_grammar.specs.steps.Machine.{State, start, advance, run_on, read, finished, finished_at}
 use Rattle.selection_grammar.specs.Shapes.{Shape, whole, nothing, word, text, mark, is_mark, open_parenthesis, number_of}
 use Rattle.selection_grammar.specs.Shapes as shapes
 use Rattle.selection_grammar.specs.Tree.{Tree}
-use Rattle.selection_grammar.proofs.Laws.{spells_read, read_spells, read_begins, refused_begins, read-append}
+use Rattle.selection_grammar.proofs.Decided.{spells_read, read_spells, read_begins, refused_begins, read-append}
 use Rattle.selection_faults.specs.Faults.{fault_of}
 use Rattle.ft_parser.specs.Answer.{scanned_on, scanned_from, faultless, ended, read_as}
 use Rattle.ft_parser.specs.Limits.{is_great, open_behind, passes, before_limit, from_limit, limit_fault, is_deep_filter, is_filter_word}

@@ -4,12 +4,12 @@ use Rattle.std.proofs.lemmas.List.{append-nil, length-append, take-append-drop, 
 use Rattle.std.proofs.Math.Seq.{take-append_seam, drop-append_seam}
 use Rattle.selection_grammar.specs.declared.symbol.Placed.{Placed}
 use Rattle.selection_grammar.specs.Shapes.{Shape, whole, nothing, word, number, text, mark, step, run}
-use Rattle.selection_grammar.specs.Machine.{State, next, advance, run_on, read, finished, finished_at, start}
-use Rattle.selection_grammar.specs.Reading.{reading}
+use Rattle.selection_grammar.specs.steps.Machine.{State, next, advance, run_on, read, finished, finished_at, start}
+use Rattle.selection_grammar.specs.steps.Reading.{reading}
 use Rattle.selection_grammar.proofs.Ended.{Ends, next_ends}
 use Rattle.selection_grammar.proofs.Readings.{Along, Stopped, Outcome, outcome, is_whole}
 use Rattle.selection_grammar.proofs.Walks.{run_on_any, run_on-append}
-use Rattle.selection_grammar.proofs.Laws.{read-append}
+use Rattle.selection_grammar.proofs.Decided.{read-append}
 
 -- It has read the symbols before the number, and it was between two constructs at another: the last such place. It refuses the symbol of the number, or
 -- the symbols end there within a construct.

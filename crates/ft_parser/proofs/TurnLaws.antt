@@ -15,13 +15,13 @@ use Rattle.selection_grammar.specs.declared.parsed.PlacedTimes.{PlacedTimes}
 use Rattle.selection_grammar.specs.Shapes.{Shape, whole, word, is_word, or_else, and_then}
 use Rattle.selection_grammar.specs.Keywords.{key, unit, range, one_number, two_bounds, bound, side, scope, distance, window, filters, filters_without_at, plain_option}
 use Rattle.selection_grammar.specs.Tree.{Primary, phrases}
-use Rattle.selection_grammar.specs.Machine as m
-use Rattle.selection_grammar.specs.Machine.{Left, Frame, Stage, State, next, selection_with, operand_of, filtered_state, thesaurus_ended, thesaurus_selection}
-use Rattle.selection_grammar.specs.Reading.{reading, further, front_is, front_place, front_number}
+use Rattle.selection_grammar.specs.steps.Machine as m
+use Rattle.selection_grammar.specs.steps.Machine.{Left, Frame, Stage, State, next, selection_with, operand_of, filtered_state, thesaurus_ended, thesaurus_selection}
+use Rattle.selection_grammar.specs.steps.Reading.{reading, further, front_is, front_place, front_number}
 use Rattle.selection_grammar.proofs.Words.{word_is}
 use Rattle.selection_grammar.proofs.Readings.{reading-and_then, same_further, same_number, same_cond}
-use Rattle.ft_parser.specs.Parts.{times_reading, distance_reading, window_reading, other_filter_reading, filter_reading, begins_filter, begins_other_filter}
-use Rattle.ft_parser.specs.Turns.{Turn, stands, using_turn, unfiltered_turn, options_turn, moded_turn, levels_turn, with_levels, behind_at_turn, behind_thesaurus_turn, thesaurus_rest_turn, thesaurus_in_rest_turn, in_levels, thesaurus_in_turn, thesaurus_turn, valued_turn, any_of_turn, all_of_turn, stop_terms_turn, with_filter_turn, state_turn, stage_turn}
+use Rattle.ft_parser.specs.steps.Parts.{times_reading, distance_reading, window_reading, other_filter_reading, filter_reading, begins_filter, begins_other_filter}
+use Rattle.ft_parser.specs.steps.Turns.{Turn, stands, using_turn, unfiltered_turn, options_turn, moded_turn, levels_turn, with_levels, behind_at_turn, behind_thesaurus_turn, thesaurus_rest_turn, thesaurus_in_rest_turn, in_levels, thesaurus_in_turn, thesaurus_turn, valued_turn, any_of_turn, all_of_turn, stop_terms_turn, with_filter_turn, state_turn, stage_turn}
 
 -- tests one behind the other, gathered
 six : {A B : Type 0} (f : A → B) (a b c d e g : Bool) (x y z u v w end : A) (rest : B) → cond a (f x) (cond b (f y) (cond c (f z) (cond d (f u) (cond e (f v) (cond g (f w) rest))))) ≡ cond (a || b || c || d || e || g) (f (cond a x (cond b y (cond c z (cond d u (cond e v (cond g w end))))))) rest

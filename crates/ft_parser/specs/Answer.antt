@@ -6,7 +6,7 @@ use Rattle.ft_base.specs.declared.fault.QueryFault.TheVariants as Q
 use Rattle.selection_grammar.specs.declared.symbol.Placed.{Placed}
 use Rattle.selection_grammar.specs.declared.symbol.Symbols.{Symbols}
 use Rattle.selection_grammar.specs.Form.{form_of}
-use Rattle.selection_grammar.specs.Machine.{State, start, advance, finished_at}
+use Rattle.selection_grammar.specs.steps.Machine.{State, start, advance, finished_at}
 use Rattle.selection_grammar.specs.Shapes.{Shape, whole}
 use Rattle.selection_grammar.specs.Tree.{Tree}
 use Rattle.selection_faults.specs.Faults.{fault_of}

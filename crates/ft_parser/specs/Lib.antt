@@ -1,12 +1,8 @@
 pub mod Selections
-pub mod Parts
-pub mod State
-pub mod Turns
 pub mod Limits
 pub mod Answer
-pub mod Scan
 pub mod FilterLimit
 pub mod Selected
 pub mod FilterPlaces
 pub mod Prefix
-pub mod Extent
+pub mod steps

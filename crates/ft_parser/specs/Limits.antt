@@ -5,7 +5,7 @@ use Rattle.ft_base.specs.declared.fault.QueryFault.{QueryFault}
 use Rattle.ft_base.specs.declared.fault.QueryFault.TheVariants as Q
 use Rattle.selection_grammar.specs.declared.symbol.Symbol.{Symbol}
 use Rattle.selection_grammar.specs.declared.symbol.Placed.{Placed}
-use Rattle.selection_grammar.specs.Machine.{State, selection_at}
+use Rattle.selection_grammar.specs.steps.Machine.{State, selection_at}
 use Rattle.selection_grammar.specs.Shapes.{Shape, whole, is_mark, is_word, open_parenthesis, close_parenthesis, number_of}
 use Rattle.selection_grammar.specs.Tree as tree
 use Rattle.selection_grammar.specs.Tree.{Tree}

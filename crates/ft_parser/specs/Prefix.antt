@@ -4,7 +4,7 @@ use Rattle.std.specs.Option.{is_some}
 use Rattle.ft_base.specs.Selection.{Form}
 use Rattle.ft_base.specs.declared.fault.QueryFault.{QueryFault}
 use Rattle.selection_grammar.specs.declared.symbol.Placed.{Placed}
-use Rattle.selection_grammar.specs.Machine.{State, start, advance, read, finished}
+use Rattle.selection_grammar.specs.steps.Machine.{State, start, advance, read, finished}
 use Rattle.selection_grammar.specs.Shapes.{Shape, whole}
 use Rattle.ft_parser.specs.Answer.{symbols_read, symbols_with}
 use Rattle.ft_syntax.specs.View.{form}

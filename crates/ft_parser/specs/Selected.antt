@@ -8,7 +8,7 @@ use Rattle.selection_grammar.specs.declared.symbol.Symbol.{Symbol}
 use Rattle.selection_grammar.specs.declared.symbol.Placed.{Placed}
 use Rattle.selection_grammar.specs.Form.{form_of}
 use Rattle.selection_grammar.specs.Grammar.{Selection}
-use Rattle.selection_grammar.specs.Machine.{State, read}
+use Rattle.selection_grammar.specs.steps.Machine.{State, read}
 use Rattle.selection_grammar.specs.Shapes.{Shape, is_mark, open_parenthesis, number_of}
 use Rattle.selection_grammar.specs.Texts.{Begins}
 use Rattle.selection_grammar.specs.Tree.{Tree}

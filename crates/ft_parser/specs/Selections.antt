@@ -3,7 +3,7 @@ use Rattle.std.specs.Prelude.{ℕ, List, Option, Some, None, option_map}
 use Rattle.ft_base.specs.Selection.{Form}
 use Rattle.selection_grammar.specs.declared.symbol.Symbols.{Symbols}
 use Rattle.selection_grammar.specs.Tree.{Tree}
-use Rattle.selection_grammar.specs.Machine.{read, finished}
+use Rattle.selection_grammar.specs.steps.Machine.{read, finished}
 use Rattle.selection_grammar.specs.Form.{form_of}
 use Rattle.query_symbols.specs.Symbols.{symbols_of}
 

@@ -2,8 +2,8 @@
 #![tactic(auto, using(selection_grammar::proofs::Views::tree_words, selection_grammar::proofs::Views::tree_or, selection_grammar::proofs::Views::tree_and, selection_grammar::proofs::Views::tree_mild, selection_grammar::proofs::Views::tree_not, selection_grammar::proofs::Views::tree_filtered, selection_grammar::proofs::Views::tree_with))]
 
 ghost use Rattle.std.specs.Prelude.{◌≡◌, [], ◌∷◌, ◌++◌, IfOk, map, option_map};
-ghost use Rattle.ft_parser.specs.State.{left_of, primary_of};
-ghost use Rattle.selection_grammar.specs.Machine as m;
+ghost use Rattle.ft_parser.specs.steps.State.{left_of, primary_of};
+ghost use Rattle.selection_grammar.specs.steps.Machine as m;
 ghost use Rattle.selection_grammar.specs.Tree as t;
 ghost use Rattle.selection_grammar.specs.View.{tree};
 

@@ -1,8 +1,8 @@
 //! How far symbols begin a selection.
 
 ghost use Rattle.std.specs.Prelude.{◌≡◌, ◌≤◌, ◌<◌, ◌-◌, IfOk, drop, length, take};
-ghost use Rattle.ft_parser.specs.Extent as spec;
-ghost use Rattle.ft_parser.specs.State.{state_of};
+ghost use Rattle.ft_parser.specs.steps.Extent as spec;
+ghost use Rattle.ft_parser.specs.steps.State.{state_of};
 
 use crate::filter_depth::begins_deep_filter;
 use crate::limits::open_within;
@@ -119,7 +119,7 @@ fn stopped(between: usize, end: usize, is_all: bool) -> Extent
 }
 
 /// Whether a selection may end there.
-#[tactic(auto, unfolding(crate::specs::Extent::may_end))]
+#[tactic(auto, unfolding(crate::specs::steps::Extent::may_end))]
 fn may_end(state: &State) -> bool
     ensures { result ≡ spec.may_end (state_of state.now) }
 {

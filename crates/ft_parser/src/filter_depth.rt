@@ -2,9 +2,9 @@
 
 ghost use Rattle.std.specs.Prelude.{◌≡◌, Some, drop, nat_le};
 ghost use Rattle.ft_parser.specs.Limits as limits;
-ghost use Rattle.ft_parser.specs.Scan as spec;
-ghost use Rattle.ft_parser.specs.State.{left_of, primary_of, stage_of, state_of};
-ghost use Rattle.selection_grammar.specs.Machine as m;
+ghost use Rattle.ft_parser.specs.steps.Scan as spec;
+ghost use Rattle.ft_parser.specs.steps.State.{left_of, primary_of, stage_of, state_of};
+ghost use Rattle.selection_grammar.specs.steps.Machine as m;
 ghost use Rattle.selection_grammar.specs.View.{tree};
 
 use crate::parts::begins_filter;

@@ -1,8 +1,8 @@
 //! Where symbols end.
 
 ghost use Rattle.std.specs.Prelude.{◌≡◌, [], IfOk, None, Some, option_map};
-ghost use Rattle.ft_parser.specs.State.{frames_of, left_of, stage_of};
-ghost use Rattle.selection_grammar.specs.Machine as m;
+ghost use Rattle.ft_parser.specs.steps.State.{frames_of, left_of, stage_of};
+ghost use Rattle.selection_grammar.specs.steps.Machine as m;
 ghost use Rattle.selection_grammar.specs.Tree as t;
 ghost use Rattle.selection_grammar.specs.View.{tree};
 

@@ -1,7 +1,7 @@
 //! What stands at a place among symbols.
 
 ghost use Rattle.std.specs.Prelude.{◌≡◌, ◌≤◌, ◌+◌, IsTrue, IfOk, IfSome, drop, length};
-ghost use Rattle.selection_grammar.specs.Reading.{front_is, front_is_mark, front_number, front_text, front_place};
+ghost use Rattle.selection_grammar.specs.steps.Reading.{front_is, front_is_mark, front_number, front_text, front_place};
 ghost use Rattle.selection_grammar.specs.Shapes as shapes;
 
 use ft_base::{Line, Memory};

@@ -1,7 +1,7 @@
 //! The limits of numbers and of open parentheses.
 
 ghost use Rattle.std.specs.Prelude.{◌≡◌, ◌<◌, ◌+◌, ◌^◌, [], IfSome, IfNone, drop, length, take};
-ghost use Rattle.ft_parser.specs.Extent as extent;
+ghost use Rattle.ft_parser.specs.steps.Extent as extent;
 ghost use Rattle.ft_parser.specs.Limits as spec;
 
 use ft_base::{MAX_NUMBER, MAX_OPEN, QueryFault};

@@ -1,11 +1,11 @@
 //! Steps of the reader at operands: where one is wanted, and behind a whole one.
 
 ghost use Rattle.std.specs.Prelude.{◌≡◌, [], ◌∷◌, IfOk, Some, None, codes};
-ghost use Rattle.ft_parser.specs.State.{Answers, frames_of, left_of, state_of};
-ghost use Rattle.ft_parser.specs.Turns.{stands};
+ghost use Rattle.ft_parser.specs.steps.State.{Answers, frames_of, left_of, state_of};
+ghost use Rattle.ft_parser.specs.steps.Turns.{stands};
 ghost use Rattle.selection_grammar.specs.Keywords as keywords;
-ghost use Rattle.selection_grammar.specs.Machine as m;
-ghost use Rattle.selection_grammar.specs.Reading.{reading};
+ghost use Rattle.selection_grammar.specs.steps.Machine as m;
+ghost use Rattle.selection_grammar.specs.steps.Reading.{reading};
 ghost use Rattle.selection_grammar.specs.Shapes.{whole};
 ghost use Rattle.selection_grammar.specs.Tree as t;
 ghost use Rattle.selection_grammar.specs.View.{tree};

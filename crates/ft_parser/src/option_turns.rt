@@ -1,11 +1,11 @@
 //! Steps of the reader behind operands, at options and filters.
 
 ghost use Rattle.std.specs.Prelude.{◌≡◌, [], ◌∷◌, ◌++◌, IfOk, Ok, codes, false};
-ghost use Rattle.ft_parser.specs.State.{Answers, frames_of, left_of, primary_of, state_of};
-ghost use Rattle.ft_parser.specs.Turns as turns;
+ghost use Rattle.ft_parser.specs.steps.State.{Answers, frames_of, left_of, primary_of, state_of};
+ghost use Rattle.ft_parser.specs.steps.Turns as turns;
 ghost use Rattle.selection_grammar.specs.Keywords as keywords;
-ghost use Rattle.selection_grammar.specs.Machine as m;
-ghost use Rattle.selection_grammar.specs.Reading.{further, reading};
+ghost use Rattle.selection_grammar.specs.steps.Machine as m;
+ghost use Rattle.selection_grammar.specs.steps.Reading.{further, reading};
 ghost use Rattle.selection_grammar.specs.View.{tree};
 
 use crate::building::{filtered, operand_tree, selection_with};
@@ -58,7 +58,7 @@ fn filtered_state(
 }
 
 /// Behind a whole selection with a filter.
-#[tactic(auto, unfolding(crate::specs::Turns::with_filter_turn))]
+#[tactic(auto, unfolding(crate::specs::steps::Turns::with_filter_turn))]
 pub(crate) fn with_filter(
     alloc: Global,
     symbols: &[Placed],
@@ -109,7 +109,7 @@ pub(crate) fn thesaurus_ended(alloc: Global, left: Left, last: Uses) -> Result<P
 }
 
 /// Behind whole options.
-#[tactic(auto, unfolding(crate::specs::Turns::options_turn))]
+#[tactic(auto, unfolding(crate::specs::steps::Turns::options_turn))]
 pub(crate) fn given(
     alloc: Global,
     symbols: &[Placed],
@@ -129,7 +129,7 @@ pub(crate) fn given(
 }
 
 /// Behind whole options, but no filter.
-#[tactic(auto, unfolding(crate::specs::Turns::unfiltered_turn))]
+#[tactic(auto, unfolding(crate::specs::steps::Turns::unfiltered_turn))]
 fn unfiltered(
     alloc: Global,
     symbols: &[Placed],
@@ -153,7 +153,7 @@ fn unfiltered(
 }
 
 /// Behind the `using` at that place.
-#[tactic(auto, unfolding(crate::specs::Turns::using_turn))]
+#[tactic(auto, unfolding(crate::specs::steps::Turns::using_turn))]
 fn using(
     alloc: Global,
     symbols: &[Placed],
@@ -245,7 +245,7 @@ fn with_option(operand: Operand, option: PlacedOption) -> Result<Operand, Memory
 }
 
 /// Behind stop words.
-#[tactic(auto, unfolding(crate::specs::Turns::stop_terms_turn))]
+#[tactic(auto, unfolding(crate::specs::steps::Turns::stop_terms_turn))]
 pub(crate) fn stop_terms(
     alloc: Global,
     symbols: &[Placed],
@@ -279,7 +279,7 @@ pub(crate) fn with_stops(stops: Stops) -> Result<Operand, Memory>
 }
 
 /// Behind a thesaurus outside parentheses.
-#[tactic(auto, unfolding(crate::specs::Turns::thesaurus_turn))]
+#[tactic(auto, unfolding(crate::specs::steps::Turns::thesaurus_turn))]
 pub(crate) fn thesaurus(
     alloc: Global,
     symbols: &[Placed],
@@ -297,7 +297,7 @@ pub(crate) fn thesaurus(
     }
 }
 
-#[tactic(auto, unfolding(crate::specs::Turns::thesaurus_rest_turn))]
+#[tactic(auto, unfolding(crate::specs::steps::Turns::thesaurus_rest_turn))]
 fn behind_name(
     alloc: Global,
     symbols: &[Placed],
@@ -345,7 +345,7 @@ fn levels(
 }
 
 /// Behind an `at`, which begins levels or a filter.
-#[tactic(auto, unfolding(crate::specs::Turns::behind_at_turn))]
+#[tactic(auto, unfolding(crate::specs::steps::Turns::behind_at_turn))]
 fn behind_at(
     alloc: Global,
     symbols: &[Placed],
@@ -365,7 +365,7 @@ fn behind_at(
 }
 
 /// Behind a thesaurus that has no levels, but not at an `at`.
-#[tactic(auto, unfolding(crate::specs::Turns::behind_thesaurus_turn))]
+#[tactic(auto, unfolding(crate::specs::steps::Turns::behind_thesaurus_turn))]
 fn behind_thesaurus(
     alloc: Global,
     symbols: &[Placed],

@@ -2,9 +2,9 @@
 
 ghost use Rattle.std.specs.Prelude.{◌≡◌, ◌≤◌, ◌<◌, ◌+◌, drop, length, IfOk, codes};
 ghost use Rattle.ft_base.specs.declared.filter.Filter.TheVariants as F;
-ghost use Rattle.ft_parser.specs.Parts as spec;
+ghost use Rattle.ft_parser.specs.steps.Parts as spec;
 ghost use Rattle.selection_grammar.specs.Keywords as keywords;
-ghost use Rattle.selection_grammar.specs.Reading.{reading};
+ghost use Rattle.selection_grammar.specs.steps.Reading.{reading};
 
 use crate::heads::{is_word, number_at};
 use ft_base::{Filter, Range, Unit};
@@ -174,7 +174,7 @@ fn content(symbols: &[Placed], next: usize) -> Result<(Filter, usize), usize>
 }
 
 /// A filter that doesn't begin with `at`.
-#[tactic(auto, unfolding(crate::specs::Parts::other_filter_reading))]
+#[tactic(auto, unfolding(crate::specs::steps::Parts::other_filter_reading))]
 pub(crate) fn other_filter(symbols: &[Placed], next: usize) -> Result<(Filter, usize), usize>
     ensures value { result ≡ spec.other_filter_reading symbols.now next }
     ensures within { IfOk result (λ r. r.1 ≤ length symbols.now) }
@@ -206,7 +206,7 @@ pub(crate) fn other_filter(symbols: &[Placed], next: usize) -> Result<(Filter, u
     }
 }
 
-#[tactic(auto, unfolding(crate::specs::Parts::filter_reading))]
+#[tactic(auto, unfolding(crate::specs::steps::Parts::filter_reading))]
 pub(crate) fn filter(symbols: &[Placed], next: usize) -> Result<(Filter, usize), usize>
     ensures value { result ≡ spec.filter_reading symbols.now next }
     ensures within { IfOk result (λ r. r.1 ≤ length symbols.now) }

@@ -2,9 +2,9 @@
 
 ghost use Rattle.std.specs.Prelude.{◌≡◌, ◌≤◌, ◌<◌, ◌+◌, ◌^◌, ◌-◌, IfOk, Ok, codes, length};
 ghost use Rattle.ft_base.specs.declared.options.StopChoice.TheVariants as Stop;
-ghost use Rattle.ft_parser.specs.State.{Answers};
+ghost use Rattle.ft_parser.specs.steps.State.{Answers};
 ghost use Rattle.selection_grammar.specs.Keywords as keywords;
-ghost use Rattle.selection_grammar.specs.Reading.{reading};
+ghost use Rattle.selection_grammar.specs.steps.Reading.{reading};
 ghost use Rattle.selection_grammar.specs.Shapes.{whole, nothing, text};
 ghost use Rattle.selection_grammar.specs.declared.parsed.MatchOption.TheVariants as O;
 

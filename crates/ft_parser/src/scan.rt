@@ -2,9 +2,9 @@
 
 ghost use Rattle.std.specs.Prelude.{◌≡◌, IfOk, drop};
 ghost use Rattle.ft_parser.specs.Answer.{scanned};
-ghost use Rattle.ft_parser.specs.Scan.{scan_of, stopped_before};
-ghost use Rattle.ft_parser.specs.State.{state_of};
-ghost use Rattle.selection_grammar.specs.Machine as m;
+ghost use Rattle.ft_parser.specs.steps.Scan.{scan_of, stopped_before};
+ghost use Rattle.ft_parser.specs.steps.State.{state_of};
+ghost use Rattle.selection_grammar.specs.steps.Machine as m;
 
 use crate::filter_depth::begins_deep_filter;
 use crate::finishing::finish;

@@ -2,11 +2,11 @@
 
 ghost use Rattle.std.specs.Prelude.{◌≡◌, [], ◌∷◌, ◌++◌, IfOk};
 ghost use Rattle.ft_base.specs.declared.options.StopSource.TheVariants as Source;
-ghost use Rattle.ft_parser.specs.State.{Answers, frames_of, left_of, primary_of, state_of};
-ghost use Rattle.ft_parser.specs.Turns.{stands};
+ghost use Rattle.ft_parser.specs.steps.State.{Answers, frames_of, left_of, primary_of, state_of};
+ghost use Rattle.ft_parser.specs.steps.Turns.{stands};
 ghost use Rattle.selection_grammar.specs.Grammar.{texts_of};
-ghost use Rattle.selection_grammar.specs.Machine as m;
-ghost use Rattle.selection_grammar.specs.Reading.{reading};
+ghost use Rattle.selection_grammar.specs.steps.Machine as m;
+ghost use Rattle.selection_grammar.specs.steps.Reading.{reading};
 
 use crate::heads::{closes_parenthesis, is_comma, is_word, opens_parenthesis, place_at, text_at};
 use crate::operand_turns::one_string;

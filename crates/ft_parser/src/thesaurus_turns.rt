@@ -1,13 +1,13 @@
 //! Steps of the reader inside thesaurus options.
 
 ghost use Rattle.std.specs.Prelude.{◌≡◌, [], ◌∷◌, ◌++◌, IfOk, None, Some, codes, drop};
-ghost use Rattle.ft_parser.specs.State.{Answers, frames_of, left_of, primary_of, state_of};
-ghost use Rattle.ft_parser.specs.Turns as turns;
-ghost use Rattle.ft_parser.specs.Parts.{before_word};
-ghost use Rattle.ft_parser.specs.Turns.{stands, thesaurus_in_turn, thesaurus_in_rest_turn, levels_turn, in_levels, with_levels};
+ghost use Rattle.ft_parser.specs.steps.State.{Answers, frames_of, left_of, primary_of, state_of};
+ghost use Rattle.ft_parser.specs.steps.Turns as turns;
+ghost use Rattle.ft_parser.specs.steps.Parts.{before_word};
+ghost use Rattle.ft_parser.specs.steps.Turns.{stands, thesaurus_in_turn, thesaurus_in_rest_turn, levels_turn, in_levels, with_levels};
 ghost use Rattle.selection_grammar.specs.Keywords as keywords;
-ghost use Rattle.selection_grammar.specs.Machine as m;
-ghost use Rattle.selection_grammar.specs.Reading.{reading};
+ghost use Rattle.selection_grammar.specs.steps.Machine as m;
+ghost use Rattle.selection_grammar.specs.steps.Reading.{reading};
 
 use crate::heads::{closes_parenthesis, is_comma, is_word, opens_parenthesis, text_at};
 use crate::parts::range;
@@ -178,7 +178,7 @@ pub(crate) fn with_uses(operand: Operand, at: usize, uses: ThesaurusUses) -> Res
 }
 
 /// Behind the name of a thesaurus in parentheses.
-#[tactic(auto, unfolding(crate::specs::Turns::thesaurus_in_turn))]
+#[tactic(auto, unfolding(crate::specs::steps::Turns::thesaurus_in_turn))]
 pub(crate) fn thesaurus_in(
     alloc: Global,
     symbols: &[Placed],
@@ -230,7 +230,7 @@ fn related_in(
     }
 }
 
-#[tactic(auto, unfolding(crate::specs::Turns::thesaurus_in_rest_turn))]
+#[tactic(auto, unfolding(crate::specs::steps::Turns::thesaurus_in_rest_turn))]
 fn behind_name_in(
     alloc: Global,
     symbols: &[Placed],

@@ -1,7 +1,7 @@
 //! One step of the reader, from wherever it stands.
 
-ghost use Rattle.ft_parser.specs.State.{Answers, state_of};
-ghost use Rattle.ft_parser.specs.Turns as turns;
+ghost use Rattle.ft_parser.specs.steps.State.{Answers, state_of};
+ghost use Rattle.ft_parser.specs.steps.Turns as turns;
 
 use crate::operand_turns::{in_braces, wanted};
 use crate::option_turns::{given, stop_terms, thesaurus, with_filter};
@@ -13,7 +13,7 @@ use selection_grammar::Placed;
 use std::alloc::Global;
 
 /// Reads one construct, from between two of them.
-#[tactic(auto, unfolding(crate::specs::Turns::state_turn))]
+#[tactic(auto, unfolding(crate::specs::steps::Turns::state_turn))]
 pub(crate) fn turn(
     alloc: Global,
     symbols: &[Placed],

@@ -1,7 +1,7 @@
 //! Steps of the reader behind the value of words.
 
-ghost use Rattle.ft_parser.specs.State.{Answers, frames_of, left_of, state_of};
-ghost use Rattle.ft_parser.specs.Turns as turns;
+ghost use Rattle.ft_parser.specs.steps.State.{Answers, frames_of, left_of, state_of};
+ghost use Rattle.ft_parser.specs.steps.Turns as turns;
 
 use crate::heads::{is_word, place_at};
 use crate::option_turns::given;
@@ -12,7 +12,7 @@ use selection_grammar::{Placed, PlacedString};
 use std::alloc::Global;
 
 /// Behind a value.
-#[tactic(auto, unfolding(crate::specs::Turns::valued_turn))]
+#[tactic(auto, unfolding(crate::specs::steps::Turns::valued_turn))]
 pub(crate) fn valued(
     alloc: Global,
     symbols: &[Placed],
@@ -48,7 +48,7 @@ pub(crate) fn valued(
 }
 
 /// Behind a value and `any`.
-#[tactic(auto, unfolding(crate::specs::Turns::any_of_turn))]
+#[tactic(auto, unfolding(crate::specs::steps::Turns::any_of_turn))]
 pub(crate) fn any_of(
     alloc: Global,
     symbols: &[Placed],
@@ -78,7 +78,7 @@ pub(crate) fn any_of(
 }
 
 /// Behind a value and `all`.
-#[tactic(auto, unfolding(crate::specs::Turns::all_of_turn))]
+#[tactic(auto, unfolding(crate::specs::steps::Turns::all_of_turn))]
 pub(crate) fn all_of(
     alloc: Global,
     symbols: &[Placed],
@@ -108,7 +108,7 @@ pub(crate) fn all_of(
 }
 
 /// Behind a value and its mode.
-#[tactic(auto, unfolding(crate::specs::Turns::moded_turn))]
+#[tactic(auto, unfolding(crate::specs::steps::Turns::moded_turn))]
 pub(crate) fn moded(
     alloc: Global,
     symbols: &[Placed],

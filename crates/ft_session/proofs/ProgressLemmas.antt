@@ -8,11 +8,11 @@ use Rattle.ft_io.specs.Shelf.{Reads}
 use Rattle.session_text.specs.declared.command.Command.{Command}
 use Rattle.session_text.specs.declared.reply.Reply.{Reply}
 use Rattle.session_text.specs.Commands.{commands, whole}
-use Rattle.session_text.specs.Reading.{Reading, new_reading, commands_left, whole_left}
+use Rattle.session_text.specs.steps.Reading.{Reading, new_reading, commands_left, whole_left}
 use Rattle.session_text.specs.Replies.{is_refusal, reply_text}
 use Rattle.ft_session.specs.declared.answering.AnswerError.{AnswerError}
 use Rattle.ft_session.specs.Output.{texts_of, replies_to, replies_to_whole, output, has_refusal}
-use Rattle.ft_session.specs.Pieces.{Answered}
+use Rattle.ft_session.specs.steps.Pieces.{Answered}
 use Rattle.ft_session.specs.Run.{BeginsWith, TookFront, with_text}
 use Rattle.ft_session.specs.State.{State, opening}
 use Rattle.ft_session.specs.Step.{replies, state_after, step}

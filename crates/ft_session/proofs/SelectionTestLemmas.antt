@@ -15,7 +15,7 @@ use Rattle.path_meaning.specs.Elements.{Element, placed}
 use Rattle.path_nodes.specs.References.{Spot, spots_in, spot_element, spot_reference, found_in, element_of, IsElement}
 use Rattle.path_nodes.proofs.SpotLemmas.{spot-stand, spot-there}
 use Rattle.plan_compiler.specs.Lexicon.{lexicon}
-use Rattle.plan_compiler.specs.PlanMeant.{plan_form, plan_lists}
+use Rattle.plan_compiler.specs.PlanMeaning.{plan_form, plan_lists}
 use Rattle.plan_compiler.specs.declared.plan.Plan.{Plan}
 use Rattle.tokenizer.specs.Tokens.{tokens}
 use Rattle.ft_session.specs.PlannedPaths.{is_planned}

@@ -7,7 +7,7 @@ use Rattle.ft_session.specs.declared.answering.AnswerError.{AnswerError}
 use Rattle.ft_session.specs.declared.answering.AnswerError.TheVariants as unanswered
 use Rattle.ft_session.specs.declared.pieces.Stopped.{Stopped}
 use Rattle.ft_session.specs.declared.pieces.Stopped.TheVariants as stops
-use Rattle.ft_session.specs.Pieces.{stopped_by}
+use Rattle.ft_session.specs.steps.Pieces.{stopped_by}
 
 abbrev result_of : Stopped → Result Bool Stopped
 result_of s = Err s

@@ -6,9 +6,9 @@ pub mod PlannedPaths
 pub mod SelectionTests
 pub mod Lists
 pub mod Step
-pub mod Codes
+pub mod StoredState
 pub mod LoadView
 pub mod Output
 pub mod Run
-pub mod Pieces
 pub mod Queries
+pub mod steps

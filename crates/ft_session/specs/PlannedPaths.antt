@@ -12,7 +12,7 @@ use Rattle.path_subset.specs.Paths.{PathForm}
 use Rattle.plain_tree.specs.Document.{Node}
 use Rattle.plan_compiler.specs.Lexicon.{lexicon}
 use Rattle.plan_compiler.specs.NamedLists.{NamedLists}
-use Rattle.plan_compiler.specs.PlanMeant.{plan_form, plan_lists}
+use Rattle.plan_compiler.specs.PlanMeaning.{plan_form, plan_lists}
 use Rattle.plan_compiler.specs.declared.plan.Plan.{Plan}
 use Rattle.tokenizer.specs.Tokens.{tokens}
 use Rattle.ft_session.specs.Paths.{lines_of, selections_of}

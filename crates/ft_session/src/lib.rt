@@ -3,23 +3,22 @@
 #![tactic(auto)]
 
 mod answering;
+mod asked_plans;
+pub mod laws;
 mod lists;
 mod loaded;
 mod loading;
 mod paths;
 mod pieces;
 mod planned;
-mod query_laws;
 mod reading;
 mod running;
 mod selected;
-mod selection_test;
 mod session;
 mod shown;
 mod status;
 mod writing;
 
-pub use query_laws::{query_law, selected_law};
 pub use running::run;
 pub use session::Session;
 pub use status::{Status, exit_of, line_of};

@@ -2,10 +2,10 @@ ghost use Rattle.std.specs.Prelude.{◌≡◌, ◌++◌, ◌+◌, ◌^◌, ◌<�
 ghost use Rattle.std.specs.List.{list_any};
 ghost use Rattle.ft_base.specs.Limits.{max_session_bytes};
 ghost use Rattle.ft_io.specs.Shelf.{bytes_of, told_bytes};
-ghost use Rattle.session_text.specs.Reading.{commands_left, new_reading};
+ghost use Rattle.session_text.specs.steps.Reading.{commands_left, new_reading};
 ghost use Rattle.session_text.specs.Replies.{is_refusal};
 ghost use Rattle.ft_session.specs.Output.{has_refusal, output, output_of_whole, texts_of};
-ghost use Rattle.ft_session.specs.Pieces.{Answered};
+ghost use Rattle.ft_session.specs.steps.Pieces.{Answered};
 ghost use Rattle.ft_session.specs.Run.{TookFront, with_text};
 ghost use Rattle.ft_session.specs.State.{opening};
 ghost use Rattle.ft_session.specs.Step.{replies};
@@ -29,7 +29,7 @@ pub(crate) enum Stopped {
 }
 
 impl From<AnswerError> for Stopped {
-    ghost use Rattle.ft_session.specs.Pieces.{stopped_by};
+    ghost use Rattle.ft_session.specs.steps.Pieces.{stopped_by};
 
     ghost from_gives = { λ error stopped. stopped ≡ stopped_by error };
 

@@ -8,9 +8,9 @@ ghost use Rattle.path_nodes.specs.References.{IsElement, element_of};
 ghost use Rattle.ft_session.specs.PlannedPaths.{planned_in, planned_lines, HasItsPlans};
 ghost use Rattle.ft_session.specs.State.{to_document};
 
+use crate::asked_plans::SelectionTest;
 use crate::loaded::Loaded;
 use crate::planned::PlannedPath;
-use crate::selection_test::SelectionTest;
 use crate::shown::Shown;
 use element_lines::{push_names, push_printed};
 use ft_base::{Line, Lines, Memory};

@@ -26,7 +26,7 @@ pub struct Session {
 
 impl Model for Session {
     ghost use Rattle.std.specs.Prelude.{map};
-    ghost use Rattle.ft_session.specs.Codes.{state_code};
+    ghost use Rattle.ft_session.specs.StoredState.{state_code};
     ghost use Rattle.ft_session.specs.State.{State, to_document};
 
     ghost Value = { State };

@@ -4,7 +4,7 @@ use Rattle.std.specs.Prelude.{flat_map, ◌||◌, if◌then◌else◌}
 use Rattle.std.proofs.lemmas.List.{take_more, take_all, map_more}
 use Rattle.std.proofs.lemmas.List.Concat.{flat_map-append}
 use Rattle.ft_syntax.specs.Spacing.{Symbol, closes, gap, set_out}
-use Rattle.ft_syntax.specs.Page.{Page, empty_page, put, put_all}
+use Rattle.ft_syntax.specs.steps.Page.{Page, empty_page, put, put_all}
 
 pub put_all_append : (page : Page) (xs ys : List Symbol) → put_all page (xs ++ ys) ≡ put_all (put_all page xs) ys
 put_all_append page [] ys = refl

@@ -2,5 +2,5 @@ pub mod View
 pub mod Symbols
 pub mod OptionSymbols
 pub mod Spacing
-pub mod Page
 pub mod Examples
+pub mod steps

@@ -2,10 +2,10 @@
 #![tactic(auto)]
 
 mod copying;
+pub mod examples;
 mod option_copying;
 mod print_options;
 mod print_words;
-mod printed_examples;
 mod printer;
 mod printing;
 mod selection;
@@ -13,7 +13,6 @@ mod selection;
 pub use copying::copy_selection;
 use ft_base::Items;
 pub use ft_base::{Filter, Mode, Range, Unit, Words};
-pub use printed_examples::{printed_filters, printed_levels, printed_options, printed_words};
 pub use printing::print_selection;
 pub use selection::Selection;
 

@@ -2,7 +2,7 @@
 
 ghost use Rattle.std.specs.Prelude.{◌≡◌, [], ◌∷◌, ◌++◌, ◌||◌, if◌then◌else◌, OnOk, decimal, encode_utf8, flat_map, map, string_bytes};
 ghost use Rattle.ft_syntax.specs.Spacing as spec;
-ghost use Rattle.ft_syntax.specs.Page.{empty_page, put, put_all};
+ghost use Rattle.ft_syntax.specs.steps.Page.{empty_page, put, put_all};
 ghost use Rattle.ft_syntax.specs.OptionSymbols.{in_quotes, string_symbol};
 
 use ft_base::{Line, Memory};
@@ -19,7 +19,7 @@ pub(crate) struct Printer {
 
 impl Model for Printer {
     ghost use Rattle.std.specs.Prelude.{string_bytes};
-    ghost use Rattle.ft_syntax.specs.Page.{Page};
+    ghost use Rattle.ft_syntax.specs.steps.Page.{Page};
 
     ghost Value = { Page };
 
@@ -37,7 +37,7 @@ impl Printer {
     }
 
     /// Adds a symbol.
-    #[tactic(auto, unfolding(crate::specs::Page::put))]
+    #[tactic(auto, unfolding(crate::specs::steps::Page::put))]
     pub(crate) fn symbol(&mut self, symbol: &str) -> Result<(), Memory>
         ensures { OnOk result (self.new ≡ put self.old symbol.now) }
     {
@@ -59,7 +59,7 @@ impl Printer {
     }
 
     /// Adds a string in quotation marks.
-    #[tactic(auto, unfolding(crate::specs::Page::put))]
+    #[tactic(auto, unfolding(crate::specs::steps::Page::put))]
     pub(crate) fn string(&mut self, text: &str) -> Result<(), Memory>
         ensures { OnOk result (self.new ≡ put self.old (string_symbol text.now)) }
     {

@@ -3,7 +3,7 @@
 
 ghost use Rattle.std.specs.Prelude.{◌≡◌, ◌∷◌, ◌++◌, IfOk, OnOk, codes, map};
 ghost use Rattle.ft_syntax.specs.OptionSymbols.{filter_symbols, options_symbols};
-ghost use Rattle.ft_syntax.specs.Page.{put_all};
+ghost use Rattle.ft_syntax.specs.steps.Page.{put_all};
 ghost use Rattle.ft_syntax.specs.Symbols.{level as level_of, in_parentheses, operand_symbols, operands_symbols, words_symbols, symbols, printed};
 ghost use Rattle.ft_syntax.specs.View.{form};
 

@@ -3,5 +3,4 @@
 //! but examples.
 #![tactic(auto)]
 
-mod entry_examples;
-mod examples;
+pub mod examples;

@@ -5,7 +5,7 @@ use Rattle.std.specs.Char.{is_whitespace}
 use Rattle.std.proofs.lemmas.Bool.{cond-true, cond-false, cases_Bool}
 use Rattle.std.proofs.lemmas.List.Splits.{slice_split-cons_yes, slice_split-cons_no, length-slice_split}
 use Rattle.match_options.specs.Patterns.{is_not_empty, parts}
-use Rattle.match_options.specs.PartsLeft.{ended, parts_left}
+use Rattle.match_options.specs.steps.PartsLeft.{ended, parts_left}
 
 -- ---- text of characters
 

@@ -11,7 +11,7 @@ use Rattle.ft_base.proofs.Truth.{same_tests}
 use Rattle.match_options.specs.declared.atom.Atom.{Atom}
 use Rattle.match_options.specs.declared.atom.Atom.TheVariants.{Letter, Gap}
 use Rattle.match_options.specs.Wildcards.{fits_gap, covers}
-use Rattle.match_options.specs.Row.{IsRow, at_place, nearest, reaches}
+use Rattle.match_options.specs.steps.Row.{IsRow, at_place, nearest, reaches}
 
 -- no atom is left: the end alone is covered
 end_covered : (place size : ℕ) (left : List ℕ) → length left + (place + 1) ≡ size → (place + 1 == size) ≡ covers [] left

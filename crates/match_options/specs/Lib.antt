@@ -1,10 +1,9 @@
 pub mod Patterns
-pub mod PartsLeft
 pub mod Grammar
 pub mod Items
 pub mod WordForms
 pub mod TokenTest
 pub mod Wildcards
-pub mod Row
 pub mod WordTests
 pub mod Examples
+pub mod steps

@@ -11,8 +11,8 @@ use Rattle.match_options.specs.Wildcards.{covers, pattern_in}
 use Rattle.match_options.specs.declared.atom.Atom.{Atom}
 use Rattle.match_options.specs.declared.word_forms.Forms.{Forms}
 use Rattle.match_options.specs.declared.form_choice.FormChoice.{FormChoice}
-use Rattle.match_options.specs.declared.word_test.WordTest.{WordTest}
-use Rattle.match_options.specs.declared.word_test.WordTest.TheVariants as The
+use Rattle.match_options.specs.declared.word_matching.WordTest.{WordTest}
+use Rattle.match_options.specs.declared.word_matching.WordTest.TheVariants as The
 
 -- the choice of options
 abbrev pub choice_of : Options → FormChoice

@@ -4,7 +4,7 @@ ghost use Rattle.std.specs.Prelude.{◌≡◌, IfOk, option_map, chars};
 ghost use Rattle.match_options.specs.Patterns as spec;
 
 use crate::atom::{Atom, SizedAtom};
-use crate::front::front_atom;
+use crate::prefix::front_atom;
 use crate::splitting::parts;
 use ft_base::{Memory, letters_of};
 use std::alloc::Global;

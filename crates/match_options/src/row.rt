@@ -3,7 +3,7 @@
 ghost use Rattle.std.specs.Prelude.{◌≡◌, ◌+◌, ◌-◌, ◌^◌, ◌<◌, ◌∷◌, [], ℕ, suc, List, ◌&&◌, nat_lt, if◌then◌else◌, drop, length, chars};
 ghost use Rattle.match_options.specs.declared.atom.Atom as the;
 ghost use Rattle.match_options.specs.declared.atom.Atom.TheVariants.{Letter, Gap};
-ghost use Rattle.match_options.specs.Row.{IsRow, at_place, reaches};
+ghost use Rattle.match_options.specs.steps.Row.{IsRow, at_place, reaches};
 ghost use Rattle.match_options.specs.Wildcards as spec;
 
 use crate::atom::Atom;

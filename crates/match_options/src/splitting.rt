@@ -2,7 +2,7 @@
 
 ghost use Rattle.std.specs.Prelude.{◌≡◌, ◌++◌, ◌∷◌, List, ℕ, [], IfOk, OnOk, chars, encode_utf8_all};
 ghost use Rattle.match_options.specs.Patterns as spec;
-ghost use Rattle.match_options.specs.PartsLeft.{ended, parts_left};
+ghost use Rattle.match_options.specs.steps.PartsLeft.{ended, parts_left};
 
 use ft_base::{Items, Lines, Memory, letters_of, text_of};
 use std::alloc::Global;

@@ -4,7 +4,7 @@ use Rattle.std.specs.List.{All}
 use Rattle.std.specs.Option.{option_and_then}
 use Rattle.std.proofs.lemmas.List.{get_or_default}
 use Rattle.std.proofs.lemmas.List.Elements.{All-nil, All-cons, All-append, All-weaker}
-use Rattle.ordered_tree.specs.Climbing.{below_parent, climbed, Climbs}
+use Rattle.ordered_tree.specs.steps.Climbing.{below_parent, climbed, Climbs}
 use Rattle.ordered_tree.specs.Counts.{element_depth, element_depths}
 use Rattle.ordered_tree.specs.Numbered.{Numbered, element_at, text_at, Children, no_children, child_then, plain, plain_children, reference, children, first_of}
 use Rattle.ordered_tree.specs.Places.{child, at_place}

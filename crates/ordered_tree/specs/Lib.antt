@@ -1,4 +1,3 @@
-pub mod Climbing
 pub mod Counts
 pub mod Leaves
 pub mod Numbered
@@ -8,3 +7,4 @@ pub mod Places
 pub mod Slots
 pub mod Stands
 pub mod Stored
+pub mod steps

@@ -1,5 +1,5 @@
 ghost use Rattle.std.specs.Prelude.{◌≡◌, ◌++◌, OnOk};
-ghost use Rattle.ordered_tree.specs.Climbing.{Climbs, climbed};
+ghost use Rattle.ordered_tree.specs.steps.Climbing.{Climbs, climbed};
 
 use crate::slot::Slot;
 use crate::{NodeRef, Place};

@@ -1,3 +1,5 @@
+//! What holds: each law is the contract of a function without a body.
+
 ghost use Rattle.std.specs.Prelude.{◌≡◌, ◌≢◌, All, AllPairs, Contains};
 ghost use Rattle.ordered_tree.specs.Numbered.{Numbered, plain, reference};
 ghost use Rattle.ordered_tree.specs.Part.{part};

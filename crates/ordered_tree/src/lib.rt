@@ -8,7 +8,7 @@ mod climbing;
 mod copying;
 mod counting;
 mod doc_tree;
-mod laws;
+pub mod laws;
 mod leaf;
 mod leaves;
 mod plain;
@@ -18,7 +18,6 @@ mod slot;
 pub use doc_tree::DocTree;
 use ft_base::Items;
 pub use ft_base::{LeafId, NodeRef};
-pub use laws::{below_law, one_node_law, shift_law};
 pub use leaf::LeafWords;
 
 /// A list of leaves.

@@ -7,8 +7,8 @@ use Rattle.selection_grammar.specs.Grammar.{Spot, at, name, string}
 use Rattle.path_grammar.specs.declared.path.PathRoot.{PathRoot}
 use Rattle.path_grammar.specs.Form as form
 use Rattle.path_grammar.specs.Grammar.{Inside, Path, Begins}
-use Rattle.path_grammar.specs.Machine as m
-use Rattle.path_grammar.specs.Machine.{Inner, RootStage, State, read, run_on, finished, open_count, most_open, most_open_on}
+use Rattle.path_grammar.specs.steps.Machine as m
+use Rattle.path_grammar.specs.steps.Machine.{Inner, RootStage, State, read, run_on, finished, open_count, most_open, most_open_on}
 use Rattle.path_grammar.proofs.Given.{given, same_value, same_selections}
 use Rattle.path_grammar.proofs.Rooted.{Reads, reads, read_path}
 use Rattle.path_grammar.proofs.Completed.{along_runs, along_most, path_read}

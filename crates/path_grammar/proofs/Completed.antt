@@ -7,8 +7,8 @@ use Rattle.path_grammar.specs.Form as form
 use Rattle.path_grammar.specs.Grammar as g
 use Rattle.path_grammar.specs.Grammar.{Inside, Root, Path}
 use Rattle.path_grammar.specs.Levels.{levels}
-use Rattle.path_grammar.specs.Machine as m
-use Rattle.path_grammar.specs.Machine.{Frame, Stage, Inner, State, read, run_on, finished, most_open, most_open_on}
+use Rattle.path_grammar.specs.steps.Machine as m
+use Rattle.path_grammar.specs.steps.Machine.{Frame, Stage, Inner, State, read, run_on, finished, most_open, most_open_on}
 use Rattle.path_grammar.proofs.Given.{given}
 use Rattle.path_grammar.proofs.Walks.{run_inner, highest, Walks, goes_on, AtStep, Behind}
 use Rattle.path_grammar.proofs.Conditions.{StepsWalk}

@@ -11,8 +11,8 @@ use Rattle.path_grammar.specs.declared.path.NameTest.TheVariants as T
 use Rattle.path_grammar.specs.Form as form
 use Rattle.path_grammar.specs.Form.{steps, predicates, joined, or_of, and_of}
 use Rattle.path_grammar.specs.Grammar.{Inside, Slashes, Test}
-use Rattle.path_grammar.specs.Machine as m
-use Rattle.path_grammar.specs.Machine.{LastStep, tested, all_steps, filtered, Joint, no_joint, ands_with, ors_with, Frame, Stage, Inner, stand, advance_inner}
+use Rattle.path_grammar.specs.steps.Machine as m
+use Rattle.path_grammar.specs.steps.Machine.{LastStep, tested, all_steps, filtered, Joint, no_joint, ands_with, ors_with, Frame, Stage, Inner, stand, advance_inner}
 use Rattle.path_grammar.proofs.Followers.{Follower}
 use Rattle.path_grammar.proofs.Walks.{Walks, stays, one, goes_on, walks_same, AtStep, Behind, bracket_opens, slash_walk, test_walk, Ends}
 

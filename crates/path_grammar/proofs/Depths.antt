@@ -8,8 +8,8 @@ use Rattle.selection_grammar.specs.declared.symbol.Placed.{Placed}
 use Rattle.path_grammar.specs.Form as form
 use Rattle.path_grammar.specs.Grammar.{Inside, Path}
 use Rattle.path_grammar.specs.Levels.{levels, BeginsWithin, OpensTooDeep}
-use Rattle.path_grammar.specs.Machine as m
-use Rattle.path_grammar.specs.Machine.{State, read, run_on, open_count, most_open, most_open_on}
+use Rattle.path_grammar.specs.steps.Machine as m
+use Rattle.path_grammar.specs.steps.Machine.{State, read, run_on, open_count, most_open, most_open_on}
 use Rattle.path_grammar.proofs.Completed.{complete}
 use Rattle.path_grammar.proofs.Growing.{grows_by}
 use Rattle.path_grammar.proofs.Begun.{completion_of, whole_of, read_begins, begins_read, read-append}

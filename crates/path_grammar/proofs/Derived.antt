@@ -5,8 +5,8 @@ use Rattle.selection_grammar.specs.declared.symbol.Placed.{Placed}
 use Rattle.path_grammar.specs.Form as form
 use Rattle.path_grammar.specs.Grammar.{Inside, Step, Steps, Predicate, Predicates, Ors, Ands, Primary, Rel}
 use Rattle.path_grammar.specs.Levels.{step_levels, steps_levels, predicate_levels, predicates_levels, ors_levels, ands_levels, primary_levels, rel_levels}
-use Rattle.path_grammar.specs.Machine as m
-use Rattle.path_grammar.specs.Machine.{LastStep, tested, filtered, Joint, no_joint, ors_with, Frame, Stage, stand}
+use Rattle.path_grammar.specs.steps.Machine as m
+use Rattle.path_grammar.specs.steps.Machine.{LastStep, tested, filtered, Joint, no_joint, ors_with, Frame, Stage, stand}
 use Rattle.path_grammar.proofs.Walks.{Walks, AtStep, Behind}
 use Rattle.path_grammar.proofs.Conditions.{PredicatesWalk, StepsWalk, ConditionWalk, AndsWalk, OrsWalk, more_filters, no_predicates_walk, further_predicate_walk, number_walk, holds_walk, no_steps_walk, step_walk_of, further_step_walk, itself_walk, child_walk, filtered_walk, child_steps_walk}
 use Rattle.path_grammar.proofs.Primaries.{negated_walk, parentheses_walk, attribute_walk, value_walk, exists_walk, contains_walk, first_and_walk, further_and_walk, first_or_walk, further_or_walk}

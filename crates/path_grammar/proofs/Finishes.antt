@@ -5,17 +5,17 @@ use Rattle.selection_grammar.specs.declared.symbol.Symbol.TheVariants as S
 use Rattle.selection_grammar.specs.declared.symbol.Placed.{Placed}
 use Rattle.selection_grammar.specs.Grammar.{Spot, at, name, string}
 use Rattle.selection_grammar.specs.Shapes.{Shape}
-use Rattle.selection_grammar.specs.Machine as selection
+use Rattle.selection_grammar.specs.steps.Machine as selection
 use Rattle.selection_grammar.specs.Texts as texts
 use Rattle.selection_grammar.specs.Tree.{Tree}
-use Rattle.selection_grammar.proofs.Laws as laws
+use Rattle.selection_grammar.proofs.Decided as laws
 use Rattle.path_grammar.specs.declared.path.NameTest.TheVariants as T
 use Rattle.path_grammar.specs.Form as form
 use Rattle.path_grammar.specs.Form.{steps}
 use Rattle.path_grammar.specs.Grammar as g
 use Rattle.path_grammar.specs.Grammar.{Inside}
-use Rattle.path_grammar.specs.Machine as m
-use Rattle.path_grammar.specs.Machine.{LastStep, tested, all_steps, filtered, Joint, condition_with, Frame, Stage, Inner, stand}
+use Rattle.path_grammar.specs.steps.Machine as m
+use Rattle.path_grammar.specs.steps.Machine.{LastStep, tested, all_steps, filtered, Joint, condition_with, Frame, Stage, Inner, stand}
 use Rattle.path_grammar.proofs.Standing.{Under, Place, Opened, Stands}
 use Rattle.path_grammar.proofs.Followers.{Follower}
 use Rattle.path_grammar.proofs.Walks.{Walks, stays, one, goes_on, walks_same, AtStep, Behind, slash_walk, test_walk, Ends, behind_ends, ended_ends, attribute_ends}

@@ -5,8 +5,8 @@ use Rattle.selection_grammar.specs.declared.symbol.Symbol.{Symbol}
 use Rattle.selection_grammar.specs.declared.symbol.Symbol.TheVariants as S
 use Rattle.selection_grammar.specs.Grammar.{Spot, at}
 use Rattle.selection_grammar.specs.Shapes.{Shape, whole, nothing, word, number, text, mark, step}
-use Rattle.selection_grammar.specs.Machine as selection
-use Rattle.selection_grammar.specs.Machine.{Left, Frame, State, next, next_at, advance, finished_at, finished_in, selection_at}
+use Rattle.selection_grammar.specs.steps.Machine as selection
+use Rattle.selection_grammar.specs.steps.Machine.{Left, Frame, State, next, next_at, advance, finished_at, finished_in, selection_at}
 use Rattle.selection_grammar.specs.Tree.{Tree}
 
 -- `]`, `)`, `and` and `or`

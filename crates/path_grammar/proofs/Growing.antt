@@ -5,11 +5,11 @@ use Rattle.selection_grammar.specs.declared.symbol.Symbol.{Symbol}
 use Rattle.selection_grammar.specs.declared.symbol.Symbol.TheVariants as S
 use Rattle.selection_grammar.specs.declared.symbol.Placed.{Placed}
 use Rattle.selection_grammar.specs.Shapes.{Shape}
-use Rattle.selection_grammar.specs.Machine as selection
+use Rattle.selection_grammar.specs.steps.Machine as selection
 use Rattle.path_grammar.specs.Form as form
 use Rattle.path_grammar.specs.Grammar.{Inside}
-use Rattle.path_grammar.specs.Machine as m
-use Rattle.path_grammar.specs.Machine.{LastStep, Joint, Frame, Stage, Inner, stand, RootStage, State, advance, open_count, read, most_open}
+use Rattle.path_grammar.specs.steps.Machine as m
+use Rattle.path_grammar.specs.steps.Machine.{LastStep, Joint, Frame, Stage, Inner, stand, RootStage, State, advance, open_count, read, most_open}
 use Rattle.path_grammar.proofs.Moves.{by_word}
 use Rattle.path_grammar.proofs.Reached.{by_otherwise}
 

@@ -13,8 +13,8 @@ use Rattle.path_grammar.specs.declared.path.NameTest.TheVariants as T
 use Rattle.path_grammar.specs.Form as form
 use Rattle.path_grammar.specs.Form.{steps, predicates, joined, or_of, and_of}
 use Rattle.path_grammar.specs.Grammar.{Inside, Slashes, Test, Steps, Predicate, Predicates, Rel}
-use Rattle.path_grammar.specs.Machine as m
-use Rattle.path_grammar.specs.Machine.{LastStep, tested, all_steps, filtered, Joint, no_joint, ands_with, ors_with, condition_with, Frame, Stage, Inner, stand}
+use Rattle.path_grammar.specs.steps.Machine as m
+use Rattle.path_grammar.specs.steps.Machine.{LastStep, tested, all_steps, filtered, Joint, no_joint, ands_with, ors_with, condition_with, Frame, Stage, Inner, stand}
 use Rattle.path_grammar.proofs.Standing.{same, Before, OrsBefore, AndsBefore, Walked, Trail, Under, Place, Opened, Stands, stands_same, trail_walked, trail_predicate}
 
 -- what stands where a step of the machine led

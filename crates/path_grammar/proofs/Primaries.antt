@@ -6,14 +6,14 @@ use Rattle.selection_grammar.specs.declared.symbol.Symbol.TheVariants as S
 use Rattle.selection_grammar.specs.declared.symbol.Placed.{Placed}
 use Rattle.selection_grammar.specs.Grammar.{Spot, at, name, string, Selection}
 use Rattle.selection_grammar.specs.Shapes.{Shape}
-use Rattle.selection_grammar.specs.Machine as selection
+use Rattle.selection_grammar.specs.steps.Machine as selection
 use Rattle.selection_grammar.specs.Tree.{Tree}
-use Rattle.selection_grammar.proofs.Laws as laws
+use Rattle.selection_grammar.proofs.Decided as laws
 use Rattle.path_grammar.specs.Form as form
 use Rattle.path_grammar.specs.Form.{steps, joined, or_of, and_of}
 use Rattle.path_grammar.specs.Grammar.{Inside, inside}
-use Rattle.path_grammar.specs.Machine as m
-use Rattle.path_grammar.specs.Machine.{Joint, no_joint, ands_with, ors_with, Frame, Stage, Inner, stand, advance_inner}
+use Rattle.path_grammar.specs.steps.Machine as m
+use Rattle.path_grammar.specs.steps.Machine.{Joint, no_joint, ands_with, ors_with, Frame, Stage, Inner, stand, advance_inner}
 use Rattle.path_grammar.proofs.Followers.{Follower, selection_stops}
 use Rattle.path_grammar.proofs.Walks.{Walks, stays, one, goes_on, walks_same, contains_leads, Ends, behind_ends, ended_ends, attribute_ends}
 use Rattle.path_grammar.proofs.Conditions.{StepsWalk, ConditionWalk, AndsWalk, OrsWalk, condition_same}

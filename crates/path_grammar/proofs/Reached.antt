@@ -7,15 +7,15 @@ use Rattle.selection_grammar.specs.declared.symbol.Symbol.TheVariants as S
 use Rattle.selection_grammar.specs.declared.symbol.Placed.{Placed}
 use Rattle.selection_grammar.specs.Grammar.{Spot, at, name, string}
 use Rattle.selection_grammar.specs.Shapes.{Shape}
-use Rattle.selection_grammar.specs.Machine as selection
+use Rattle.selection_grammar.specs.steps.Machine as selection
 use Rattle.selection_grammar.specs.Tree.{Tree}
-use Rattle.selection_grammar.proofs.Laws as laws
+use Rattle.selection_grammar.proofs.Decided as laws
 use Rattle.path_grammar.specs.Form as form
 use Rattle.path_grammar.specs.Form.{steps, predicates, joined, or_of, and_of}
 use Rattle.path_grammar.specs.Grammar as g
 use Rattle.path_grammar.specs.Grammar.{Inside, inside, Root, Step, Steps, Predicate, Ors, Primary, Rel, Path}
-use Rattle.path_grammar.specs.Machine as m
-use Rattle.path_grammar.specs.Machine.{LastStep, all_steps, Joint, ands_with, ors_with, condition_with, Frame, Stage, Inner, stand, State, read, run_on, advance, finished}
+use Rattle.path_grammar.specs.steps.Machine as m
+use Rattle.path_grammar.specs.steps.Machine.{LastStep, all_steps, Joint, ands_with, ors_with, condition_with, Frame, Stage, Inner, stand, State, read, run_on, advance, finished}
 use Rattle.path_grammar.proofs.Given.{given, same_value, same_selections}
 use Rattle.path_grammar.proofs.Standing.{same, Before, Walked, Under, Place, Opened, Stands, stands_same, with_joint, behind_or, behind_and, trail_walked}
 use Rattle.path_grammar.proofs.Moves.{led, by_word, goes_on, steps_moves, step_moves, test_moves, wants, wanted_moves, bracket_moves, not_moves, filters, number_moves}

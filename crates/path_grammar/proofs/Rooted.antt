@@ -9,8 +9,8 @@ use Rattle.path_grammar.specs.declared.path.PathRoot.{PathRoot}
 use Rattle.path_grammar.specs.Form as form
 use Rattle.path_grammar.specs.Grammar as g
 use Rattle.path_grammar.specs.Grammar.{Inside, Root, Predicates, Path}
-use Rattle.path_grammar.specs.Machine as m
-use Rattle.path_grammar.specs.Machine.{LastStep, all_steps, Joint, Frame, Stage, Inner, RootStage, State, read, run_on, advance, finished}
+use Rattle.path_grammar.specs.steps.Machine as m
+use Rattle.path_grammar.specs.steps.Machine.{LastStep, all_steps, Joint, Frame, Stage, Inner, RootStage, State, read, run_on, advance, finished}
 use Rattle.path_grammar.proofs.Given.{given, same_value, same_selections}
 use Rattle.path_grammar.proofs.Standing.{same, Walked, Trail, Under, Place, Stands}
 use Rattle.path_grammar.proofs.Moves.{by_word}

@@ -6,14 +6,14 @@ use Rattle.selection_grammar.specs.declared.symbol.Symbol.TheVariants as S
 use Rattle.selection_grammar.specs.declared.symbol.Placed.{Placed}
 use Rattle.selection_grammar.specs.Grammar.{Spot, at, name}
 use Rattle.selection_grammar.specs.Shapes.{Shape}
-use Rattle.selection_grammar.specs.Machine as selection
+use Rattle.selection_grammar.specs.steps.Machine as selection
 use Rattle.path_grammar.specs.declared.path.NameTest.{NameTest}
 use Rattle.path_grammar.specs.Form as form
 use Rattle.path_grammar.specs.Form.{predicates, joined, or_of, and_of}
 use Rattle.path_grammar.specs.Grammar as g
 use Rattle.path_grammar.specs.Grammar.{Inside, inside, Slashes, Test, Step, Steps, Predicate, Predicates, Ors, Ands, Primary, Rel}
-use Rattle.path_grammar.specs.Machine as m
-use Rattle.path_grammar.specs.Machine.{LastStep, all_steps, filtered, Joint, no_joint, ands_with, ors_with, condition_with, Frame, Stage, Inner, stand}
+use Rattle.path_grammar.specs.steps.Machine as m
+use Rattle.path_grammar.specs.steps.Machine.{LastStep, all_steps, filtered, Joint, no_joint, ands_with, ors_with, condition_with, Frame, Stage, Inner, stand}
 
 -- the same symbols and selections, written otherwise
 pub same : {n k : ℕ} {u w : List Placed} {ss ts : List Inside} (R : ℕ → List Placed → List Inside → Type 0) → R n u ss → n ≡ k → u ≡ w → ss ≡ ts → R k w ts

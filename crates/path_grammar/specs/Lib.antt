@@ -2,5 +2,5 @@ pub mod Form
 pub mod View
 pub mod Grammar
 pub mod Levels
-pub mod Machine
 pub mod Spellings
+pub mod steps

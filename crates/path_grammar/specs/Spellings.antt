@@ -9,7 +9,7 @@ use Rattle.path_grammar.specs.declared.path.NameTest.TheVariants as T
 use Rattle.path_grammar.specs.Form as form
 use Rattle.path_grammar.specs.Form.{Step, step, Predicate, predicates}
 use Rattle.path_grammar.specs.Grammar.{Inside, inside}
-use Rattle.path_grammar.specs.Machine.{State, read, finished, open_count}
+use Rattle.path_grammar.specs.steps.Machine.{State, read, finished, open_count}
 
 -- `/a`, `//a`, with predicates
 abbrev pub child : List ℕ → List Predicate → Step

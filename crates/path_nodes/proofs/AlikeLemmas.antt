@@ -9,8 +9,8 @@ use Rattle.path_grammar.specs.Form as form
 use Rattle.path_grammar.specs.Form.{Step, step, Steps, no_steps, step_then, Predicate, holds, Predicates, no_predicates, predicate_then, Condition, or_of, and_of, not_of, attribute, exists, contains, Conditions, no_conditions, condition_then}
 use Rattle.path_meaning.specs.Meaning.{Context, document, item, children, with_descendants, lists, is_named, some_element, stepped, led, filtered, filtered_by, is_true, some_true, each_true, selected}
 use Rattle.path_meaning.proofs.Lists.{filter-alike, list_any-alike}
-use Rattle.path_nodes.specs.Regions.{at_or_below}
-use Rattle.path_nodes.specs.Within.{is_front}
+use Rattle.path_nodes.specs.steps.Regions.{at_or_below}
+use Rattle.path_nodes.specs.steps.Within.{is_front}
 use Rattle.path_nodes.proofs.ChosenLemmas.{Contains-later, by-of}
 use Rattle.path_nodes.proofs.FrontLemmas.{region}
 

@@ -17,11 +17,11 @@ use Rattle.ordered_tree.specs.Numbered.{Numbered, element_at, text_at, Children,
 use Rattle.ordered_tree.specs.Stands.{round_root, round_first, round_next}
 use Rattle.ordered_tree.specs.declared.around.Around.{Around}
 use Rattle.ft_base.specs.declared.ids.NodeRef.{NodeRef}
-use Rattle.path_nodes.specs.Kept.{parents, kept, kept_children, named_children}
+use Rattle.path_nodes.specs.steps.Kept.{parents, kept, kept_children, named_children}
 use Rattle.path_nodes.specs.References.{Spot, spots, child_spots, spots_in, spot_element, element_of, IsElement}
-use Rattle.path_nodes.specs.Regions.{at_or_below, below}
+use Rattle.path_nodes.specs.steps.Regions.{at_or_below, below}
 use Rattle.path_nodes.specs.Says.{Meaning, satisfied}
-use Rattle.path_nodes.specs.Within.{is_front, AtOrBelow, IsBelow}
+use Rattle.path_nodes.specs.steps.Within.{is_front, AtOrBelow, IsBelow}
 use Rattle.path_nodes.proofs.FrontLemmas.{From, from, under, front-of, region}
 use Rattle.path_nodes.proofs.MeaningLemmas.{lists-are}
 use Rattle.path_nodes.proofs.NumberLemmas.{numbered_from, at, past, before}

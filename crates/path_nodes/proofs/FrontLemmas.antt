@@ -5,8 +5,8 @@ use Rattle.std.proofs.lemmas.Bool.Decides.{nat_tests}
 use Rattle.std.proofs.lemmas.List.Elements.{All-nil, All-cons, All-append, All-tail, All-head, Contains-append_cases, filter-append}
 use Rattle.plain_tree.specs.Document.{Node, element, text, Nodes, no_nodes, node_then}
 use Rattle.path_meaning.specs.Elements.{Element, placed, elements_from, elements_below}
-use Rattle.path_nodes.specs.Regions.{at_or_below}
-use Rattle.path_nodes.specs.Within.{is_front}
+use Rattle.path_nodes.specs.steps.Regions.{at_or_below}
+use Rattle.path_nodes.specs.steps.Within.{is_front}
 
 itself : (n : ℕ) → (n == n) ≡ true
 itself n = grind (arith, nat_tests)

@@ -9,11 +9,11 @@ use Rattle.path_meaning.specs.Elements.{Element, is_same, is_in}
 use Rattle.path_meaning.proofs.Lists.{filter-alike}
 use Rattle.ordered_tree.specs.Numbered.{Numbered}
 use Rattle.ft_base.specs.declared.ids.NodeRef.{NodeRef}
-use Rattle.path_nodes.specs.Listed.{HaveSame, AreListed}
-use Rattle.path_nodes.specs.Marks.{is_marked}
+use Rattle.path_nodes.specs.steps.Listed.{HaveSame, AreListed}
+use Rattle.path_nodes.specs.steps.Marks.{is_marked}
 use Rattle.path_nodes.specs.References.{IsElement, element_of}
-use Rattle.path_nodes.specs.Regions.{at_or_below}
-use Rattle.path_nodes.specs.Within.{is_front, AtOrBelow}
+use Rattle.path_nodes.specs.steps.Regions.{at_or_below}
+use Rattle.path_nodes.specs.steps.Within.{is_front, AtOrBelow}
 use Rattle.path_nodes.proofs.ChosenLemmas.{Contains-later}
 use Rattle.path_nodes.proofs.FrontLemmas.{region}
 use Rattle.path_nodes.proofs.PlaceLemmas.{one-reference}

@@ -12,8 +12,8 @@ use Rattle.path_grammar.specs.declared.path.Step.{Step}
 use Rattle.path_grammar.specs.declared.path.Predicate.{Predicate, Number, Holds}
 use Rattle.path_grammar.specs.declared.path.Condition.{Condition, Or, And, Not, Attribute, Exists, Contains}
 use Rattle.path_grammar.proofs.Views.{view_number, view_holds, view_or, view_and, view_not, view_attribute, view_exists, view_contains}
-use Rattle.path_nodes.specs.Kept.{parents}
-use Rattle.path_nodes.specs.Regions.{at_or_below}
+use Rattle.path_nodes.specs.steps.Kept.{parents}
+use Rattle.path_nodes.specs.steps.Regions.{at_or_below}
 
 module _ (sat : ℕ → Element → Bool) (all : List Element) where
   pub led-next : (xs : List Step) (i : ℕ) (d : Step) → i < length xs → (items new : List Element) → new ≡ stepped sat all (step (get_or xs i d)) (map item items)

@@ -14,7 +14,7 @@ use Rattle.path_grammar.specs.declared.path.Condition.{Condition, Or, And, Not, 
 use Rattle.path_grammar.proofs.Views.{view_holds, view_or, view_and, view_not, view_exists, view_contains}
 use Rattle.ordered_tree.specs.Numbered.{Numbered, plain}
 use Rattle.ft_base.specs.declared.ids.NodeRef.{NodeRef}
-use Rattle.path_nodes.specs.Kept.{parents}
+use Rattle.path_nodes.specs.steps.Kept.{parents}
 use Rattle.path_nodes.specs.Prices.{price_of, steps_price, step_price, predicates_price, list_price, children_price, predicate_price, condition_price, conditions_price}
 use Rattle.path_nodes.specs.References.{IsElement, element_of}
 use Rattle.path_nodes.specs.Says.{Meaning, reference_of, satisfied}

@@ -9,7 +9,7 @@ use Rattle.std.proofs.lemmas.List.{get_or-map, length-map}
 use Rattle.ordered_tree.specs.Numbered.{Numbered, element_at, text_at, plain, is_element}
 use Rattle.ft_base.specs.declared.ids.NodeRef.{NodeRef}
 use Rattle.path_nodes.specs.References.{element_of, IsElement}
-use Rattle.path_nodes.specs.Regions.{at_or_below, below}
+use Rattle.path_nodes.specs.steps.Regions.{at_or_below, below}
 use Rattle.path_nodes.proofs.PlaceLemmas.{element-is}
 
 among-from : (place : List ℕ) (n : Node) → flat_map at_or_below (elements.element_at place n) ≡ elements_from place n

@@ -16,12 +16,12 @@ use Rattle.ordered_tree.specs.Numbered.{Numbered, element_at, text_at, plain, re
 use Rattle.ordered_tree.specs.Stands.{round_root, references}
 use Rattle.ft_base.specs.declared.ids.NodeRef.{NodeRef}
 use Rattle.path_nodes.specs.Asked.{OfEach}
-use Rattle.path_nodes.specs.Kept.{kept, kept_children}
-use Rattle.path_nodes.specs.Listed.{HaveSame}
+use Rattle.path_nodes.specs.steps.Kept.{kept, kept_children}
+use Rattle.path_nodes.specs.steps.Listed.{HaveSame}
 use Rattle.path_nodes.specs.References.{Spot, spots, spots_in, element_of, IsElement, HasSingleAttributes}
-use Rattle.path_nodes.specs.Regions.{at_or_below, below}
+use Rattle.path_nodes.specs.steps.Regions.{at_or_below, below}
 use Rattle.path_nodes.specs.Says.{Meaning, satisfied}
-use Rattle.path_nodes.specs.Within.{is_front, AtOrBelow}
+use Rattle.path_nodes.specs.steps.Within.{is_front, AtOrBelow}
 use Rattle.path_nodes.proofs.ChosenLemmas.{map-map, not-in, not-itself}
 use Rattle.path_nodes.proofs.FrontLemmas.{under, filter-none}
 use Rattle.path_nodes.proofs.ListedLemmas.{same-offered}

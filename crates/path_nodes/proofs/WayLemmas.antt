@@ -11,13 +11,13 @@ use Rattle.ordered_tree.specs.Stands.{OnNode, round_root}
 use Rattle.ft_base.specs.declared.ids.NodeRef.{NodeRef}
 use Rattle.path_meaning.specs.Elements.{Element, kids_of, is_same}
 use Rattle.path_grammar.specs.Form.{Step}
-use Rattle.path_nodes.specs.Kept.{kept_children}
-use Rattle.path_nodes.specs.Marks.{is_marked}
+use Rattle.path_nodes.specs.steps.Kept.{kept_children}
+use Rattle.path_nodes.specs.steps.Marks.{is_marked}
 use Rattle.path_nodes.specs.References.{spots_in, spot_reference, element_of, IsElement}
-use Rattle.path_nodes.specs.Regions.{below}
+use Rattle.path_nodes.specs.steps.Regions.{below}
 use Rattle.path_nodes.specs.Says.{Meaning}
-use Rattle.path_nodes.specs.Ways.{AreWays, LeadTo}
-use Rattle.path_nodes.specs.Within.{is_front, AtOrBelow, IsBelow}
+use Rattle.path_nodes.specs.steps.Ways.{AreWays, LeadTo}
+use Rattle.path_nodes.specs.steps.Within.{is_front, AtOrBelow, IsBelow}
 use Rattle.path_nodes.proofs.AboveLemmas.{HasParent, top, parent-there}
 use Rattle.path_nodes.proofs.ChildrenLemmas.{on_element}
 use Rattle.path_nodes.proofs.ChosenLemmas.{tail-of, kept-places}

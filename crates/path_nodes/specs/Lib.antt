@@ -1,10 +1,5 @@
 pub mod References
-pub mod Regions
-pub mod Marks
-pub mod Within
-pub mod Ways
 pub mod Says
 pub mod Asked
-pub mod Kept
-pub mod Listed
 pub mod Prices
+pub mod steps

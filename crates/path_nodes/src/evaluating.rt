@@ -8,14 +8,14 @@ ghost use Rattle.path_grammar.specs.Form as form;
 ghost use Rattle.path_meaning.specs.Meaning as meaning;
 ghost use Rattle.path_grammar.specs.View as view;
 ghost use Rattle.path_nodes.specs.Asked.{OfEach, OfStep, OfPredicate, OfCondition, OfConditions, MayAsk};
-ghost use Rattle.path_nodes.specs.Kept as spec;
-ghost use Rattle.path_nodes.specs.Listed.{HaveSame};
+ghost use Rattle.path_nodes.specs.steps.Kept as spec;
+ghost use Rattle.path_nodes.specs.steps.Listed.{HaveSame};
 ghost use Rattle.path_nodes.specs.Prices as price;
 ghost use Rattle.path_nodes.specs.Prices.{AreAmong};
 ghost use Rattle.path_nodes.specs.References.{IsElement, element_of};
 ghost use Rattle.path_nodes.specs.Says.{Agrees, satisfied};
 ghost use Rattle.path_meaning.specs.Tests.{each_tested};
-ghost use Rattle.path_nodes.specs.Within.{AtOrBelow};
+ghost use Rattle.path_nodes.specs.steps.Within.{AtOrBelow};
 
 use crate::attributes::has_attribute;
 use crate::children::element_children;

@@ -1,3 +1,5 @@
+//! What holds of the documents in which paths are followed.
+
 ghost use Rattle.doc_grammar.specs.Printed.{IsPrintable};
 ghost use Rattle.ordered_tree.specs.Numbering.{numbered};
 ghost use Rattle.path_nodes.specs.References.{HasSingleAttributes};

@@ -3,22 +3,21 @@
 
 mod attributes;
 mod children;
+mod contains_text;
 mod evaluating;
 mod kept;
-mod laws;
+pub mod laws;
 mod marks;
 mod names;
 mod numbers;
 mod selected;
-mod text_test;
 mod walks;
 
+pub use contains_text::TextTest;
 pub use evaluating::led_from;
 use ft_base::Items;
-pub use laws::single_attributes_law;
 use ordered_tree::NodeRef;
 pub use selected::nodes;
-pub use text_test::TextTest;
 
 /// References of elements, in the order in which they were found.
 pub type Nodes = Items<NodeRef>;

@@ -2,9 +2,9 @@ ghost use Rattle.std.specs.Prelude.{◌≡◌, ◌≢◌, ◌||◌, ◌==◌, []
 ghost use Rattle.std.specs.List.{list_any};
 ghost use Rattle.ft_base.specs.declared.ids.NodeRef.{NodeRef};
 ghost use Rattle.path_meaning.specs.Elements.{is_same};
-ghost use Rattle.path_nodes.specs.Marks.{is_marked};
+ghost use Rattle.path_nodes.specs.steps.Marks.{is_marked};
 ghost use Rattle.path_nodes.specs.References.{IsElement, element_of};
-ghost use Rattle.path_nodes.specs.Ways.{AreWays};
+ghost use Rattle.path_nodes.specs.steps.Ways.{AreWays};
 
 use crate::Nodes;
 use ft_base::Memory;

@@ -9,14 +9,14 @@ use Rattle.selection_grammar.specs.declared.symbol.Symbol.{Symbol}
 use Rattle.selection_grammar.specs.declared.symbol.Symbol.TheVariants as S
 use Rattle.selection_grammar.specs.declared.symbol.Placed.{Placed}
 use Rattle.selection_grammar.specs.Grammar.{Spot, at}
-use Rattle.selection_grammar.specs.Machine as selection
+use Rattle.selection_grammar.specs.steps.Machine as selection
 use Rattle.selection_grammar.specs.Shapes.{Shape}
 use Rattle.selection_grammar.specs.Tree.{Tree}
 use Rattle.path_grammar.specs.Form as form
 use Rattle.path_grammar.specs.Grammar.{Inside, Path, Begins}
 use Rattle.path_grammar.specs.Levels.{levels, BeginsWithin, OpensTooDeep}
-use Rattle.path_grammar.specs.Machine as m
-use Rattle.path_grammar.specs.Machine.{Joint, Frame, Stage, Inner, State, stand, advance, run_on, read, open_count, most_open, most_open_on}
+use Rattle.path_grammar.specs.steps.Machine as m
+use Rattle.path_grammar.specs.steps.Machine.{Joint, Frame, Stage, Inner, State, stand, advance, run_on, read, open_count, most_open, most_open_on}
 use Rattle.path_grammar.proofs.Begun.{begins_read, read-append}
 use Rattle.path_grammar.proofs.Completed as completed
 use Rattle.path_grammar.proofs.Depths as depths

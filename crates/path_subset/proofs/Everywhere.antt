@@ -5,12 +5,12 @@ use Rattle.selection_grammar.specs.declared.symbol.Symbol.{Symbol}
 use Rattle.selection_grammar.specs.declared.symbol.Symbol.TheVariants as S
 use Rattle.selection_grammar.specs.declared.symbol.Placed.{Placed}
 use Rattle.selection_grammar.specs.Shapes.{Shape, is_word}
-use Rattle.selection_grammar.specs.Machine as selection
+use Rattle.selection_grammar.specs.steps.Machine as selection
 use Rattle.path_grammar.specs.Form as form
 use Rattle.path_grammar.specs.Form.{steps}
 use Rattle.path_grammar.specs.Grammar.{Inside}
-use Rattle.path_grammar.specs.Machine as m
-use Rattle.path_grammar.specs.Machine.{Joint, Frame, LastStep, Stage, Inner, stand}
+use Rattle.path_grammar.specs.steps.Machine as m
+use Rattle.path_grammar.specs.steps.Machine.{Joint, Frame, LastStep, Stage, Inner, stand}
 use Rattle.path_subset.specs.Answer.{before_selection_at}
 
 -- a stage in which a selection comes next begins with nothing of it

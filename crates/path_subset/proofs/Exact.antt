@@ -6,7 +6,7 @@ use Rattle.std.specs.List.{All}
 use Rattle.ft_base.specs.Selection.{Form}
 use Rattle.ft_base.specs.declared.fault.QueryFault.{QueryFault}
 use Rattle.selection_grammar.specs.declared.symbol.Placed.{Placed}
-use Rattle.selection_grammar.specs.Machine as selection
+use Rattle.selection_grammar.specs.steps.Machine as selection
 use Rattle.selection_grammar.specs.Shapes.{Shape}
 use Rattle.selection_grammar.specs.Tree.{Tree}
 use Rattle.ft_parser.specs.Prefix.{run_read}
@@ -18,8 +18,8 @@ use Rattle.path_grammar.specs.declared.path.PathRoot.{PathRoot}
 use Rattle.path_grammar.specs.Form as form
 use Rattle.path_grammar.specs.Form.{steps}
 use Rattle.path_grammar.specs.Grammar.{Inside, inside, Path, Begins}
-use Rattle.path_grammar.specs.Machine as m
-use Rattle.path_grammar.specs.Machine.{Joint, Frame, Stage, Inner, stand}
+use Rattle.path_grammar.specs.steps.Machine as m
+use Rattle.path_grammar.specs.steps.Machine.{Joint, Frame, Stage, Inner, stand}
 use Rattle.path_grammar.proofs.Begun.{one_path, read-append}
 use Rattle.path_grammar.proofs.Completed as completed
 use Rattle.path_grammar.proofs.Given.{given, same_selections}

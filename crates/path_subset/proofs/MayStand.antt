@@ -1,7 +1,7 @@
 -- Symbols that may stand may stand with one more symbol, and with those of a selection behind it.
 use Rattle.std.proofs.Common.{◌≡◌, false, List, [], ◌∷◌, ◌++◌, Option, Some, None, refl, sym, ◌∙◌, ap, subst, append_assoc, append-nil}
 use Rattle.selection_grammar.specs.declared.symbol.Placed.{Placed}
-use Rattle.path_grammar.specs.Machine.{State, at_root, nothing, advance, run_on, read, open_count}
+use Rattle.path_grammar.specs.steps.Machine.{State, at_root, nothing, advance, run_on, read, open_count}
 use Rattle.path_grammar.proofs.Begun.{read-append, read_begins}
 use Rattle.path_grammar.specs.Form as form
 use Rattle.path_subset.specs.Answer.{before_selection}

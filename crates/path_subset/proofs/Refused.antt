@@ -5,9 +5,9 @@ use Rattle.ft_base.specs.Selection.{Form}
 use Rattle.ft_base.specs.declared.fault.QueryFault.{QueryFault}
 use Rattle.ft_base.specs.declared.fault.QueryFault.TheVariants as Q
 use Rattle.selection_grammar.specs.declared.symbol.Placed.{Placed}
-use Rattle.selection_grammar.specs.Machine as selection
+use Rattle.selection_grammar.specs.steps.Machine as selection
 use Rattle.selection_grammar.specs.Shapes.{Shape}
-use Rattle.selection_grammar.proofs.Laws as laws
+use Rattle.selection_grammar.proofs.Decided as laws
 use Rattle.ft_parser.specs.Prefix.{run_read}
 use Rattle.ft_parser.specs.Selected.{Selects}
 use Rattle.query_symbols.specs.Symbols.{symbols_of}
@@ -15,8 +15,8 @@ use Rattle.path_grammar.specs.declared.path.PathRoot.{PathRoot}
 use Rattle.path_grammar.specs.Form as form
 use Rattle.path_grammar.specs.Form.{steps}
 use Rattle.path_grammar.specs.Grammar.{Inside, inside}
-use Rattle.path_grammar.specs.Machine as m
-use Rattle.path_grammar.specs.Machine.{Joint, Frame, Stage, Inner, stand}
+use Rattle.path_grammar.specs.steps.Machine as m
+use Rattle.path_grammar.specs.steps.Machine.{Joint, Frame, Stage, Inner, stand}
 use Rattle.path_grammar.proofs.Begun.{read-append, refused_begins}
 use Rattle.path_grammar.proofs.Completed as completed
 use Rattle.path_subset.specs.Answer.{Led, behind_run, with_run, led_by, before_selection_at, before_selection, with_condition, turned, further, ended_by, finished_path, read_from, path_read}

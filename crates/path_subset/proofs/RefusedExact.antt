@@ -5,14 +5,14 @@ use Rattle.ft_base.specs.declared.fault.QueryFault.{QueryFault}
 use Rattle.ft_base.specs.declared.fault.QueryFault.TheVariants as Q
 use Rattle.selection_grammar.specs.declared.symbol.Placed.{Placed}
 use Rattle.selection_grammar.specs.Grammar.{Spot, name}
-use Rattle.selection_grammar.specs.Machine as selection
+use Rattle.selection_grammar.specs.steps.Machine as selection
 use Rattle.selection_grammar.specs.Shapes.{Shape}
 use Rattle.ft_parser.specs.Prefix.{run_read}
 use Rattle.path_grammar.specs.declared.path.PathRoot.{PathRoot}
 use Rattle.path_grammar.specs.Form as form
 use Rattle.path_grammar.specs.Grammar.{Inside, Path}
-use Rattle.path_grammar.specs.Machine as m
-use Rattle.path_grammar.specs.Machine.{Joint, Frame, Stage, Inner, stand}
+use Rattle.path_grammar.specs.steps.Machine as m
+use Rattle.path_grammar.specs.steps.Machine.{Joint, Frame, Stage, Inner, stand}
 use Rattle.path_grammar.proofs.Begun.{read-append, not_begun}
 use Rattle.path_grammar.proofs.Rooted as rooted
 use Rattle.path_grammar.proofs.Standing as standing

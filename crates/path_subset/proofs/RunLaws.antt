@@ -7,11 +7,11 @@ use Rattle.ft_base.specs.Selection.{Form}
 use Rattle.ft_base.specs.declared.fault.QueryFault.{QueryFault}
 use Rattle.selection_grammar.specs.declared.symbol.Placed.{Placed}
 use Rattle.selection_grammar.specs.Grammar.{Selection}
-use Rattle.selection_grammar.specs.Machine.{State, start, advance, run_on, read, finished}
+use Rattle.selection_grammar.specs.steps.Machine.{State, start, advance, run_on, read, finished}
 use Rattle.selection_grammar.specs.Shapes.{Shape, whole}
 use Rattle.selection_grammar.specs.Texts.{Begins}
 use Rattle.selection_grammar.specs.Tree.{Tree}
-use Rattle.selection_grammar.proofs.Laws.{spells_read, read_spells, read_begins, refused_begins, not_begun, read-append}
+use Rattle.selection_grammar.proofs.Decided.{spells_read, read_spells, read_begins, refused_begins, not_begun, read-append}
 use Rattle.ft_parser.specs.Answer.{symbols_read, symbols_with}
 use Rattle.ft_parser.specs.Prefix.{run_length, is_whole, with_number, counted, run_read}
 use Rattle.ft_parser.specs.Selected as selected

@@ -4,10 +4,10 @@ use Rattle.std.specs.Option.{is_some}
 use Rattle.ft_base.specs.Selection.{Form}
 use Rattle.ft_base.specs.declared.fault.QueryFault.{QueryFault}
 use Rattle.selection_grammar.specs.declared.symbol.Placed.{Placed}
-use Rattle.selection_grammar.specs.Machine.{State, start, advance, run_on, read, finished, finished_at}
+use Rattle.selection_grammar.specs.steps.Machine.{State, start, advance, run_on, read, finished, finished_at}
 use Rattle.selection_grammar.specs.Shapes.{Shape, whole}
 use Rattle.selection_grammar.specs.Tree.{Tree}
-use Rattle.selection_grammar.proofs.Laws.{spells_read, read-append}
+use Rattle.selection_grammar.proofs.Decided.{spells_read, read-append}
 use Rattle.ft_parser.specs.Answer.{symbols_read, symbols_with}
 use Rattle.ft_parser.specs.Prefix.{one_and, leading_from, run_length, is_whole, with_number, counted, run_read}
 use Rattle.ft_parser.specs.Selected.{Selects}

@@ -5,7 +5,7 @@ use Rattle.ft_base.specs.declared.fault.QueryFault.{QueryFault}
 use Rattle.ft_base.specs.declared.fault.QueryFault.TheVariants as Q
 use Rattle.ft_parser.specs.Answer.{Answered}
 use Rattle.selection_grammar.specs.declared.symbol.Placed.{Placed}
-use Rattle.path_grammar.specs.Machine.{State, advance, open_count}
+use Rattle.path_grammar.specs.steps.Machine.{State, advance, open_count}
 use Rattle.path_subset.specs.Answer.{Led, led_by, turned, further, read_from, ended_by, finished_path}
 use Rattle.path_subset.specs.Limits.{passes, limit_fault}
 use Rattle.path_subset.specs.Paths.{PlacedForm}

@@ -8,7 +8,7 @@ use Rattle.ft_base.specs.declared.fault.QueryFault.{QueryFault}
 use Rattle.selection_grammar.specs.declared.symbol.Symbol.{Symbol}
 use Rattle.selection_grammar.specs.declared.symbol.Symbol.TheVariants as S
 use Rattle.selection_grammar.specs.declared.symbol.Placed.{Placed}
-use Rattle.selection_grammar.specs.Machine as selection
+use Rattle.selection_grammar.specs.steps.Machine as selection
 use Rattle.selection_grammar.specs.Shapes.{Shape, is_word}
 use Rattle.selection_grammar.specs.Tree.{Tree}
 use Rattle.ft_parser.specs.Prefix.{run_read}
@@ -17,8 +17,8 @@ use Rattle.path_grammar.specs.declared.path.PathRoot.{PathRoot}
 use Rattle.path_grammar.specs.Form as form
 use Rattle.path_grammar.specs.Form.{steps}
 use Rattle.path_grammar.specs.Grammar.{Inside, inside}
-use Rattle.path_grammar.specs.Machine as m
-use Rattle.path_grammar.specs.Machine.{Joint, Frame, Stage, Inner, stand}
+use Rattle.path_grammar.specs.steps.Machine as m
+use Rattle.path_grammar.specs.steps.Machine.{Joint, Frame, Stage, Inner, stand}
 use Rattle.path_grammar.proofs.Begun.{run_on-append}
 use Rattle.path_grammar.proofs.Rooted.{read_path}
 use Rattle.path_subset.specs.Answer.{Led, behind_run, with_run, led_by, before_selection_at, before_selection, with_condition, turned, further, ended_by, finished_path, read_from, path_read}

@@ -3,8 +3,8 @@ use Rattle.std.proofs.Common.{◌≡◌, refl, List, [], ◌∷◌, Option}
 use Rattle.selection_grammar.specs.declared.symbol.Symbol.{Symbol}
 use Rattle.selection_grammar.specs.declared.symbol.Symbol.TheVariants as S
 use Rattle.path_grammar.specs.Form as form
-use Rattle.path_grammar.specs.Machine as m
-use Rattle.path_subset.specs.Turns.{joint_words}
+use Rattle.path_grammar.specs.steps.Machine as m
+use Rattle.path_subset.specs.steps.Turns.{joint_words}
 
 abbrev pub by_symbol : Symbol → List m.Frame → m.Joint → form.Condition → Option m.Inner
 by_symbol S.CloseBracket frames joint c = m.close_bracket frames [] (form.holds (m.condition_with joint c))

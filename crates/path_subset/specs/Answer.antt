@@ -8,7 +8,7 @@ use Rattle.selection_grammar.specs.declared.symbol.Symbols.{Symbols}
 use Rattle.ft_parser.specs.Prefix.{run_read}
 use Rattle.query_symbols.specs.Symbols.{symbols_of}
 use Rattle.path_grammar.specs.Form as form
-use Rattle.path_grammar.specs.Machine.{State, Stage, nothing, at_root, along, stand, ended, selecting, advance, finished, open_count}
+use Rattle.path_grammar.specs.steps.Machine.{State, Stage, nothing, at_root, along, stand, ended, selecting, advance, finished, open_count}
 use Rattle.path_subset.specs.Limits.{passes, limit_fault}
 use Rattle.path_subset.specs.Paths.{PlacedForm, placed_form, PathForm, path_form}
 

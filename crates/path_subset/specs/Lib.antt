@@ -1,9 +1,7 @@
-pub mod State
-pub mod Turns
 pub mod Limits
 pub mod Paths
 pub mod Answer
-pub mod Reading
 pub mod Spelled
 pub mod Runs
 pub mod Refused
+pub mod steps

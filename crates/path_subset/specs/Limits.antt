@@ -4,11 +4,11 @@ use Rattle.std.specs.Option.{is_some}
 use Rattle.ft_base.specs.Limits.{max_number, max_open}
 use Rattle.ft_base.specs.declared.fault.QueryFault.{QueryFault}
 use Rattle.ft_base.specs.declared.fault.QueryFault.TheVariants as Q
-use Rattle.selection_grammar.specs.Machine as selection
+use Rattle.selection_grammar.specs.steps.Machine as selection
 use Rattle.selection_grammar.specs.declared.symbol.Placed.{Placed}
 use Rattle.selection_grammar.specs.declared.symbol.Symbol.{Symbol}
 use Rattle.selection_grammar.specs.declared.symbol.Symbol.TheVariants as S
-use Rattle.path_grammar.specs.Machine.{State, Stage, at_root, along, selecting, read, run_on, open_count}
+use Rattle.path_grammar.specs.steps.Machine.{State, Stage, at_root, along, selecting, read, run_on, open_count}
 
 abbrev pub opens : Symbol → Bool
 opens S.OpenBracket = true

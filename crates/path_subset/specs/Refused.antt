@@ -3,13 +3,13 @@ use Rattle.std.specs.Prelude.{◌≡◌, ℕ, true, false, List, [], ◌∷◌, 
 use Rattle.ft_base.specs.declared.fault.QueryFault.{QueryFault}
 use Rattle.ft_base.specs.declared.fault.QueryFault.TheVariants as Q
 use Rattle.selection_grammar.specs.declared.symbol.Placed.{Placed}
-use Rattle.selection_grammar.specs.Machine as selection
+use Rattle.selection_grammar.specs.steps.Machine as selection
 use Rattle.selection_grammar.specs.Shapes.{whole}
 use Rattle.query_symbols.specs.Symbols.{symbols_of}
 use Rattle.path_grammar.specs.declared.path.PathRoot.{PathRoot}
 use Rattle.path_grammar.specs.Form as form
 use Rattle.path_grammar.specs.Grammar.{Inside, Path, Begins}
-use Rattle.path_grammar.specs.Machine.{State, Frame, Joint, along, stand, selecting, read, open_count}
+use Rattle.path_grammar.specs.steps.Machine.{State, Frame, Joint, along, stand, selecting, read, open_count}
 use Rattle.path_subset.specs.Limits.{passes, limit_fault, Within}
 use Rattle.path_subset.specs.Runs.{EndsAmong, Misread}
 

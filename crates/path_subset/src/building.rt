@@ -3,9 +3,9 @@
 
 ghost use Rattle.std.specs.Prelude.{◌≡◌, [], ◌∷◌, ◌++◌, IfOk, map};
 ghost use Rattle.path_grammar.specs.Form as form;
-ghost use Rattle.path_grammar.specs.Machine as m;
+ghost use Rattle.path_grammar.specs.steps.Machine as m;
 ghost use Rattle.path_grammar.specs.View.{condition, predicate};
-ghost use Rattle.path_subset.specs.State.{joint_of, last_of, steps_of};
+ghost use Rattle.path_subset.specs.steps.State.{joint_of, last_of, steps_of};
 
 use crate::state::{Joint, LastStep};
 use ft_base::{Items, Line, Memory};

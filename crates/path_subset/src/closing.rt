@@ -3,10 +3,10 @@
 
 ghost use Rattle.std.specs.Prelude.{◌≡◌, [], ◌∷◌, IfOk, Some};
 ghost use Rattle.path_grammar.specs.Form as form;
-ghost use Rattle.path_grammar.specs.Machine as m;
+ghost use Rattle.path_grammar.specs.steps.Machine as m;
 ghost use Rattle.path_grammar.specs.View.{condition, predicate};
-ghost use Rattle.path_subset.specs.State.{Leads, frame_of, frames_of, inner_of, joint_of, stage_of, stands};
-ghost use Rattle.path_subset.specs.Turns.{joint_words};
+ghost use Rattle.path_subset.specs.steps.State.{Leads, frame_of, frames_of, inner_of, joint_of, stage_of, stands};
+ghost use Rattle.path_subset.specs.steps.Turns.{joint_words};
 
 use crate::building::{behind_and, behind_or, condition_with, filtered, negated, no_joint};
 use crate::heads::is_word;

@@ -3,8 +3,8 @@
 
 ghost use Rattle.std.specs.Prelude.{◌≡◌, [], None, option_map};
 ghost use Rattle.path_grammar.specs.Form as form;
-ghost use Rattle.path_grammar.specs.Machine as m;
-ghost use Rattle.path_subset.specs.State.{Leads, frames_of, inner_of, joint_of};
+ghost use Rattle.path_grammar.specs.steps.Machine as m;
+ghost use Rattle.path_subset.specs.steps.State.{Leads, frames_of, inner_of, joint_of};
 
 use crate::closing::{behind_condition, close_bracket, opened, stand};
 use crate::heads::is_word;

@@ -5,14 +5,13 @@ mod building;
 mod closing;
 mod conditions;
 mod heads;
+pub mod laws;
 mod limits;
 mod path;
-mod path_laws;
 mod read;
 mod state;
 mod stepping;
 mod turn;
 
 pub use path::{Extent, ReadPath};
-pub use path_laws::{depth_law, refused_law, spelled_law};
 pub use read::read_path;

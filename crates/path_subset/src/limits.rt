@@ -2,9 +2,9 @@
 #![tactic(auto, using(crate::proofs::Frames::frames_counted))]
 
 ghost use Rattle.std.specs.Prelude.{◌≡◌};
-ghost use Rattle.path_grammar.specs.Machine as m;
+ghost use Rattle.path_grammar.specs.steps.Machine as m;
 ghost use Rattle.path_subset.specs.Limits as spec;
-ghost use Rattle.path_subset.specs.State.{state_of};
+ghost use Rattle.path_subset.specs.steps.State.{state_of};
 
 use crate::state::State;
 use ft_base::{MAX_NUMBER, MAX_OPEN, QueryFault};

@@ -4,12 +4,12 @@ ghost use Rattle.std.specs.Prelude.{◌≡◌, ◌≤◌, ℕ, List, [], ◌∷�
 ghost use Rattle.ft_parser.specs.Answer.{Answered};
 ghost use Rattle.ft_parser.specs.Prefix.{run_read};
 ghost use Rattle.path_grammar.specs.Grammar.{begins_at, ends_at};
-ghost use Rattle.path_grammar.specs.Machine as m;
+ghost use Rattle.path_grammar.specs.steps.Machine as m;
 ghost use Rattle.path_grammar.specs.View as view;
 ghost use Rattle.path_subset.specs.Answer as spec;
 ghost use Rattle.path_subset.specs.Paths.{extent_of, found_form, read_form};
-ghost use Rattle.path_subset.specs.Reading.{led_of, run_led, way_led};
-ghost use Rattle.path_subset.specs.State.{frames_of, inner_of, joint_of, last_of, root_stage_of, state_of, steps_of, way_of};
+ghost use Rattle.path_subset.specs.steps.Reading.{led_of, run_led, way_led};
+ghost use Rattle.path_subset.specs.steps.State.{frames_of, inner_of, joint_of, last_of, root_stage_of, state_of, steps_of, way_of};
 ghost use Rattle.selection_grammar.specs.declared.symbol.Placed.{Placed};
 
 use crate::building::all_steps;

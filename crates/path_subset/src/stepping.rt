@@ -3,9 +3,9 @@
 
 ghost use Rattle.std.specs.Prelude.{[]};
 ghost use Rattle.path_grammar.specs.Form as form;
-ghost use Rattle.path_grammar.specs.Machine as m;
-ghost use Rattle.path_subset.specs.State.{Leads, frames_of, joint_of, last_of, steps_of};
-ghost use Rattle.path_subset.specs.Turns.{contains_or_joint};
+ghost use Rattle.path_grammar.specs.steps.Machine as m;
+ghost use Rattle.path_subset.specs.steps.State.{Leads, frames_of, joint_of, last_of, steps_of};
+ghost use Rattle.path_subset.specs.steps.Turns.{contains_or_joint};
 
 use crate::building::{all_steps, not_step, tested};
 use crate::closing::{behind_condition, opened, stand};

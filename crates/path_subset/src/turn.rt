@@ -2,9 +2,9 @@
 #![tactic(auto)]
 
 ghost use Rattle.std.specs.Prelude.{◌≡◌, [], IfOk, option_map};
-ghost use Rattle.path_grammar.specs.Machine as m;
-ghost use Rattle.path_subset.specs.State.{frames_of, inner_of, joint_of, root_stage_of, state_of, steps_of, way_of};
-ghost use Rattle.path_subset.specs.Turns.{closed_root, opened_root};
+ghost use Rattle.path_grammar.specs.steps.Machine as m;
+ghost use Rattle.path_subset.specs.steps.State.{frames_of, inner_of, joint_of, root_stage_of, state_of, steps_of, way_of};
+ghost use Rattle.path_subset.specs.steps.Turns.{closed_root, opened_root};
 
 use crate::building::no_joint;
 use crate::closing::{behind_condition, stand};

@@ -5,7 +5,7 @@ use Rattle.std.specs.Map.{lookup, set_value}
 use Rattle.std.proofs.lemmas.List.{take_more, map-append, length-map}
 use Rattle.all_matches.specs.Counting.{put_variant, with_variant, by_length}
 use Rattle.indexmap.specs.IndexMap.{insert_entry}
-use Rattle.plan_compiler.specs.GroupsMeant.{put_behind}
+use Rattle.plan_compiler.specs.GroupedTests.{put_behind}
 
 pub flat_map-map : {X Y : Type 0} (f : X → List Y) (xs : List X) → flat_map (λ ys. ys) (map f xs) ≡ flat_map f xs
 flat_map-map f [] = refl

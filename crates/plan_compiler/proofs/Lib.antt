@@ -5,6 +5,6 @@ pub mod ListLemmas
 pub mod GroupLemmas
 pub mod DecidedLemmas
 pub mod MissingLemmas
-pub mod ItemsMeant
-pub mod PhrasesMeant
-pub mod SelectionsMeant
+pub mod ItemMeaning
+pub mod PhraseMeaning
+pub mod SelectionMeaning

@@ -7,7 +7,7 @@ use Rattle.std.specs.Rc.{rc_value}
 use Rattle.std.specs.String.{string_eq}
 use Rattle.std.specs.declared.rc.Rc.{Rc}
 use Rattle.indexmap.specs.IndexMap.{insert_entry}
-use Rattle.plan_compiler.specs.ListsMeant.{named}
+use Rattle.plan_compiler.specs.SharedLists.{named}
 use Rattle.plan_compiler.specs.NamedLists.{list_named, with_list}
 
 module _ {L Y Z : Type 0} where

@@ -1,8 +1,8 @@
 -- What each kind of compiled selection says.
 use Rattle.std.proofs.Common.{◌≡◌, refl, ap, ◌∙◌, List, [], ◌∷◌, map, Box, Global, rules, not, ◌&&◌, ◌||◌}
 use Rattle.std.specs.List.{list_any, list_all}
-use Rattle.plan_compiler.specs.NodeMeant.{layer, truth}
-use Rattle.plan_compiler.specs.WordsMeant.{words_truth}
+use Rattle.plan_compiler.specs.NodeMeaning.{layer, truth}
+use Rattle.plan_compiler.specs.WordsMeaning.{words_truth}
 use Rattle.plan_compiler.specs.declared.text_word.TextWord.{TextWord}
 use Rattle.plan_compiler.specs.declared.words_plan.WordsPlan.{WordsPlan}
 use Rattle.plan_compiler.specs.declared.node.Node.TheOpen.{Node-F}

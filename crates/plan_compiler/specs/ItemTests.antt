@@ -2,8 +2,8 @@
 use Rattle.std.specs.Prelude.{Bool, ◌&&◌, bytes_eq}
 use Rattle.match_options.specs.TokenTest.{has_case}
 use Rattle.match_options.specs.WordTests as forms
-use Rattle.plan_compiler.specs.declared.item_test.ItemTest.{ItemTest}
-use Rattle.plan_compiler.specs.declared.item_test.ItemTest.TheVariants.{ByForms, ByStem}
+use Rattle.plan_compiler.specs.declared.item_matching.ItemTest.{ItemTest}
+use Rattle.plan_compiler.specs.declared.item_matching.ItemTest.TheVariants.{ByForms, ByStem}
 use Rattle.plan_compiler.specs.declared.text_word.TextWord.{TextWord}
 
 unfoldable pub passes : ItemTest → TextWord → Bool

@@ -1,7 +1,7 @@
 ghost use Rattle.std.specs.Prelude.{◌≡◌};
 ghost use Rattle.ft_base.specs.Selection.{no_options};
 ghost use Rattle.all_matches.specs.Meaning as meaning;
-ghost use Rattle.plan_compiler.specs.ChosenMeant.{options_of};
+ghost use Rattle.plan_compiler.specs.ChosenOptions.{options_of};
 
 use ft_base::{Case, Line, Options, StopChoice, ThesaurusChoice};
 

@@ -5,10 +5,10 @@ ghost use Rattle.ft_base.specs.declared.token.Token.{Token};
 ghost use Rattle.ft_syntax.specs.View.{form, forms_of};
 ghost use Rattle.ft_base.specs.Selection.{words};
 ghost use Rattle.all_matches.specs.Meaning.{sat_under};
-ghost use Rattle.plan_compiler.specs.ChosenMeant.{options_of};
+ghost use Rattle.plan_compiler.specs.ChosenOptions.{options_of};
 ghost use Rattle.plan_compiler.specs.Served.{all_served, are_served, is_served};
 ghost use Rattle.plan_compiler.specs.Lexicon.{lexicon};
-ghost use Rattle.plan_compiler.specs.NodeMeant.{truth};
+ghost use Rattle.plan_compiler.specs.NodeMeaning.{truth};
 ghost use Rattle.plan_compiler.specs.TextWords.{words_of_tokens};
 
 use crate::chosen::{Chosen, inside};

@@ -4,9 +4,9 @@ ghost use Rattle.std.specs.Prelude.{◌≡◌, ◌∷◌, ◌++◌, [], map, fla
 ghost use Rattle.all_matches.specs.Meaning.{phrases_by, singly};
 ghost use Rattle.match_options.specs.Items.{item};
 ghost use Rattle.match_options.specs.Items as items;
-ghost use Rattle.plan_compiler.specs.ChosenMeant.{options_of};
-ghost use Rattle.plan_compiler.specs.CompiledMeant.{IsCompiled};
-ghost use Rattle.plan_compiler.specs.WordsMeant as spec;
+ghost use Rattle.plan_compiler.specs.ChosenOptions.{options_of};
+ghost use Rattle.plan_compiler.specs.CompiledWords.{IsCompiled};
+ghost use Rattle.plan_compiler.specs.WordsMeaning as spec;
 
 use crate::chosen::Chosen;
 use crate::lists::Lists;

@@ -6,9 +6,9 @@ ghost use Rattle.all_matches.specs.Counting.{begins_as, places, product};
 ghost use Rattle.all_matches.specs.Compositional.{enough};
 ghost use Rattle.all_matches.specs.Times.{number_in_range};
 ghost use Rattle.plan_compiler.specs.ItemTests.{passes};
-ghost use Rattle.plan_compiler.specs.WordsMeant.{phrase_count, words_count};
+ghost use Rattle.plan_compiler.specs.WordsMeaning.{phrase_count, words_count};
 
-use crate::item_test::ItemTest;
+use crate::item_matching::ItemTest;
 use crate::phrase_plan::PhrasePlan;
 use crate::text_word::TextWord;
 use crate::words_plan::WordsPlan;

@@ -2,7 +2,7 @@
 
 ghost use Rattle.std.specs.Prelude.{◌≡◌};
 ghost use Rattle.std.specs.List.{list_any, list_all};
-ghost use Rattle.plan_compiler.specs.NodeMeant.{truth};
+ghost use Rattle.plan_compiler.specs.NodeMeaning.{truth};
 
 use crate::counting::{count, is_enough};
 use crate::node::Node;

@@ -10,7 +10,7 @@ mod counting;
 mod decided;
 mod deciding;
 mod fault;
-mod item_test;
+mod item_matching;
 mod lists;
 mod looks;
 mod missing;

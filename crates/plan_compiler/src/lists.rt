@@ -3,7 +3,7 @@
 ghost use Rattle.std.specs.Prelude.{◌≡◌, length, map, option_map, IfOk, OnErr, OnOk};
 ghost use Rattle.std.specs.Option.{is_some};
 ghost use Rattle.word_lists.specs.Stems.{stem_in};
-ghost use Rattle.plan_compiler.specs.ListsMeant.{dictionary, named};
+ghost use Rattle.plan_compiler.specs.SharedLists.{dictionary, named};
 ghost use Rattle.plan_compiler.specs.NamedLists.{list_named, no_lists, with_list, with_stems, with_stop_list, with_thesaurus};
 
 use ft_base::Memory;
@@ -26,7 +26,7 @@ pub struct Lists {
 
 impl Model for Lists {
     ghost use Rattle.std.specs.Prelude.{map};
-    ghost use Rattle.plan_compiler.specs.ListsMeant.{dictionary, named};
+    ghost use Rattle.plan_compiler.specs.SharedLists.{dictionary, named};
     ghost use Rattle.plan_compiler.specs.NamedLists.{NamedLists};
 
     ghost Value = { NamedLists };

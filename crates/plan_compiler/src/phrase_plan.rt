@@ -5,10 +5,10 @@ ghost use Rattle.std.specs.Map.{lookup};
 ghost use Rattle.all_matches.specs.Counting.{by_length, with_variant};
 ghost use Rattle.match_options.specs.Items.{item};
 ghost use Rattle.plan_compiler.specs.ItemTests.{passes};
-ghost use Rattle.plan_compiler.specs.GroupsMeant.{group_tests, put_behind};
-ghost use Rattle.plan_compiler.specs.WordsMeant as spec;
+ghost use Rattle.plan_compiler.specs.GroupedTests.{group_tests, put_behind};
+ghost use Rattle.plan_compiler.specs.WordsMeaning as spec;
 
-use crate::item_test::ItemTest;
+use crate::item_matching::ItemTest;
 use crate::reading::{Reading, item_test};
 use crate::variants::phrases_for;
 use ft_base::{Items, Memory};

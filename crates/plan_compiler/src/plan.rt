@@ -7,7 +7,7 @@ ghost use Rattle.all_matches.specs.Meaning.{sat};
 ghost use Rattle.plan_compiler.specs.Decided.{is_decided};
 ghost use Rattle.plan_compiler.specs.Lexicon.{lexicon};
 ghost use Rattle.plan_compiler.specs.Missing.{first_missing, IsMissing};
-ghost use Rattle.plan_compiler.specs.NodeMeant.{truth};
+ghost use Rattle.plan_compiler.specs.NodeMeaning.{truth};
 ghost use Rattle.plan_compiler.specs.Served.{is_served};
 ghost use Rattle.plan_compiler.specs.TextWords.{words_of_tokens};
 
@@ -39,7 +39,7 @@ pub struct Plan {
 }
 
 impl Plan {
-    ghost use Rattle.plan_compiler.specs.PlanMeant.{plan_form, plan_lists};
+    ghost use Rattle.plan_compiler.specs.PlanMeaning.{plan_form, plan_lists};
 
     /// The plan of a selection without filters and `not in`. A list that it names and that isn't there is a fault: the first one in the
     /// order of its printed form. The plan shares the lists.

@@ -4,14 +4,14 @@ ghost use Rattle.std.specs.Prelude.{◌≡◌, map, IfOk};
 ghost use Rattle.match_options.specs.Items.{item};
 ghost use Rattle.all_matches.specs.Variants as the;
 ghost use Rattle.text_forms.specs.Forms.{key_of};
-ghost use Rattle.plan_compiler.specs.ChosenMeant.{options_of};
+ghost use Rattle.plan_compiler.specs.ChosenOptions.{options_of};
 ghost use Rattle.plan_compiler.specs.ItemTests.{passes};
-ghost use Rattle.plan_compiler.specs.ReadingMeant.{Reads};
+ghost use Rattle.plan_compiler.specs.ReadingMeaning.{Reads};
 ghost use Rattle.plan_compiler.specs.Stops as stop;
-ghost use Rattle.plan_compiler.specs.WordsMeant as spec;
+ghost use Rattle.plan_compiler.specs.WordsMeaning as spec;
 
 use crate::chosen::Chosen;
-use crate::item_test::ItemTest;
+use crate::item_matching::ItemTest;
 use crate::lists::Lists;
 use crate::stops::{StopKeys, is_stop_key, stops_of};
 use ft_base::{Case, Line, Memory, ThesaurusChoice};
@@ -52,7 +52,7 @@ pub(crate) fn reading_of<'a>(
 }
 
 /// What a word of a text has to be for an item of the query: anything where the item is a stop word.
-#[tactic(auto, unfolding(crate::specs::ItemTests::passes, crate::specs::WordsMeant::bare_test))]
+#[tactic(auto, unfolding(crate::specs::ItemTests::passes, crate::specs::WordsMeaning::bare_test))]
 pub(crate) fn item_test(
     alloc: Global,
     reading: &Reading<'_>,
@@ -69,7 +69,7 @@ pub(crate) fn item_test(
     }
 }
 
-#[tactic(auto, unfolding(crate::specs::ItemTests::passes, crate::specs::WordsMeant::bare_test, match_options::specs::WordTests::passes))]
+#[tactic(auto, unfolding(crate::specs::ItemTests::passes, crate::specs::WordsMeaning::bare_test, match_options::specs::WordTests::passes))]
 fn word_test(
     alloc: Global,
     reading: &Reading<'_>,

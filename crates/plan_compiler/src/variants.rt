@@ -8,7 +8,7 @@ ghost use Rattle.match_options.specs.Items.{item};
 ghost use Rattle.plan_compiler.specs.Lexicon.{lexicon};
 ghost use Rattle.plan_compiler.specs.Lexicon as spec;
 ghost use Rattle.plan_compiler.specs.Stops.{item_key};
-ghost use Rattle.plan_compiler.specs.WordsMeant as words;
+ghost use Rattle.plan_compiler.specs.WordsMeaning as words;
 
 use crate::lists::Lists;
 use crate::reading::Reading;

@@ -5,8 +5,8 @@ ghost use Rattle.query_symbols.specs.Symbols as spec;
 ghost use Rattle.query_symbols.specs.Symbols.{Stays_within, Steps_to, symbols_of, symbols_within};
 
 use crate::characters::is_blank;
-use crate::front::front;
 use crate::lexeme::Turn;
+use crate::prefix::front;
 use ft_base::{Items, Memory, letters_of};
 use selection_grammar::{Placed, Symbols};
 use std::alloc::Global;

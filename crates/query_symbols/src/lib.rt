@@ -2,13 +2,11 @@
 #![tactic(auto)]
 
 mod characters;
-mod front;
+pub mod examples;
+pub mod laws;
 mod lexeme;
 mod lexer;
-mod symbol_examples;
-mod symbol_laws;
+mod prefix;
 
 pub use lexer::{symbols, symbols_from};
 pub use selection_grammar::{Placed, Symbol, Symbols};
-pub use symbol_examples::{marks, names_and_numbers, strings};
-pub use symbol_laws::bound_law;

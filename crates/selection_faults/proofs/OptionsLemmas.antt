@@ -11,7 +11,7 @@ use Rattle.selection_grammar.specs.declared.parsed.PlacedOption.{PlacedOption}
 use Rattle.selection_grammar.specs.declared.parsed.PlacedString.{PlacedString}
 use Rattle.selection_grammar.specs.Grammar.{texts_of}
 use Rattle.selection_faults.specs.Strings.{wildcards_inside}
-use Rattle.selection_faults.specs.Walk.{wildcards_after}
+use Rattle.selection_faults.specs.steps.Walk.{wildcards_after}
 
 options_append : (options : Options) (xs ys : List PlacedOption) → options_from options (xs ++ ys) ≡ options_from (options_from options xs) ys
 options_append options [] ys = refl

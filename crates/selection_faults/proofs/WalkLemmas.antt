@@ -5,7 +5,7 @@ use Rattle.ft_base.specs.Limits.{max_phrases}
 use Rattle.selection_grammar.specs.Tree.{Tree, trees_of}
 use Rattle.selection_faults.specs.Least.{earlier, itself, least_place}
 use Rattle.selection_faults.specs.Strings.{Written, strings_inside, strings_inside_all, phrases_of, phrases_past, is_bad, bad_wildcards}
-use Rattle.selection_faults.specs.Walk.{after, after_all, bad_after}
+use Rattle.selection_faults.specs.steps.Walk.{after, after_all, bad_after}
 use Rattle.selection_faults.specs.declared.strings.StringWalk.{StringWalk}
 use Rattle.selection_faults.proofs.LeastLemmas.{earlier_groups, earlier_none}
 

@@ -5,5 +5,5 @@ pub mod Strings
 pub mod Faults
 pub mod Kinds
 pub mod LeastPlaces
-pub mod Walk
 pub mod Examples
+pub mod steps

@@ -4,7 +4,7 @@ ghost use Rattle.std.specs.Prelude.{◌≡◌, IfOk};
 ghost use Rattle.selection_grammar.specs.View.{tree};
 ghost use Rattle.selection_faults.specs.Faults.{fault_of};
 ghost use Rattle.selection_faults.specs.Kinds as kinds;
-ghost use Rattle.selection_faults.specs.Walk as walks;
+ghost use Rattle.selection_faults.specs.steps.Walk as walks;
 
 use crate::least_places::{LeastPlaces, least_places};
 use crate::placed_fault::PlacedFault;

@@ -1,7 +1,7 @@
 //! What is wrong with a selection that was read, and the selection that it stands for.
 #![tactic(auto)]
 
-mod fault_examples;
+pub mod examples;
 mod faults;
 mod given;
 mod least_places;
@@ -10,6 +10,5 @@ mod placed_fault;
 mod selection;
 mod strings;
 
-pub use fault_examples::{excludes, options as option_groups, phrases, several, wildcards};
 pub use faults::first_fault;
 pub use selection::selection_of;

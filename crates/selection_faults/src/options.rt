@@ -3,7 +3,7 @@
 ghost use Rattle.std.specs.Prelude.{◌≡◌, []};
 ghost use Rattle.selection_faults.specs.Options as spec;
 ghost use Rattle.selection_faults.specs.Strings as strings;
-ghost use Rattle.selection_faults.specs.Walk as walks;
+ghost use Rattle.selection_faults.specs.steps.Walk as walks;
 
 use selection_grammar::{MatchOption, PlacedOption};
 

@@ -5,7 +5,7 @@ ghost use Rattle.ft_base.specs.declared.words.Mode.{Mode};
 ghost use Rattle.selection_grammar.specs.Tree.{trees_of};
 ghost use Rattle.selection_grammar.specs.View.{tree};
 ghost use Rattle.selection_faults.specs.Strings as spec;
-ghost use Rattle.selection_faults.specs.Walk as walks;
+ghost use Rattle.selection_faults.specs.steps.Walk as walks;
 
 use crate::least_places::sooner;
 use crate::options::wildcards_inside;

@@ -12,4 +12,4 @@ pub mod SelectionWalks
 pub mod Ended
 pub mod Readings
 pub mod Views
-pub mod Laws
+pub mod Decided

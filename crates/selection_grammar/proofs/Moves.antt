@@ -19,8 +19,8 @@ use Rattle.selection_grammar.specs.Keywords.{filters, filters_without_at, times,
 use Rattle.selection_grammar.specs.Tree.{Tree, Primary, phrases, inner}
 use Rattle.selection_grammar.specs.Grammar as g
 use Rattle.selection_grammar.specs.Grammar.{Spot, at, name, string, joint, Strings, Value, Moded, Timed, Named, Thesaurus, Thesauri, Source, Terms, Given, Options, Negation, Operand, Unary, Selection}
-use Rattle.selection_grammar.specs.Machine as m
-use Rattle.selection_grammar.specs.Machine.{Left, nothing_left_of, Frame, Stage, State, next, selection_with, operand_of, filtered_state, thesaurus_option, thesaurus_use, stop_option}
+use Rattle.selection_grammar.specs.steps.Machine as m
+use Rattle.selection_grammar.specs.steps.Machine.{Left, nothing_left_of, Frame, Stage, State, next, selection_with, operand_of, filtered_state, thesaurus_option, thesaurus_use, stop_option}
 use Rattle.selection_grammar.proofs.Paths.{Paths, paths_or_else, paths_then, paths_map}
 use Rattle.selection_grammar.proofs.Parts.{filters_each, other_filters_each, times_each, plain_option_each}
 use Rattle.selection_grammar.proofs.Standing as st

@@ -21,8 +21,8 @@ use Rattle.selection_grammar.specs.Tree as tree
 use Rattle.selection_grammar.specs.Tree.{Tree, and_of, joined, Primary, phrases, inner}
 use Rattle.selection_grammar.specs.Grammar as g
 use Rattle.selection_grammar.specs.Grammar.{Spot, at, name, string, joint, Strings, Value, Moded, Timed, Named, Thesaurus, Thesauri, Source, Terms, Given, Options, Negation, Operand, Unary, Mild, Ands, Ors, Selection, texts_of}
-use Rattle.selection_grammar.specs.Machine as m
-use Rattle.selection_grammar.specs.Machine.{Left, nothing_left_of, Frame, Stage, State, next, advance, run_on, selection_at, selection_with, ors_with, ands_with, mild_with, operand_of, filtered_state, thesaurus_option, thesaurus_use, stop_option, start, close_next}
+use Rattle.selection_grammar.specs.steps.Machine as m
+use Rattle.selection_grammar.specs.steps.Machine.{Left, nothing_left_of, Frame, Stage, State, next, advance, run_on, selection_at, selection_with, ors_with, ands_with, mild_with, operand_of, filtered_state, thesaurus_option, thesaurus_use, stop_option, start, close_next}
 use Rattle.selection_grammar.proofs.Paths.{along}
 use Rattle.selection_grammar.proofs.Walks.{st}
 

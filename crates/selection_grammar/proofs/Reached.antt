@@ -13,8 +13,8 @@ use Rattle.selection_grammar.specs.declared.parsed.PlacedOption.{PlacedOption}
 use Rattle.selection_grammar.specs.Tree.{Tree, Primary}
 use Rattle.selection_grammar.specs.Grammar as g
 use Rattle.selection_grammar.specs.Grammar.{Spot, at, name, string, Strings, Negation, Selection}
-use Rattle.selection_grammar.specs.Machine as m
-use Rattle.selection_grammar.specs.Machine.{Left, nothing_left_of, Frame, Stage, State, next, next_at, advance, run_on, read, start, finished, finished_at, finished_in, selection_at, stop_option, thesaurus_option, thesaurus_use}
+use Rattle.selection_grammar.specs.steps.Machine as m
+use Rattle.selection_grammar.specs.steps.Machine.{Left, nothing_left_of, Frame, Stage, State, next, next_at, advance, run_on, read, start, finished, finished_at, finished_in, selection_at, stop_option, thesaurus_option, thesaurus_use}
 use Rattle.selection_grammar.proofs.Paths.{Paths, along, run-append, paths_map}
 use Rattle.selection_grammar.proofs.Standing as st
 use Rattle.selection_grammar.proofs.Standing.{Lefts, Base, TermsBefore, UsesBefore, using_stop, using_thesaurus, Under, Within, Outer, Stands, left_selection, nothing_left, base_unary, base_option, selection_same}

@@ -6,7 +6,7 @@ use Rattle.selection_grammar.specs.declared.symbol.Placed.{Placed}
 use Rattle.selection_grammar.specs.Shapes as shapes
 use Rattle.selection_grammar.specs.Shapes.{Shape, whole, nothing, word, number, text, mark, Mark, is_word, is_mark, number_of, text_of, number_leads, text_leads, or_else, and_then, step, run}
 use Rattle.selection_grammar.proofs.Ended.{Ends}
-use Rattle.selection_grammar.specs.Reading.{reading, front_is, front_is_mark, front_number, front_text, front_place, by_number, by_text, further}
+use Rattle.selection_grammar.specs.steps.Reading.{reading, front_is, front_is_mark, front_number, front_text, front_place, by_number, by_text, further}
 
 map_number : {A B : Type 0} (f : A → B) (there : ℕ → A) (otherwise : A) (o : Option ℕ) → by_number (λ n. f (there n)) (f otherwise) o ≡ f (by_number there otherwise o)
 map_number f there otherwise None = refl

@@ -17,8 +17,8 @@ use Rattle.selection_grammar.specs.Tree as tree
 use Rattle.selection_grammar.specs.Tree.{Tree, and_of, joined, Primary, phrases, inner}
 use Rattle.selection_grammar.specs.Grammar as g
 use Rattle.selection_grammar.specs.Grammar.{Spot, at, name, string, joint, Strings, Value, Moded, Timed, Named, Thesauri, Terms, Given, Options, Negation, Operand, Unary, Mild, Ands, Ors, Selection}
-use Rattle.selection_grammar.specs.Machine as m
-use Rattle.selection_grammar.specs.Machine.{Left, nothing_left_of, Frame, Stage, State, mild_with, ands_with, ors_with, selection_with, operand_of}
+use Rattle.selection_grammar.specs.steps.Machine as m
+use Rattle.selection_grammar.specs.steps.Machine.{Left, nothing_left_of, Frame, Stage, State, mild_with, ands_with, ors_with, selection_with, operand_of}
 
 -- what stands before the last `ftor`, before the last `ftand` behind it, and before `not in` behind that
 pub data LeftOrs : List Placed → List Tree → Type 0 where

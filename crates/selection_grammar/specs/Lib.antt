@@ -3,8 +3,7 @@ pub mod Keywords
 pub mod Tree
 pub mod View
 pub mod Grammar
-pub mod Machine
-pub mod Reading
 pub mod Texts
 pub mod Form
 pub mod Examples
+pub mod steps

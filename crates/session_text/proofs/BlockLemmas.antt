@@ -3,7 +3,7 @@ use Rattle.std.proofs.Common.{◌≡◌, ◌∙◌, sym, ap, refl, ℕ, ◌+◌,
 use Rattle.std.specs.Prelude.{Some, None, if◌then◌else◌}
 use Rattle.std.specs.List.{list_any, take_while, prefix_len, join_with_byte}
 use Rattle.std.proofs.lemmas.List.{take_at, append-nil}
-use Rattle.session_text.specs.Blocks.{without_last, block_behind}
+use Rattle.session_text.specs.steps.Blocks.{without_last, block_behind}
 use Rattle.session_text.specs.Commands.{block_of, closes_block, unquoted}
 
 -- lines one after the other, each with a line feed behind it

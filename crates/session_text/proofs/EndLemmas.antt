@@ -5,11 +5,11 @@ use Rattle.std.specs.Option.{option_to_list}
 use Rattle.std.proofs.lemmas.List.{append-nil, nil_from_length}
 use Rattle.session_text.specs.declared.command.Command.{Command}
 use Rattle.session_text.specs.Commands.{opens_block, closes_block, unquoted, command_of_line, command_of_block}
-use Rattle.session_text.specs.Blocks.{without_last}
+use Rattle.session_text.specs.steps.Blocks.{without_last}
 use Rattle.text_lines.specs.Lines.{is_skipped, lines}
 use Rattle.std.specs.List.{onto_first}
 use Rattle.std.proofs.lemmas.Bool.{and_parts, not-true}
-use Rattle.session_text.specs.Reading.{Opened, Place, behind_lines, commands_on, commands_from, ended_at, line_ended, open_at_end, place_behind, is_unended}
+use Rattle.session_text.specs.steps.Reading.{Opened, Place, behind_lines, commands_on, commands_from, ended_at, line_ended, open_at_end, place_behind, is_unended}
 use Rattle.session_text.proofs.ReadingLemmas.{commands_on-line, unended_behind}
 
 -- an open block is all that is left behind the last line

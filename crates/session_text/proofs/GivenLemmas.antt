@@ -7,11 +7,11 @@ use Rattle.std.proofs.lemmas.List.Folds.{list_all-append}
 use Rattle.std.proofs.lemmas.List.Sums.{sum_by-append}
 use Rattle.std.proofs.lemmas.Bool.{and_from}
 use Rattle.session_text.specs.declared.command.Command.{Command}
-use Rattle.session_text.specs.Blocks.{without_last}
+use Rattle.session_text.specs.steps.Blocks.{without_last}
 use Rattle.session_text.specs.Commands.{opens_block, closes_block, unquoted, command_of_line, command_of_block}
 use Rattle.text_lines.specs.Lines.{is_skipped}
 use Rattle.session_text.specs.Given.{block_length, block_lengths, is_readable}
-use Rattle.session_text.specs.Reading.{Opened, Place, behind_lines, ended_at, held_length, line_ended, opened_length, place_behind}
+use Rattle.session_text.specs.steps.Reading.{Opened, Place, behind_lines, ended_at, held_length, line_ended, opened_length, place_behind}
 use Rattle.session_text.proofs.CommandLemmas.{holds_of_line, holds_of_block}
 
 line_readable : (number : ℕ) (line : List ℕ) → is_readable (command_of_line number line) ≡ true

@@ -8,9 +8,9 @@ use Rattle.std.proofs.lemmas.List.{drop_all, length-drop, take-append-drop}
 use Rattle.std.proofs.lemmas.Bool.{leb-true}
 use Rattle.session_text.specs.declared.command.Command.{Command}
 use Rattle.session_text.specs.Commands.{closes_block, unquoted, command_of_block}
-use Rattle.session_text.specs.Blocks.{without_last}
+use Rattle.session_text.specs.steps.Blocks.{without_last}
 use Rattle.session_text.specs.Lines.{without_mark}
-use Rattle.session_text.specs.Reading.{Opened, OpenLines, Place, behind_lines, between_lines, line_ended, open_lines, place_of}
+use Rattle.session_text.specs.steps.Reading.{Opened, OpenLines, Place, behind_lines, between_lines, line_ended, open_lines, place_of}
 
 drop_further : (m n : ℕ) (xs : List ℕ) → drop m (drop n xs) ≡ drop (n + m) xs
 drop_further m zero xs = let same : m ≡ zero + m = omega arith in ap (λ k. drop k xs) same

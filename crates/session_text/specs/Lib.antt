@@ -1,7 +1,6 @@
-pub mod Blocks
 pub mod Commands
 pub mod Given
 pub mod Lines
-pub mod Reading
 pub mod Replies
 pub mod Words
+pub mod steps

@@ -6,10 +6,10 @@ mod how;
 mod line;
 mod named;
 mod parse;
-mod place;
 mod print;
 mod reader;
 mod reply;
+mod unfinished;
 mod words;
 
 pub use command::{Command, Commands};

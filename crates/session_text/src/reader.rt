@@ -3,9 +3,9 @@ ghost use Rattle.std.specs.Option.{option_to_list};
 ghost use Rattle.std.specs.List.{list_all};
 ghost use Rattle.session_text.specs.Commands.{commands, whole};
 ghost use Rattle.session_text.specs.Given.{block_lengths, is_readable};
-ghost use Rattle.session_text.specs.Reading.{commands_left, held_length, new_reading, whole_left};
+ghost use Rattle.session_text.specs.steps.Reading.{commands_left, held_length, new_reading, whole_left};
 
-use crate::place::Unfinished;
+use crate::unfinished::Unfinished;
 use crate::{Command, Commands};
 use ft_base::Memory;
 use std::alloc::Global;
@@ -22,7 +22,7 @@ pub struct Lines_ {
 
 impl Model for Lines_ {
     ghost use Rattle.std.specs.Prelude.{◌≡◌, ◌<◌, ◌^◌, false};
-    ghost use Rattle.session_text.specs.Reading.{Reading, IsLineOpen};
+    ghost use Rattle.session_text.specs.steps.Reading.{Reading, IsLineOpen};
 
     ghost Value = { Reading };
 

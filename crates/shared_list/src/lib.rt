@@ -7,7 +7,7 @@
 
 mod block;
 mod blocks;
-mod examples;
+pub mod examples;
 mod list;
 mod share;
 mod starts;

@@ -9,7 +9,7 @@ use Rattle.std.proofs.Math.Bool.{or-true}
 use Rattle.thesaurus_file.specs.Phrases.{Phrase, phrase_cmp, phrase_eq}
 use Rattle.thesaurus_file.specs.Levels.{in_range, is_up_to}
 use Rattle.thesaurus_file.specs.Links.{Links, links_from}
-use Rattle.thesaurus_file.specs.Walks.{is_unseen, unseen_ends, level_behind}
+use Rattle.thesaurus_file.specs.steps.Walks.{is_unseen, unseen_ends, level_behind}
 use Rattle.thesaurus_file.specs.Expansion.{next, ends, is_nearer, level, asked_level}
 use Rattle.thesaurus_file.specs.declared.levels.Levels.{Levels}
 use Rattle.thesaurus_file.proofs.OrderLemmas.{any_fold, any_in_order, in_order_same, same_from_eq}

@@ -4,7 +4,7 @@ use Rattle.std.specs.List.{fold}
 use Rattle.std.specs.BTreeSet.{insert_key}
 use Rattle.thesaurus_file.specs.Links.{is_wanted}
 use Rattle.thesaurus_file.specs.Phrases.{Phrase, phrase_cmp}
-use Rattle.thesaurus_file.specs.Walks.{is_unseen, unseen_ends}
+use Rattle.thesaurus_file.specs.steps.Walks.{is_unseen, unseen_ends}
 use Rattle.thesaurus_file.specs.declared.link.Link.{Link}
 
 pub ends_first : (relation : Option (List ℕ)) (seen next : List Phrase) (link : Link) (links : List Link)

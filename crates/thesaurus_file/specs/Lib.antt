@@ -4,4 +4,4 @@ pub mod Levels
 pub mod Lines
 pub mod Links
 pub mod Phrases
-pub mod Walks
+pub mod steps

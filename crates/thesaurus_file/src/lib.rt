@@ -1,7 +1,7 @@
 //! Thesauri as files: which phrases a phrase stands for, by lines that lead from one phrase to another.
 #![tactic(auto)]
 
-mod laws;
+pub mod laws;
 mod levels;
 mod link;
 mod parse;
@@ -9,7 +9,6 @@ mod phrase;
 mod thesaurus;
 
 pub use ft_base::ListFault;
-pub use laws::{level_law, links_law, order_law, reached_law};
 pub use levels::Levels;
 pub use phrase::Phrase;
 pub use thesaurus::Thesaurus;

@@ -6,7 +6,7 @@ ghost use Rattle.thesaurus_file.specs.Expansion.{expanded};
 ghost use Rattle.thesaurus_file.specs.Lines.{thesaurus_of, with_line};
 ghost use Rattle.thesaurus_file.specs.Links.{is_wanted, links_from, with_link};
 ghost use Rattle.thesaurus_file.specs.Phrases.{phrase_cmp};
-ghost use Rattle.thesaurus_file.specs.Walks.{level_behind, unseen_ends};
+ghost use Rattle.thesaurus_file.specs.steps.Walks.{level_behind, unseen_ends};
 
 use crate::levels::Levels;
 use crate::link::Link;

@@ -3,8 +3,8 @@ use Rattle.std.proofs.Common.{◌≡◌, ◌≤◌, ◌<◌, ◌++◌, length, l
 use Rattle.std.proofs.Math.Bool.{or-false}
 use Rattle.std.specs.Str.{chars}
 use Rattle.tokenizer.specs.Gaps.{gap, begins_with_line_end, has_blank_line, ends_paragraph, ends_sentence}
-use Rattle.tokenizer.specs.GapSteps.{after_characters, after_tag, paragraph_ends_in, sentence_ends_in}
-use Rattle.tokenizer.specs.Numbering.{tokens_left}
+use Rattle.tokenizer.specs.steps.GapSteps.{after_characters, after_tag, paragraph_ends_in, sentence_ends_in}
+use Rattle.tokenizer.specs.steps.Numbering.{tokens_left}
 use Rattle.tokenizer.specs.Parts.{Part, word, gap_characters, gap_tag}
 use Rattle.tokenizer.specs.Tokens.{raised, tokens_from}
 use Rattle.tokenizer.specs.declared.gap.Gap.{Gap}

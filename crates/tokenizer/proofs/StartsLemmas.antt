@@ -2,7 +2,7 @@
 use Rattle.std.proofs.Common.{◌≡◌, ℕ, suc, ◌+◌, ◌==◌, List, [], ◌∷◌, ◌++◌, map, filter, length, refl, sym, ap, ◌∙◌, append_assoc, append-nil, zero-add, inl, inr, arith, if◌then◌else◌}
 use Rattle.std.proofs.lemmas.Bool.{cases_Bool}
 use Rattle.tokenizer.specs.Gaps.{gap, ends_paragraph, ends_sentence}
-use Rattle.tokenizer.specs.Numbering.{tokens_left}
+use Rattle.tokenizer.specs.steps.Numbering.{tokens_left}
 use Rattle.tokenizer.specs.Parts.{Part, word, gap_characters, gap_tag, part_of_segment}
 use Rattle.tokenizer.specs.Tokens.{raised, tokens_from, starts}
 use Rattle.tokenizer.specs.Words.{is_word}

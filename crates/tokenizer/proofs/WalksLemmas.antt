@@ -8,7 +8,7 @@ use Rattle.plain_tree.specs.declared.tree.Tree.{Tree}
 use Rattle.plain_tree.specs.declared.tree.Tree.TheVariants.{Elem, Text}
 use Rattle.plain_tree.proofs.Views.{node_elem, node_text}
 use Rattle.tokenizer.specs.Parts.{tag, characters, events, events_of}
-use Rattle.tokenizer.specs.Walks.{open_left, stack_left, events_left}
+use Rattle.tokenizer.specs.steps.Walks.{open_left, stack_left, events_left}
 use Rattle.tokenizer.specs.declared.walk.Open.{Open}
 use Rattle.tokenizer.specs.declared.walk.Walk.{Walk}
 

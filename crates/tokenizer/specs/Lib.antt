@@ -1,9 +1,6 @@
-pub mod GapSteps
 pub mod Gaps
-pub mod Numbering
 pub mod Parts
 pub mod Pieces
-pub mod StartsLeft
 pub mod Tokens
-pub mod Walks
 pub mod Words
+pub mod steps

@@ -1,7 +1,7 @@
 ghost use Rattle.std.specs.Prelude.{◌≡◌, ◌+◌, ◌<◌, ◌^◌, ◌++◌, List, map, length, IfOk, OnOk};
 ghost use Rattle.unicode_segmentation.specs.Word.{word_bounds};
 ghost use Rattle.tokenizer.specs.Parts.{Part, part_of_segment};
-ghost use Rattle.tokenizer.specs.StartsLeft.{sentences_in, paragraphs_in};
+ghost use Rattle.tokenizer.specs.steps.StartsLeft.{sentences_in, paragraphs_in};
 ghost use Rattle.tokenizer.specs.Tokens.{tokens, sentence_starts, paragraph_starts};
 ghost use Rattle.tokenizer.specs.Words.{words};
 

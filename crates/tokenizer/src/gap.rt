@@ -1,6 +1,6 @@
 ghost use Rattle.std.specs.Prelude.{◌≡◌, false, true};
 ghost use Rattle.std.specs.Str.{chars};
-ghost use Rattle.tokenizer.specs.GapSteps.{after_character, after_characters, after_tag};
+ghost use Rattle.tokenizer.specs.steps.GapSteps.{after_character, after_characters, after_tag};
 
 use crate::blocks::is_block_element;
 

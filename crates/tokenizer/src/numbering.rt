@@ -1,5 +1,5 @@
 ghost use Rattle.std.specs.Prelude.{◌≡◌, ◌+◌, ◌≤◌, ◌<◌, ◌^◌, ℕ, List, ◌∷◌};
-ghost use Rattle.tokenizer.specs.Numbering.{tokens_left};
+ghost use Rattle.tokenizer.specs.steps.Numbering.{tokens_left};
 ghost use Rattle.tokenizer.specs.Parts.{Part, word, gap_characters, gap_tag};
 ghost use Rattle.tokenizer.specs.Tokens.{raised, tokens_from};
 

@@ -21,7 +21,7 @@ pub(crate) struct Starts {
 }
 
 impl Starts {
-    ghost use Rattle.tokenizer.specs.StartsLeft.{sentences_in, paragraphs_in};
+    ghost use Rattle.tokenizer.specs.steps.StartsLeft.{sentences_in, paragraphs_in};
 
     pub(crate) fn new(alloc: Global) -> Starts
         ensures sentences { (rest : List Part) →

@@ -1,7 +1,7 @@
 ghost use Rattle.std.specs.Prelude.{◌≡◌, ◌≤◌, ◌<◌, List, ◌∷◌, ◌++◌, map, length, Err, IfOk, OnOk};
 ghost use Rattle.plain_tree.specs.View.{node};
 ghost use Rattle.unicode_segmentation.specs.Word.{word_bounds};
-ghost use Rattle.tokenizer.specs.Numbering.{tokens_left};
+ghost use Rattle.tokenizer.specs.steps.Numbering.{tokens_left};
 ghost use Rattle.tokenizer.specs.Parts.{Part, word, part_of_segment};
 ghost use Rattle.tokenizer.specs.Tokens.{tokens};
 

@@ -1,7 +1,7 @@
 ghost use Rattle.std.specs.Prelude.{◌≡◌, [], ◌∷◌, ◌++◌, IfOk, MatchOption};
 ghost use Rattle.plain_tree.specs.View.{node};
 ghost use Rattle.tokenizer.specs.Parts.{events};
-ghost use Rattle.tokenizer.specs.Walks.{event_of, stack_left, events_left};
+ghost use Rattle.tokenizer.specs.steps.Walks.{event_of, stack_left, events_left};
 
 use ft_base::{Line, Memory};
 use plain_tree::{Kids, Tree};

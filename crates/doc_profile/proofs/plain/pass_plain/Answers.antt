@@ -1,8 +1,8 @@
 -- A run is taken in a text.
 use Rattle.std.proofs.Common.{◌≡◌, ℕ, List, ◌++◌, take, sym, ◌∙◌, ap, take-append-drop, string_bytes}
-use Rattle.doc_grammar.specs.Machine.{State}
-use Rattle.doc_profile.specs.Plain.{Passed}
-use Rattle.doc_profile.specs.View.{place_of, phase_of}
+use Rattle.doc_grammar.specs.steps.Machine.{State}
+use Rattle.doc_profile.specs.steps.Plain.{Passed}
+use Rattle.doc_profile.specs.steps.View.{place_of, phase_of}
 use Rattle.doc_profile.proofs.plain.pass_plain.Goals as goal
 
 pub returns : goal.returns

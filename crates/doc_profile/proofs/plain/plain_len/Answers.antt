@@ -3,7 +3,7 @@ use Rattle.std.proofs.Common.{◌≡◌, ℕ, ◌+◌, ◌≤◌, ◌<◌, Bool,
 use Rattle.std.proofs.lemmas.Bool.Decides.{nat_tests}
 use Rattle.std.proofs.lemmas.Str.{IsCharBoundary-start, IsCharBoundary-after_ascii}
 use Rattle.std.specs.List.{list_all}
-use Rattle.doc_profile.specs.Plain.{is_plain}
+use Rattle.doc_profile.specs.steps.Plain.{is_plain}
 use Rattle.doc_profile.proofs.PlainRuns.{front_further, plain_ascii}
 use Rattle.doc_profile.proofs.plain.plain_len.Goals as goal
 

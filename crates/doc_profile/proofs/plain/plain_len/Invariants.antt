@@ -2,7 +2,7 @@
 use Rattle.std.proofs.Common.{◌≡◌, ◌≤◌, length, take, ◌-◌, true}
 use Rattle.std.specs.List.{list_all}
 use Rattle.std.specs.Str.{IsCharBoundary}
-use Rattle.doc_profile.specs.Plain.{is_plain}
+use Rattle.doc_profile.specs.steps.Plain.{is_plain}
 use Rattle.doc_profile.proofs.plain.plain_len.Given as goal
 
 abbrev pub invariant-loop-at : goal.invariant-loop-at

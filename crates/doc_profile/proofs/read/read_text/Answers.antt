@@ -5,7 +5,7 @@ use Rattle.std.proofs.lemmas.Str.{length-encode, len_utf8_bounds}
 use Rattle.std.specs.Prelude.{false, encode_utf8}
 use Rattle.std.specs.Str.{chars}
 use Rattle.doc_profile.specs.Readings.{passes, taken, walk}
-use Rattle.doc_profile.specs.View.{kind_of, state_of}
+use Rattle.doc_profile.specs.steps.View.{kind_of, state_of}
 use Rattle.doc_profile.proofs.Left.{Left, left_all, left_counted, left_further, left_refused, left_stopped, left_nothing, stepped_false, stepped_true, begun_none, faults_by}
 use Rattle.doc_profile.proofs.PlainRuns.{left_passed, passed_length}
 use Rattle.doc_profile.proofs.read.read_text.Goals as goal

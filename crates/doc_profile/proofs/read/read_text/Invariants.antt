@@ -4,7 +4,7 @@ use denote.Shadow.{shadow}
 use denote.Text.{Utf8}
 use Rattle.std.specs.Str.{chars}
 use Rattle.doc_profile.specs.Readings.{walk}
-use Rattle.doc_profile.specs.View.{state_of}
+use Rattle.doc_profile.specs.steps.View.{state_of}
 use Rattle.doc_profile.proofs.Left.{Left}
 use Rattle.doc_profile.proofs.read.read_text.Given as goal
 

@@ -1,5 +1,5 @@
 -- A character of a named reference.
-use Rattle.doc_profile.specs.View.{spelling_of, meaning_of}
+use Rattle.doc_profile.specs.steps.View.{spelling_of, meaning_of}
 use Rattle.doc_profile.proofs.Readers.{named_refused_over, named_refused, named_gives, named_going}
 use Rattle.doc_profile.proofs.references.judge_named.Goals as goal
 use Rattle.doc_profile.proofs.references.judge_named.Goals.{then-read-name-via-then-read-name, then-read-name-via-else-read-name+then-name-read}

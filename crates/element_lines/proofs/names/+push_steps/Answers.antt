@@ -9,7 +9,7 @@ use Rattle.path_nodes.proofs.ChildrenLemmas.{element_there}
 use Rattle.path_nodes.proofs.PlaceLemmas.{one-stand}
 use Rattle.path_nodes.proofs.WayLemmas.{Parent, parent-of, root-of, shorter}
 use Rattle.element_lines.specs.Lines.{step_text}
-use Rattle.element_lines.specs.Steps.{step, steps_to}
+use Rattle.element_lines.specs.LocationSteps.{step, steps_to}
 use Rattle.element_lines.proofs.StepLemmas.{element-name}
 use Rattle.element_lines.proofs.TextLemmas.{text-further, text-root}
 use Rattle.element_lines.proofs.names.+push_steps.Goals as goal

@@ -3,7 +3,7 @@ use Rattle.std.proofs.Common.{◌≡◌, ◌++◌, drop, map}
 use Rattle.ordered_tree.specs.Numbered.{plain}
 use Rattle.path_nodes.specs.References.{element_of}
 use Rattle.element_lines.specs.Lines.{element_line}
-use Rattle.element_lines.specs.Numbers.{AreNumbers}
+use Rattle.element_lines.specs.steps.Numbers.{AreNumbers}
 use Rattle.element_lines.proofs.names.push_names.Given as goal
 
 abbrev pub invariant-loop-node : goal.invariant-loop-node

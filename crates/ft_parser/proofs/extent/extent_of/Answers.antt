@@ -1,8 +1,8 @@
 -- One construct on, to where symbols stop, through a construct in which a limit is passed, or to the end.
 use Rattle.std.proofs.Common.{◌≡◌, ◌≤◌, length, Err, sym, ◌∙◌, ap, subst, arith}
-use Rattle.ft_parser.specs.Extent.{Suffices, may_end, stopped}
-use Rattle.ft_parser.specs.State.{state_of}
-use Rattle.ft_parser.specs.Turns.{state_turn}
+use Rattle.ft_parser.specs.steps.Extent.{Suffices, may_end, stopped}
+use Rattle.ft_parser.specs.steps.State.{state_of}
+use Rattle.ft_parser.specs.steps.Turns.{state_turn}
 use Rattle.ft_parser.specs.declared.extent.Extent.{Extent}
 use Rattle.ft_parser.proofs.Extents.{start_stands, leads_on, leads_stands, leads_part, stopped_suffices, stops_within, end_suffices}
 use Rattle.ft_parser.proofs.extent.extent_of.Goals as goal

@@ -1,7 +1,7 @@
 -- The machine stands between two constructs, and no limit is passed so far.
 use Rattle.std.proofs.Common.{◌-◌, length}
-use Rattle.ft_parser.specs.Extent.{Stands}
-use Rattle.ft_parser.specs.State.{state_of}
+use Rattle.ft_parser.specs.steps.Extent.{Stands}
+use Rattle.ft_parser.specs.steps.State.{state_of}
 use Rattle.ft_parser.proofs.extent.extent_of.Given as goal
 
 abbrev pub invariant-loop-next : goal.invariant-loop-next

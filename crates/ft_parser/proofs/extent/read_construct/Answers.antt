@@ -1,6 +1,6 @@
 -- A construct has a symbol and ends within the symbols.
 use Rattle.std.proofs.Common.{◌≡◌, ◌∙◌, ap, arith}
-use Rattle.ft_parser.specs.State.{state_of}
+use Rattle.ft_parser.specs.steps.State.{state_of}
 use Rattle.ft_parser.proofs.Extents.{turned}
 use Rattle.ft_parser.proofs.extent.read_construct.Goals as goal
 

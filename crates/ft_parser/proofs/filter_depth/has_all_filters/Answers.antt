@@ -1,6 +1,6 @@
 -- Words and what has options are no filters round others.
 use Rattle.std.proofs.Common.{sym}
-use Rattle.ft_parser.specs.State.{left_of}
+use Rattle.ft_parser.specs.steps.State.{left_of}
 use Rattle.ft_parser.proofs.FilterLaws.{other_stage}
 use Rattle.ft_parser.proofs.filter_depth.has_all_filters.Goals as goal
 

@@ -2,11 +2,11 @@
 use Rattle.std.proofs.Common.{◌≡◌, [], ◌+◌, true, cond, List, drop, Err, sym, ◌∙◌, ap, subst}
 use Rattle.std.specs.Prelude.{codes, false}
 use Rattle.ft_base.specs.declared.options.StopTerm.{StopTerm}
-use Rattle.selection_grammar.specs.Machine as m
-use Rattle.selection_grammar.specs.Machine.{State}
-use Rattle.selection_grammar.specs.Reading.{reading, front_is}
+use Rattle.selection_grammar.specs.steps.Machine as m
+use Rattle.selection_grammar.specs.steps.Machine.{State}
+use Rattle.selection_grammar.specs.steps.Reading.{reading, front_is}
 use Rattle.selection_grammar.specs.Shapes.{Shape}
-use Rattle.ft_parser.specs.State.{Answers, frames_of, left_of, primary_of, state_of}
+use Rattle.ft_parser.specs.steps.State.{Answers, frames_of, left_of, primary_of, state_of}
 use Rattle.ft_parser.proofs.option_turns.stop_words.Goals as goal
 
 pub returns-then-is_word : goal.returns-then-is_word

@@ -1,8 +1,8 @@
 -- From where the reader stands, one construct leads on, or scanning ends.
 use Rattle.std.proofs.Common.{◌≡◌, drop, Ok, Err, sym, ◌∙◌, ap, arith}
-use Rattle.ft_parser.specs.Scan.{stopped_before}
-use Rattle.ft_parser.specs.State.{state_of}
-use Rattle.ft_parser.specs.Turns.{state_turn}
+use Rattle.ft_parser.specs.steps.Scan.{stopped_before}
+use Rattle.ft_parser.specs.steps.State.{state_of}
+use Rattle.ft_parser.specs.steps.Turns.{state_turn}
 use Rattle.ft_parser.proofs.ScanLaws.{Leads, leads, halts, deep, at_end}
 use Rattle.ft_parser.proofs.scan.scan_symbols.Goals as goal
 

@@ -2,7 +2,7 @@
 use Rattle.std.proofs.Common.{◌≡◌, ◌≤◌, ◌-◌, length, drop}
 use Rattle.selection_grammar.specs.Shapes.{whole}
 use Rattle.ft_parser.specs.Answer.{scanned, scanned_from}
-use Rattle.ft_parser.specs.State.{state_of}
+use Rattle.ft_parser.specs.steps.State.{state_of}
 use Rattle.ft_parser.proofs.scan.scan_symbols.Given as goal
 
 abbrev pub invariant-loop-next : goal.invariant-loop-next

@@ -4,7 +4,7 @@ use Rattle.std.proofs.lemmas.List.{length-take-le}
 use Rattle.std.specs.Prelude.{Option, IfSome, string_bytes}
 use Rattle.ft_base.specs.Limits.{max_session_bytes}
 use Rattle.ft_io.specs.Shelf.{Files, Reads, told_bytes}
-use Rattle.session_text.specs.Reading.{commands_left}
+use Rattle.session_text.specs.steps.Reading.{commands_left}
 use Rattle.ft_session.specs.Output.{texts_of}
 use Rattle.ft_session.specs.Run.{TookFront}
 use Rattle.ft_session.specs.Step.{replies}

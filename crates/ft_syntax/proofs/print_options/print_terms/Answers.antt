@@ -1,6 +1,6 @@
 -- The next term was added; then all were.
 use Rattle.std.proofs.Common.{sym, ap, ◌∙◌, arith}
-use Rattle.ft_syntax.specs.Page.{put_all}
+use Rattle.ft_syntax.specs.steps.Page.{put_all}
 use Rattle.ft_syntax.specs.OptionSymbols.{source_symbols, further_term_symbols, terms_symbols}
 use Rattle.ft_syntax.proofs.Pages.{next_item, all_items}
 use Rattle.ft_syntax.proofs.print_options.print_terms.Goals as goal

@@ -1,7 +1,7 @@
 -- The first of the further terms were added.
 use Rattle.std.proofs.Common.{◌≡◌, take}
 use Rattle.std.specs.Prelude.{flat_map}
-use Rattle.ft_syntax.specs.Page.{put_all}
+use Rattle.ft_syntax.specs.steps.Page.{put_all}
 use Rattle.ft_syntax.specs.OptionSymbols.{further_term_symbols}
 use Rattle.ft_syntax.proofs.print_options.print_terms.Given as goal
 

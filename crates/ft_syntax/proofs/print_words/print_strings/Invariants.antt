@@ -1,7 +1,7 @@
 -- The first of the further strings were added.
 use Rattle.std.proofs.Common.{◌≡◌, [], ◌∷◌, take, codes}
 use Rattle.std.specs.Prelude.{flat_map}
-use Rattle.ft_syntax.specs.Page.{put_all}
+use Rattle.ft_syntax.specs.steps.Page.{put_all}
 use Rattle.ft_syntax.specs.OptionSymbols.{string_symbol}
 use Rattle.ft_syntax.proofs.print_words.print_strings.Given as goal
 

@@ -1,6 +1,6 @@
 -- More strings than one, or none, stand in braces.
 use Rattle.std.proofs.Common.{codes, ap, ◌∙◌}
-use Rattle.ft_syntax.specs.Page.{put_all}
+use Rattle.ft_syntax.specs.steps.Page.{put_all}
 use Rattle.ft_syntax.specs.OptionSymbols.{strings_symbols}
 use Rattle.ft_syntax.proofs.Pages.{in_brackets}
 use Rattle.ft_syntax.proofs.Values.{other_values}

@@ -1,7 +1,7 @@
 -- Or and And print their operands as a list, mild not its two operands; in the list the next operand was added, then all were.
 use Rattle.std.proofs.Common.{◌≡◌, ◌∷◌, [], List, OnOk, codes, map, subst, sym, ap, ◌∙◌, arith}
 use Rattle.ft_base.specs.Selection.{mild_not}
-use Rattle.ft_syntax.specs.Page.{put_all}
+use Rattle.ft_syntax.specs.steps.Page.{put_all}
 use Rattle.ft_syntax.specs.Spacing.{Symbol}
 use Rattle.ft_syntax.specs.Symbols.{symbols, operand_symbols, operands_symbols}
 use Rattle.ft_syntax.specs.View.{form}

@@ -1,7 +1,7 @@
 -- The first of the further operands were added.
 use Rattle.std.proofs.Common.{◌≡◌, ◌∷◌, take}
 use Rattle.std.specs.Prelude.{flat_map}
-use Rattle.ft_syntax.specs.Page.{put_all}
+use Rattle.ft_syntax.specs.steps.Page.{put_all}
 use Rattle.ft_syntax.specs.Symbols.{operand_symbols}
 use Rattle.ft_syntax.specs.View.{form}
 use Rattle.ft_syntax.proofs.printing.+print.Given as goal

@@ -1,6 +1,6 @@
 -- The text of the symbols is the printed form.
 use Rattle.std.proofs.Common.{ap, ◌∙◌}
-use Rattle.ft_syntax.specs.Page.{put_all}
+use Rattle.ft_syntax.specs.steps.Page.{put_all}
 use Rattle.ft_syntax.specs.Symbols.{symbols, printed}
 use Rattle.ft_syntax.specs.View.{form}
 use Rattle.ft_syntax.proofs.Pages.{text_of_page}

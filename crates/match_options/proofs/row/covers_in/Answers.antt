@@ -2,7 +2,7 @@
 use Rattle.std.proofs.Common.{◌-◌, refl, subst, chars, drop, length, List}
 use Rattle.match_options.specs.declared.atom.Atom.{Atom}
 use Rattle.match_options.specs.declared.atom.Atom.TheVariants.{Letter}
-use Rattle.match_options.specs.Row.{IsRow}
+use Rattle.match_options.specs.steps.Row.{IsRow}
 use Rattle.match_options.proofs.RowLemmas.{from_end}
 use Rattle.match_options.proofs.row.covers_in.Goals as goal
 

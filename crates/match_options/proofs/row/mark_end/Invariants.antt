@@ -1,7 +1,7 @@
 -- The places so far tell whether they are the last one.
 use Rattle.std.proofs.Common.{◌≡◌, ◌+◌, ◌<◌, ℕ, length}
 use Rattle.std.specs.Prelude.{◌==◌}
-use Rattle.match_options.specs.Row.{at_place}
+use Rattle.match_options.specs.steps.Row.{at_place}
 use Rattle.match_options.proofs.row.mark_end.Given as goal
 
 abbrev pub invariant-loop-place : goal.invariant-loop-place

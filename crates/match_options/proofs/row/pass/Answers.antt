@@ -1,7 +1,7 @@
 -- A letter and a gap.
 use Rattle.std.proofs.Common.{◌∷◌, sym, subst, chars}
 use Rattle.match_options.specs.declared.atom.Atom.{Atom}
-use Rattle.match_options.specs.Row.{IsRow}
+use Rattle.match_options.specs.steps.Row.{IsRow}
 use Rattle.match_options.proofs.row.pass.Goals as goal
 
 pub returns-in-Letter-clause-told : goal.returns-in-Letter-clause-told

@@ -4,7 +4,7 @@ use Rattle.std.specs.Prelude.{ℕ, Bool, ◌==◌}
 use Rattle.std.specs.Str.Iter.{chars_rest}
 use Rattle.std.proofs.lemmas.Str.{IsUtf8-past_char}
 use Rattle.std.proofs.StrCases.{chars_of_empty}
-use Rattle.match_options.specs.Row.{at_place}
+use Rattle.match_options.specs.steps.Row.{at_place}
 use Rattle.match_options.proofs.CoverLemmas.{behind_first, char_passed}
 use Rattle.match_options.proofs.RowLemmas.{row_letter, front_told, front_left, char_here, letter_same, letter_other, letter_none}
 use Rattle.match_options.proofs.row.pass_letter.Goals.{in-Some+then-letter-first, in-Some+else-letter-first, in-None}

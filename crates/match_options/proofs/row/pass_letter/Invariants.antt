@@ -2,7 +2,7 @@
 use Rattle.std.proofs.Common.{◌≡◌, ◌+◌, ◌<◌, ◌≤◌, ◌&&◌, ℕ, length, drop, chars, IsUtf8, get_or}
 use Rattle.std.specs.Prelude.{◌==◌}
 use Rattle.std.specs.Str.Iter.{chars_rest}
-use Rattle.match_options.specs.Row.{at_place}
+use Rattle.match_options.specs.steps.Row.{at_place}
 use Rattle.match_options.proofs.row.pass_letter.Given as goal
 
 abbrev pub invariant-loop-place : goal.invariant-loop-place

@@ -2,7 +2,7 @@
 use Rattle.std.proofs.Common.{◌≡◌, ◌+◌, ◌-◌, ◌<◌, ◌&&◌, sym, ◌∙◌, ap, arith, length, drop, length-drop, length-set}
 use Rattle.std.specs.Prelude.{nat_lt, if◌then◌else◌}
 use Rattle.match_options.specs.Wildcards.{fits_gap}
-use Rattle.match_options.specs.Row.{at_place, nearest, reaches}
+use Rattle.match_options.specs.steps.Row.{at_place, nearest, reaches}
 use Rattle.match_options.proofs.RowLemmas.{nearest_more, end_told, end_left, few_more}
 use Rattle.match_options.proofs.row.pass_more.Goals as goal
 

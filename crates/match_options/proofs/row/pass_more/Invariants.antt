@@ -1,6 +1,6 @@
 -- The places at the end were passed, and those before them stand as before.
 use Rattle.std.proofs.Common.{◌≡◌, ◌-◌, ◌<◌, ◌≤◌, ℕ, length, drop}
-use Rattle.match_options.specs.Row.{at_place, nearest, reaches}
+use Rattle.match_options.specs.steps.Row.{at_place, nearest, reaches}
 use Rattle.match_options.proofs.row.pass_more.Given as goal
 
 abbrev pub invariant-loop-passed : goal.invariant-loop-passed

@@ -1,6 +1,6 @@
 -- The parts of the characters are those of the text.
 use Rattle.std.proofs.Common.{◌≡◌, IfOk, List, ℕ, [], ap, ◌∙◌, subst}
-use Rattle.match_options.specs.PartsLeft.{parts_left}
+use Rattle.match_options.specs.steps.PartsLeft.{parts_left}
 use Rattle.match_options.proofs.PartLemmas.{text_parts}
 use Rattle.match_options.proofs.splitting.parts.Goals as goal
 

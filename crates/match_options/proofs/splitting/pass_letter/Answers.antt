@@ -1,6 +1,6 @@
 -- White space ends the part, and another character belongs to it.
 use Rattle.std.proofs.Common.{◌++◌, ◌∙◌, sym, ap}
-use Rattle.match_options.specs.PartsLeft.{ended, parts_left}
+use Rattle.match_options.specs.steps.PartsLeft.{ended, parts_left}
 use Rattle.match_options.proofs.PartLemmas.{white_passed, letter_passed}
 use Rattle.match_options.proofs.splitting.pass_letter.Goals as goal
 

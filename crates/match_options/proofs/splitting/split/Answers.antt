@@ -1,7 +1,7 @@
 -- Nothing is left behind the last part.
 use Rattle.std.proofs.Common.{◌++◌, [], sym, ap, ◌∙◌, arith}
 use Rattle.std.proofs.lemmas.List.{drop_all}
-use Rattle.match_options.specs.PartsLeft.{parts_left}
+use Rattle.match_options.specs.steps.PartsLeft.{parts_left}
 use Rattle.match_options.proofs.PartLemmas.{nothing_left}
 use Rattle.match_options.proofs.splitting.split.Goals as goal
 

@@ -1,6 +1,6 @@
 -- The parts so far, and those of what is left, are all.
 use Rattle.std.proofs.Common.{◌≡◌, ◌++◌, [], drop}
-use Rattle.match_options.specs.PartsLeft.{parts_left}
+use Rattle.match_options.specs.steps.PartsLeft.{parts_left}
 use Rattle.match_options.proofs.splitting.split.Given as goal
 
 abbrev pub invariant-loop-letter : goal.invariant-loop-letter

@@ -1,5 +1,5 @@
 use Rattle.std.proofs.Common.{◌≡◌, ◌-◌, ◌<◌, ◌++◌, ◌∷◌, [], length, sym, ap, ◌∙◌, arith, append_assoc, append-nil}
-use Rattle.ordered_tree.specs.Climbing.{climbed}
+use Rattle.ordered_tree.specs.steps.Climbing.{climbed}
 use Rattle.ordered_tree.specs.Slots.{slot_at}
 use Rattle.ordered_tree.proofs.PlacesLemmas.{Up, climbs-here, climbs-slot, up, climbed-root}
 use Rattle.ordered_tree.proofs.climbing.+add_place.Goals as goal

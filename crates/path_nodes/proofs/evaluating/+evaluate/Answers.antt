@@ -11,15 +11,15 @@ use Rattle.path_grammar.specs.Form as form
 use Rattle.path_meaning.specs.Meaning as meaning
 use Rattle.path_grammar.specs.View as view
 use Rattle.path_nodes.specs.Asked.{OfEach, OfStep, OfPredicates, OfPredicate, OfCondition, OfConditions, MayAsk}
-use Rattle.path_nodes.specs.Kept as spec
-use Rattle.path_nodes.specs.Marks.{is_marked}
+use Rattle.path_nodes.specs.steps.Kept as spec
+use Rattle.path_nodes.specs.steps.Marks.{is_marked}
 use Rattle.path_nodes.specs.Prices as price
 use Rattle.path_nodes.specs.References.{IsElement, element_of}
-use Rattle.path_nodes.specs.Regions.{below}
+use Rattle.path_nodes.specs.steps.Regions.{below}
 use Rattle.path_nodes.specs.Says.{satisfied}
 use Rattle.path_meaning.specs.Tests.{each_tested}
-use Rattle.path_nodes.specs.Ways.{LeadTo}
-use Rattle.path_nodes.specs.Within.{AtOrBelow}
+use Rattle.path_nodes.specs.steps.Ways.{LeadTo}
+use Rattle.path_nodes.specs.steps.Within.{AtOrBelow}
 use Rattle.path_nodes.proofs.AlikeLemmas.{led-from-alike}
 use Rattle.path_nodes.proofs.AskedLemmas.{step-is, of-or, of-and, of-not, of-exists, of-contains, of-holds, of-step, nth-step, nth-predicate, nth-condition}
 use Rattle.path_nodes.proofs.MeaningLemmas.{led-next, led-none, filtered-next, filtered-none, some-next, some-none, each-next, each-none, by-number, by-condition, true-or, true-and, true-not, true-attribute, true-exists, true-contains, emptied}

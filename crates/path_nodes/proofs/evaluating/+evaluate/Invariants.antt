@@ -8,13 +8,13 @@ use Rattle.path_meaning.specs.Elements.{elements, is_in}
 use Rattle.path_grammar.specs.Form as form
 use Rattle.path_meaning.specs.Meaning as meaning
 use Rattle.path_grammar.specs.View as view
-use Rattle.path_nodes.specs.Kept.{kept, kept_children}
-use Rattle.path_nodes.specs.Marks.{is_marked}
+use Rattle.path_nodes.specs.steps.Kept.{kept, kept_children}
+use Rattle.path_nodes.specs.steps.Marks.{is_marked}
 use Rattle.path_nodes.specs.Prices as price
 use Rattle.path_nodes.specs.References.{IsElement, element_of}
 use Rattle.path_nodes.specs.Says.{satisfied}
-use Rattle.path_nodes.specs.Within.{AtOrBelow}
-use Rattle.path_nodes.specs.Ways.{AreWays, LeadTo}
+use Rattle.path_nodes.specs.steps.Within.{AtOrBelow}
+use Rattle.path_nodes.specs.steps.Ways.{AreWays, LeadTo}
 use Rattle.path_nodes.proofs.evaluating.+evaluate.Given as goal
 
 abbrev pub invariant-chosen-loop-parent : goal.invariant-chosen-loop-parent

@@ -3,7 +3,7 @@ use Rattle.std.proofs.Common.{◌||◌, map, take, get_or, sym, ap, ◌∙◌, s
 use Rattle.std.specs.List.{All, list_any}
 use Rattle.std.proofs.lemmas.List.Elements.{All-get_or}
 use Rattle.path_meaning.specs.Elements.{is_same}
-use Rattle.path_nodes.specs.Marks.{is_marked}
+use Rattle.path_nodes.specs.steps.Marks.{is_marked}
 use Rattle.path_nodes.specs.References.{IsElement, element_of}
 use Rattle.path_nodes.proofs.ListLemmas.{any-more, or-swap}
 use Rattle.path_nodes.proofs.PlaceLemmas.{same-element}

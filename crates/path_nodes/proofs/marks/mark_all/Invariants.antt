@@ -3,7 +3,7 @@ use Rattle.std.proofs.Common.{◌≡◌, ◌||◌, map, take}
 use Rattle.std.specs.List.{list_any}
 use Rattle.ft_base.specs.declared.ids.NodeRef.{NodeRef}
 use Rattle.path_meaning.specs.Elements.{is_same}
-use Rattle.path_nodes.specs.Marks.{is_marked}
+use Rattle.path_nodes.specs.steps.Marks.{is_marked}
 use Rattle.path_nodes.specs.References.{IsElement, element_of}
 use Rattle.path_nodes.proofs.marks.mark_all.Given as goal
 

@@ -8,10 +8,10 @@ use Rattle.ordered_tree.specs.Numbered.{plain}
 use Rattle.path_meaning.specs.Elements.{elements, is_in}
 use Rattle.path_grammar.specs.Form as form
 use Rattle.path_grammar.specs.View as view
-use Rattle.path_nodes.specs.Kept as spec
+use Rattle.path_nodes.specs.steps.Kept as spec
 use Rattle.path_nodes.specs.Prices.{list_price, children_price}
 use Rattle.path_nodes.specs.References.{IsElement, element_of}
-use Rattle.path_nodes.specs.Regions.{at_or_below}
+use Rattle.path_nodes.specs.steps.Regions.{at_or_below}
 use Rattle.path_nodes.proofs.AskedLemmas.{step-is}
 use Rattle.path_nodes.proofs.PriceLemmas.{own-price, deep-document-price}
 use Rattle.path_nodes.proofs.SelectedLemmas.{one-step, deep-step, alone-of}

@@ -10,7 +10,7 @@ use Rattle.path_nodes.specs.Asked.{OfEach, OfStep, MayAsk}
 use Rattle.path_nodes.specs.Prices.{steps_price, step_price}
 use Rattle.path_nodes.specs.References.{element_of}
 use Rattle.path_nodes.specs.Says.{satisfied}
-use Rattle.path_nodes.specs.Within.{AtOrBelow}
+use Rattle.path_nodes.specs.steps.Within.{AtOrBelow}
 use Rattle.path_nodes.proofs.AlikeLemmas.{selected-alike}
 use Rattle.path_nodes.proofs.AskedLemmas.{nth-step}
 use Rattle.path_nodes.proofs.ChosenLemmas.{all-refs}

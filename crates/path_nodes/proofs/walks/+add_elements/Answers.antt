@@ -5,7 +5,7 @@ use Rattle.std.proofs.lemmas.List.{take_all}
 use Rattle.std.proofs.lemmas.List.Elements.{All-get_or}
 use Rattle.path_meaning.specs.Elements.{element_children}
 use Rattle.path_nodes.specs.References.{IsElement, element_of}
-use Rattle.path_nodes.specs.Regions.{at_or_below}
+use Rattle.path_nodes.specs.steps.Regions.{at_or_below}
 use Rattle.path_nodes.proofs.RegionLemmas.{weight, children-light, child-has, opened, below-children}
 use Rattle.path_nodes.proofs.SpotLemmas.{of_number}
 use Rattle.path_nodes.proofs.walks.+add_elements.Goals as goal

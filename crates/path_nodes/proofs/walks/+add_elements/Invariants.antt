@@ -1,7 +1,7 @@
 -- What is at or below the first children stands behind the element.
 use Rattle.std.proofs.Common.{◌≡◌, ◌∷◌, ◌++◌, All, flat_map, map, take}
 use Rattle.path_nodes.specs.References.{IsElement, element_of}
-use Rattle.path_nodes.specs.Regions.{at_or_below}
+use Rattle.path_nodes.specs.steps.Regions.{at_or_below}
 use Rattle.path_nodes.proofs.RegionLemmas.{weight}
 use Rattle.path_nodes.proofs.walks.+add_elements.Given as goal
 

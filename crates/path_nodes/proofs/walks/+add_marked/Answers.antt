@@ -4,9 +4,9 @@ use Rattle.std.specs.List.{All}
 use Rattle.std.proofs.lemmas.List.{take_all}
 use Rattle.std.proofs.lemmas.List.Elements.{All-get_or, filter-append}
 use Rattle.path_meaning.specs.Elements.{element_children}
-use Rattle.path_nodes.specs.Marks.{is_marked}
+use Rattle.path_nodes.specs.steps.Marks.{is_marked}
 use Rattle.path_nodes.specs.References.{IsElement, element_of}
-use Rattle.path_nodes.specs.Regions.{at_or_below, below}
+use Rattle.path_nodes.specs.steps.Regions.{at_or_below, below}
 use Rattle.path_nodes.proofs.ListLemmas.{flat-map-more, one-kept, kept-there}
 use Rattle.path_nodes.proofs.RegionLemmas.{weight, children-light, child-has, opened, below-children}
 use Rattle.path_nodes.proofs.SpotLemmas.{of_number}

@@ -2,10 +2,10 @@
 use Rattle.std.proofs.Common.{◌≡◌, ◌++◌, All, Bool, filter, flat_map, map, take}
 use Rattle.ft_base.specs.declared.ids.NodeRef.{NodeRef}
 use Rattle.path_meaning.specs.Elements.{Element}
-use Rattle.path_nodes.specs.Marks.{is_marked}
+use Rattle.path_nodes.specs.steps.Marks.{is_marked}
 use Rattle.path_nodes.specs.References.{IsElement, element_of}
-use Rattle.path_nodes.specs.Regions.{at_or_below}
-use Rattle.path_nodes.specs.Ways.{LeadTo}
+use Rattle.path_nodes.specs.steps.Regions.{at_or_below}
+use Rattle.path_nodes.specs.steps.Ways.{LeadTo}
 use Rattle.path_nodes.proofs.RegionLemmas.{weight}
 use Rattle.path_nodes.proofs.walks.+add_marked.Given as goal
 

@@ -3,9 +3,9 @@ use Rattle.std.proofs.Common.{◌≡◌, ◌++◌, map, sym, ap, ◌∙◌, subs
 use Rattle.std.specs.List.{All}
 use Rattle.std.proofs.lemmas.List.{map-append}
 use Rattle.std.proofs.lemmas.List.Elements.{All-append}
-use Rattle.path_nodes.specs.Listed.{AreListed}
+use Rattle.path_nodes.specs.steps.Listed.{AreListed}
 use Rattle.path_nodes.specs.References.{IsElement, element_of}
-use Rattle.path_nodes.specs.Regions.{at_or_below}
+use Rattle.path_nodes.specs.steps.Regions.{at_or_below}
 use Rattle.path_nodes.proofs.ListedLemmas.{region-listed}
 use Rattle.path_nodes.proofs.walks.add_unlisted.Goals as goal
 

@@ -2,11 +2,11 @@
 use Rattle.std.proofs.Common.{◌+◌, [], length, drop, map, Err, sym, ◌∙◌, ap, subst, arith}
 use Rattle.std.proofs.lemmas.List.{drop_all, length-drop, take_rest}
 use Rattle.ft_parser.specs.Answer.{Answered}
-use Rattle.path_grammar.specs.Machine as m
+use Rattle.path_grammar.specs.steps.Machine as m
 use Rattle.path_subset.specs.Answer.{turned, read_from}
 use Rattle.path_subset.specs.Paths.{found_form, read_form}
-use Rattle.path_subset.specs.Reading.{led_of}
-use Rattle.path_subset.specs.State.{state_of}
+use Rattle.path_subset.specs.steps.Reading.{led_of}
+use Rattle.path_subset.specs.steps.State.{state_of}
 use Rattle.path_subset.proofs.Skipped.{leads, halts, stops, at_end}
 use Rattle.path_subset.proofs.read.read_placed.Goals as goal
 

@@ -1,9 +1,9 @@
 -- What is left is read as all symbols are.
 use Rattle.std.proofs.Common.{◌≡◌, ◌≤◌, ◌-◌, [], length, drop, map}
-use Rattle.path_grammar.specs.Machine as m
+use Rattle.path_grammar.specs.steps.Machine as m
 use Rattle.path_subset.specs.Answer.{read_from}
 use Rattle.path_subset.specs.Paths.{found_form}
-use Rattle.path_subset.specs.State.{state_of}
+use Rattle.path_subset.specs.steps.State.{state_of}
 use Rattle.path_subset.proofs.read.read_placed.Given as goal
 
 abbrev pub invariant-loop-next : goal.invariant-loop-next

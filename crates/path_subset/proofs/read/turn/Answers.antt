@@ -1,12 +1,12 @@
 -- In the root no selection comes next, whatever stands behind.
 use Rattle.std.proofs.Common.{◌≡◌, false, sym, ◌∙◌, ap, subst, map}
 use Rattle.ft_parser.specs.Answer.{Answered}
-use Rattle.path_grammar.specs.Machine.{advance, open_count}
+use Rattle.path_grammar.specs.steps.Machine.{advance, open_count}
 use Rattle.path_subset.specs.Answer.{led_by}
 use Rattle.path_subset.specs.Limits.{passes}
 use Rattle.path_subset.specs.Paths.{found_form}
-use Rattle.path_subset.specs.Reading.{led_of}
-use Rattle.path_subset.specs.State.{state_of}
+use Rattle.path_subset.specs.steps.Reading.{led_of}
+use Rattle.path_subset.specs.steps.State.{state_of}
 use Rattle.path_subset.proofs.Skipped.{turned_within}
 use Rattle.path_subset.proofs.read.turn.Goals as goal
 

@@ -6,13 +6,13 @@ use Rattle.ft_base.specs.declared.token.Token.{Token}
 use Rattle.ft_syntax.specs.View.{form, forms_of}
 use Rattle.ft_syntax.specs.declared.selection.Selection.{Selection, the_lemmas}
 use Rattle.all_matches.specs.Meaning.{sat_under}
-use Rattle.plan_compiler.specs.ChosenMeant.{options_of}
+use Rattle.plan_compiler.specs.ChosenOptions.{options_of}
 use Rattle.plan_compiler.specs.Lexicon.{lexicon}
 use Rattle.plan_compiler.specs.Served.{are_served, is_served, all_served}
-use Rattle.plan_compiler.specs.NodeMeant.{truth}
+use Rattle.plan_compiler.specs.NodeMeaning.{truth}
 use Rattle.plan_compiler.specs.TextWords.{words_of_tokens}
 use Rattle.plan_compiler.proofs.DecidedLemmas.{decided-Words, decided-Or, decided-And, decided-Not, decided-With, decided-MildNot, decided-Filtered}
-use Rattle.plan_compiler.proofs.SelectionsMeant.{decided_at, or_selection, and_selection, not_selection, with_selection, served_inside, say_more}
+use Rattle.plan_compiler.proofs.SelectionMeaning.{decided_at, or_selection, and_selection, not_selection, with_selection, served_inside, say_more}
 use Rattle.plan_compiler.proofs.compiling.+compile.Goals as goal
 
 pub compile-compile_value-requires-clause-inner : goal.compile-compile_value-requires-clause-inner

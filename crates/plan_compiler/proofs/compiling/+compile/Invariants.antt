@@ -2,10 +2,10 @@
 use Rattle.std.proofs.Common.{◌≡◌, List, map, take}
 use Rattle.ft_base.specs.declared.token.Token.{Token}
 use Rattle.ft_syntax.specs.View.{form}
-use Rattle.plan_compiler.specs.ChosenMeant.{options_of}
+use Rattle.plan_compiler.specs.ChosenOptions.{options_of}
 use Rattle.all_matches.specs.Meaning.{sat_under}
 use Rattle.plan_compiler.specs.Lexicon.{lexicon}
-use Rattle.plan_compiler.specs.NodeMeant.{truth}
+use Rattle.plan_compiler.specs.NodeMeaning.{truth}
 use Rattle.plan_compiler.specs.TextWords.{words_of_tokens}
 use Rattle.plan_compiler.proofs.compiling.+compile.Given as goal
 

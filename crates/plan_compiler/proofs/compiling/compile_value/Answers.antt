@@ -1,11 +1,11 @@
 -- Compiled words say whether the words occur often enough.
 use Rattle.std.proofs.Common.{◌∙◌, subst}
 use Rattle.ft_base.specs.declared.options.Options.{Options}
-use Rattle.plan_compiler.specs.ChosenMeant.{options_of}
-use Rattle.plan_compiler.specs.CompiledMeant.{IsCompiled}
+use Rattle.plan_compiler.specs.ChosenOptions.{options_of}
+use Rattle.plan_compiler.specs.CompiledWords.{IsCompiled}
 use Rattle.plan_compiler.specs.TextWords.{words_of_tokens}
 use Rattle.plan_compiler.proofs.NodeViews.{truth-Words}
-use Rattle.plan_compiler.proofs.SelectionsMeant.{words_mean, served_inside}
+use Rattle.plan_compiler.proofs.SelectionMeaning.{words_mean, served_inside}
 use Rattle.plan_compiler.proofs.compiling.compile_value.Goals as goal
 
 pub returns : goal.returns

@@ -1,7 +1,7 @@
 -- The plans are those of the phrases.
 use Rattle.std.proofs.Common.{◌∙◌, ap, map}
 use Rattle.match_options.specs.Items.{item}
-use Rattle.plan_compiler.specs.WordsMeant as spec
+use Rattle.plan_compiler.specs.WordsMeaning as spec
 use Rattle.plan_compiler.proofs.compiling_words.plans_by.Goals as goal
 
 pub returns : goal.returns

@@ -1,6 +1,6 @@
 -- One factor more.
 use Rattle.std.proofs.Common.{◌*◌, ◌-◌, ◌^◌, ◌∙◌, min, ap}
-use Rattle.plan_compiler.specs.WordsMeant.{phrase_count}
+use Rattle.plan_compiler.specs.WordsMeaning.{phrase_count}
 use Rattle.plan_compiler.specs.declared.phrase_plan.PhrasePlan.{PhrasePlan}
 use Rattle.plan_compiler.proofs.Capped.{product_more}
 use Rattle.plan_compiler.proofs.counting.product_of_counts.Goals as goal

@@ -1,7 +1,7 @@
 -- What each kind of selection says.
 use Rattle.std.proofs.Common.{sym, ap, ◌∙◌, not}
-use Rattle.plan_compiler.specs.NodeMeant.{truth}
-use Rattle.plan_compiler.specs.WordsMeant.{words_count}
+use Rattle.plan_compiler.specs.NodeMeaning.{truth}
+use Rattle.plan_compiler.specs.WordsMeaning.{words_count}
 use Rattle.plan_compiler.proofs.NodeViews.{truth-Words, truth-Or, truth-And, truth-Not}
 use Rattle.plan_compiler.proofs.deciding.+decide.Goals as goal
 

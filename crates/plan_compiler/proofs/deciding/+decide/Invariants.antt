@@ -1,7 +1,7 @@
 -- The parts so far don't settle it.
 use Rattle.std.proofs.Common.{◌≡◌, drop}
 use Rattle.std.specs.List.{list_any, list_all}
-use Rattle.plan_compiler.specs.NodeMeant.{truth}
+use Rattle.plan_compiler.specs.NodeMeaning.{truth}
 use Rattle.plan_compiler.proofs.deciding.+decide.Given as goal
 
 abbrev pub invariant-some_holds-loop-part : goal.invariant-some_holds-loop-part

@@ -1,6 +1,6 @@
 -- The list is put under the text of the name.
 use Rattle.std.proofs.Common.{◌∙◌, ap, map}
-use Rattle.plan_compiler.specs.ListsMeant.{named}
+use Rattle.plan_compiler.specs.SharedLists.{named}
 use Rattle.plan_compiler.specs.NamedLists.{with_list}
 use Rattle.plan_compiler.proofs.ListLemmas.{list_put}
 use Rattle.plan_compiler.proofs.lists.put_list.Goals as goal

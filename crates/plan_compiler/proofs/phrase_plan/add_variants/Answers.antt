@@ -2,9 +2,9 @@
 use Rattle.std.proofs.Common.{◌≡◌, ◌∙◌, sym, ap, map, []}
 use Rattle.match_options.specs.Items.{item}
 use Rattle.all_matches.specs.Counting.{with_variant}
-use Rattle.plan_compiler.specs.GroupsMeant.{group_tests}
+use Rattle.plan_compiler.specs.GroupedTests.{group_tests}
 use Rattle.plan_compiler.specs.ItemTests.{passes}
-use Rattle.plan_compiler.specs.WordsMeant as spec
+use Rattle.plan_compiler.specs.WordsMeaning as spec
 use Rattle.plan_compiler.proofs.GroupLemmas.{fold_more, with_variant-map}
 use Rattle.plan_compiler.proofs.phrase_plan.add_variants.Goals as goal
 

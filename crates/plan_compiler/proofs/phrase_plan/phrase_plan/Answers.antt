@@ -3,7 +3,7 @@ use Rattle.std.proofs.Common.{◌∙◌, ap, map}
 use Rattle.match_options.specs.Items.{item}
 use Rattle.all_matches.specs.Counting.{by_length}
 use Rattle.plan_compiler.specs.ItemTests.{passes}
-use Rattle.plan_compiler.specs.WordsMeant as spec
+use Rattle.plan_compiler.specs.WordsMeaning as spec
 use Rattle.plan_compiler.proofs.GroupLemmas.{without_lengths}
 use Rattle.plan_compiler.proofs.phrase_plan.phrase_plan.Goals as goal
 

@@ -2,7 +2,7 @@
 use Rattle.std.proofs.Common.{◌≡◌, map, take}
 use Rattle.match_options.specs.Items.{item}
 use Rattle.plan_compiler.specs.ItemTests.{passes}
-use Rattle.plan_compiler.specs.WordsMeant as spec
+use Rattle.plan_compiler.specs.WordsMeaning as spec
 use Rattle.plan_compiler.proofs.phrase_plan.phrase_tests.Given as goal
 
 abbrev pub invariant-loop-item : goal.invariant-loop-item

@@ -4,7 +4,7 @@ use Rattle.selection_grammar.specs.View.{tree}
 use Rattle.selection_faults.specs.Kinds.{fault_at}
 use Rattle.selection_faults.specs.LeastPlaces.{least_places}
 use Rattle.selection_faults.specs.Strings.{strings_of, phrases_past}
-use Rattle.selection_faults.specs.Walk.{start, after_all}
+use Rattle.selection_faults.specs.steps.Walk.{start, after_all}
 use Rattle.selection_faults.specs.declared.least_places.LeastPlaces.{LeastPlaces}
 use Rattle.selection_faults.specs.declared.strings.StringWalk.{StringWalk}
 use Rattle.selection_faults.proofs.KindsLemmas.{fault_of_tree}

@@ -1,7 +1,7 @@
 -- One option further.
 use Rattle.std.proofs.Common.{take, ap, ◌∙◌, arith}
 use Rattle.selection_faults.specs.Strings.{wildcards_inside}
-use Rattle.selection_faults.specs.Walk.{wildcards_after}
+use Rattle.selection_faults.specs.steps.Walk.{wildcards_after}
 use Rattle.selection_faults.proofs.OptionsLemmas.{wildcards_next}
 use Rattle.selection_faults.proofs.options.wildcards_inside.Goals as goal
 

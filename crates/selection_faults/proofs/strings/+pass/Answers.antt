@@ -6,7 +6,7 @@ use Rattle.selection_grammar.specs.Tree.{trees_of}
 use Rattle.selection_grammar.specs.View.{tree}
 use Rattle.selection_grammar.specs.declared.parsed.Parsed.{Parsed}
 use Rattle.selection_faults.specs.Strings.{Written, strings_inside, strings_inside_all, strings_of_words, wildcards_inside}
-use Rattle.selection_faults.specs.Walk.{after_all}
+use Rattle.selection_faults.specs.steps.Walk.{after_all}
 use Rattle.selection_faults.proofs.WalkLemmas.{after_append, strings_append, walk_next}
 use Rattle.selection_faults.proofs.strings.+pass.Goals as goal
 

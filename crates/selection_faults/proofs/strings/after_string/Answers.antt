@@ -1,7 +1,7 @@
 -- The count and the least bad place, one string further.
 use Rattle.std.proofs.Common.{ap, ◌∙◌}
 use Rattle.selection_faults.specs.Strings.{written, phrases_of}
-use Rattle.selection_faults.specs.Walk.{counted, bad_after}
+use Rattle.selection_faults.specs.steps.Walk.{counted, bad_after}
 use Rattle.selection_faults.specs.declared.strings.StringWalk.{StringWalk}
 use Rattle.selection_faults.proofs.strings.after_string.Goals as goal
 

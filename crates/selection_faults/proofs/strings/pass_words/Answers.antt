@@ -3,7 +3,7 @@ use Rattle.std.proofs.Common.{◌∷◌, [], map, refl, ap, ◌∙◌, take, ari
 use Rattle.std.proofs.lemmas.List.{map-append}
 use Rattle.selection_grammar.specs.declared.parsed.PlacedString.{PlacedString}
 use Rattle.selection_faults.specs.Strings.{written}
-use Rattle.selection_faults.specs.Walk.{after, after_all}
+use Rattle.selection_faults.specs.steps.Walk.{after, after_all}
 use Rattle.selection_faults.proofs.WalkLemmas.{walk_next}
 use Rattle.selection_faults.proofs.strings.pass_words.Goals as goal
 

@@ -1,7 +1,7 @@
 -- What is known behind the first strings.
 use Rattle.std.proofs.Common.{◌≡◌, map, take}
 use Rattle.selection_faults.specs.Strings.{written}
-use Rattle.selection_faults.specs.Walk.{after_all}
+use Rattle.selection_faults.specs.steps.Walk.{after_all}
 use Rattle.selection_faults.proofs.strings.pass_words.Given as goal
 
 abbrev pub invariant-loop-string : goal.invariant-loop-string

@@ -4,7 +4,7 @@ use Rattle.std.specs.Prelude.{fold}
 use Rattle.std.specs.Option.{option_copied}
 use Rattle.std.specs.BTreeSet.{insert_key}
 use Rattle.thesaurus_file.specs.Phrases.{phrase_cmp}
-use Rattle.thesaurus_file.specs.Walks.{unseen_ends}
+use Rattle.thesaurus_file.specs.steps.Walks.{unseen_ends}
 use Rattle.thesaurus_file.proofs.WalkLemmas.{ends_first}
 use Rattle.thesaurus_file.proofs.thesaurus.insert_ends.Goals as goal
 

@@ -1,9 +1,9 @@
 use Rattle.std.proofs.Common.{◌≡◌, ◌∷◌, flat_map, sym, ap, ◌∙◌, zero-add, arith}
 use Rattle.unicode_segmentation.specs.Word.{word_bounds}
 use Rattle.tokenizer.specs.Parts.{characters, parts, parts_of_event}
-use Rattle.tokenizer.specs.StartsLeft.{sentences_in, paragraphs_in}
+use Rattle.tokenizer.specs.steps.StartsLeft.{sentences_in, paragraphs_in}
 use Rattle.tokenizer.specs.Tokens.{tokens}
-use Rattle.tokenizer.specs.Walks.{events_left}
+use Rattle.tokenizer.specs.steps.Walks.{events_left}
 use Rattle.tokenizer.proofs.StartsLemmas.{words_in, length-tokens_from, words_in-segments}
 use Rattle.tokenizer.proofs.breaks.breaks_of.Goals as goal
 

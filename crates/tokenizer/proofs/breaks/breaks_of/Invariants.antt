@@ -1,8 +1,8 @@
 use Rattle.std.proofs.Common.{◌≡◌, ◌+◌, flat_map, length}
 use Rattle.tokenizer.specs.Parts.{parts_of_event}
-use Rattle.tokenizer.specs.StartsLeft.{sentences_in, paragraphs_in}
+use Rattle.tokenizer.specs.steps.StartsLeft.{sentences_in, paragraphs_in}
 use Rattle.tokenizer.specs.Tokens.{tokens, sentence_starts, paragraph_starts}
-use Rattle.tokenizer.specs.Walks.{events_left}
+use Rattle.tokenizer.specs.steps.Walks.{events_left}
 use Rattle.tokenizer.proofs.StartsLemmas.{words_in}
 use Rattle.tokenizer.proofs.breaks.breaks_of.Given as goal
 

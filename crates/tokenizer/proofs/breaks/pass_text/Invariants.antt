@@ -2,7 +2,7 @@ use Rattle.std.proofs.Common.{◌≡◌, ◌+◌, List, ◌++◌, map, filter, l
 use Rattle.unicode_segmentation.specs.Iter.{word_bounds_left}
 use Rattle.unicode_segmentation.specs.Word.{word_bounds}
 use Rattle.tokenizer.specs.Parts.{Part, part_of_segment}
-use Rattle.tokenizer.specs.StartsLeft.{sentences_in, paragraphs_in}
+use Rattle.tokenizer.specs.steps.StartsLeft.{sentences_in, paragraphs_in}
 use Rattle.tokenizer.specs.Words.{is_word, words}
 use Rattle.tokenizer.proofs.breaks.pass_text.Given as goal
 

@@ -2,7 +2,7 @@ use Rattle.std.proofs.Common.{◌≡◌, ◌≤◌, List, ◌++◌, map, length}
 use Rattle.ft_base.specs.declared.limits.TheConstants.{MAX_TOKENS}
 use Rattle.unicode_segmentation.specs.Iter.{word_bounds_left}
 use Rattle.unicode_segmentation.specs.Word.{word_bounds}
-use Rattle.tokenizer.specs.Numbering.{tokens_left}
+use Rattle.tokenizer.specs.steps.Numbering.{tokens_left}
 use Rattle.tokenizer.specs.Parts.{Part, part_of_segment}
 use Rattle.tokenizer.proofs.tokens.push_tokens.Given as goal
 

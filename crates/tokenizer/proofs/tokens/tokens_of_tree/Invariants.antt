@@ -1,10 +1,10 @@
 use Rattle.std.proofs.Common.{◌≡◌, ◌≤◌, ◌++◌, flat_map, length}
 use Rattle.ft_base.specs.declared.limits.TheConstants.{MAX_TOKENS}
 use Rattle.plain_tree.specs.View.{node}
-use Rattle.tokenizer.specs.Numbering.{tokens_left}
+use Rattle.tokenizer.specs.steps.Numbering.{tokens_left}
 use Rattle.tokenizer.specs.Parts.{parts_of_event}
 use Rattle.tokenizer.specs.Tokens.{tokens}
-use Rattle.tokenizer.specs.Walks.{events_left}
+use Rattle.tokenizer.specs.steps.Walks.{events_left}
 use Rattle.tokenizer.proofs.tokens.tokens_of_tree.Given as goal
 
 abbrev pub invariant-loop-walk : goal.invariant-loop-walk

@@ -2,8 +2,8 @@
 use Rattle.std.proofs.Common.{sym, subst, ◌∙◌, ap, drop, ◌+◌, arith}
 use Rattle.std.specs.Prelude.{nat_eq, encode_utf8}
 use Rattle.std.specs.List.{starts_with}
-use Rattle.doc_grammar.specs.Machine as m
-use Rattle.doc_profile.specs.View.{Goes, name_of, place_of, state_of}
+use Rattle.doc_grammar.specs.steps.Machine as m
+use Rattle.doc_profile.specs.steps.View.{Goes, name_of, place_of, state_of}
 use Rattle.doc_profile.proofs.Readers.{end_name_over, end_name_further, end_name_differs}
 use Rattle.doc_profile.proofs.reader.Reader.from_end_name.Goals as goal
 

@@ -2,7 +2,7 @@
 use Rattle.std.proofs.Common.{◌≡◌, false, length, string_bytes, sym, ◌∙◌, arith}
 use Rattle.std.specs.Prelude.{◌==◌}
 use Rattle.std.proofs.lemmas.Bool.Decides.{nat_tests}
-use Rattle.doc_profile.specs.View.{phase_of}
+use Rattle.doc_profile.specs.steps.View.{phase_of}
 use Rattle.doc_profile.proofs.Readers.{level_open}
 use Rattle.doc_profile.proofs.reader.Reader.is_finished.Goals as goal
 

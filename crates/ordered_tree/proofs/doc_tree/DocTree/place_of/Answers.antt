@@ -1,7 +1,7 @@
 use Rattle.std.proofs.Common.{◌≡◌, ◌++◌, ◌≤◌, Some, sym, ap, ◌∙◌, subst, arith}
 use Rattle.std.specs.List.{Contains}
 use Rattle.std.proofs.lemmas.List.Elements.{All-contains}
-use Rattle.ordered_tree.specs.Climbing.{climbed, Climbs}
+use Rattle.ordered_tree.specs.steps.Climbing.{climbed, Climbs}
 use Rattle.ordered_tree.specs.Counts.{element_depth}
 use Rattle.ordered_tree.specs.Numbered.{plain}
 use Rattle.ordered_tree.specs.Places.{at_place}

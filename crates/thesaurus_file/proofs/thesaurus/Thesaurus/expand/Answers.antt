@@ -9,7 +9,7 @@ use Rattle.thesaurus_file.specs.Expansion.{asked_level, expanded, is_nearer, lev
 use Rattle.thesaurus_file.specs.Levels.{in_range}
 use Rattle.thesaurus_file.specs.Links.{Links}
 use Rattle.thesaurus_file.specs.Phrases.{Phrase, phrase_cmp, phrase_eq}
-use Rattle.thesaurus_file.specs.Walks.{level_behind}
+use Rattle.thesaurus_file.specs.steps.Walks.{level_behind}
 use Rattle.thesaurus_file.specs.declared.levels.Levels.{Levels}
 use Rattle.thesaurus_file.proofs.LevelLemmas.{known_0, known_next, level_0, level_suc, none_above, none_asked}
 use Rattle.thesaurus_file.proofs.thesaurus.Thesaurus.expand.Goals as goal

@@ -5,7 +5,7 @@ use Rattle.std.specs.Option.{option_copied}
 use Rattle.std.specs.BTreeSet.{insert_key}
 use Rattle.thesaurus_file.specs.Links.{links_from}
 use Rattle.thesaurus_file.specs.Phrases.{phrase_cmp}
-use Rattle.thesaurus_file.specs.Walks.{level_behind, unseen_ends}
+use Rattle.thesaurus_file.specs.steps.Walks.{level_behind, unseen_ends}
 use Rattle.thesaurus_file.proofs.thesaurus.Thesaurus.next_level.Given as goal
 
 abbrev pub invariant-loop-phrase : goal.invariant-loop-phrase

@@ -1,5 +1,5 @@
 use Rattle.std.proofs.Common.{sym, ap, ◌∙◌, drop, ◌+◌, arith}
-use Rattle.tokenizer.specs.GapSteps.{after_characters}
+use Rattle.tokenizer.specs.steps.GapSteps.{after_characters}
 use Rattle.tokenizer.proofs.GapLemmas.{after_characters-next, after_characters-done, after_characters-chars}
 use Rattle.tokenizer.proofs.gap.Gap.pass_characters.Goals as goal
 

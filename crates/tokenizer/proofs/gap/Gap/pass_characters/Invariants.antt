@@ -1,5 +1,5 @@
 use Rattle.std.proofs.Common.{◌≡◌, drop}
-use Rattle.tokenizer.specs.GapSteps.{after_characters}
+use Rattle.tokenizer.specs.steps.GapSteps.{after_characters}
 use Rattle.tokenizer.proofs.gap.Gap.pass_characters.Given as goal
 
 abbrev pub invariant-loop-byte : goal.invariant-loop-byte

@@ -1,5 +1,5 @@
 use Rattle.std.proofs.Common.{sym, ap, ◌∙◌}
-use Rattle.tokenizer.specs.Numbering.{tokens_left}
+use Rattle.tokenizer.specs.steps.Numbering.{tokens_left}
 use Rattle.tokenizer.proofs.NumberingLemmas.{tokens_left-characters}
 use Rattle.tokenizer.proofs.numbering.Numbering.pass_characters.Goals as goal
 

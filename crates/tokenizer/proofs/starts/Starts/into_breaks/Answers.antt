@@ -1,5 +1,5 @@
 use Rattle.tokenizer.proofs.StartsLemmas.{starts-ended}
-use Rattle.tokenizer.specs.StartsLeft.{sentences_in, paragraphs_in}
+use Rattle.tokenizer.specs.steps.StartsLeft.{sentences_in, paragraphs_in}
 use Rattle.tokenizer.proofs.starts.Starts.into_breaks.Goals as goal
 
 pub returns-clause-sentences : goal.returns-clause-sentences

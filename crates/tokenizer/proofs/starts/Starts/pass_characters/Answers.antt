@@ -1,8 +1,8 @@
 use Rattle.std.proofs.Common.{sym, ap, ◌++◌, ◌+◌}
-use Rattle.tokenizer.specs.Numbering.{tokens_left}
+use Rattle.tokenizer.specs.steps.Numbering.{tokens_left}
 use Rattle.tokenizer.specs.Tokens.{starts}
 use Rattle.ft_base.specs.declared.token.Token.{Token}
-use Rattle.tokenizer.specs.StartsLeft.{sentences_in, paragraphs_in}
+use Rattle.tokenizer.specs.steps.StartsLeft.{sentences_in, paragraphs_in}
 use Rattle.tokenizer.proofs.starts.Starts.pass_characters.Goals as goal
 
 pub returns-clause-sentences : goal.returns-clause-sentences

@@ -1,5 +1,5 @@
 use Rattle.std.proofs.Common.{◌∙◌, append-nil}
-use Rattle.tokenizer.specs.Walks.{stack_left, events_left}
+use Rattle.tokenizer.specs.steps.Walks.{stack_left, events_left}
 use Rattle.tokenizer.proofs.walk.Walk.new.Goals as goal
 
 pub returns : goal.returns

@@ -2,7 +2,7 @@ use Rattle.std.proofs.Common.{◌≡◌, sym, ap, ◌∙◌, ◌∷◌, ◌++◌
 use Rattle.std.proofs.lemmas.List.{nil_from_length}
 use Rattle.plain_tree.specs.View.{node}
 use Rattle.tokenizer.specs.Parts.{events}
-use Rattle.tokenizer.specs.Walks.{event_of, stack_left}
+use Rattle.tokenizer.specs.steps.Walks.{event_of, stack_left}
 use Rattle.tokenizer.proofs.WalksLemmas.{events_left-begun, events_left-new, open_left-done, open_left-next, stack_left-nil, stack_left-push}
 use Rattle.tokenizer.proofs.walk.Walk.next.Goals as goal
 

@@ -1,6 +1,0 @@
--- The law is the lemma.
-use Rattle.all_matches.proofs.BooleanLaws.{satisfied-not}
-use Rattle.all_matches.proofs.boolean_laws.not_law.Goals as goal
-
-pub returns : goal.returns
-returns c = satisfied-not

@@ -1,6 +1,0 @@
--- The law.
-use Rattle.all_matches.proofs.Counting.{value_occurrences}
-use Rattle.all_matches.proofs.count_laws.occurrences_law.Goals as goal
-
-pub returns : goal.returns
-returns c = value_occurrences

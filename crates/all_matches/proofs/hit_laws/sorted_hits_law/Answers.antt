@@ -1,6 +1,0 @@
--- The law is the lemma.
-use Rattle.all_matches.proofs.SortedHits.{hits_sorted}
-use Rattle.all_matches.proofs.hit_laws.sorted_hits_law.Goals as goal
-
-pub returns : goal.returns
-returns c = hits_sorted

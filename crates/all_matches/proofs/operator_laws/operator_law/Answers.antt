@@ -1,6 +1,0 @@
--- The law is the lemma.
-use Rattle.all_matches.proofs.OperatorMatches.{operator-matches}
-use Rattle.all_matches.proofs.operator_laws.operator_law.Goals as goal
-
-pub returns : goal.returns
-returns c = operator-matches

@@ -1,6 +1,0 @@
--- The law is the lemma.
-use Rattle.all_matches.proofs.Numbering.{satisfied_by-any_number}
-use Rattle.all_matches.proofs.sat_laws.numbering_law.Goals as goal
-
-pub returns : goal.returns
-returns c = satisfied_by-any_number

@@ -1,6 +1,0 @@
--- The machine reads a text in one way.
-use Rattle.doc_grammar.proofs.Laws as laws
-use Rattle.doc_grammar.proofs.one_reading.Goals as goal
-
-pub returns : goal.returns
-returns c = laws.one_reading

@@ -1,6 +1,0 @@
--- The law.
-use Rattle.ft_session.proofs.query_laws.query_law.Goals as goal
-use Rattle.ft_session.proofs.QueryLemmas as laws
-
-pub returns : goal.returns
-returns c = laws.query

@@ -1,0 +1,25 @@
+-- What steps, predicates and conditions say of elements, by what a test says.
+use Rattle.std.specs.Prelude.{Bool, List, filter, flat_map, if◌then◌else◌}
+use Rattle.ordered_tree.specs.Numbered.{Numbered, plain}
+use Rattle.path_meaning.specs.Elements.{Element, elements, element_children}
+use Rattle.path_grammar.specs.declared.path.NameTest.{NameTest}
+use Rattle.path_grammar.specs.Form.{Step, step}
+use Rattle.path_meaning.specs.Meaning.{is_named, filtered}
+use Rattle.path_nodes.specs.steps.Regions.{at_or_below}
+use Rattle.path_nodes.specs.Says.{Meaning, satisfied}
+
+-- the elements whose children a step offers
+abbrev pub parents : Bool → List Element → List Element
+parents deep contexts = if deep then flat_map at_or_below contexts else contexts
+
+-- what a step keeps of a list
+abbrev pub kept : Numbered → Meaning → Step → List Element → List Element
+kept root m (step deep test predicates) items = filtered (satisfied root m) (elements (plain root)) predicates (filter (λ e. is_named test e.node) items)
+
+-- what it keeps of the children of an element
+abbrev pub kept_children : Numbered → Meaning → Step → Element → List Element
+kept_children root m s e = kept root m s (element_children e)
+
+-- the children of an element that pass a test of names
+abbrev pub named_children : NameTest → Element → List Element
+named_children test e = filter (λ x. is_named test x.node) (element_children e)

@@ -1,6 +1,0 @@
--- The law.
-use Rattle.selection_grammar.proofs.selection_laws.machine_reads.Goals as goal
-use Rattle.selection_grammar.proofs.Laws as laws
-
-pub returns : goal.returns
-returns c u x = (laws.read_spells u x, laws.spells_read u x)

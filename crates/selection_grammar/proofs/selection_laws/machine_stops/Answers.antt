@@ -1,6 +1,0 @@
--- The law.
-use Rattle.selection_grammar.proofs.selection_laws.machine_stops.Goals as goal
-use Rattle.selection_grammar.proofs.Laws as laws
-
-pub returns : goal.returns
-returns c u = (laws.refused_begins u, laws.not_begun u)

@@ -1,6 +1,0 @@
--- The law is the lemma.
-use Rattle.selection_round_trip.proofs.ReadBack.{form_read_back}
-use Rattle.selection_round_trip.proofs.printed_laws.read_back.Goals as goal
-
-pub returns : goal.returns
-returns c = form_read_back

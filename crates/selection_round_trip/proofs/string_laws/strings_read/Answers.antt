@@ -1,9 +1,0 @@
--- Each clause is a lemma.
-use Rattle.selection_round_trip.proofs.PrintedStrings.{string_written, string_read}
-use Rattle.selection_round_trip.proofs.string_laws.strings_read.Goals as goal
-
-pub returns-clause-written : goal.returns-clause-written
-returns-clause-written c = string_written
-
-pub returns-clause-read : goal.returns-clause-read
-returns-clause-read c = string_read

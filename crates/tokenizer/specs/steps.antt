@@ -1,0 +1,4 @@
+pub mod GapSteps
+pub mod Numbering
+pub mod StartsLeft
+pub mod Walks
