@@ -13,7 +13,7 @@ use Rattle.all_matches.specs.MildNot.{is_not_empty, stands_out, ft_mild_not}
 use Rattle.all_matches.specs.Filters.{passes, choices, through, ft_filtered}
 use Rattle.all_matches.specs.Ways.{is_plain, Operator, phrase, either, together, apart, negated, through_filter, matches_of, Way, one_hit, two_ways, turned_about, by_filter, way_includes, made, standing_out, filtered_ways, ways_of, without_negation, bare_match, is_bare, is_good, behind_filter}
 use Rattle.all_matches.proofs.ListTests.{list_any-map}
-use Rattle.all_matches.proofs.Raised.{map-cond}
+use Rattle.all_matches.proofs.Shifted.{map-cond}
 
 bare_phrase : (found : List Hit) → map match_of_hit found ≡ map bare_match (map one_hit found)
 bare_phrase [] = refl

@@ -125,13 +125,13 @@ module _ (lexicon : Lexicon) (options : Options) (stood : List (List Item)) wher
   stands_here tokens = list_any (λ items. stands_as lexicon options items tokens) stood
 
   -- on how many fronts of a list, but for the empty one
-  unfoldable pub fronts : List Token → ℕ
-  fronts tokens = count_by (λ j. stands_here (take (suc j) tokens)) (range_with_len 0 (length tokens))
+  unfoldable pub prefixes : List Token → ℕ
+  prefixes tokens = count_by (λ j. stands_here (take (suc j) tokens)) (range_with_len 0 (length tokens))
 
   -- on how many fronts of what is left from each place on
-  unfoldable pub all_fronts : List Token → ℕ
-  all_fronts [] = 0
-  all_fronts (token ∷ tokens) = fronts (token ∷ tokens) + all_fronts tokens
+  unfoldable pub all_prefixes : List Token → ℕ
+  all_prefixes [] = 0
+  all_prefixes (token ∷ tokens) = prefixes (token ∷ tokens) + all_prefixes tokens
 
   module _ (tokens : List Token) where
     from_place : ℕ → List Interval
@@ -141,8 +141,8 @@ module _ (lexicon : Lexicon) (options : Options) (stood : List (List Item)) wher
     fits interval = list_any (λ items. stands_as lexicon options items (tokens_in tokens interval)) stood
 
     -- the intervals from a place on
-    from_here : (k : ℕ) (rest : List Token) → drop k tokens ≡ rest → length tokens ≡ k + length rest → count_by fits (from_place (suc k)) ≡ fronts rest
-    unfolding fits from_place stands_here fronts
+    from_here : (k : ℕ) (rest : List Token) → drop k tokens ≡ rest → length tokens ≡ k + length rest → count_by fits (from_place (suc k)) ≡ prefixes rest
+    unfolding fits from_place stands_here prefixes
     from_here k rest split size =
         let many : suc (length tokens) - suc k ≡ length rest = omega arith in
         count_by-map fits (λ to. record { from = suc k; to = to }) (range_with_len (suc k) (suc (length tokens) - suc k))
@@ -159,8 +159,8 @@ module _ (lexicon : Lexicon) (options : Options) (stood : List (List Item)) wher
             ∙ ap (λ xs. stands_here (take (suc j) xs)) split
 
     all_places : (k : ℕ) (rest : List Token) → drop k tokens ≡ rest → length tokens ≡ k + length rest
-        → sum_by (λ from. count_by fits (from_place from)) (range_with_len (suc k) (length rest)) ≡ all_fronts rest
-    unfolding all_fronts
+        → sum_by (λ from. count_by fits (from_place from)) (range_with_len (suc k) (length rest)) ≡ all_prefixes rest
+    unfolding all_prefixes
     all_places k [] split size = refl
     all_places k (token ∷ rest) split size =
         let next : suc k + 1 ≡ suc (suc k) = omega arith in
@@ -176,9 +176,9 @@ module _ (lexicon : Lexicon) (options : Options) (stood : List (List Item)) wher
         behind (suc k) (t ∷ ts) e = behind k ts e
 
 -- the hits of a phrase are on fronts of what is left from each place on
-pub hits_on_fronts : (lexicon : Lexicon) (options : Options) (phrase : List Item) (tokens : List Token) → hit_count lexicon options tokens phrase ≡ all_fronts lexicon options (variants lexicon options phrase) tokens
+pub hits_on_prefixes : (lexicon : Lexicon) (options : Options) (phrase : List Item) (tokens : List Token) → hit_count lexicon options tokens phrase ≡ all_prefixes lexicon options (variants lexicon options phrase) tokens
 unfolding fits from_place
-hits_on_fronts lexicon options phrase tokens =
+hits_on_prefixes lexicon options phrase tokens =
     let stood = variants lexicon options phrase in
     length-filter (fits lexicon options stood tokens) (intervals (length tokens))
     ∙ count_by-flat_map (fits lexicon options stood tokens) (from_place lexicon options stood tokens) (range_with_len 1 (length tokens))

@@ -1,7 +1,7 @@
 pub mod ListTests
 pub mod BooleanLaws
-pub mod Raised
-pub mod RaisedFilters
+pub mod Shifted
+pub mod ShiftedFilters
 pub mod Numbering
 pub mod Compositional
 pub mod Counting

@@ -12,7 +12,7 @@ use Rattle.ft_base.specs.declared.options.Options.{Options}
 use Rattle.all_matches.specs.Variants.{Item, Lexicon, variants}
 use Rattle.all_matches.specs.Hits.{passes_item, stands_as}
 use Rattle.all_matches.specs.Counting.{begins_as, places, put_variant, with_variant, by_length, hit_count}
-use Rattle.all_matches.proofs.Counting.{count_by-alike, count_by-cons, count_by-never, first_number, stands_here, fronts, all_fronts, hits_on_fronts}
+use Rattle.all_matches.proofs.Counting.{count_by-alike, count_by-cons, count_by-never, first_number, stands_here, prefixes, all_prefixes, hits_on_prefixes}
 
 -- ---- truth values and numbers
 
@@ -140,15 +140,15 @@ module _ (lexicon : Lexicon) (options : Options) where
   begins tokens items = begins_as (passes_item lexicon options) items tokens
 
   -- a list of items stands on the front of its own length alone
-  front_stands : (items : List Item) (tokens : List Token) (k : ℕ) → k ≤ length tokens → stands_as lexicon options items (take k tokens) ≡ ((length items == k) && begins tokens items)
+  prefix_stands : (items : List Item) (tokens : List Token) (k : ℕ) → k ≤ length tokens → stands_as lexicon options items (take k tokens) ≡ ((length items == k) && begins tokens items)
   unfolding begins
-  front_stands [] tokens zero h = refl
-  front_stands [] [] (suc k) h = absurd (omega arith)
-  front_stands [] (token ∷ tokens) (suc k) h = ap (λ b. b && true) (sym (eqb-zero-suc k))
-  front_stands (item ∷ items) tokens zero h = ap (λ b. b && begins tokens (item ∷ items)) (sym (eqb-suc-zero (length items)))
-  front_stands (item ∷ items) [] (suc k) h = absurd (omega arith)
-  front_stands (item ∷ items) (token ∷ tokens) (suc k) h =
-      ap (λ b. passes_item lexicon options item token && b) (front_stands items tokens k (omega arith))
+  prefix_stands [] tokens zero h = refl
+  prefix_stands [] [] (suc k) h = absurd (omega arith)
+  prefix_stands [] (token ∷ tokens) (suc k) h = ap (λ b. b && true) (sym (eqb-zero-suc k))
+  prefix_stands (item ∷ items) tokens zero h = ap (λ b. b && begins tokens (item ∷ items)) (sym (eqb-suc-zero (length items)))
+  prefix_stands (item ∷ items) [] (suc k) h = absurd (omega arith)
+  prefix_stands (item ∷ items) (token ∷ tokens) (suc k) h =
+      ap (λ b. passes_item lexicon options item token && b) (prefix_stands items tokens k (omega arith))
       ∙ swapped (passes_item lexicon options item token) (length items == k) (begins tokens items)
       ∙ ap (λ b. b && (passes_item lexicon options item token && begins tokens items)) (sym (eqb-suc-suc (length items) k))
 
@@ -163,7 +163,7 @@ module _ (lexicon : Lexicon) (options : Options) where
   unfolding AllLong
   group_stands n [] tokens k long h = sym (and-false (n == k))
   group_stands n (items ∷ lists) tokens k long h =
-      (λ i. (front_stands items tokens k h ∙ ap (λ m. (m == k) && begins tokens items) long.0) i || group_stands n lists tokens k long.1 h i)
+      (λ i. (prefix_stands items tokens k h ∙ ap (λ m. (m == k) && begins tokens items) long.0) i || group_stands n lists tokens k long.1 h i)
       ∙ sym (and-or_distrib_left (n == k) (begins tokens items) (list_any (begins tokens) lists))
 
   group_fits : (n : ℕ) (lists : List (List Item)) (tokens : List Token) → AllLong n lists → list_any (begins tokens) lists ≡ true → n ≤ length tokens
@@ -232,9 +232,9 @@ module _ (lexicon : Lexicon) (options : Options) where
   none_stands [] j h = absurd (omega arith)
   none_stands (token ∷ tokens) j h = refl
 
-  fronts_counted : (stood : List (List Item)) (tokens : List Token) → fronts lexicon options stood tokens ≡ sum (map (begun tokens) (by_length stood))
-  unfolding fronts stands_here some_group Grouped
-  fronts_counted stood tokens =
+  prefixes_counted : (stood : List (List Item)) (tokens : List Token) → prefixes lexicon options stood tokens ≡ sum (map (begun tokens) (by_length stood))
+  unfolding prefixes stands_here some_group Grouped
+  prefixes_counted stood tokens =
       count_by-within (λ j. stands_here lexicon options stood (take (suc j) tokens)) (λ j. list_any (stands_at tokens j) (by_length stood)) 0 (length tokens)
       (λ j low high. sym (all_any (λ items. stands_as lexicon options items (take (suc j) tokens)) (none_stands tokens j (omega (arith, high))) [] stood)
       ∙ groups_stand (by_length stood) tokens j (all_grouped [] stood tt) (omega (arith, high)))
@@ -256,12 +256,12 @@ module _ (lexicon : Lexicon) (options : Options) where
       let rest = two_sums f g groups in
       omega (arith, a, b, c, rest)
 
-  fronts_places : (stood : List (List Item)) (tokens : List Token) → all_fronts lexicon options stood tokens ≡ sum (map (λ group. places (passes_item lexicon options) group.1 tokens) (by_length stood))
-  unfolding begins all_fronts
-  fronts_places stood [] = no_places (by_length stood)
-  fronts_places stood (token ∷ tokens) =
-      (λ i. fronts_counted stood (token ∷ tokens) i + fronts_places stood tokens i)
+  prefixes_places : (stood : List (List Item)) (tokens : List Token) → all_prefixes lexicon options stood tokens ≡ sum (map (λ group. places (passes_item lexicon options) group.1 tokens) (by_length stood))
+  unfolding begins all_prefixes
+  prefixes_places stood [] = no_places (by_length stood)
+  prefixes_places stood (token ∷ tokens) =
+      (λ i. prefixes_counted stood (token ∷ tokens) i + prefixes_places stood tokens i)
       ∙ two_sums (begun (token ∷ tokens)) (λ group. places (passes_item lexicon options) group.1 tokens) (by_length stood)
 
   pub hits_by_places : (phrase : List Item) (tokens : List Token) → hit_count lexicon options tokens phrase ≡ sum (map (λ group. places (passes_item lexicon options) group.1 tokens) (by_length (variants lexicon options phrase)))
-  hits_by_places phrase tokens = hits_on_fronts lexicon options phrase tokens ∙ fronts_places (variants lexicon options phrase) tokens
+  hits_by_places phrase tokens = hits_on_prefixes lexicon options phrase tokens ∙ prefixes_places (variants lexicon options phrase) tokens

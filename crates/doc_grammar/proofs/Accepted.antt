@@ -32,7 +32,7 @@ step_spelled p (m.valued name attrs) v u w c r part = valued_step r name attrs c
 step_spelled p (m.slashed name attrs) v u w c r part = slashed_step r name attrs c part
 
 next_spelled : {w : List ℕ} {s : State} → Spelled w s → (c : ℕ) → Next (w ++ c ∷ []) (step s c)
-next_spelled {w = w} {s = s} x c = step_spelled s.place s.phase x.front x.part w c (record { is_at = x.is_at; spelled = x.spelled }) x.is_part
+next_spelled {w = w} {s = s} x c = step_spelled s.place s.phase x.prefix x.part w c (record { is_at = x.is_at; spelled = x.spelled }) x.is_part
 
 pub run_spelled : (w : List ℕ) (o : Option State) (cs : List ℕ) → Next w o → Next (w ++ cs) (run_on o cs)
 run_spelled w None cs x = stop
@@ -44,7 +44,7 @@ spelled_from stop s e = cc
 spelled_from {w = w} (go {s = t} x) s e = subst (λ z. Spelled w z) (let d : t ≡ s = cc in d) x
 
 pub document_spelled : (w : List ℕ) (s : State) → run_on (Some (start m.document)) w ≡ Some s → Spelled w s
-document_spelled w s e = spelled_from (run_spelled [] (Some (start m.document)) w (go (record { front = []; part = []; is_at = before g.Misc.nothing; is_part = refl; spelled = refl }))) s e
+document_spelled w s e = spelled_from (run_spelled [] (Some (start m.document)) w (go (record { prefix = []; part = []; is_at = before g.Misc.nothing; is_part = refl; spelled = refl }))) s e
 
 pub fragment_spelled : (w : List ℕ) (s : State) → run_on (Some (start m.fragment)) w ≡ Some s → Spelled w s
-fragment_spelled w s e = spelled_from (run_spelled [] (Some (start m.fragment)) w (go (record { front = []; part = []; is_at = in_fragment g.Content.nothing; is_part = refl; spelled = refl }))) s e
+fragment_spelled w s e = spelled_from (run_spelled [] (Some (start m.fragment)) w (go (record { prefix = []; part = []; is_at = in_fragment g.Content.nothing; is_part = refl; spelled = refl }))) s e

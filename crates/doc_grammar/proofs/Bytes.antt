@@ -14,8 +14,8 @@ pointwise_same [] (y ∷ ys) h = cc
 pointwise_same (x ∷ xs) [] h = cc
 pointwise_same (x ∷ xs) (y ∷ ys) h = let two = and_parts _ _ h in ap (λ z. z ∷ xs) (eqb-true x y two.0) ∙ ap (λ zs. y ∷ zs) (pointwise_same xs ys two.1)
 
-pub starts_with-true : (xs front : List ℕ) → starts_with nat_eq xs front ≡ true → front ++ drop (length front) xs ≡ xs
-starts_with-true xs front h = ap (λ z. z ++ drop (length front) xs) (pointwise_same front (take (length front) xs) h) ∙ take-append-drop (length front) xs
+pub starts_with-true : (xs prefix : List ℕ) → starts_with nat_eq xs prefix ≡ true → prefix ++ drop (length prefix) xs ≡ xs
+starts_with-true xs prefix h = ap (λ z. z ++ drop (length prefix) xs) (pointwise_same prefix (take (length prefix) xs) h) ∙ take-append-drop (length prefix) xs
 
-pub starts_with-append : (front xs : List ℕ) → starts_with nat_eq (front ++ xs) front ≡ true
-starts_with-append front xs = ap (λ z. pointwise nat_eq front z) (take-append_seam front xs) ∙ pointwise_refl front
+pub starts_with-append : (prefix xs : List ℕ) → starts_with nat_eq (prefix ++ xs) prefix ≡ true
+starts_with-append prefix xs = ap (λ z. pointwise nat_eq prefix z) (take-append_seam prefix xs) ∙ pointwise_refl prefix

@@ -58,10 +58,10 @@ document_finishes kids text (inr (n, e)) =
     subst (λ z. Finish (st (content_of z text document) m.ready)) (sym e) one_node
 
 pub spelled_at : {w : List ℕ} {p : Place} → Spelled w (st p m.ready) → At w p
-spelled_at x = at_same x.is_at (sym (append-nil x.front) ∙ ap (λ z. x.front ++ z) (sym x.is_part) ∙ sym x.spelled)
+spelled_at x = at_same x.is_at (sym (append-nil x.prefix) ∙ ap (λ z. x.prefix ++ z) (sym x.is_part) ∙ sym x.spelled)
 
 at_spelled : {w : List ℕ} {p : Place} → At w p → Spelled w (st p m.ready)
-at_spelled {w = w} a = record { front = w; part = []; is_at = a; is_part = refl; spelled = sym (append-nil w) }
+at_spelled {w = w} a = record { prefix = w; part = []; is_at = a; is_part = refl; spelled = sym (append-nil w) }
 
 runs_spelled : {w u : List ℕ} {s t : State} → Spelled w s → Runs s u t → Spelled (w ++ u) t
 runs_spelled {w = w} {u = u} {s = s} {t = t} x r = spelled_from (run_spelled w (Some s) u (go x)) t r.ends
@@ -225,13 +225,13 @@ one_reading kind text ks ls x y =
     cc
 
 -- where the machine refuses the next character
-pub goes_wrong : (kind : Kind) (text front : List ℕ) (c : ℕ) (more : List ℕ) (s : State) → text ≡ front ++ c ∷ more → read kind front ≡ Some s → read kind (front ++ c ∷ []) ≡ None → GoesWrong kind text front
-goes_wrong kind text front c more s e a b = record {
+pub goes_wrong : (kind : Kind) (text prefix : List ℕ) (c : ℕ) (more : List ℕ) (s : State) → text ≡ prefix ++ c ∷ more → read kind prefix ≡ Some s → read kind (prefix ++ c ∷ []) ≡ None → GoesWrong kind text prefix
+goes_wrong kind text prefix c more s e a b = record {
   rest = c ∷ more;
   spelled = e;
-  begins = read_begins kind front s a;
+  begins = read_begins kind prefix s a;
   ends = λ h. cc;
-  goes_on = λ d others h begun. refused_begins kind (front ++ c ∷ []) b (subst (λ z. Begins kind (front ++ z ∷ [])) (let same : d ≡ c = cc in same) begun);
+  goes_on = λ d others h begun. refused_begins kind (prefix ++ c ∷ []) b (subst (λ z. Begins kind (prefix ++ z ∷ [])) (let same : d ≡ c = cc in same) begun);
 }
 
 -- where it isn't finished at the end

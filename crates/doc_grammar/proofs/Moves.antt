@@ -48,4 +48,4 @@ at_left (before x) cs sp h k w e = elim h [ ]
 at_left (after x f y) cs sp h k w e = elim h [ ]
 at_left (in_fragment x) cs sp h k w e = elim h [ ]
 at_left (within {w = w0} {t = t} {s = s} {u = u} a takes tag gap x) cs sp h k w e =
-    go (record { front = w; part = []; is_at = at_same (at_child a takes (g.Element.whole tag gap x cs (sym (append-nil (encode_utf8_all cs)) ∙ h) k)) (regrouped w0 t s u cs sp ∙ sym e); is_part = refl; spelled = sym (append-nil w) })
+    go (record { prefix = w; part = []; is_at = at_same (at_child a takes (g.Element.whole tag gap x cs (sym (append-nil (encode_utf8_all cs)) ∙ h) k)) (regrouped w0 t s u cs sp ∙ sym e); is_part = refl; spelled = sym (append-nil w) })

@@ -15,18 +15,18 @@ use Rattle.doc_grammar.proofs.WalksOfElements.{at_runs}
 use Rattle.doc_grammar.proofs.Decided.{lines-return, lines-skipped, lines-kept, read-append}
 
 -- the machine stands where the grammar says
-pub at_read : (kind : Kind) (front : List ℕ) (p : Place) → At (with_line_ends front) p → bottom p.outer ≡ outer_of kind → read kind front ≡ Some (st p m.ready)
-at_read kind front p a e = ap (λ o. run_on (Some (start o)) (with_line_ends front)) (sym e) ∙ (at_runs a).ends
+pub at_read : (kind : Kind) (prefix : List ℕ) (p : Place) → At (with_line_ends prefix) p → bottom p.outer ≡ outer_of kind → read kind prefix ≡ Some (st p m.ready)
+at_read kind prefix p a e = ap (λ o. run_on (Some (start o)) (with_line_ends prefix)) (sym e) ∙ (at_runs a).ends
 
 -- equal texts have the same fronts
-pub same_front : (f g xs ys : List ℕ) → f ++ xs ≡ g ++ ys → length f ≡ length g → (f ≡ g) × (xs ≡ ys)
-same_front [] [] xs ys e h = (refl, e)
-same_front [] (y ∷ g) xs ys e h = absurd (omega arith)
-same_front (x ∷ f) [] xs ys e h = absurd (omega arith)
-same_front (x ∷ f) (y ∷ g) xs ys e h =
+pub same_prefix : (f g xs ys : List ℕ) → f ++ xs ≡ g ++ ys → length f ≡ length g → (f ≡ g) × (xs ≡ ys)
+same_prefix [] [] xs ys e h = (refl, e)
+same_prefix [] (y ∷ g) xs ys e h = absurd (omega arith)
+same_prefix (x ∷ f) [] xs ys e h = absurd (omega arith)
+same_prefix (x ∷ f) (y ∷ g) xs ys e h =
     let tail : f ++ xs ≡ g ++ ys = cc in
     let head : x ≡ y = cc in
-    let rest = same_front f g xs ys tail (omega arith) in
+    let rest = same_prefix f g xs ys tail (omega arith) in
     (ap (λ z. z ∷ f) head ∙ ap (λ zs. y ∷ zs) rest.0, rest.1)
 
 no_lines : (f : List ℕ) → lines_from false f ≡ [] → f ≡ []
@@ -74,9 +74,9 @@ raw_last b (c ∷ f) w e = go (c == 13) ((c == 10) && b) refl refl (raw_last tru
     go false false h k i j = last_kept b c f w h k j (sym (lines-kept b c f h k) ∙ e)
 
 -- no limit was passed before the front; an element is noticed a character later
-pub record Clean (max_depth max_nodes : ℕ) (kind : Kind) (whole front : List ℕ) : Type 0 where
-  pub texts : (other : List ℕ) (p : Place) → TextBegins kind whole other p → max_nodes ≤ place_count p → length front ≤ length other
-  pub elements : (other : List ℕ) (p : Place) → ElementBegins kind whole other p → ((max_depth ≤ depth p.outer) ⊎ (max_nodes ≤ place_count p)) → length front ≤ suc (length other)
+pub record Clean (max_depth max_nodes : ℕ) (kind : Kind) (whole prefix : List ℕ) : Type 0 where
+  pub texts : (other : List ℕ) (p : Place) → TextBegins kind whole other p → max_nodes ≤ place_count p → length prefix ≤ length other
+  pub elements : (other : List ℕ) (p : Place) → ElementBegins kind whole other p → ((max_depth ≤ depth p.outer) ⊎ (max_nodes ≤ place_count p)) → length prefix ≤ suc (length other)
 
 pub clean_start : (max_depth max_nodes : ℕ) (kind : Kind) (whole : List ℕ) → Clean max_depth max_nodes kind whole []
 clean_start max_depth max_nodes kind whole = record { texts = λ other p x h. omega arith; elements = λ other p x h. omega arith }
@@ -88,46 +88,46 @@ pub record Checked (max_depth max_nodes : ℕ) (s : State) (b : Bool) (c : ℕ) 
   pub element_fits : element_here s c ≡ true → place_count s.place < max_nodes
 
 -- where the machine stands behind a `<` between two items
-pub opened_read : (kind : Kind) (front : List ℕ) (p : Place) → read kind front ≡ Some (st p m.ready) → read kind (front ++ 60 ∷ []) ≡ Some (st p m.opened)
+pub opened_read : (kind : Kind) (prefix : List ℕ) (p : Place) → read kind prefix ≡ Some (st p m.ready) → read kind (prefix ++ 60 ∷ []) ≡ Some (st p m.opened)
 unfolding step_at m.from_ready
-opened_read kind front p e = read-append kind front (60 ∷ []) ∙ ap (λ o. run_on o (lines_from (returned false front) (60 ∷ []))) e
+opened_read kind prefix p e = read-append kind prefix (60 ∷ []) ∙ ap (λ o. run_on o (lines_from (returned false prefix) (60 ∷ []))) e
 
 -- a text that begins right behind the front begins where the machine stands
-pub text_same : {kind : Kind} {whole other : List ℕ} {p : Place} (front : List ℕ) (c : ℕ) (more : List ℕ) (s : State) → whole ≡ front ++ c ∷ more → read kind front ≡ Some s → TextBegins kind whole other p → length front ≡ length other
-    → (text_here s (returned false front) c ≡ true) × (s.place ≡ p)
-text_same {kind = kind} {other = other} {p = p} front c more s e r x h =
-    let parts = same_front front other (c ∷ more) (x.c ∷ x.rest) (sym e ∙ x.spelled) h in
+pub text_same : {kind : Kind} {whole other : List ℕ} {p : Place} (prefix : List ℕ) (c : ℕ) (more : List ℕ) (s : State) → whole ≡ prefix ++ c ∷ more → read kind prefix ≡ Some s → TextBegins kind whole other p → length prefix ≡ length other
+    → (text_here s (returned false prefix) c ≡ true) × (s.place ≡ p)
+text_same {kind = kind} {other = other} {p = p} prefix c more s e r x h =
+    let parts = same_prefix prefix other (c ∷ more) (x.c ∷ x.rest) (sym e ∙ x.spelled) h in
     let stands : Some s ≡ Some (st p m.ready) = sym r ∙ ap (read kind) parts.0 ∙ at_read kind other p x.is_at x.is_kind in
     let there : s ≡ st p m.ready = cc in
     let char : x.c ≡ c = let tails : c ∷ more ≡ x.c ∷ x.rest = parts.1 in cc in
-    (subst (λ (t : State). text_here t (returned false front) c ≡ true) (sym there) (subst (λ (z : List ℕ). begins_text p (returned false z) c ≡ true) (sym parts.0) (subst (λ (d : ℕ). begins_text p (returned false other) d ≡ true) char x.begins)), ap (λ (t : State). t.place) there)
+    (subst (λ (t : State). text_here t (returned false prefix) c ≡ true) (sym there) (subst (λ (z : List ℕ). begins_text p (returned false z) c ≡ true) (sym parts.0) (subst (λ (d : ℕ). begins_text p (returned false other) d ≡ true) char x.begins)), ap (λ (t : State). t.place) there)
 
-pub element_same : {kind : Kind} {whole other : List ℕ} {p : Place} (front : List ℕ) (c : ℕ) (more : List ℕ) (s : State) → whole ≡ front ++ c ∷ more → read kind front ≡ Some s → ElementBegins kind whole other p → length front ≡ suc (length other)
+pub element_same : {kind : Kind} {whole other : List ℕ} {p : Place} (prefix : List ℕ) (c : ℕ) (more : List ℕ) (s : State) → whole ≡ prefix ++ c ∷ more → read kind prefix ≡ Some s → ElementBegins kind whole other p → length prefix ≡ suc (length other)
     → (element_here s c ≡ true) × (s.place ≡ p)
-element_same {kind = kind} {other = other} {p = p} front c more s e r x h =
-    let parts = same_front front (other ++ 60 ∷ []) (c ∷ more) (x.c ∷ x.rest) (sym e ∙ x.spelled ∙ sym (append_assoc other (60 ∷ []) (x.c ∷ x.rest))) (omega (arith, length-append other (60 ∷ []))) in
+element_same {kind = kind} {other = other} {p = p} prefix c more s e r x h =
+    let parts = same_prefix prefix (other ++ 60 ∷ []) (c ∷ more) (x.c ∷ x.rest) (sym e ∙ x.spelled ∙ sym (append_assoc other (60 ∷ []) (x.c ∷ x.rest))) (omega (arith, length-append other (60 ∷ []))) in
     let stands : Some s ≡ Some (st p m.opened) = sym r ∙ ap (read kind) parts.0 ∙ opened_read kind other p (at_read kind other p x.is_at x.is_kind) in
     let there : s ≡ st p m.opened = cc in
     let char : x.c ≡ c = let tails : c ∷ more ≡ x.c ∷ x.rest = parts.1 in cc in
     (subst (λ (t : State). element_here t c ≡ true) (sym there) (subst (λ (d : ℕ). begins_element p d ≡ true) char x.begins), ap (λ (t : State). t.place) there)
 
-one_longer : (front : List ℕ) (c : ℕ) → length (front ++ c ∷ []) ≡ suc (length front)
-one_longer front c = omega (arith, length-append front (c ∷ []))
+one_longer : (prefix : List ℕ) (c : ℕ) → length (prefix ++ c ∷ []) ≡ suc (length prefix)
+one_longer prefix c = omega (arith, length-append prefix (c ∷ []))
 
 at_or_behind : (m n : ℕ) → m ≤ n → (m ≡ n → ⊥) → suc m ≤ n
 at_or_behind m n h k = omega (arith, k)
 
 -- a character that passes none leaves none passed
-pub clean_further : (max_depth max_nodes : ℕ) (kind : Kind) (whole front : List ℕ) (c : ℕ) (more : List ℕ) (s : State) → Clean max_depth max_nodes kind whole front → whole ≡ front ++ c ∷ more → read kind front ≡ Some s
-    → Checked max_depth max_nodes s (returned false front) c → Clean max_depth max_nodes kind whole (front ++ c ∷ [])
-clean_further max_depth max_nodes kind whole front c more s clean e r checked = record {
-  texts = λ other p x h. subst (λ (n : ℕ). n ≤ length other) (sym (one_longer front c)) (at_or_behind (length front) (length other) (clean.texts other p x h) (λ l.
-      let same = text_same front c more s e r x l in
+pub clean_further : (max_depth max_nodes : ℕ) (kind : Kind) (whole prefix : List ℕ) (c : ℕ) (more : List ℕ) (s : State) → Clean max_depth max_nodes kind whole prefix → whole ≡ prefix ++ c ∷ more → read kind prefix ≡ Some s
+    → Checked max_depth max_nodes s (returned false prefix) c → Clean max_depth max_nodes kind whole (prefix ++ c ∷ [])
+clean_further max_depth max_nodes kind whole prefix c more s clean e r checked = record {
+  texts = λ other p x h. subst (λ (n : ℕ). n ≤ length other) (sym (one_longer prefix c)) (at_or_behind (length prefix) (length other) (clean.texts other p x h) (λ l.
+      let same = text_same prefix c more s e r x l in
       let fits : place_count s.place < max_nodes = checked.text_fits same.0 in
       let full : max_nodes ≤ place_count s.place = subst (λ (q : Place). max_nodes ≤ place_count q) (sym same.1) h in
       absurd (omega arith)));
-  elements = λ other p x h. subst (λ (n : ℕ). n ≤ suc (length other)) (sym (one_longer front c)) (at_or_behind (length front) (suc (length other)) (clean.elements other p x h) (λ l.
-      element_stops p h (element_same front c more s e r x l)));
+  elements = λ other p x h. subst (λ (n : ℕ). n ≤ suc (length other)) (sym (one_longer prefix c)) (at_or_behind (length prefix) (suc (length other)) (clean.elements other p x h) (λ l.
+      element_stops p h (element_same prefix c more s e r x l)));
 }
   where
     element_stops : (p : Place) → ((max_depth ≤ depth p.outer) ⊎ (max_nodes ≤ place_count p)) → ((element_here s c ≡ true) × (s.place ≡ p)) → ⊥
@@ -147,14 +147,14 @@ clean_end max_depth max_nodes kind whole clean other limit (element_too_many p x
 clean_end max_depth max_nodes kind whole clean other limit (text_too_many p x h) = absurd (omega (arith, clean.texts other p x h, ap length x.spelled, length-append other (x.c ∷ x.rest)))
 
 -- a front behind which no element is noticed: limits are passed there or later
-pub clean_keeps : (max_depth max_nodes : ℕ) (kind : Kind) (whole front : List ℕ) (c : ℕ) (more : List ℕ) (s : State) → Clean max_depth max_nodes kind whole front → whole ≡ front ++ c ∷ more → read kind front ≡ Some s
-    → element_here s c ≡ false → KeepsLimits max_depth max_nodes kind whole front
-clean_keeps max_depth max_nodes kind whole front c more s clean e r h other limit x = go x
+pub clean_keeps : (max_depth max_nodes : ℕ) (kind : Kind) (whole prefix : List ℕ) (c : ℕ) (more : List ℕ) (s : State) → Clean max_depth max_nodes kind whole prefix → whole ≡ prefix ++ c ∷ more → read kind prefix ≡ Some s
+    → element_here s c ≡ false → KeepsLimits max_depth max_nodes kind whole prefix
+clean_keeps max_depth max_nodes kind whole prefix c more s clean e r h other limit x = go x
   where
-    later : (p : Place) → ElementBegins kind whole other p → ((max_depth ≤ depth p.outer) ⊎ (max_nodes ≤ place_count p)) → length front ≤ length other
-    later p y k = let lower = at_or_behind (length front) (suc (length other)) (clean.elements other p y k) (λ l. let same = element_same front c more s e r y l in let two : true ≡ false = sym same.0 ∙ h in cc) in omega arith
+    later : (p : Place) → ElementBegins kind whole other p → ((max_depth ≤ depth p.outer) ⊎ (max_nodes ≤ place_count p)) → length prefix ≤ length other
+    later p y k = let lower = at_or_behind (length prefix) (suc (length other)) (clean.elements other p y k) (λ l. let same = element_same prefix c more s e r y l in let two : true ≡ false = sym same.0 ∙ h in cc) in omega arith
 
-    go : {l : Limit} → Passes max_depth max_nodes kind whole other l → length front ≤ length other
+    go : {l : Limit} → Passes max_depth max_nodes kind whole other l → length prefix ≤ length other
     go (too_deep p y k) = later p y (inl k)
     go (element_too_many p y k) = later p y (inr k)
     go (text_too_many p y k) = clean.texts other p y k

@@ -19,7 +19,7 @@ use Rattle.doc_grammar.proofs.Counts.{phase_count, begins, begun, step_counts, c
 use Rattle.doc_grammar.proofs.Spelled.{Spelled, Part}
 use Rattle.doc_grammar.proofs.Walks.{opened_start, run_on-nil}
 use Rattle.doc_grammar.proofs.Decided.{lines-return, lines-skipped, lines-kept, read_spelled, spelled_ready, ready_is}
-use Rattle.doc_grammar.proofs.Passed.{Clean, element_same, same_front, raw_last}
+use Rattle.doc_grammar.proofs.Passed.{Clean, element_same, same_prefix, raw_last}
 
 opened_is : (phase : Phase) → is_opened phase ≡ true → phase ≡ m.opened
 opened_is m.opened h = refl
@@ -41,29 +41,29 @@ opened_is (m.quoted_reference name attrs attr quote value r) h = cc
 opened_is (m.valued name attrs) h = cc
 opened_is (m.slashed name attrs) h = cc
 
-kind_is : (kind : Kind) (front : List ℕ) (s : State) → read kind front ≡ Some s → bottom s.place.outer ≡ outer_of kind
-kind_is kind front s r = run_bottom (start (outer_of kind)) s (with_line_ends front) r ∙ same kind
+kind_is : (kind : Kind) (prefix : List ℕ) (s : State) → read kind prefix ≡ Some s → bottom s.place.outer ≡ outer_of kind
+kind_is kind prefix s r = run_bottom (start (outer_of kind)) s (with_line_ends prefix) r ∙ same kind
   where
     same : (k : Kind) → bottom (outer_of k) ≡ outer_of k
     same Kind.document = refl
     same Kind.fragment = refl
 
 -- the front before a `<` that is under way
-pub record Before (kind : Kind) (whole front : List ℕ) (s : State) : Type 0 where
+pub record Before (kind : Kind) (whole prefix : List ℕ) (s : State) : Type 0 where
   pub before : List ℕ
-  pub spelled : front ≡ before ++ 60 ∷ []
+  pub spelled : prefix ≡ before ++ 60 ∷ []
   pub begins : ElementBegins kind whole before s.place
 
-pub element_begins : (kind : Kind) (whole front : List ℕ) (c : ℕ) (more : List ℕ) (s : State) → whole ≡ front ++ c ∷ more → read kind front ≡ Some s → element_here s c ≡ true → Before kind whole front s
-element_begins kind whole front c more s e r h = go (read_spelled kind front s r)
+pub element_begins : (kind : Kind) (whole prefix : List ℕ) (c : ℕ) (more : List ℕ) (s : State) → whole ≡ prefix ++ c ∷ more → read kind prefix ≡ Some s → element_here s c ≡ true → Before kind whole prefix s
+element_begins kind whole prefix c more s e r h = go (read_spelled kind prefix s r)
   where
     two : (is_opened s.phase ≡ true) × (begins_element s.place c ≡ true)
     two = and_parts _ _ h
 
-    go : Spelled (with_line_ends front) s → Before kind whole front s
+    go : Spelled (with_line_ends prefix) s → Before kind whole prefix s
     go x =
         let part : Part s.place m.opened x.part = subst (λ (f : Phase). Part s.place f x.part) (opened_is s.phase two.0) x.is_part in
-        let last = raw_last false front x.front (x.spelled ∙ ap (λ (u : List ℕ). x.front ++ u) part) in
+        let last = raw_last false prefix x.prefix (x.spelled ∙ ap (λ (u : List ℕ). x.prefix ++ u) part) in
         record {
           before = last.0;
           spelled = last.1;
@@ -72,21 +72,21 @@ element_begins kind whole front c more s e r h = go (read_spelled kind front s r
             rest = more;
             spelled = e ∙ ap (λ (u : List ℕ). u ++ c ∷ more) last.1 ∙ append_assoc last.0 (60 ∷ []) (c ∷ more);
             is_at = subst (λ (u : List ℕ). At u s.place) (sym last.2) x.is_at;
-            is_kind = kind_is kind front s r;
+            is_kind = kind_is kind prefix s r;
             begins = two.1;
           };
         }
 
-pub text_begins : (kind : Kind) (whole front : List ℕ) (c : ℕ) (more : List ℕ) (s : State) → whole ≡ front ++ c ∷ more → read kind front ≡ Some s → text_here s (returned false front) c ≡ true → TextBegins kind whole front s.place
-text_begins kind whole front c more s e r h =
-    let two = and_parts (m.is_ready s.phase) (begins_text s.place (returned false front) c) h in
-    record { c = c; rest = more; spelled = e; is_at = spelled_ready (read_spelled kind front s r) two.0; is_kind = kind_is kind front s r; begins = two.1 }
+pub text_begins : (kind : Kind) (whole prefix : List ℕ) (c : ℕ) (more : List ℕ) (s : State) → whole ≡ prefix ++ c ∷ more → read kind prefix ≡ Some s → text_here s (returned false prefix) c ≡ true → TextBegins kind whole prefix s.place
+text_begins kind whole prefix c more s e r h =
+    let two = and_parts (m.is_ready s.phase) (begins_text s.place (returned false prefix) c) h in
+    record { c = c; rest = more; spelled = e; is_at = spelled_ready (read_spelled kind prefix s r) two.0; is_kind = kind_is kind prefix s r; begins = two.1 }
 
 -- limits passed at a `<`, or later
-pub element_keeps : (max_depth max_nodes : ℕ) (kind : Kind) (whole front before : List ℕ) → Clean max_depth max_nodes kind whole front → front ≡ before ++ 60 ∷ [] → KeepsLimits max_depth max_nodes kind whole before
-element_keeps max_depth max_nodes kind whole front before clean e other limit x = go x
+pub element_keeps : (max_depth max_nodes : ℕ) (kind : Kind) (whole prefix before : List ℕ) → Clean max_depth max_nodes kind whole prefix → prefix ≡ before ++ 60 ∷ [] → KeepsLimits max_depth max_nodes kind whole before
+element_keeps max_depth max_nodes kind whole prefix before clean e other limit x = go x
   where
-    longer : length front ≡ suc (length before)
+    longer : length prefix ≡ suc (length before)
     longer = ap length e ∙ omega (arith, length-append before (60 ∷ []))
 
     go : {l : Limit} → Passes max_depth max_nodes kind whole other l → length before ≤ length other
@@ -95,20 +95,20 @@ element_keeps max_depth max_nodes kind whole front before clean e other limit x 
     go (text_too_many p y k) = omega (arith, longer, clean.texts other p y k)
 
 -- where the machine says that an element fits in depth, it does
-pub not_deep : (max_depth max_nodes : ℕ) (kind : Kind) (whole front before : List ℕ) (c : ℕ) (more : List ℕ) (s : State) → whole ≡ front ++ c ∷ more → read kind front ≡ Some s → front ≡ before ++ 60 ∷ [] → depth s.place.outer < max_depth
+pub not_deep : (max_depth max_nodes : ℕ) (kind : Kind) (whole prefix before : List ℕ) (c : ℕ) (more : List ℕ) (s : State) → whole ≡ prefix ++ c ∷ more → read kind prefix ≡ Some s → prefix ≡ before ++ 60 ∷ [] → depth s.place.outer < max_depth
     → Passes max_depth max_nodes kind whole before depth_limit → ⊥
-not_deep max_depth max_nodes kind whole front before c more s e r f fits (too_deep p x k) =
-    let there = element_same front c more s e r x (ap length f ∙ omega (arith, length-append before (60 ∷ []))) in
+not_deep max_depth max_nodes kind whole prefix before c more s e r f fits (too_deep p x k) =
+    let there = element_same prefix c more s e r x (ap length f ∙ omega (arith, length-append before (60 ∷ []))) in
     let deep : max_depth ≤ depth s.place.outer = subst (λ (q : Place). max_depth ≤ depth q.outer) (sym there.1) k in
     omega arith
 
 -- no element begins where a text does
-pub text_not_deep : (max_depth max_nodes : ℕ) (kind : Kind) (whole front : List ℕ) (c : ℕ) (more : List ℕ) (s : State) → whole ≡ front ++ c ∷ more → text_here s (returned false front) c ≡ true → Passes max_depth max_nodes kind whole front depth_limit → ⊥
-text_not_deep max_depth max_nodes kind whole front c more s e h (too_deep p x k) =
-    let tails = (same_front front front (c ∷ more) (60 ∷ x.c ∷ x.rest) (sym e ∙ x.spelled) refl).1 in
+pub text_not_deep : (max_depth max_nodes : ℕ) (kind : Kind) (whole prefix : List ℕ) (c : ℕ) (more : List ℕ) (s : State) → whole ≡ prefix ++ c ∷ more → text_here s (returned false prefix) c ≡ true → Passes max_depth max_nodes kind whole prefix depth_limit → ⊥
+text_not_deep max_depth max_nodes kind whole prefix c more s e h (too_deep p x k) =
+    let tails = (same_prefix prefix prefix (c ∷ more) (60 ∷ x.c ∷ x.rest) (sym e ∙ x.spelled) refl).1 in
     let is_markup : c ≡ 60 = cc in
-    let begun_here : begins_text s.place (returned false front) c ≡ true = (and_parts (m.is_ready s.phase) (begins_text s.place (returned false front) c) h).1 in
-    let no_markup : not (c == 60) ≡ true = (and_parts (not (c == 60)) (is_content s.place.outer && (is_empty s.place.text && is_char c)) (and_parts (not ((c == 10) && returned false front)) (not (c == 60) && (is_content s.place.outer && (is_empty s.place.text && is_char c))) begun_here).1).0 in
+    let begun_here : begins_text s.place (returned false prefix) c ≡ true = (and_parts (m.is_ready s.phase) (begins_text s.place (returned false prefix) c) h).1 in
+    let no_markup : not (c == 60) ≡ true = (and_parts (not (c == 60)) (is_content s.place.outer && (is_empty s.place.text && is_char c)) (and_parts (not ((c == 10) && returned false prefix)) (not (c == 60) && (is_content s.place.outer && (is_empty s.place.text && is_char c))) begun_here).1).0 in
     let two : not (60 == 60) ≡ true = subst (λ (d : ℕ). not (d == 60) ≡ true) is_markup no_markup in
     cc
 

@@ -84,11 +84,11 @@ Part p (m.slashed name attrs) u = (t : List ℕ) × (s : List ℕ) × IsTrue (ta
 
 -- whole items, and then a part of one
 pub record Spelled (w : List ℕ) (s : State) : Type 0 where
-  pub front : List ℕ
+  pub prefix : List ℕ
   pub part : List ℕ
-  pub is_at : At front s.place
+  pub is_at : At prefix s.place
   pub is_part : Part s.place s.phase part
-  pub spelled : w ≡ front ++ part
+  pub spelled : w ≡ prefix ++ part
 
 -- the same of a step that may be refused
 pub data Next (w : List ℕ) : Option State → Type 0 where

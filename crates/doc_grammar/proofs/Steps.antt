@@ -28,11 +28,11 @@ pub record Reading (p : Place) (v u w : List ℕ) : Type 0 where
 
 -- the part under way goes on, at the same place
 pub stay : {p : Place} {v u w : List ℕ} → Reading p v u w → (c : ℕ) (phase : Phase) → Part p phase (u ++ c ∷ []) → Next (w ++ c ∷ []) (m.at p phase)
-stay {v = v} {u = u} r c phase part = go (record { front = v; part = u ++ c ∷ []; is_at = r.is_at; is_part = part; spelled = ap (λ x. x ++ c ∷ []) r.spelled ∙ append_assoc v u (c ∷ []) })
+stay {v = v} {u = u} r c phase part = go (record { prefix = v; part = u ++ c ∷ []; is_at = r.is_at; is_part = part; spelled = ap (λ x. x ++ c ∷ []) r.spelled ∙ append_assoc v u (c ∷ []) })
 
 -- the part under way is an item now
 pub done : {p q : Place} {v u w : List ℕ} → Reading p v u w → (c : ℕ) → At (v ++ (u ++ c ∷ [])) q → Next (w ++ c ∷ []) (m.at q m.ready)
-done {v = v} {u = u} {w = w} r c a = go (record { front = w ++ c ∷ []; part = []; is_at = at_same a (sym (ap (λ x. x ++ c ∷ []) r.spelled ∙ append_assoc v u (c ∷ []))); is_part = refl; spelled = sym (append-nil (w ++ c ∷ [])) })
+done {v = v} {u = u} {w = w} r c a = go (record { prefix = w ++ c ∷ []; part = []; is_at = at_same a (sym (ap (λ x. x ++ c ∷ []) r.spelled ∙ append_assoc v u (c ∷ []))); is_part = refl; spelled = sym (append-nil (w ++ c ∷ [])) })
 
 -- one more character of a part
 pub grown : (f x : List ℕ) {u : List ℕ} (c : ℕ) → u ≡ f ++ x → u ++ c ∷ [] ≡ f ++ (x ++ c ∷ [])

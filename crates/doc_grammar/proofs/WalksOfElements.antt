@@ -53,11 +53,11 @@ regroup : {s t : State} (u v w : List ℕ) → Runs s (u ++ (v ++ w)) t → Runs
 regroup {s = s} {t = t} u v w r = subst (λ z. Runs s z t) (sym (append_assoc u v w)) r
 
 attribute_runs : (p : Place) (name : List ℕ) (attrs : List Attr) {u : List ℕ} {a : Attr} → Attribute u a → has_name a.name attrs ≡ false → Runs (st p (m.spaced name attrs)) u (st p (m.valued name (attrs ++ a ∷ [])))
-attribute_runs p name attrs (Attribute.attribute {u = u} {s = s} {t = t} {v = v} {name = attr} {value = value} is_name sp behind q is_q val) new =
+attribute_runs p name attrs (Attribute.attribute {u = u} {s = s} {t = t} {v = v} {name = attr} {value = value} is_name sp rest q is_q val) new =
     let equal_sign : Runs (st p (m.attr_name name attrs attr)) (s ++ codes "=") (st p (m.equals name attrs attr)) =
     spaces_then _ (st p (m.attr_named name attrs attr)) _ 61 (attr_name_space p name attrs attr new) (attr_named_space p name attrs attr) (attr_name_equals p name attrs attr new) (attr_named_equals p name attrs attr) sp in
     let opening : Runs (st p (m.equals name attrs attr)) (t ++ q ∷ []) (st p (m.quoted name attrs attr q [])) =
-    spaces_then _ _ _ q (equals_space p name attrs attr) (equals_space p name attrs attr) (equals_quote p name attrs attr q is_q) (equals_quote p name attrs attr q is_q) behind in
+    spaces_then _ _ _ q (equals_space p name attrs attr) (equals_space p name attrs attr) (equals_quote p name attrs attr q is_q) (equals_quote p name attrs attr q is_q) rest in
     then (join (regroup ((u ++ s) ++ codes "=") t (q ∷ []) (join (regroup u s (codes "=") (join (attr_name_runs p name attrs is_name) equal_sign)) opening)) (value_runs p name attrs attr q is_q val)) (quoted_quote p name attrs attr q value (eq-eqb q q refl))
 
 -- behind a tag's name, or an attribute
@@ -175,13 +175,13 @@ mutual
       let whole : Runs (st p m.ready) (((u ++ s) ++ codes "/") ++ codes ">") (st (with_node p.kids p.text p.outer (element name attrs no_nodes)) m.ready) =
       then (regroup u s (codes "/") (join (tag_runs p takes tag) slash)) (empty_close p name attrs) in
       subst (λ z. Runs (st p m.ready) z (st (with_node p.kids p.text p.outer (element name attrs no_nodes)) m.ready)) (append_assoc (u ++ s) (codes "/") (codes ">")) whole
-  element_runs (Element.whole {u = u} {s = s} {v = v} {t = t} {name = name} {bytes = bytes} {attrs = attrs} {kids = kids} tag sp content cs same_name behind) p takes =
+  element_runs (Element.whole {u = u} {s = s} {v = v} {t = t} {name = name} {bytes = bytes} {attrs = attrs} {kids = kids} tag sp content cs same_name rest) p takes =
       let entering : Runs (st p (after_tag name attrs)) (s ++ codes ">") (st (entered p name attrs) m.ready) =
       spaces_then _ (st p (m.spaced name attrs)) _ 62 (after_tag_space p name attrs) (spaced_space p name attrs) (after_tag_close p name attrs) (spaced_close p name attrs) sp in
       let q : Place = inside kids bytes p name attrs in
       let named : Runs (st q (m.end_name name)) cs (st q (m.end_name [])) = subst (λ z. Runs (st q (m.end_name z)) cs (st q (m.end_name []))) same_name (end_name_runs q cs) in
       let leaving : Runs (st q (m.end_name [])) (t ++ codes ">") (st (with_node p.kids p.text p.outer (element name attrs (nodes (kids ++ text_node bytes)))) m.ready) =
-      spaces_then _ (st q m.end_spaced) _ 62 (end_name_space q) (end_spaced_space q) (end_name_close p kids bytes name attrs) (end_spaced_close p kids bytes name attrs) behind in
+      spaces_then _ (st q m.end_spaced) _ 62 (end_name_space q) (end_spaced_space q) (end_name_close p kids bytes name attrs) (end_spaced_close p kids bytes name attrs) rest in
       regroup (((((u ++ s) ++ codes ">") ++ v) ++ codes "</") ++ cs) t (codes ">")
       (join (join (join (join (regroup u s (codes ">") (join (tag_runs p takes tag) entering)) (content_runs content (level name attrs p.kids p.text p.outer) refl)) (end_begins p kids bytes name attrs)) named) leaving)
 

@@ -105,29 +105,29 @@ totals s kids f =
     }
 
 -- where a node begins, as many have begun and as many levels are reached
-element_grows : (kind : Kind) (whole front : List ℕ) (p : Place) (last : State) → ElementBegins kind whole front p → read kind whole ≡ Some last → (1 + depth p.outer ≤ reached last) × (1 + place_count p ≤ begun last)
-element_grows kind whole front p last x e =
-    let opened = opened_read kind front p (at_read kind front p x.is_at x.is_kind) in
-    let there : whole ≡ (front ++ 60 ∷ []) ++ x.c ∷ x.rest = x.spelled ∙ sym (append_assoc front (60 ∷ []) (x.c ∷ x.rest)) in
-    let t = taken_in kind (front ++ 60 ∷ []) x.rest x.c (st p m.opened) last opened (ap (read kind) (sym there) ∙ e) in
+element_grows : (kind : Kind) (whole prefix : List ℕ) (p : Place) (last : State) → ElementBegins kind whole prefix p → read kind whole ≡ Some last → (1 + depth p.outer ≤ reached last) × (1 + place_count p ≤ begun last)
+element_grows kind whole prefix p last x e =
+    let opened = opened_read kind prefix p (at_read kind prefix p x.is_at x.is_kind) in
+    let there : whole ≡ (prefix ++ 60 ∷ []) ++ x.c ∷ x.rest = x.spelled ∙ sym (append_assoc prefix (60 ∷ []) (x.c ∷ x.rest)) in
+    let t = taken_in kind (prefix ++ 60 ∷ []) x.rest x.c (st p m.opened) last opened (ap (read kind) (sym there) ∙ e) in
     let reaches = taken_reaches (st p m.opened) t.behind _ x.c t.is_taken in
     let adds = taken_adds (st p m.opened) t.behind _ x.c t.is_taken in
     (omega (arith, t.reaches, reaches, ap (λ (b : Bool). one_level_if b (depth p.outer)) x.begins), omega (arith, t.begins, adds, ap one_if x.begins))
 
-text_grows : (kind : Kind) (whole front : List ℕ) (p : Place) (last : State) → TextBegins kind whole front p → read kind whole ≡ Some last → 1 + place_count p ≤ begun last
-text_grows kind whole front p last x e =
-    let t = taken_in kind front x.rest x.c (st p m.ready) last (at_read kind front p x.is_at x.is_kind) (ap (read kind) (sym x.spelled) ∙ e) in
-    let adds = taken_adds (st p m.ready) t.behind (returned false front) x.c t.is_taken in
+text_grows : (kind : Kind) (whole prefix : List ℕ) (p : Place) (last : State) → TextBegins kind whole prefix p → read kind whole ≡ Some last → 1 + place_count p ≤ begun last
+text_grows kind whole prefix p last x e =
+    let t = taken_in kind prefix x.rest x.c (st p m.ready) last (at_read kind prefix p x.is_at x.is_kind) (ap (read kind) (sym x.spelled) ∙ e) in
+    let adds = taken_adds (st p m.ready) t.behind (returned false prefix) x.c t.is_taken in
     omega (arith, t.begins, adds, ap (λ (b : Bool). one_if (b || false)) x.begins)
 
 pub passes_none : (max_depth max_nodes : ℕ) (kind : Kind) (whole : List ℕ) (kids : List Node) → Spells kind whole kids → heights (nodes kids) ≤ max_depth → nodes_count (nodes kids) ≤ max_nodes
-    → (front : List ℕ) (limit : Limit) → Passes max_depth max_nodes kind whole front limit → ⊥
-passes_none max_depth max_nodes kind whole kids x low few front limit y =
+    → (prefix : List ℕ) (limit : Limit) → Passes max_depth max_nodes kind whole prefix limit → ⊥
+passes_none max_depth max_nodes kind whole kids x low few prefix limit y =
     let r = spells_read kind whole kids x in
     let all = totals r.0 kids r.2 in
     go r.0 r.1 (omega (arith, low, heights-nodes kids, all.reached_is)) (omega (arith, few, nodes_count-nodes kids, all.begun_is)) y
   where
-    go : {l : Limit} (s : State) → read kind whole ≡ Some s → reached s ≤ max_depth → begun s ≤ max_nodes → Passes max_depth max_nodes kind whole front l → ⊥
-    go s e h n (too_deep p b d) = absurd (omega (arith, d, (element_grows kind whole front p s b e).0))
-    go s e h n (element_too_many p b d) = absurd (omega (arith, d, (element_grows kind whole front p s b e).1))
-    go s e h n (text_too_many p b d) = absurd (omega (arith, d, text_grows kind whole front p s b e))
+    go : {l : Limit} (s : State) → read kind whole ≡ Some s → reached s ≤ max_depth → begun s ≤ max_nodes → Passes max_depth max_nodes kind whole prefix l → ⊥
+    go s e h n (too_deep p b d) = absurd (omega (arith, d, (element_grows kind whole prefix p s b e).0))
+    go s e h n (element_too_many p b d) = absurd (omega (arith, d, (element_grows kind whole prefix p s b e).1))
+    go s e h n (text_too_many p b d) = absurd (omega (arith, d, text_grows kind whole prefix p s b e))

@@ -93,20 +93,20 @@ abbrev pub one_if : Bool → ℕ
 one_if b = if b then 1 else 0
 
 -- behind the front, where this is open, a text begins
-pub record TextBegins (kind : Kind) (whole front : List ℕ) (p : Place) : Type 0 where
+pub record TextBegins (kind : Kind) (whole prefix : List ℕ) (p : Place) : Type 0 where
   pub c : ℕ
   pub rest : List ℕ
-  pub spelled : whole ≡ front ++ c ∷ rest
-  pub is_at : At (with_line_ends front) p
+  pub spelled : whole ≡ prefix ++ c ∷ rest
+  pub is_at : At (with_line_ends prefix) p
   pub is_kind : bottom p.outer ≡ outer_of kind
-  pub begins : IsTrue (begins_text p (returned false front) c)
+  pub begins : IsTrue (begins_text p (returned false prefix) c)
 
 -- an element does
-pub record ElementBegins (kind : Kind) (whole front : List ℕ) (p : Place) : Type 0 where
+pub record ElementBegins (kind : Kind) (whole prefix : List ℕ) (p : Place) : Type 0 where
   pub c : ℕ
   pub rest : List ℕ
-  pub spelled : whole ≡ front ++ 60 ∷ c ∷ rest
-  pub is_at : At (with_line_ends front) p
+  pub spelled : whole ≡ prefix ++ 60 ∷ c ∷ rest
+  pub is_at : At (with_line_ends prefix) p
   pub is_kind : bottom p.outer ≡ outer_of kind
   pub begins : IsTrue (begins_element p c)
 
@@ -115,11 +115,11 @@ pub data Limit : Type 0 where
   node_limit : Limit
 
 -- The text passes a limit behind the front: an element begins in as many others as are allowed, or a node behind as many.
-pub data Passes (max_depth max_nodes : ℕ) (kind : Kind) (whole front : List ℕ) : Limit → Type 0 where
-  too_deep : (p : Place) → ElementBegins kind whole front p → max_depth ≤ depth p.outer → Passes max_depth max_nodes kind whole front depth_limit
-  element_too_many : (p : Place) → ElementBegins kind whole front p → max_nodes ≤ place_count p → Passes max_depth max_nodes kind whole front node_limit
-  text_too_many : (p : Place) → TextBegins kind whole front p → max_nodes ≤ place_count p → Passes max_depth max_nodes kind whole front node_limit
+pub data Passes (max_depth max_nodes : ℕ) (kind : Kind) (whole prefix : List ℕ) : Limit → Type 0 where
+  too_deep : (p : Place) → ElementBegins kind whole prefix p → max_depth ≤ depth p.outer → Passes max_depth max_nodes kind whole prefix depth_limit
+  element_too_many : (p : Place) → ElementBegins kind whole prefix p → max_nodes ≤ place_count p → Passes max_depth max_nodes kind whole prefix node_limit
+  text_too_many : (p : Place) → TextBegins kind whole prefix p → max_nodes ≤ place_count p → Passes max_depth max_nodes kind whole prefix node_limit
 
 -- no limit is passed before the front
 abbrev pub KeepsLimits : ℕ → ℕ → Kind → List ℕ → List ℕ → Type 0
-KeepsLimits max_depth max_nodes kind whole front = (other : List ℕ) (limit : Limit) → Passes max_depth max_nodes kind whole other limit → length front ≤ length other
+KeepsLimits max_depth max_nodes kind whole prefix = (other : List ℕ) (limit : Limit) → Passes max_depth max_nodes kind whole other limit → length prefix ≤ length other

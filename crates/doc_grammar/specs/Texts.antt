@@ -26,9 +26,9 @@ mark_len [] = 0
 mark_len (c ∷ cs) = if c == 0xFEFF then 3 else 0
 
 -- The front is the longest one of the text that begins a document, and the text isn't one.
-pub record GoesWrong (kind : Kind) (text front : List ℕ) : Type 0 where
+pub record GoesWrong (kind : Kind) (text prefix : List ℕ) : Type 0 where
   pub rest : List ℕ
-  pub spelled : text ≡ front ++ rest
-  pub begins : Begins kind front
+  pub spelled : text ≡ prefix ++ rest
+  pub begins : Begins kind prefix
   pub ends : rest ≡ [] → (kids : List Node) → Spells kind text kids → ⊥
-  pub goes_on : (c : ℕ) (more : List ℕ) → rest ≡ c ∷ more → Begins kind (front ++ c ∷ []) → ⊥
+  pub goes_on : (c : ℕ) (more : List ℕ) → rest ≡ c ∷ more → Begins kind (prefix ++ c ∷ []) → ⊥

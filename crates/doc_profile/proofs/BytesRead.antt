@@ -26,9 +26,9 @@ use Rattle.doc_profile.proofs.Readings.{IsReading, IsDocument, text_read, docume
 abbrev Longest : List ℕ → ℕ → ℕ → Type 0
 Longest bs m n = IsUtf8 (take n bs) × ((k : ℕ) → n < k → k ≤ m → ¬ (IsUtf8 (take k bs)))
 
-longest_front : (bs : List ℕ) (m : ℕ) → Longest bs m (valid_len_up_to bs m)
-longest_front bs zero = (([], (refl, refl)), λ k above within. absurd (omega arith))
-longest_front bs (suc m) = go (is_utf8 (take (suc m) bs)) refl (longest_front bs m)
+longest_prefix : (bs : List ℕ) (m : ℕ) → Longest bs m (valid_len_up_to bs m)
+longest_prefix bs zero = (([], (refl, refl)), λ k above within. absurd (omega arith))
+longest_prefix bs (suc m) = go (is_utf8 (take (suc m) bs)) refl (longest_prefix bs m)
   where
     go : (b : Bool) → is_utf8 (take (suc m) bs) ≡ b → Longest bs m (valid_len_up_to bs m) → Longest bs (suc m) (valid_len_up_to bs (suc m))
     go true e rest = subst (Longest bs (suc m)) (sym (cond-true _ _ _ e)) (IsUtf8-from_is_utf8 _ e, λ k above within. absurd (omega arith))
@@ -46,14 +46,14 @@ not_utf8 bs e u = true≢false (sym (is_utf8-from_IsUtf8 bs u) ∙ e)
 valid_up_to : (bs : List ℕ) → is_utf8 bs ≡ false → IsValidUpTo bs (utf8_valid_len bs)
 unfolding utf8_valid_len
 valid_up_to bs e =
-    let front = longest_front bs (length bs) in
-    let short : valid_len_up_to bs (length bs) < length bs = ⊎_elim (λ (h : valid_len_up_to bs (length bs) < length bs). h) (λ (h : length bs ≤ valid_len_up_to bs (length bs)). absurd (not_utf8 bs e (subst IsUtf8 (take_all _ bs h) front.0))) (cases_lt (valid_len_up_to bs (length bs)) (length bs)) in
+    let prefix = longest_prefix bs (length bs) in
+    let short : valid_len_up_to bs (length bs) < length bs = ⊎_elim (λ (h : valid_len_up_to bs (length bs) < length bs). h) (λ (h : length bs ≤ valid_len_up_to bs (length bs)). absurd (not_utf8 bs e (subst IsUtf8 (take_all _ bs h) prefix.0))) (cases_lt (valid_len_up_to bs (length bs)) (length bs)) in
     record {
       short = short;
-      front = front.0;
+      front = prefix.0;
       longest = λ m above u. ⊎_elim
-          (λ (past : length bs < m). front.1 (length bs) short (omega arith) (subst IsUtf8 (take_all m bs (omega arith) ∙ sym (take_all (length bs) bs (omega arith))) u))
-          (λ (within : m ≤ length bs). front.1 m above within u)
+          (λ (past : length bs < m). prefix.1 (length bs) short (omega arith) (subst IsUtf8 (take_all m bs (omega arith) ∙ sym (take_all (length bs) bs (omega arith))) u))
+          (λ (within : m ≤ length bs). prefix.1 m above within u)
           (cases_lt (length bs) m);
     }
 
@@ -151,18 +151,18 @@ fragment_fault bytes fault e = go (is_utf8 bytes) refl
         of_bytes Kind.fragment bytes _ _ fault utf8 (subst (IsReading Kind.fragment (chars bytes) 0) e (fragment_is bytes utf8))
 
 -- A text that spells nodes within the limits has no fault.
-goes_nowhere_wrong : (kind : Kind) (text front : List ℕ) (kids : List Node) → Spells kind text kids → GoesWrong kind text front → ⊥
-goes_nowhere_wrong kind text front kids x w = go w.rest refl
+goes_nowhere_wrong : (kind : Kind) (text prefix : List ℕ) (kids : List Node) → Spells kind text kids → GoesWrong kind text prefix → ⊥
+goes_nowhere_wrong kind text prefix kids x w = go w.rest refl
   where
     go : (rest : List ℕ) → w.rest ≡ rest → ⊥
     go [] e = w.ends e kids x
-    go (c ∷ more) e = w.goes_on c more e (more, kids, subst (λ z. Spells kind z kids) (w.spelled ∙ ap (λ z. front ++ z) e ∙ sym (append_assoc front (c ∷ []) more)) x)
+    go (c ∷ more) e = w.goes_on c more e (more, kids, subst (λ z. Spells kind z kids) (w.spelled ∙ ap (λ z. prefix ++ z) e ∙ sym (append_assoc prefix (c ∷ []) more)) x)
 
 no_fault : (kind : Kind) (text : List ℕ) (from : ℕ) (kids : List Node) (fault : DocFault) → Spells kind text kids → Fits kind text → Faulty kind text from fault → ⊥
 no_fault kind text from kids (faults.NotUtf8 at) x fits f = f.is_fault
-no_fault kind text from kids (faults.Syntax at) x fits f = goes_nowhere_wrong kind text f.is_fault.front kids x f.is_fault.goes_wrong
-no_fault kind text from kids (faults.Depth at) x fits f = fits f.is_fault.front depth_limit f.is_fault.passes
-no_fault kind text from kids (faults.Nodes at) x fits f = fits f.is_fault.front node_limit f.is_fault.passes
+no_fault kind text from kids (faults.Syntax at) x fits f = goes_nowhere_wrong kind text f.is_fault.prefix kids x f.is_fault.goes_wrong
+no_fault kind text from kids (faults.Depth at) x fits f = fits f.is_fault.prefix depth_limit f.is_fault.passes
+no_fault kind text from kids (faults.Nodes at) x fits f = fits f.is_fault.prefix node_limit f.is_fault.passes
 no_fault kind text from kids faults.Memory x fits f = f.no_memory refl
 
 fits_within : (kind : Kind) (text : List ℕ) (kids : List Node) → Spells kind text kids → AreWithin (nodes kids) → Fits kind text

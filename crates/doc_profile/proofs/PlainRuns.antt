@@ -123,12 +123,12 @@ passed_length rest behind s t b (Passed.nothing none still) = omega (arith, ap l
 passed_length rest behind s t b (Passed.run cs behind_none h ok split is) = omega (arith, ap length split, length-append cs behind)
 
 -- the front of a text grows by a plain character
-front_behind : (cs : List ℕ) (c : ℕ) → list_all is_plain cs ≡ true → is_plain c ≡ true → list_all is_plain (cs ++ c ∷ []) ≡ true
-front_behind [] c h k = and_from _ _ k refl
-front_behind (d ∷ cs) c h k = let two = and_parts _ _ h in and_from _ _ two.0 (front_behind cs c two.1 k)
+prefix_extended : (cs : List ℕ) (c : ℕ) → list_all is_plain cs ≡ true → is_plain c ≡ true → list_all is_plain (cs ++ c ∷ []) ≡ true
+prefix_extended [] c h k = and_from _ _ k refl
+prefix_extended (d ∷ cs) c h k = let two = and_parts _ _ h in and_from _ _ two.0 (prefix_extended cs c two.1 k)
 
-pub front_further : (bytes : List ℕ) (at d : ℕ) → at < length bytes → list_all is_plain (take at bytes) ≡ true → is_plain (get_or bytes at d) ≡ true → list_all is_plain (take (at + 1) bytes) ≡ true
-front_further bytes at d h ok k = ap (list_all is_plain) (take_more bytes at d h) ∙ front_behind (take at bytes) (get_or bytes at d) ok k
+pub prefix_further : (bytes : List ℕ) (at d : ℕ) → at < length bytes → list_all is_plain (take at bytes) ≡ true → is_plain (get_or bytes at d) ≡ true → list_all is_plain (take (at + 1) bytes) ≡ true
+prefix_further bytes at d h ok k = ap (list_all is_plain) (take_more bytes at d h) ∙ prefix_extended (take at bytes) (get_or bytes at d) ok k
 
 pub plain_ascii : (c : ℕ) → is_plain c ≡ true → c < 128
 plain_ascii c h = (plain_is c h).ascii

@@ -40,7 +40,7 @@ text_walk kind text from = walk_right kind text text from from (start (outer_of 
 -- A text that ends too soon goes wrong at its end.
 too_soon : (kind : Kind) (text : List ℕ) (from end : ℕ) (s : State) → end ≡ from + length (encode_utf8_all text) → read kind text ≡ Some s → Fits kind text → finished s ≡ None → Faulty kind text from (faults.Syntax end)
 too_soon kind text from end s e r fits f = record {
-  is_fault = record { front = text; goes_wrong = ends_wrong kind text s r f; keeps = λ other limit x. absurd (fits other limit x); is_place = e };
+  is_fault = record { prefix = text; goes_wrong = ends_wrong kind text s r f; keeps = λ other limit x. absurd (fits other limit x); is_place = e };
   no_memory = λ g. cc;
 }
 

@@ -23,17 +23,17 @@ use Rattle.doc_profile.specs.declared.fault.DocFault.{DocFault}
 use Rattle.doc_profile.specs.declared.fault.DocFault.TheVariants as faults
 
 pub record Walked (kind : Kind) (text rest : List ℕ) (from at : ℕ) (s : State) (b : Bool) : Type 0 where
-  pub front : List ℕ
-  pub split : text ≡ front ++ rest
-  pub is_place : IsPlace from front at
-  pub is_read : read kind front ≡ Some s
-  pub behind : returned false front ≡ b
-  pub clean : Clean max_depth max_nodes kind text front
+  pub prefix : List ℕ
+  pub split : text ≡ prefix ++ rest
+  pub is_place : IsPlace from prefix at
+  pub is_read : read kind prefix ≡ Some s
+  pub behind : returned false prefix ≡ b
+  pub clean : Clean max_depth max_nodes kind text prefix
   pub low : reached s ≤ max_depth
   pub few : begun s ≤ max_nodes
 
 pub walked_start : (kind : Kind) (text : List ℕ) (from : ℕ) → Walked kind text text from from (start (outer_of kind)) false
-walked_start kind text from = record { front = []; split = refl; is_place = omega arith; is_read = refl; behind = refl; clean = clean_start max_depth max_nodes kind text; low = none_reached kind; few = none_begun kind }
+walked_start kind text from = record { prefix = []; split = refl; is_place = omega arith; is_read = refl; behind = refl; clean = clean_start max_depth max_nodes kind text; low = none_reached kind; few = none_begun kind }
   where
     none_reached : (k : Kind) → reached (start (outer_of k)) ≤ max_depth
     none_reached Kind.document = omega arith
@@ -47,9 +47,9 @@ returned-append : (b : Bool) (u : List ℕ) (c : ℕ) → returned b (u ++ c ∷
 returned-append b [] c = refl
 returned-append b (d ∷ u) c = returned-append (d == 13) u c
 
-read_one : {kind : Kind} {text rest : List ℕ} {from at : ℕ} {s : State} {b : Bool} (w : Walked kind text rest from at s b) (c : ℕ) (t : Option State) → taken s b c ≡ t → read kind (w.front ++ c ∷ []) ≡ t
+read_one : {kind : Kind} {text rest : List ℕ} {from at : ℕ} {s : State} {b : Bool} (w : Walked kind text rest from at s b) (c : ℕ) (t : Option State) → taken s b c ≡ t → read kind (w.prefix ++ c ∷ []) ≡ t
 read_one {kind = kind} {s = s} {b = b} w c t e =
-    read-append kind w.front (c ∷ []) ∙ ap (λ o. run_on o (lines_from (returned false w.front) (c ∷ []))) w.is_read ∙ ap (λ x. run_on (Some s) (lines_from x (c ∷ []))) w.behind ∙ e
+    read-append kind w.prefix (c ∷ []) ∙ ap (λ o. run_on o (lines_from (returned false w.prefix) (c ∷ []))) w.is_read ∙ ap (λ x. run_on (Some s) (lines_from x (c ∷ []))) w.behind ∙ e
 
 -- a character that passes no limit
 if_none : {A : Type 0} (b : Bool) (x y : Option A) → cond b x y ≡ None → ((b ≡ true) × (x ≡ None)) ⊎ ((b ≡ false) × (y ≡ None))
@@ -98,58 +98,58 @@ still_few s t b c h k e = go (node_here s b c) refl
 pub walked_further : (kind : Kind) (text rest : List ℕ) (from at : ℕ) (s t : State) (b : Bool) (c : ℕ) → Walked kind text (c ∷ rest) from at s b → passes s b c at ≡ None → taken s b c ≡ Some t
     → Walked kind text rest from (at + length (encode_utf8 c)) t (c == 13)
 walked_further kind text rest from at s t b c w e r = record {
-  front = w.front ++ c ∷ [];
-  split = w.split ∙ sym (append_assoc w.front (c ∷ []) rest);
-  is_place = omega (arith, w.is_place, length-append (encode_utf8_all w.front) (encode_utf8 c), ap length (encodes-last w.front c));
+  prefix = w.prefix ++ c ∷ [];
+  split = w.split ∙ sym (append_assoc w.prefix (c ∷ []) rest);
+  is_place = omega (arith, w.is_place, length-append (encode_utf8_all w.prefix) (encode_utf8 c), ap length (encodes-last w.prefix c));
   is_read = read_one w c (Some t) r;
-  behind = returned-append false w.front c;
-  clean = clean_further max_depth max_nodes kind text w.front c rest s w.clean w.split w.is_read (subst (λ x. Checked max_depth max_nodes s x c) (sym w.behind) (checked s b c at e));
+  behind = returned-append false w.prefix c;
+  clean = clean_further max_depth max_nodes kind text w.prefix c rest s w.clean w.split w.is_read (subst (λ x. Checked max_depth max_nodes s x c) (sym w.behind) (checked s b c at e));
   low = still_low s t b c w.low (checked s b c at e) r;
   few = still_few s t b c w.few (checked s b c at e) r;
 }
 
 pub walked_refused : (kind : Kind) (text rest : List ℕ) (from at : ℕ) (s : State) (b : Bool) (c : ℕ) → Walked kind text (c ∷ rest) from at s b → taken s b c ≡ None → SyntaxAt kind text from at
 walked_refused kind text rest from at s b c w r = record {
-  front = w.front;
-  goes_wrong = goes_wrong kind text w.front c rest s w.split w.is_read (read_one w c None r);
-  keeps = clean_keeps max_depth max_nodes kind text w.front c rest s w.clean w.split w.is_read (refused_no_element s b c r);
+  prefix = w.prefix;
+  goes_wrong = goes_wrong kind text w.prefix c rest s w.split w.is_read (read_one w c None r);
+  keeps = clean_keeps max_depth max_nodes kind text w.prefix c rest s w.clean w.split w.is_read (refused_no_element s b c r);
   is_place = w.is_place;
 }
 
 -- the place of the `<` before
-place_before : (front before : List ℕ) (from at : ℕ) → front ≡ before ++ 60 ∷ [] → IsPlace from front at → at - 1 ≡ from + length (encode_utf8_all before)
-place_before front before from at e f = omega (arith, f, ap (λ z. length (encode_utf8_all z)) e, ap length (encodes-last before 60), length-append (encode_utf8_all before) (encode_utf8 60), length-encode 60)
+place_before : (prefix before : List ℕ) (from at : ℕ) → prefix ≡ before ++ 60 ∷ [] → IsPlace from prefix at → at - 1 ≡ from + length (encode_utf8_all before)
+place_before prefix before from at e f = omega (arith, f, ap (λ z. length (encode_utf8_all z)) e, ap length (encodes-last before 60), length-append (encode_utf8_all before) (encode_utf8 60), length-encode 60)
 
 deep_stops : (kind : Kind) (text rest : List ℕ) (from at : ℕ) (s : State) (b : Bool) (c : ℕ) → Walked kind text (c ∷ rest) from at s b → element_here s c ≡ true → nat_le max_depth (depth s.place.outer) ≡ true → DepthAt kind text from (at - 1)
 deep_stops kind text rest from at s b c w h deep =
-    let x = element_begins kind text w.front c rest s w.split w.is_read h in
+    let x = element_begins kind text w.prefix c rest s w.split w.is_read h in
     record {
-      front = x.before;
+      prefix = x.before;
       passes = too_deep s.place x.begins (leb-true max_depth (depth s.place.outer) deep);
-      keeps = element_keeps max_depth max_nodes kind text w.front x.before w.clean x.spelled;
-      is_place = place_before w.front x.before from at x.spelled w.is_place;
+      keeps = element_keeps max_depth max_nodes kind text w.prefix x.before w.clean x.spelled;
+      is_place = place_before w.prefix x.before from at x.spelled w.is_place;
     }
 
 element_stops : (kind : Kind) (text rest : List ℕ) (from at : ℕ) (s : State) (b : Bool) (c : ℕ) → Walked kind text (c ∷ rest) from at s b → element_here s c ≡ true → nat_le max_depth (depth s.place.outer) ≡ false
     → nat_le max_nodes (place_count s.place) ≡ true → NodesAt kind text from (at - 1)
 element_stops kind text rest from at s b c w h shallow full =
-    let x = element_begins kind text w.front c rest s w.split w.is_read h in
+    let x = element_begins kind text w.prefix c rest s w.split w.is_read h in
     record {
-      front = x.before;
+      prefix = x.before;
       passes = element_too_many s.place x.begins (leb-true max_nodes (place_count s.place) full);
-      not_deep = not_deep max_depth max_nodes kind text w.front x.before c rest s w.split w.is_read x.spelled (leb-false max_depth (depth s.place.outer) shallow);
-      keeps = element_keeps max_depth max_nodes kind text w.front x.before w.clean x.spelled;
-      is_place = place_before w.front x.before from at x.spelled w.is_place;
+      not_deep = not_deep max_depth max_nodes kind text w.prefix x.before c rest s w.split w.is_read x.spelled (leb-false max_depth (depth s.place.outer) shallow);
+      keeps = element_keeps max_depth max_nodes kind text w.prefix x.before w.clean x.spelled;
+      is_place = place_before w.prefix x.before from at x.spelled w.is_place;
     }
 
 text_stops : (kind : Kind) (text rest : List ℕ) (from at : ℕ) (s : State) (b : Bool) (c : ℕ) → Walked kind text (c ∷ rest) from at s b → text_here s b c ≡ true → nat_le max_nodes (place_count s.place) ≡ true → NodesAt kind text from at
 text_stops kind text rest from at s b c w h full =
-    let here : text_here s (returned false w.front) c ≡ true = subst (λ x. text_here s x c ≡ true) (sym w.behind) h in
+    let here : text_here s (returned false w.prefix) c ≡ true = subst (λ x. text_here s x c ≡ true) (sym w.behind) h in
     record {
-      front = w.front;
-      passes = text_too_many s.place (text_begins kind text w.front c rest s w.split w.is_read here) (leb-true max_nodes (place_count s.place) full);
-      not_deep = text_not_deep max_depth max_nodes kind text w.front c rest s w.split here;
-      keeps = clean_keeps max_depth max_nodes kind text w.front c rest s w.clean w.split w.is_read (text_no_element s b c h);
+      prefix = w.prefix;
+      passes = text_too_many s.place (text_begins kind text w.prefix c rest s w.split w.is_read here) (leb-true max_nodes (place_count s.place) full);
+      not_deep = text_not_deep max_depth max_nodes kind text w.prefix c rest s w.split here;
+      keeps = clean_keeps max_depth max_nodes kind text w.prefix c rest s w.clean w.split w.is_read (text_no_element s b c h);
       is_place = w.is_place;
     }
 
@@ -184,5 +184,5 @@ walked_stops kind text rest from at s b c fault w e = element (element_here s c)
 
 pub walked_end : (kind : Kind) (text : List ℕ) (from at : ℕ) (s : State) (b : Bool) → Walked kind text [] from at s b → (read kind text ≡ Some s) × Fits kind text × (reached s ≤ max_depth) × (begun s ≤ max_nodes)
 walked_end kind text from at s b w =
-    let whole : w.front ≡ text = sym (w.split ∙ append-nil w.front) in
+    let whole : w.prefix ≡ text = sym (w.split ∙ append-nil w.prefix) in
     (ap (read kind) (sym whole) ∙ w.is_read, clean_end max_depth max_nodes kind text (subst (λ z. Clean max_depth max_nodes kind text z) whole w.clean), w.low, w.few)

@@ -10,7 +10,7 @@ use Rattle.doc_profile.specs.declared.fault.DocFault.TheVariants as faults
 
 -- the text passes no limit
 abbrev pub Fits : Kind → List ℕ → Type 0
-Fits kind text = (front : List ℕ) (limit : Limit) → Passes max_depth max_nodes kind text front limit → ⊥
+Fits kind text = (prefix : List ℕ) (limit : Limit) → Passes max_depth max_nodes kind text prefix limit → ⊥
 
 -- a node, and nodes, are no deeper and have no more elements and texts
 abbrev pub IsWithin : Node → Type 0
@@ -21,29 +21,29 @@ AreWithin ns = (heights ns ≤ max_depth) × (nodes_count ns ≤ max_nodes)
 
 -- the place behind a front of a text that begins at the place `from`
 abbrev pub IsPlace : ℕ → List ℕ → ℕ → Type 0
-IsPlace from front at = at ≡ from + length (encode_utf8_all front)
+IsPlace from prefix at = at ≡ from + length (encode_utf8_all prefix)
 
 -- the text goes wrong at the place, and passes no limit before
 pub record SyntaxAt (kind : Kind) (text : List ℕ) (from at : ℕ) : Type 0 where
-  pub front : List ℕ
-  pub goes_wrong : GoesWrong kind text front
-  pub keeps : KeepsLimits max_depth max_nodes kind text front
-  pub is_place : IsPlace from front at
+  pub prefix : List ℕ
+  pub goes_wrong : GoesWrong kind text prefix
+  pub keeps : KeepsLimits max_depth max_nodes kind text prefix
+  pub is_place : IsPlace from prefix at
 
 -- elements stand too deep from the place on, and no limit is passed before
 pub record DepthAt (kind : Kind) (text : List ℕ) (from at : ℕ) : Type 0 where
-  pub front : List ℕ
-  pub passes : Passes max_depth max_nodes kind text front depth_limit
-  pub keeps : KeepsLimits max_depth max_nodes kind text front
-  pub is_place : IsPlace from front at
+  pub prefix : List ℕ
+  pub passes : Passes max_depth max_nodes kind text prefix depth_limit
+  pub keeps : KeepsLimits max_depth max_nodes kind text prefix
+  pub is_place : IsPlace from prefix at
 
 -- there are too many nodes from the place on, elements don't stand too deep there, and no limit is passed before
 pub record NodesAt (kind : Kind) (text : List ℕ) (from at : ℕ) : Type 0 where
-  pub front : List ℕ
-  pub passes : Passes max_depth max_nodes kind text front node_limit
-  pub not_deep : Passes max_depth max_nodes kind text front depth_limit → ⊥
-  pub keeps : KeepsLimits max_depth max_nodes kind text front
-  pub is_place : IsPlace from front at
+  pub prefix : List ℕ
+  pub passes : Passes max_depth max_nodes kind text prefix node_limit
+  pub not_deep : Passes max_depth max_nodes kind text prefix depth_limit → ⊥
+  pub keeps : KeepsLimits max_depth max_nodes kind text prefix
+  pub is_place : IsPlace from prefix at
 
 -- a fault of characters, whose first stands at the place `from`
 abbrev pub FaultIn : Kind → List ℕ → ℕ → DocFault → Type 0

@@ -29,50 +29,50 @@ first-spot P place a (element_at r name attrs kids) rest h = All-head P _ (child
 first-spot P place a (text_at r bytes) rest h = All-head P _ rest h
 
 -- The children of an element in front of a link, and those behind it.
-pub record Parted (root : Numbered) (parent : NodeRef) (link : Option NodeRef) (front : List Node) : Type 0 where
+pub record Parted (root : Numbered) (parent : NodeRef) (link : Option NodeRef) (prefix : List Node) : Type 0 where
   pub around : Around
   pub rest : Children
   pub first : link ≡ first_of rest
-  pub inside : All (Contains (spots_in root)) (child_spots (element_of root parent).place (suc (length front)) around rest)
-  pub split : children (element_of root parent).node ≡ front ++ listed (plain_children rest)
+  pub inside : All (Contains (spots_in root)) (child_spots (element_of root parent).place (suc (length prefix)) around rest)
+  pub split : children (element_of root parent).node ≡ prefix ++ listed (plain_children rest)
 
 -- the link is that of a child
-pub record Child (root : Numbered) (parent child : NodeRef) (front : List Node) : Type 0 where
+pub record Child (root : Numbered) (parent child : NodeRef) (prefix : List Node) : Type 0 where
   pub around : Around
   pub n : Numbered
   pub ns : Children
   pub refers : reference n ≡ child
-  pub inside : All (Contains (spots_in root)) (child_spots (element_of root parent).place (suc (length front)) around (child_then n ns))
-  pub split : children (element_of root parent).node ≡ front ++ plain n ∷ listed (plain_children ns)
+  pub inside : All (Contains (spots_in root)) (child_spots (element_of root parent).place (suc (length prefix)) around (child_then n ns))
+  pub split : children (element_of root parent).node ≡ prefix ++ plain n ∷ listed (plain_children ns)
 
-module _ (root : Numbered) (parent : NodeRef) (front : List Node) where
+module _ (root : Numbered) (parent : NodeRef) (prefix : List Node) where
   child-from : (child : NodeRef) (around : Around) (rest : Children) → first_of rest ≡ Some child
-      → All (Contains (spots_in root)) (child_spots (element_of root parent).place (suc (length front)) around rest)
-      → children (element_of root parent).node ≡ front ++ listed (plain_children rest)
-      → Child root parent child front
+      → All (Contains (spots_in root)) (child_spots (element_of root parent).place (suc (length prefix)) around rest)
+      → children (element_of root parent).node ≡ prefix ++ listed (plain_children rest)
+      → Child root parent child prefix
   child-from child around no_children first inside split = cc
   child-from child around (child_then n ns) first inside split =
       let is : reference n ≡ child = cc in
       record { around = around; n = n; ns = ns; refers = is; inside = inside; split = split }
 
-  pub next-child : (link : Option NodeRef) (child : NodeRef) → link ≡ Some child → Parted root parent link front → Child root parent child front
+  pub next-child : (link : Option NodeRef) (child : NodeRef) → link ≡ Some child → Parted root parent link prefix → Child root parent child prefix
   next-child link child is p = child-from child p.around p.rest (sym p.first ∙ is) p.inside p.split
 
-  all-from : (rest : Children) → None ≡ first_of rest → children (element_of root parent).node ≡ front ++ listed (plain_children rest) → children (element_of root parent).node ≡ front
-  all-from no_children first split = split ∙ append-nil front
+  all-from : (rest : Children) → None ≡ first_of rest → children (element_of root parent).node ≡ prefix ++ listed (plain_children rest) → children (element_of root parent).node ≡ prefix
+  all-from no_children first split = split ∙ append-nil prefix
   all-from (child_then n ns) first split = cc
 
   -- no link is left
-  pub all-children : (link : Option NodeRef) → link ≡ None → Parted root parent link front → children (element_of root parent).node ≡ front
+  pub all-children : (link : Option NodeRef) → link ≡ None → Parted root parent link prefix → children (element_of root parent).node ≡ prefix
   all-children link is p = all-from p.rest (sym is ∙ p.first) p.split
 
-  module _ (x : IsElement root parent) (c : NodeRef) (h : Child root parent c front) where
+  module _ (x : IsElement root parent) (c : NodeRef) (h : Child root parent c prefix) where
     abbrev pub spot : Spot
-    spot = record { place = (element_of root parent).place ++ suc (length front) ∷ []; stand = record { node = h.n; around = record h.around { next = first_of h.ns } } }
+    spot = record { place = (element_of root parent).place ++ suc (length prefix) ∷ []; stand = record { node = h.n; around = record h.around { next = first_of h.ns } } }
 
     pub spot-among : Contains (spots_in root) spot
     unfolding child_spots
-    spot-among = first-spot (Contains (spots_in root)) spot.place spot.stand.around h.n (child_spots (element_of root parent).place (suc (length front) + 1) (round_next h.around h.n) h.ns) h.inside
+    spot-among = first-spot (Contains (spots_in root)) spot.place spot.stand.around h.n (child_spots (element_of root parent).place (suc (length prefix) + 1) (round_next h.around h.n) h.ns) h.inside
 
     -- what holds on the node holds of it
     pub on-child : (P : Stand → Type 0) → OnNode root c P → P spot.stand
@@ -82,35 +82,35 @@ module _ (root : Numbered) (parent : NodeRef) (front : List Node) where
     child-named = ap (element_of root) (sym h.refers) ∙ element_of-is root spot spot-among x.apart
 
     -- behind the child
-    pub parted-next : (link : Option NodeRef) → link ≡ first_of h.ns → Parted root parent link (front ++ plain h.n ∷ [])
+    pub parted-next : (link : Option NodeRef) → link ≡ first_of h.ns → Parted root parent link (prefix ++ plain h.n ∷ [])
     unfolding child_spots
     parted-next link is =
-        let e : suc (length front) + 1 ≡ suc (length (front ++ plain h.n ∷ [])) = omega (arith, length_push front (plain h.n)) in
+        let e : suc (length prefix) + 1 ≡ suc (length (prefix ++ plain h.n ∷ [])) = omega (arith, length_push prefix (plain h.n)) in
         record {
           around = round_next h.around h.n;
           rest = h.ns;
           first = is;
           inside = subst (λ k. All (Contains (spots_in root)) (child_spots (element_of root parent).place k (round_next h.around h.n) h.ns)) e
               (All-behind (Contains (spots_in root)) (spots spot.place spot.stand.around h.n) _ h.inside);
-          split = h.split ∙ sym (append_assoc front (plain h.n ∷ []) (listed (plain_children h.ns)));
+          split = h.split ∙ sym (append_assoc prefix (plain h.n ∷ []) (listed (plain_children h.ns)));
         }
 
-    child-at : child (element_of root parent).node (suc (length front)) ≡ plain h.n
+    child-at : child (element_of root parent).node (suc (length prefix)) ≡ plain h.n
     child-at =
-        let e : suc (length front) - 1 ≡ length front = omega arith in
-        ap₂ (λ l i. get_or l i (text [])) h.split e ∙ get_or_at front (plain h.n) (listed (plain_children h.ns)) (text []) (length front) refl
+        let e : suc (length prefix) - 1 ≡ length prefix = omega arith in
+        ap₂ (λ l i. get_or l i (text [])) h.split e ∙ get_or_at prefix (plain h.n) (listed (plain_children h.ns)) (text []) (length prefix) refl
 
-    front-is : take (suc (length front) - 1) (children (element_of root parent).node) ≡ front
-    front-is =
-        let e : suc (length front) - 1 ≡ length front = omega arith in
-        ap₂ (λ i l. take i l) e h.split ∙ take-append_seam front (plain h.n ∷ listed (plain_children h.ns))
+    prefix-is : take (suc (length prefix) - 1) (children (element_of root parent).node) ≡ prefix
+    prefix-is =
+        let e : suc (length prefix) - 1 ≡ length prefix = omega arith in
+        ap₂ (λ i l. take i l) e h.split ∙ take-append_seam prefix (plain h.n ∷ listed (plain_children h.ns))
 
     -- its number is that of the children of its name in front of it, and one
-    pub child-numbered : number_of root c ≡ count_by (is_named (name_of (plain h.n))) front + 1
+    pub child-numbered : number_of root c ≡ count_by (is_named (name_of (plain h.n))) prefix + 1
     child-numbered =
-        let p : Parent root c parent = record { there = x; number = suc (length front); place = ap (λ e. e.place) child-named } in
+        let p : Parent root c parent = record { there = x; number = suc (length prefix); place = ap (λ e. e.place) child-named } in
         number-child root c parent p
-        ∙ ap₂ (λ n l. count_by (is_named (name_of n)) l + 1) child-at front-is
+        ∙ ap₂ (λ n l. count_by (is_named (name_of n)) l + 1) child-at prefix-is
 
 -- ---- the first child
 

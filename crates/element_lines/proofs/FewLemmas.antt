@@ -49,11 +49,11 @@ mutual
       (All-weaker (λ s. node_count (plain s.node) ≤ nodes_count (plain_children ns)) (λ s. node_count (plain s.node) ≤ all) (λ s h. omega (arith, h))
       (child_stands (round_next a n) ns) (fewer-children ns (round_next a n)))
 
-pub front-few : (root : Numbered) (parent c : NodeRef) (front : List Node) → IsElement root parent → Child root parent c front → length front + 1 ≤ node_count (plain root)
-front-few root parent c front x h =
+pub prefix-few : (root : Numbered) (parent c : NodeRef) (prefix : List Node) → IsElement root parent → Child root parent c prefix → length prefix + 1 ≤ node_count (plain root)
+prefix-few root parent c prefix x h =
     let inner = All-contains (λ s. node_count (plain s.node) ≤ node_count (plain root)) (stands_in root) x.spot.stand (fewer root round_root) (spot-stand root x.spot x.among) in
     let few = children-few (element_of root parent).node in
     let same = ap (λ e. node_count e.node) (element-is root parent x) in
     let long = ap length h.split in
-    let both = length-append front (plain h.n ∷ listed (plain_children h.ns)) in
+    let both = length-append prefix (plain h.n ∷ listed (plain_children h.ns)) in
     omega arith

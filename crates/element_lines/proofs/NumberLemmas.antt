@@ -22,14 +22,14 @@ use Rattle.element_lines.specs.steps.Numbers.{number_of, AreNumbers, IsChild}
 use Rattle.element_lines.specs.LocationSteps as steps
 use Rattle.element_lines.specs.LocationSteps.{is_named}
 use Rattle.element_lines.proofs.ChildLemmas.{Parted, Child, next-child, all-children, spot, spot-among, on-child, child-named, parted-next, child-numbered}
-use Rattle.element_lines.proofs.FewLemmas.{front-few}
+use Rattle.element_lines.proofs.FewLemmas.{prefix-few}
 use Rattle.element_lines.proofs.StepLemmas.{name-plain, number-within}
 use denote.Ref.{Bor}
 
 -- ---- counts of names
 
-pub count-push : (p : Node → Bool) (front : List Node) (n : Node) → count_by p (front ++ n ∷ []) ≡ count_by p front + cond (p n) 1 0
-count-push p front n = sum_by-append (λ m. cond (p m) 1 0) front (n ∷ []) ∙ ap (λ k. count_by p front + k) (zero-add (cond (p n) 1 0))
+pub count-push : (p : Node → Bool) (prefix : List Node) (n : Node) → count_by p (prefix ++ n ∷ []) ≡ count_by p prefix + cond (p n) 1 0
+count-push p prefix n = sum_by-append (λ m. cond (p m) 1 0) prefix (n ∷ []) ∙ ap (λ k. count_by p prefix + k) (zero-add (cond (p n) 1 0))
 
 pub text-unnamed : (name : List ℕ) (n : Numbered) → is_element n ≡ false → is_named name (plain n) ≡ false
 text-unnamed name (element_at r own attrs kids) h = cc
@@ -40,28 +40,28 @@ element-named name (element_at r own attrs kids) h = refl
 element-named name (text_at r bytes) h = cc
 
 abbrev pub AreCounts : {S : Type 0} → HashMap (Bor (List ℕ)) ℕ S → List Node → Type 0
-AreCounts counts front = (name : List ℕ) → count_of counts name ≡ count_by (is_named name) front
+AreCounts counts prefix = (name : List ℕ) → count_of counts name ≡ count_by (is_named name) prefix
 
-module _ {S : Type 0} (counts : HashMap (Bor (List ℕ)) ℕ S) (front : List Node) (counted : AreCounts counts front) (n : Numbered) where
-  pub counts-text : is_element n ≡ false → AreCounts counts (front ++ plain n ∷ [])
+module _ {S : Type 0} (counts : HashMap (Bor (List ℕ)) ℕ S) (prefix : List Node) (counted : AreCounts counts prefix) (n : Numbered) where
+  pub counts-text : is_element n ≡ false → AreCounts counts (prefix ++ plain n ∷ [])
   counts-text h name =
-      let push = count-push (is_named name) front (plain n) in
+      let push = count-push (is_named name) prefix (plain n) in
       let none : cond (is_named name (plain n)) 1 0 ≡ 0 = ap (λ b. cond b 1 0) (text-unnamed name n h) in
-      counted name ∙ sym (push ∙ ap (λ k. count_by (is_named name) front + k) none ∙ add-zero (count_by (is_named name) front))
+      counted name ∙ sym (push ∙ ap (λ k. count_by (is_named name) prefix + k) none ∙ add-zero (count_by (is_named name) prefix))
 
-  pub counts-element : (more : HashMap (Bor (List ℕ)) ℕ S) → is_element n ≡ true → ((other : List ℕ) → count_of more other ≡ count_of counts other + cond (bytes_eq other (steps.name_of (plain n))) 1 0) → AreCounts more (front ++ plain n ∷ [])
+  pub counts-element : (more : HashMap (Bor (List ℕ)) ℕ S) → is_element n ≡ true → ((other : List ℕ) → count_of more other ≡ count_of counts other + cond (bytes_eq other (steps.name_of (plain n))) 1 0) → AreCounts more (prefix ++ plain n ∷ [])
   counts-element more h one name =
       one name
       ∙ ap (λ k. k + cond (bytes_eq name (steps.name_of (plain n))) 1 0) (counted name)
-      ∙ ap (λ b. count_by (is_named name) front + cond b 1 0) (sym (element-named name n h))
-      ∙ sym (count-push (is_named name) front (plain n))
+      ∙ ap (λ b. count_by (is_named name) prefix + cond b 1 0) (sym (element-named name n h))
+      ∙ sym (count-push (is_named name) prefix (plain n))
 
 -- ---- numbers by reference
 
 -- each element among the first children has a number
 abbrev pub HaveNumbers : {T : Type 0} → Numbered → NodeRef → HashMap ℕ ℕ T → List Node → Type 0
-HaveNumbers root parent numbers front =
-    (r : NodeRef) (k : ℕ) → IsElement root r → (element_of root r).place ≡ (element_of root parent).place ++ k ∷ [] → 0 < k → k ≤ length front → IsSome (get nat_eq numbers r.0)
+HaveNumbers root parent numbers prefix =
+    (r : NodeRef) (k : ℕ) → IsElement root r → (element_of root r).place ≡ (element_of root parent).place ++ k ∷ [] → 0 < k → k ≤ length prefix → IsSome (get nat_eq numbers r.0)
 
 -- a number was put in for a reference
 abbrev pub Puts : {T : Type 0} → HashMap ℕ ℕ T → HashMap ℕ ℕ T → NodeRef → ℕ → Type 0
@@ -91,28 +91,28 @@ module _ {T : Type 0} (root : Numbered) (numbers more : HashMap ℕ ℕ T) (c : 
   itself : IsSome (get nat_eq more c.0)
   itself = let e : nat_eq c.0 c.0 ≡ true = grind (arith, nat_tests) in ap is_some (puts c.0 ∙ ap (λ b. cond b (Some number) (get nat_eq numbers c.0)) e)
 
-  pub have-more : (parent : NodeRef) (front : List Node) (h : Child root parent c front) → IsElement root parent → IsElement root c → HaveNumbers root parent numbers front → HaveNumbers root parent more (front ++ plain h.n ∷ [])
-  have-more parent front h x y have r k z at some within =
-      elim (cases_lt (length front) k) [
+  pub have-more : (parent : NodeRef) (prefix : List Node) (h : Child root parent c prefix) → IsElement root parent → IsElement root c → HaveNumbers root parent numbers prefix → HaveNumbers root parent more (prefix ++ plain h.n ∷ [])
+  have-more parent prefix h x y have r k z at some within =
+      elim (cases_lt (length prefix) k) [
         | inl last ↦
-            let long = length_push front (plain h.n) in
-            let e : k ≡ suc (length front) = omega (arith, last, within, long) in
+            let long = length_push prefix (plain h.n) in
+            let e : k ≡ suc (length prefix) = omega (arith, last, within, long) in
             let place : (element_of root c).place ≡ (element_of root r).place =
-            ap (λ e. e.place) (child-named root parent front x c h) ∙ ap (λ j. (element_of root parent).place ++ j ∷ []) (sym e) ∙ sym at in
+            ap (λ e. e.place) (child-named root parent prefix x c h) ∙ ap (λ j. (element_of root parent).place ++ j ∷ []) (sym e) ∙ sym at in
             subst (λ q. IsSome (get nat_eq more q.0)) (one-reference root c r y z place) itself
         | inr before ↦ still r.0 (have r k z at some (omega (arith, before)))
       ]
 
 -- a text has no number
-pub have-text : {T : Type 0} (root : Numbered) (parent c : NodeRef) (numbers : HashMap ℕ ℕ T) (front : List Node) (h : Child root parent c front) → IsElement root parent → is_element h.n ≡ false → HaveNumbers root parent numbers front → HaveNumbers root parent numbers (front ++ plain h.n ∷ [])
-have-text root parent c numbers front h x text have r k z at some within =
-    elim (cases_lt (length front) k) [
+pub have-text : {T : Type 0} (root : Numbered) (parent c : NodeRef) (numbers : HashMap ℕ ℕ T) (prefix : List Node) (h : Child root parent c prefix) → IsElement root parent → is_element h.n ≡ false → HaveNumbers root parent numbers prefix → HaveNumbers root parent numbers (prefix ++ plain h.n ∷ [])
+have-text root parent c numbers prefix h x text have r k z at some within =
+    elim (cases_lt (length prefix) k) [
       | inl last ↦
-          let long = length_push front (plain h.n) in
-          let e : k ≡ suc (length front) = omega (arith, last, within, long) in
-          let place : z.spot.place ≡ (spot root parent front x c h).place =
+          let long = length_push prefix (plain h.n) in
+          let e : k ≡ suc (length prefix) = omega (arith, last, within, long) in
+          let place : z.spot.place ≡ (spot root parent prefix x c h).place =
           sym (ap (λ e. e.place) (element-is root r z)) ∙ at ∙ ap (λ j. (element_of root parent).place ++ j ∷ []) e in
-          let same = one-place root z.spot (spot root parent front x c h) z.among (spot-among root parent front x c h) place in
+          let same = one-place root z.spot (spot root parent prefix x c h) z.among (spot-among root parent prefix x c h) place in
           let e : true ≡ false = sym z.element ∙ ap is_element same ∙ text in
           cc
       | inr before ↦ have r k z at some (omega (arith, before))
@@ -124,23 +124,23 @@ have-text root parent c numbers front h x text have r k z at some within =
 pub record Numbering {S T : Type 0} (root : Numbered) (parent : NodeRef) (link : Option NodeRef) (counts : HashMap (Bor (List ℕ)) ℕ S) (numbers : HashMap ℕ ℕ T) : Type 0 where
   pub done : List NodeRef
   pub reading : Reading root (element_of root parent) link done
-  pub front : List Node
-  pub parted : Parted root parent link front
-  pub counted : AreCounts counts front
+  pub prefix : List Node
+  pub parted : Parted root parent link prefix
+  pub counted : AreCounts counts prefix
   pub are : AreNumbers root numbers
-  pub have : HaveNumbers root parent numbers front
+  pub have : HaveNumbers root parent numbers prefix
 
 module _ {S T : Type 0} (root : Numbered) (parent : NodeRef) (x : IsElement root parent) (link : Option NodeRef) (counts : HashMap (Bor (List ℕ)) ℕ S) (numbers : HashMap ℕ ℕ T) (v : Numbering root parent link counts numbers) where
   -- all children are done
   pub all-numbered : link ≡ None → (r : NodeRef) → IsChild root parent r → IsSome (get nat_eq numbers r.0)
   all-numbered is r (y, k, at) =
-      let all = ap length (all-children root parent v.front link is v.parted) in
+      let all = ap length (all-children root parent v.prefix link is v.parted) in
       let few = number-within root parent r x y k at in
       v.have r k y at few.0 (omega arith)
 
   module _ (c : NodeRef) (is : link ≡ Some c) where
-    child : Child root parent c v.front
-    child = next-child root parent v.front link c is v.parted
+    child : Child root parent c v.prefix
+    child = next-child root parent v.prefix link c is v.parted
 
     reading : Next root (element_of root parent) c v.done
     reading = next root (element_of root parent) link c v.done is v.reading
@@ -154,26 +154,26 @@ module _ {S T : Type 0} (root : Numbered) (parent : NodeRef) (x : IsElement root
     pub count-few : node_count (plain root) < 2147483648 → (name : List ℕ) → count_of counts name + 1 < 4294967296
     count-few few name =
         let e = v.counted name in
-        let f = count_by-le-length (is_named name) v.front in
-        let g = front-few root parent c v.front x child in
+        let f = count_by-le-length (is_named name) v.prefix in
+        let g = prefix-few root parent c v.prefix x child in
         omega arith
 
     module _ (link' : Option NodeRef) (to : OnNode root c (λ s. link' ≡ s.around.next)) where
-      parted : Parted root parent link' (v.front ++ plain child.n ∷ [])
-      parted = parted-next root parent v.front x c child link' (on-child root parent v.front x c child (λ s. link' ≡ s.around.next) to)
+      parted : Parted root parent link' (v.prefix ++ plain child.n ∷ [])
+      parted = parted-next root parent v.prefix x c child link' (on-child root parent v.prefix x c child (λ s. link' ≡ s.around.next) to)
 
       pub past-a-text : OnNode root c (λ s. false ≡ is_element s.node) → Numbering root parent link' counts numbers
       past-a-text text =
-          let e = sym (on-child root parent v.front x c child (λ s. false ≡ is_element s.node) text) in
+          let e = sym (on-child root parent v.prefix x c child (λ s. false ≡ is_element s.node) text) in
           record {
             done = v.done;
             reading = past-text root (element_of root parent) c v.done reading x.apart link' (on root (element_of root parent) c v.done reading (λ s. link' ≡ s.around.next) to)
                 (sym (on root (element_of root parent) c v.done reading (λ s. false ≡ is_element s.node) text));
-            front = v.front ++ plain child.n ∷ [];
+            prefix = v.prefix ++ plain child.n ∷ [];
             parted = parted;
-            counted = counts-text counts v.front v.counted child.n e;
+            counted = counts-text counts v.prefix v.counted child.n e;
             are = v.are;
-            have = have-text root parent c numbers v.front child x e v.have;
+            have = have-text root parent c numbers v.prefix child x e v.have;
           }
 
       pub past-an-element : (counts' : HashMap (Bor (List ℕ)) ℕ S) (numbers' : HashMap ℕ ℕ T) (name : List ℕ) (number : ℕ)
@@ -184,18 +184,18 @@ module _ {S T : Type 0} (root : Numbered) (parent : NodeRef) (x : IsElement root
           → Puts numbers numbers' c number
           → Numbering root parent link' counts' numbers'
       past-an-element counts' numbers' name number element called is-number counted puts =
-          let e = sym (on-child root parent v.front x c child (λ s. true ≡ is_element s.node) element) in
+          let e = sym (on-child root parent v.prefix x c child (λ s. true ≡ is_element s.node) element) in
           let e' = sym (on root (element_of root parent) c v.done reading (λ s. true ≡ is_element s.node) element) in
           let y : IsElement root c = is-child root (element_of root parent) c v.done reading x.apart x.single e' in
-          let same : name ≡ steps.name_of (plain child.n) = name-plain child.n name (on-child root parent v.front x c child (λ s. name_of s.node ≡ Some name) called) in
+          let same : name ≡ steps.name_of (plain child.n) = name-plain child.n name (on-child root parent v.prefix x c child (λ s. name_of s.node ≡ Some name) called) in
           let own : number ≡ number_of root c =
-          is-number ∙ ap (λ n. count_of counts n + 1) same ∙ ap (λ k. k + 1) (v.counted (steps.name_of (plain child.n))) ∙ sym (child-numbered root parent v.front x c child) in
+          is-number ∙ ap (λ n. count_of counts n + 1) same ∙ ap (λ k. k + 1) (v.counted (steps.name_of (plain child.n))) ∙ sym (child-numbered root parent v.prefix x c child) in
           record {
             done = v.done ++ c ∷ [];
             reading = past-element root (element_of root parent) c v.done reading x.apart link' (on root (element_of root parent) c v.done reading (λ s. link' ≡ s.around.next) to) x.single e' (v.done ++ c ∷ []) refl;
-            front = v.front ++ plain child.n ∷ [];
+            prefix = v.prefix ++ plain child.n ∷ [];
             parted = parted;
-            counted = counts-element counts v.front v.counted child.n counts' e (λ other. counted other ∙ ap (λ n. count_of counts other + cond (bytes_eq other n) 1 0) same);
+            counted = counts-element counts v.prefix v.counted child.n counts' e (λ other. counted other ∙ ap (λ n. count_of counts other + cond (bytes_eq other n) 1 0) same);
             are = numbers-more root numbers numbers' c number puts v.are own;
-            have = have-more root numbers numbers' c number puts parent v.front child x y v.have;
+            have = have-more root numbers numbers' c number puts parent v.prefix child x y v.have;
           }

@@ -9,21 +9,21 @@ use Rattle.ft_base.specs.steps.Walk.{Walk}
 pub walk_start : (text : List ℕ) → Walk text [] 0 text
 walk_start text = record { split = refl; counts = refl }
 
-pub encodes-last : (front : List ℕ) (c : ℕ) → encode_utf8_all (front ++ c ∷ []) ≡ encode_utf8_all front ++ encode_utf8 c
-encodes-last front c = encodes-append front (c ∷ []) ∙ ap (λ bytes. encode_utf8_all front ++ bytes) (append-nil (encode_utf8 c))
+pub encodes-last : (prefix : List ℕ) (c : ℕ) → encode_utf8_all (prefix ++ c ∷ []) ≡ encode_utf8_all prefix ++ encode_utf8 c
+encodes-last prefix c = encodes-append prefix (c ∷ []) ∙ ap (λ bytes. encode_utf8_all prefix ++ bytes) (append-nil (encode_utf8 c))
 
 -- one more character is passed
-pub walk_further : (text front rest left : List ℕ) (place further c : ℕ) → Walk text front place rest → rest ≡ encode_utf8 c ++ left → further ≡ place + length (encode_utf8 c)
-    → Walk text (front ++ c ∷ []) further left
-walk_further text front rest left place further c walk next on = record {
-  split = ap (λ bytes. bytes ++ left) (encodes-last front c)
-      ∙ (append_assoc (encode_utf8_all front) (encode_utf8 c) left ∙ (ap (λ bytes. encode_utf8_all front ++ bytes) (sym next) ∙ walk.split));
+pub walk_further : (text prefix rest left : List ℕ) (place further c : ℕ) → Walk text prefix place rest → rest ≡ encode_utf8 c ++ left → further ≡ place + length (encode_utf8 c)
+    → Walk text (prefix ++ c ∷ []) further left
+walk_further text prefix rest left place further c walk next on = record {
+  split = ap (λ bytes. bytes ++ left) (encodes-last prefix c)
+      ∙ (append_assoc (encode_utf8_all prefix) (encode_utf8 c) left ∙ (ap (λ bytes. encode_utf8_all prefix ++ bytes) (sym next) ∙ walk.split));
   counts = on ∙ (ap (λ n. n + length (encode_utf8 c)) walk.counts
-      ∙ (sym (length-append (encode_utf8_all front) (encode_utf8 c)) ∙ ap length (sym (encodes-last front c))));
+      ∙ (sym (length-append (encode_utf8_all prefix) (encode_utf8 c)) ∙ ap length (sym (encodes-last prefix c))));
 }
 
 -- with nothing to come, the front is the whole text
-pub walk_end : (text front rest : List ℕ) (place : ℕ) → Walk text front place rest → length rest ≡ 0 → IsUtf8 text → front ≡ chars text
-walk_end text front rest place walk none utf8 =
-    chars_from_encodes front text utf8
-    (sym (append-nil (encode_utf8_all front)) ∙ (ap (λ bytes. encode_utf8_all front ++ bytes) (sym (nil_from_length rest none)) ∙ walk.split))
+pub walk_end : (text prefix rest : List ℕ) (place : ℕ) → Walk text prefix place rest → length rest ≡ 0 → IsUtf8 text → prefix ≡ chars text
+walk_end text prefix rest place walk none utf8 =
+    chars_from_encodes prefix text utf8
+    (sym (append-nil (encode_utf8_all prefix)) ∙ (ap (λ bytes. encode_utf8_all prefix ++ bytes) (sym (nil_from_length rest none)) ∙ walk.split))

@@ -8,8 +8,8 @@ ghost use Rattle.ft_base.specs.steps.Walk.{Walk};
 /// of a text's characters where nothing is left.
 pub fn walks()
     ensures start { (text : List ℕ) → Walk text [] 0 text }
-    ensures further { (text front rest left : List ℕ) (place next c : ℕ) → Walk text front place rest →
-        rest ≡ encode_utf8 c ++ left → next ≡ place + length (encode_utf8 c) → Walk text (front ++ c ∷ []) next left }
-    ensures end { (text front rest : List ℕ) (place : ℕ) → Walk text front place rest → length rest ≡ 0 → IsUtf8 text →
-        front ≡ chars text }
+    ensures further { (text prefix rest left : List ℕ) (place next c : ℕ) → Walk text prefix place rest →
+        rest ≡ encode_utf8 c ++ left → next ≡ place + length (encode_utf8 c) → Walk text (prefix ++ c ∷ []) next left }
+    ensures end { (text prefix rest : List ℕ) (place : ℕ) → Walk text prefix place rest → length rest ≡ 0 → IsUtf8 text →
+        prefix ≡ chars text }
 {}

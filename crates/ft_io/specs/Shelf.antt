@@ -13,10 +13,10 @@ Files = map.FinMap (slice_cmp nat_cmp) (List ℕ)
 abbrev pub bytes_of : Files → List ℕ → Option (List ℕ)
 bytes_of files name = map.get files name
 
--- the same, if the files are told
-abbrev pub told_bytes : Option Files → List ℕ → Option (List ℕ)
-told_bytes None name = None
-told_bytes (Some files) name = bytes_of files name
+-- the same, if the files are known
+abbrev pub known_bytes : Option Files → List ℕ → Option (List ℕ)
+known_bytes None name = None
+known_bytes (Some files) name = bytes_of files name
 
 -- what a read of a file's bytes at a place puts in front of the buffer: as many of the bytes there as it counts, and none
 -- exactly where the place is at the file's end or past it

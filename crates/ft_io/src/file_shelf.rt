@@ -18,7 +18,7 @@ struct OpenedFile<F> {
 }
 
 /// The files of the operating system. The file that was read last stays open, so that reads at places one behind the other
-/// serve what can't be read anywhere else, as a pipe. What the files hold isn't told.
+/// serve what can't be read anywhere else, as a pipe. What the files hold isn't known.
 #[derive(Drop)]
 pub struct FileShelf<R: Files> {
     rt: R,

@@ -1,7 +1,7 @@
 ghost use Rattle.std.specs.Prelude.{◌≡◌, ◌+◌, ◌-◌, ◌^◌, ◌<◌, ◌≤◌, ◌++◌, List, ℕ, Some, length, min, take, drop, find, position, option_copied, IfOk, IfSome, IsSome, OnErr, OnOk, is_err};
 ghost use Rattle.std.specs.FinMap as map;
 ghost use Rattle.ft_io.specs.Faults.{CountsFault};
-ghost use Rattle.ft_io.specs.Shelf.{told_bytes, bytes_of, Reads, reached_after};
+ghost use Rattle.ft_io.specs.Shelf.{known_bytes, bytes_of, Reads, reached_after};
 ghost use Rattle.ft_io.specs.StoredFile.{has_name, files_of};
 ghost use Rattle.ft_io.specs.MemoryShelf.{empty_shelf, fails_now, shelf_after};
 
@@ -78,9 +78,9 @@ fn put(alloc: Global, files: &mut Vec<StoredFile>, name: &str, bytes: &[u8]) -> 
 }
 
 // Copies as many bytes as there are from that place on, and as fit, to the front.
-fn copy_front(bytes: &[u8], at: u64, into: &mut [u8]) -> usize
+fn copy_prefix(bytes: &[u8], at: u64, into: &mut [u8]) -> usize
     ensures count { result ≡ min (length into.old) (length bytes.now - at) }
-    ensures front { take result into.new ≡ take result (drop at bytes.now) }
+    ensures prefix { take result into.new ≡ take result (drop at bytes.now) }
 {
     let rest = match bytes.get(at as usize..) {
         Some(rest) => rest,
@@ -143,7 +143,7 @@ impl Shelf for MemoryShelf {
         let fails = self.failing == Some(self.calls);
         match find_file(&self.files, name) {
             Some(file) if !fails => {
-                let count = copy_front(file.bytes.as_slice(), at, into);
+                let count = copy_prefix(file.bytes.as_slice(), at, into);
                 if count > 0 {
                     self.reached = self.reached.max(at + count as u64);
                 }

@@ -1,12 +1,12 @@
 ghost use Rattle.std.specs.Prelude.{◌≡◌, ◌+◌, ◌^◌, ◌<◌, ◌≤◌, List, ℕ, Option, length, IfOk, IfSome, IsSome, OnOk};
 ghost use Rattle.ft_io.specs.Faults.{CountsFault};
-ghost use Rattle.ft_io.specs.Shelf.{Files, told_bytes, bytes_of, Reads, reached_after};
+ghost use Rattle.ft_io.specs.Shelf.{Files, known_bytes, bytes_of, Reads, reached_after};
 
 use crate::Failed;
 
 /// Files by name, each a row of bytes that can be read at any place.
 pub trait Shelf {
-    /// The files, where the shelf tells them. An operating system's files are not told.
+    /// The files, where they are known. An operating system's files are not.
     ghost files: { Self → Option Files };
 
     /// How often a read of that name failed. It may count other names too.
@@ -25,10 +25,10 @@ pub trait Shelf {
         ensures cause { CountsFault (faults self.old name.now) (faults self.new name.now) result }
         ensures reached { reached self.new name.now ≡ reached_after (reached self.old name.now) at result }
 
-        // where the files are told
-        ensures present { OnOk result (IfSome (files self.old) (λ told. IsSome (bytes_of told name.now))) }
+        // where the files are known
+        ensures present { OnOk result (IfSome (files self.old) (λ known. IsSome (bytes_of known name.now))) }
         ensures content { IfOk result (λ count.
-            IfSome (told_bytes (files self.old) name.now) (λ bytes. Reads bytes at count into.new)) }
+            IfSome (known_bytes (files self.old) name.now) (λ bytes. Reads bytes at count into.new)) }
 
         // the files stay, and no count falls
         ensures files { files self.new ≡ files self.old }

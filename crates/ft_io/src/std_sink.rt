@@ -4,7 +4,7 @@ ghost use Rattle.ft_io.specs.Faults.{CountsFault, faults_after};
 use crate::{Failed, Sink};
 use std::marker::Model;
 
-/// Standard output. Each write hands its bytes on at once, as many as the system takes. What was written isn't told.
+/// Standard output. Each write hands its bytes on at once, as many as the system takes. What was written isn't known.
 #[derive(Drop)]
 pub struct StdSink<R: Print> {
     rt: R,

@@ -17,7 +17,7 @@ use Rattle.selection_grammar.specs.Keywords.{key, unit, range, one_number, two_b
 use Rattle.selection_grammar.specs.Tree.{Primary, phrases}
 use Rattle.selection_grammar.specs.steps.Machine as m
 use Rattle.selection_grammar.specs.steps.Machine.{Left, Frame, Stage, State, next, selection_with, operand_of, filtered_state, thesaurus_ended, thesaurus_selection}
-use Rattle.selection_grammar.specs.steps.Reading.{reading, further, front_is, front_place, front_number}
+use Rattle.selection_grammar.specs.steps.Reading.{reading, further, first_is, first_place, first_number}
 use Rattle.selection_grammar.proofs.Words.{word_is}
 use Rattle.selection_grammar.proofs.Readings.{reading-and_then, same_further, same_number, same_cond}
 use Rattle.ft_parser.specs.steps.Parts.{times_reading, distance_reading, window_reading, other_filter_reading, filter_reading, begins_filter, begins_other_filter}
@@ -52,7 +52,7 @@ stood k r = further r (λ a n. Ok (k a, n))
 
 -- the parts of filters
 window_law : (w : List Placed) (i : ℕ) → reading window w i ≡ window_reading w i
-window_law w i = same_number _ _ _ _ (front_number (drop i w)) (λ n. reading-and_then unit (λ u. whole (F.Window n u)) w (i + 1)) refl
+window_law w i = same_number _ _ _ _ (first_number (drop i w)) (λ n. reading-and_then unit (λ u. whole (F.Window n u)) w (i + 1)) refl
 
 distance_law : (w : List Placed) (i : ℕ) → reading distance w i ≡ distance_reading w i
 distance_law w i = reading-and_then range (λ r. and_then unit (λ u. whole (F.Distance r u))) w i ∙ same_further (reading range w i) _ _ (λ r n. reading-and_then unit (λ u. whole (F.Distance r u)) w n)
@@ -60,16 +60,16 @@ distance_law w i = reading-and_then range (λ r. and_then unit (λ u. whole (F.D
 other_filters_law : (k : Filter → State) (rest : Shape State) (w : List Placed) (i : ℕ) → reading (or_else (and_then filters_without_at (whole_of k)) rest) w i ≡ cond (begins_other_filter (drop i w)) (stood k (other_filter_reading w i)) (reading rest w i)
 unfolding other_filter_reading
 other_filters_law k rest w i =
-    same_cond (front_is (codes "ordered") (drop i w)) _ _ _ _ refl
-    (same_cond (front_is (codes "window") (drop i w)) _ _ _ _ (reading-and_then window (whole_of k) w (i + 1) ∙ ap (stood k) (window_law w (i + 1)))
-    (same_cond (front_is (codes "distance") (drop i w)) _ _ _ _ (reading-and_then distance (whole_of k) w (i + 1) ∙ ap (stood k) (distance_law w (i + 1)))
-    (same_cond (front_is (codes "same") (drop i w)) _ _ _ _ (reading-and_then (scope F.SameSentence F.SameParagraph) (whole_of k) w (i + 1))
-    (same_cond (front_is (codes "different") (drop i w)) _ _ _ _ (reading-and_then (scope F.DifferentSentence F.DifferentParagraph) (whole_of k) w (i + 1))
-    (same_cond (front_is (codes "entire") (drop i w)) _ _ _ _ (reading-and_then (key (codes "content") (whole F.EntireContent)) (whole_of k) w (i + 1)) refl)))))
-    ∙ six (stood k) (front_is (codes "ordered") (drop i w)) (front_is (codes "window") (drop i w)) (front_is (codes "distance") (drop i w)) (front_is (codes "same") (drop i w)) (front_is (codes "different") (drop i w)) (front_is (codes "entire") (drop i w)) _ _ _ _ _ _ (Err i) (reading rest w i)
+    same_cond (first_is (codes "ordered") (drop i w)) _ _ _ _ refl
+    (same_cond (first_is (codes "window") (drop i w)) _ _ _ _ (reading-and_then window (whole_of k) w (i + 1) ∙ ap (stood k) (window_law w (i + 1)))
+    (same_cond (first_is (codes "distance") (drop i w)) _ _ _ _ (reading-and_then distance (whole_of k) w (i + 1) ∙ ap (stood k) (distance_law w (i + 1)))
+    (same_cond (first_is (codes "same") (drop i w)) _ _ _ _ (reading-and_then (scope F.SameSentence F.SameParagraph) (whole_of k) w (i + 1))
+    (same_cond (first_is (codes "different") (drop i w)) _ _ _ _ (reading-and_then (scope F.DifferentSentence F.DifferentParagraph) (whole_of k) w (i + 1))
+    (same_cond (first_is (codes "entire") (drop i w)) _ _ _ _ (reading-and_then (key (codes "content") (whole F.EntireContent)) (whole_of k) w (i + 1)) refl)))))
+    ∙ six (stood k) (first_is (codes "ordered") (drop i w)) (first_is (codes "window") (drop i w)) (first_is (codes "distance") (drop i w)) (first_is (codes "same") (drop i w)) (first_is (codes "different") (drop i w)) (first_is (codes "entire") (drop i w)) _ _ _ _ _ _ (Err i) (reading rest w i)
 
 -- a filter with `at` is no other
-at_excludes : (v : List Placed) → front_is (codes "at") v ≡ true → begins_other_filter v ≡ false
+at_excludes : (v : List Placed) → first_is (codes "at") v ≡ true → begins_other_filter v ≡ false
 at_excludes [] h = cc
 at_excludes (p ∷ z) h = ap (λ symbol. is_word (codes "ordered") symbol || is_word (codes "window") symbol || is_word (codes "distance") symbol || is_word (codes "same") symbol || is_word (codes "different") symbol || is_word (codes "entire") symbol) (word_is (codes "at") p.symbol h)
 
@@ -82,17 +82,17 @@ seam f false false x y r h = refl
 filters_law : (k : Filter → State) (rest : Shape State) (w : List Placed) (i : ℕ) → reading (or_else (and_then filters (whole_of k)) rest) w i ≡ cond (begins_filter (drop i w)) (stood k (filter_reading w i)) (reading rest w i)
 unfolding filter_reading
 filters_law k rest w i = other_filters_law k (word (codes "at") (λ p. and_then side (whole_of k)) rest) w i
-    ∙ same_cond (begins_other_filter (drop i w)) _ _ _ _ refl (same_cond (front_is (codes "at") (drop i w)) _ _ _ (reading rest w i) (reading-and_then side (whole_of k) w (i + 1)) refl)
-    ∙ seam (stood k) (begins_other_filter (drop i w)) (front_is (codes "at") (drop i w)) (other_filter_reading w i) (reading side w (i + 1)) (reading rest w i) (at_excludes (drop i w))
+    ∙ same_cond (begins_other_filter (drop i w)) _ _ _ _ refl (same_cond (first_is (codes "at") (drop i w)) _ _ _ (reading rest w i) (reading-and_then side (whole_of k) w (i + 1)) refl)
+    ∙ seam (stood k) (begins_other_filter (drop i w)) (first_is (codes "at") (drop i w)) (other_filter_reading w i) (reading side w (i + 1)) (reading rest w i) (at_excludes (drop i w))
 
 -- options
 using_law : (outer : List Frame) (left : Left) (n : Option ℕ) (x : Primary) (os : List PlacedOption) (at : ℕ) (w : List Placed) (i : ℕ) → using_turn outer left n x os at w i ≡ reading (m.using_next outer left n x os at) w i
 unfolding using_turn
-using_law outer left n x os at w i = same_cond (front_is (codes "thesaurus") (drop i w)) _ _ _ _ refl (same_cond (front_is (codes "stop") (drop i w)) _ _ _ _ refl (sym (reading-and_then (plain_option at) (λ o. whole (stands outer left (m.given_options n x (os ++ o ∷ [])))) w i)))
+using_law outer left n x os at w i = same_cond (first_is (codes "thesaurus") (drop i w)) _ _ _ _ refl (same_cond (first_is (codes "stop") (drop i w)) _ _ _ _ refl (sym (reading-and_then (plain_option at) (λ o. whole (stands outer left (m.given_options n x (os ++ o ∷ [])))) w i)))
 
 unfiltered_law : (outer : List Frame) (left : Left) (n : Option ℕ) (x : Primary) (os : List PlacedOption) (w : List Placed) (i : ℕ) → unfiltered_turn outer left n x os w i ≡ reading (m.unfiltered_next outer left n x os) w i
 unfolding unfiltered_turn
-unfiltered_law outer left n x os w i = same_cond (front_is (codes "using") (drop i w)) _ _ _ _ (using_law outer left n x os (front_place (drop i w)) w (i + 1)) refl
+unfiltered_law outer left n x os w i = same_cond (first_is (codes "using") (drop i w)) _ _ _ _ (using_law outer left n x os (first_place (drop i w)) w (i + 1)) refl
 
 options_law : (outer : List Frame) (left : Left) (n : Option ℕ) (x : Primary) (os : List PlacedOption) (w : List Placed) (i : ℕ) → options_turn outer left n x os w i ≡ reading (m.options_next outer left n x os) w i
 unfolding options_turn
@@ -103,7 +103,7 @@ times_law k at w i = ap (stood k) (sym (reading-and_then range (λ r. key (codes
 
 moded_law : (outer : List Frame) (left : Left) (n : Option ℕ) (xs : List PlacedString) (mode : Mode) (w : List Placed) (i : ℕ) → moded_turn outer left n xs mode w i ≡ reading (m.moded_next outer left n xs mode) w i
 unfolding moded_turn
-moded_law outer left n xs mode w i = same_cond (front_is (codes "occurs") (drop i w)) _ _ _ _ (times_law (λ t. stands outer left (m.given_options n (phrases xs mode (Some t)) [])) (front_place (drop i w)) w (i + 1)) (options_law outer left n (phrases xs mode None) [] w i)
+moded_law outer left n xs mode w i = same_cond (first_is (codes "occurs") (drop i w)) _ _ _ _ (times_law (λ t. stands outer left (m.given_options n (phrases xs mode (Some t)) [])) (first_place (drop i w)) w (i + 1)) (options_law outer left n (phrases xs mode None) [] w i)
 
 -- levels
 levels_law : (made : Option Range → State) (t : Shape Range) (w : List Placed) (i : ℕ) → reading (and_then t (m.levels_end made)) w i ≡ levels_turn made w (reading t w i)
@@ -113,8 +113,8 @@ behind_at_law : (outer : List Frame) (left : Left) (n : Option ℕ) (x : Primary
     → behind_at_turn outer left n x os at s r w i ≡ reading (or_else (and_then bound (m.levels_end (with_levels outer left n x os at s r))) (and_then side (λ f. whole (filtered_state outer (thesaurus_selection left n x os at s r) f)))) w i
 unfolding behind_at_turn
 behind_at_law outer left n x os at s r w i = sym (
-    same_cond (front_is (codes "least") (drop i w)) _ _ _ _ (levels_law made (one_number R.AtLeast) w (i + 1)) (same_cond (front_is (codes "most") (drop i w)) _ _ _ _ (levels_law made (one_number R.AtMost) w (i + 1)) (reading-and_then side (λ f. whole (filtered_state outer (thesaurus_selection left n x os at s r) f)) w i))
-    ∙ two (levels_turn made w) (front_is (codes "least") (drop i w)) (front_is (codes "most") (drop i w)) _ _ (Err i) _)
+    same_cond (first_is (codes "least") (drop i w)) _ _ _ _ (levels_law made (one_number R.AtLeast) w (i + 1)) (same_cond (first_is (codes "most") (drop i w)) _ _ _ _ (levels_law made (one_number R.AtMost) w (i + 1)) (reading-and_then side (λ f. whole (filtered_state outer (thesaurus_selection left n x os at s r) f)) w i))
+    ∙ two (levels_turn made w) (first_is (codes "least") (drop i w)) (first_is (codes "most") (drop i w)) _ _ (Err i) _)
   where
     made : Option Range → State
     made = with_levels outer left n x os at s r
@@ -127,9 +127,9 @@ behind_thesaurus_law outer left n x os at s r w i = same_cond (begins_other_filt
 
 rest_law : (outer : List Frame) (left : Left) (n : Option ℕ) (x : Primary) (os : List PlacedOption) (at : ℕ) (s : List ℕ) (r : Option (List ℕ)) (w : List Placed) (i : ℕ) → thesaurus_rest_turn outer left n x os at s r w i ≡ reading (m.thesaurus_rest outer left n x os at s r) w i
 unfolding thesaurus_rest_turn
-rest_law outer left n x os at s r w i = same_cond (front_is (codes "at") (drop i w)) _ _ _ _ (behind_at_law outer left n x os at s r w (i + 1)) (sym (
-    same_cond (front_is (codes "exactly") (drop i w)) _ _ _ _ (levels_law made (one_number R.Exactly) w (i + 1)) (same_cond (front_is (codes "from") (drop i w)) _ _ _ _ (levels_law made two_bounds w (i + 1)) (sym (behind_thesaurus_law outer left n x os at s r w i)))
-    ∙ two (levels_turn made w) (front_is (codes "exactly") (drop i w)) (front_is (codes "from") (drop i w)) _ _ (Err i) _))
+rest_law outer left n x os at s r w i = same_cond (first_is (codes "at") (drop i w)) _ _ _ _ (behind_at_law outer left n x os at s r w (i + 1)) (sym (
+    same_cond (first_is (codes "exactly") (drop i w)) _ _ _ _ (levels_law made (one_number R.Exactly) w (i + 1)) (same_cond (first_is (codes "from") (drop i w)) _ _ _ _ (levels_law made two_bounds w (i + 1)) (sym (behind_thesaurus_law outer left n x os at s r w i)))
+    ∙ two (levels_turn made w) (first_is (codes "exactly") (drop i w)) (first_is (codes "from") (drop i w)) _ _ (Err i) _))
   where
     made : Option Range → State
     made = with_levels outer left n x os at s r
@@ -137,32 +137,32 @@ rest_law outer left n x os at s r w i = same_cond (front_is (codes "at") (drop i
 in_rest_law : (outer : List Frame) (left : Left) (n : Option ℕ) (x : Primary) (os : List PlacedOption) (at : ℕ) (us : List ThesaurusUse) (s : List ℕ) (r : Option (List ℕ)) (w : List Placed) (i : ℕ) → thesaurus_in_rest_turn outer left n x os at us s r w i ≡ reading (m.thesaurus_in_rest outer left n x os at us s r) w i
 unfolding thesaurus_in_rest_turn
 in_rest_law outer left n x os at us s r w i = sym (
-    same_cond (front_is (codes "exactly") (drop i w)) _ _ _ _ (levels_law made (one_number R.Exactly) w (i + 1)) (same_cond (front_is (codes "from") (drop i w)) _ _ _ _ (levels_law made two_bounds w (i + 1)) (same_cond (front_is (codes "at") (drop i w)) _ _ _ _ (levels_law made bound w (i + 1)) refl))
-    ∙ three (levels_turn made w) (front_is (codes "exactly") (drop i w)) (front_is (codes "from") (drop i w)) (front_is (codes "at") (drop i w)) _ _ _ (Err i) _)
+    same_cond (first_is (codes "exactly") (drop i w)) _ _ _ _ (levels_law made (one_number R.Exactly) w (i + 1)) (same_cond (first_is (codes "from") (drop i w)) _ _ _ _ (levels_law made two_bounds w (i + 1)) (same_cond (first_is (codes "at") (drop i w)) _ _ _ _ (levels_law made bound w (i + 1)) refl))
+    ∙ three (levels_turn made w) (first_is (codes "exactly") (drop i w)) (first_is (codes "from") (drop i w)) (first_is (codes "at") (drop i w)) _ _ _ (Err i) _)
   where
     made : Option Range → State
     made = in_levels outer left n x os at us s r
 
 thesaurus_law : (outer : List Frame) (left : Left) (n : Option ℕ) (x : Primary) (os : List PlacedOption) (at : ℕ) (s : List ℕ) (r : Option (List ℕ)) (w : List Placed) (i : ℕ) → thesaurus_turn outer left n x os at s r w i ≡ reading (m.thesaurus_next outer left n x os at s r) w i
 unfolding thesaurus_turn
-thesaurus_law outer left n x os at s None w i = same_cond (front_is (codes "relationship") (drop i w)) _ _ _ _ refl (rest_law outer left n x os at s None w i)
+thesaurus_law outer left n x os at s None w i = same_cond (first_is (codes "relationship") (drop i w)) _ _ _ _ refl (rest_law outer left n x os at s None w i)
 thesaurus_law outer left n x os at s (Some r) w i = rest_law outer left n x os at s (Some r) w i
 
 thesaurus_in_law : (outer : List Frame) (left : Left) (n : Option ℕ) (x : Primary) (os : List PlacedOption) (at : ℕ) (us : List ThesaurusUse) (s : List ℕ) (r : Option (List ℕ)) (w : List Placed) (i : ℕ) → thesaurus_in_turn outer left n x os at us s r w i ≡ reading (m.thesaurus_in_next outer left n x os at us s r) w i
 unfolding thesaurus_in_turn
-thesaurus_in_law outer left n x os at us s None w i = same_cond (front_is (codes "relationship") (drop i w)) _ _ _ _ refl (in_rest_law outer left n x os at us s None w i)
+thesaurus_in_law outer left n x os at us s None w i = same_cond (first_is (codes "relationship") (drop i w)) _ _ _ _ refl (in_rest_law outer left n x os at us s None w i)
 thesaurus_in_law outer left n x os at us s (Some r) w i = in_rest_law outer left n x os at us s (Some r) w i
 
 stage_law : (outer : List Frame) (left : Left) (stage : Stage) (w : List Placed) (i : ℕ) → stage_turn outer left stage w i ≡ reading (m.next_at outer left stage) w i
 unfolding valued_turn any_of_turn all_of_turn stop_terms_turn with_filter_turn
 stage_law outer left (m.wanted n) w i = refl
 stage_law outer left (m.in_braces n xs) w i = refl
-stage_law outer left (m.valued n xs) w i = same_cond (front_is (codes "any") (drop i w)) _ _ _ _ refl (same_cond (front_is (codes "all") (drop i w)) _ _ _ _ refl (same_cond (front_is (codes "phrase") (drop i w)) _ _ _ _ refl (moded_law outer left n xs M.Any w i)))
-stage_law outer left (m.any_of n xs) w i = same_cond (front_is (codes "word") (drop i w)) _ _ _ _ refl (moded_law outer left n xs M.Any w i)
-stage_law outer left (m.all_of n xs) w i = same_cond (front_is (codes "words") (drop i w)) _ _ _ _ refl (moded_law outer left n xs M.All w i)
+stage_law outer left (m.valued n xs) w i = same_cond (first_is (codes "any") (drop i w)) _ _ _ _ refl (same_cond (first_is (codes "all") (drop i w)) _ _ _ _ refl (same_cond (first_is (codes "phrase") (drop i w)) _ _ _ _ refl (moded_law outer left n xs M.Any w i)))
+stage_law outer left (m.any_of n xs) w i = same_cond (first_is (codes "word") (drop i w)) _ _ _ _ refl (moded_law outer left n xs M.Any w i)
+stage_law outer left (m.all_of n xs) w i = same_cond (first_is (codes "words") (drop i w)) _ _ _ _ refl (moded_law outer left n xs M.All w i)
 stage_law outer left (m.moded n xs mode) w i = moded_law outer left n xs mode w i
 stage_law outer left (m.given_options n x os) w i = options_law outer left n x os w i
-stage_law outer left (m.stop_terms n x os at ts) w i = same_cond (front_is (codes "union") (drop i w)) _ _ _ _ refl (same_cond (front_is (codes "except") (drop i w)) _ _ _ _ refl (options_law outer left n x (os ++ m.stop_option at ts ∷ []) w i))
+stage_law outer left (m.stop_terms n x os at ts) w i = same_cond (first_is (codes "union") (drop i w)) _ _ _ _ refl (same_cond (first_is (codes "except") (drop i w)) _ _ _ _ refl (options_law outer left n x (os ++ m.stop_option at ts ∷ []) w i))
 stage_law outer left (m.stop_strings n x os at ts except xs) w i = refl
 stage_law outer left (m.thesaurus n x os at s r) w i = thesaurus_law outer left n x os at s r w i
 stage_law outer left (m.thesaurus_in n x os at us s r) w i = thesaurus_in_law outer left n x os at us s r w i

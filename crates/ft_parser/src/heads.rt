@@ -1,7 +1,7 @@
 //! What stands at a place among symbols.
 
 ghost use Rattle.std.specs.Prelude.{◌≡◌, ◌≤◌, ◌+◌, IsTrue, IfOk, IfSome, drop, length};
-ghost use Rattle.selection_grammar.specs.steps.Reading.{front_is, front_is_mark, front_number, front_text, front_place};
+ghost use Rattle.selection_grammar.specs.steps.Reading.{first_is, first_is_mark, first_number, first_text, first_place};
 ghost use Rattle.selection_grammar.specs.Shapes as shapes;
 
 use ft_base::{Line, Memory};
@@ -10,7 +10,7 @@ use std::alloc::Global;
 
 /// Whether the symbol of that number is this keyword.
 pub(crate) fn is_word(symbols: &[Placed], number: usize, word: &str) -> bool
-    ensures value { result ≡ front_is word.now (drop number symbols.now) }
+    ensures value { result ≡ first_is word.now (drop number symbols.now) }
     ensures within { IsTrue result → number + 1 ≤ length symbols.now }
 {
     match symbols.get(number) {
@@ -30,7 +30,7 @@ fn is_name(symbol: &Symbol, word: &str) -> bool
 
 /// The number there, if it is one.
 pub(crate) fn number_at(symbols: &[Placed], number: usize) -> Option<u32>
-    ensures value { result ≡ front_number (drop number symbols.now) }
+    ensures value { result ≡ first_number (drop number symbols.now) }
     ensures within { IfSome result (λ n. number + 1 ≤ length symbols.now) }
 {
     match symbols.get(number) {
@@ -54,7 +54,7 @@ pub(crate) fn text_at(
     symbols: &[Placed],
     number: usize,
 ) -> Result<Option<Line>, Memory>
-    ensures value { IfOk result (λ text. text ≡ front_text (drop number symbols.now)) }
+    ensures value { IfOk result (λ text. text ≡ first_text (drop number symbols.now)) }
     ensures within { IfOk result (λ text. IfSome text (λ n. number + 1 ≤ length symbols.now)) }
 {
     match symbols.get(number) {
@@ -74,7 +74,7 @@ fn text_in(alloc: Global, symbol: &Symbol) -> Result<Option<Line>, Memory>
 
 /// The place of the symbol of that number.
 pub(crate) fn place_at(symbols: &[Placed], number: usize) -> usize
-    ensures { result ≡ front_place (drop number symbols.now) }
+    ensures { result ≡ first_place (drop number symbols.now) }
 {
     match symbols.get(number) {
         Some(placed) => placed.from,
@@ -83,7 +83,7 @@ pub(crate) fn place_at(symbols: &[Placed], number: usize) -> usize
 }
 
 pub(crate) fn is_comma(symbols: &[Placed], number: usize) -> bool
-    ensures value { result ≡ front_is_mark shapes.comma (drop number symbols.now) }
+    ensures value { result ≡ first_is_mark shapes.comma (drop number symbols.now) }
     ensures within { IsTrue result → number + 1 ≤ length symbols.now }
 {
     match symbols.get(number) {
@@ -93,7 +93,7 @@ pub(crate) fn is_comma(symbols: &[Placed], number: usize) -> bool
 }
 
 pub(crate) fn opens_brace(symbols: &[Placed], number: usize) -> bool
-    ensures value { result ≡ front_is_mark shapes.open_brace (drop number symbols.now) }
+    ensures value { result ≡ first_is_mark shapes.open_brace (drop number symbols.now) }
     ensures within { IsTrue result → number + 1 ≤ length symbols.now }
 {
     match symbols.get(number) {
@@ -103,7 +103,7 @@ pub(crate) fn opens_brace(symbols: &[Placed], number: usize) -> bool
 }
 
 pub(crate) fn closes_brace(symbols: &[Placed], number: usize) -> bool
-    ensures value { result ≡ front_is_mark shapes.close_brace (drop number symbols.now) }
+    ensures value { result ≡ first_is_mark shapes.close_brace (drop number symbols.now) }
     ensures within { IsTrue result → number + 1 ≤ length symbols.now }
 {
     match symbols.get(number) {
@@ -113,7 +113,7 @@ pub(crate) fn closes_brace(symbols: &[Placed], number: usize) -> bool
 }
 
 pub(crate) fn opens_parenthesis(symbols: &[Placed], number: usize) -> bool
-    ensures value { result ≡ front_is_mark shapes.open_parenthesis (drop number symbols.now) }
+    ensures value { result ≡ first_is_mark shapes.open_parenthesis (drop number symbols.now) }
     ensures within { IsTrue result → number + 1 ≤ length symbols.now }
 {
     match symbols.get(number) {
@@ -123,7 +123,7 @@ pub(crate) fn opens_parenthesis(symbols: &[Placed], number: usize) -> bool
 }
 
 pub(crate) fn closes_parenthesis(symbols: &[Placed], number: usize) -> bool
-    ensures value { result ≡ front_is_mark shapes.close_parenthesis (drop number symbols.now) }
+    ensures value { result ≡ first_is_mark shapes.close_parenthesis (drop number symbols.now) }
     ensures within { IsTrue result → number + 1 ≤ length symbols.now }
 {
     match symbols.get(number) {

@@ -5,7 +5,7 @@ use Rattle.std.proofs.lemmas.List.{append-nil, at_drop_more}
 use Rattle.session_text.specs.declared.command.Command.{Command}
 use Rattle.ft_session.specs.State.{State}
 use Rattle.ft_session.specs.Step.{replies, state_after, step}
-use Rattle.ft_session.specs.Run.{TookFront, with_text}
+use Rattle.ft_session.specs.Run.{TookPrefix, with_text}
 use Rattle.ft_session.proofs.WrittenLemmas.{with_text_twice}
 
 -- a sink that held `before` holds `now`; with the rest it would hold all
@@ -27,21 +27,21 @@ written_more before now next text rest all so_far wrote = record {
 }
 
 -- a front of one more text is written
-pub front_more : (before now next : Option (List ℕ)) (text rest all : List ℕ) → WrittenSoFar before now (text ++ rest) all → TookFront now next text → TookFront before next all
-front_more before now next text rest all so_far took = record {
-  front = so_far.done ++ took.front;
+pub prefix_more : (before now next : Option (List ℕ)) (text rest all : List ℕ) → WrittenSoFar before now (text ++ rest) all → TookPrefix now next text → TookPrefix before next all
+prefix_more before now next text rest all so_far took = record {
+  prefix = so_far.done ++ took.prefix;
   rest = took.rest ++ rest;
-  whole = append_assoc so_far.done took.front (took.rest ++ rest)
-      ∙ (ap (λ t. so_far.done ++ t) (sym (append_assoc took.front took.rest rest) ∙ ap (λ t. t ++ rest) took.whole) ∙ so_far.whole);
-  took = took.took ∙ (ap (λ w. with_text w took.front) so_far.holds ∙ with_text_twice before so_far.done took.front);
+  whole = append_assoc so_far.done took.prefix (took.rest ++ rest)
+      ∙ (ap (λ t. so_far.done ++ t) (sym (append_assoc took.prefix took.rest rest) ∙ ap (λ t. t ++ rest) took.whole) ∙ so_far.whole);
+  took = took.took ∙ (ap (λ w. with_text w took.prefix) so_far.holds ∙ with_text_twice before so_far.done took.prefix);
 }
 
 -- nothing or all of a text is written
-pub front_nothing : (before : Option (List ℕ)) (text : List ℕ) → TookFront before before text
-front_nothing before text = record { front = []; rest = text; whole = refl; took = with_nothing before }
+pub prefix_nothing : (before : Option (List ℕ)) (text : List ℕ) → TookPrefix before before text
+prefix_nothing before text = record { prefix = []; rest = text; whole = refl; took = with_nothing before }
 
-pub front_all : (before after : Option (List ℕ)) (text : List ℕ) → after ≡ with_text before text → TookFront before after text
-front_all before after text wrote = record { front = text; rest = []; whole = append-nil text; took = wrote }
+pub prefix_all : (before after : Option (List ℕ)) (text : List ℕ) → after ≡ with_text before text → TookPrefix before after text
+prefix_all before after text wrote = record { prefix = text; rest = []; whole = append-nil text; took = wrote }
 
 pub written_start : (before : Option (List ℕ)) (text all : List ℕ) → text ≡ all → WrittenSoFar before before text all
 written_start before text all same = record { done = []; whole = same; holds = with_nothing before }

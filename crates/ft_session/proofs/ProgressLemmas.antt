@@ -13,19 +13,19 @@ use Rattle.session_text.specs.Replies.{is_refusal, reply_text}
 use Rattle.ft_session.specs.declared.answering.AnswerError.{AnswerError}
 use Rattle.ft_session.specs.Output.{texts_of, replies_to, replies_to_whole, output, has_refusal}
 use Rattle.ft_session.specs.steps.Pieces.{Answered}
-use Rattle.ft_session.specs.Run.{BeginsWith, TookFront, with_text}
+use Rattle.ft_session.specs.Run.{BeginsWith, TookPrefix, with_text}
 use Rattle.ft_session.specs.State.{State, opening}
 use Rattle.ft_session.specs.Step.{replies, state_after, step}
-use Rattle.ft_session.proofs.AnswerLemmas.{front_nothing, with_nothing}
-use Rattle.ft_session.proofs.ReadLemmas.{told_front_grows}
+use Rattle.ft_session.proofs.AnswerLemmas.{prefix_nothing, with_nothing}
+use Rattle.ft_session.proofs.ReadLemmas.{known_prefix_grows}
 use Rattle.ft_session.proofs.WrittenLemmas.{with_text_twice}
 
 -- `fed` are the bytes taken, and `done` the replies written. What the reader has left is what the session has left.
-pub record Progress (told before now : Option (List ℕ)) (taken : ℕ) (reader : Reading) (state : State) (refused : Bool) : Type 0 where
+pub record Progress (known before now : Option (List ℕ)) (taken : ℕ) (reader : Reading) (state : State) (refused : Bool) : Type 0 where
   pub fed : List ℕ
   pub done : List Reply
   pub long : length fed ≡ taken
-  pub begins : BeginsWith told fed
+  pub begins : BeginsWith known fed
   pub all : (more : List ℕ) → replies_to (fed ++ more) ≡ done ++ replies state (commands_left reader more)
   pub all_whole : (more : List ℕ) → replies_to_whole (fed ++ more) ≡ done ++ replies state (whole_left reader more)
   pub none_held : whole_left reader [] ≡ []
@@ -44,7 +44,7 @@ texts_of-append (r ∷ a) b = ap (λ t. reply_text r ++ t) (texts_of-append a b)
 
 -- ---- the progress of a session
 
-begins_with-nothing : (told : Option (List ℕ)) → BeginsWith told []
+begins_with-nothing : (known : Option (List ℕ)) → BeginsWith known []
 begins_with-nothing None = tt
 begins_with-nothing (Some bytes) = refl
 
@@ -57,12 +57,12 @@ unfolding replies_to_whole
 replies_to_whole-left session = refl
 
 -- before the first piece
-pub progress_start : (told before : Option (List ℕ)) (reader : Reading) (state : State) → reader ≡ new_reading → state ≡ opening → Progress told before before 0 reader state false
-progress_start told before reader state new opened = rw (new, opened) (record {
+pub progress_start : (known before : Option (List ℕ)) (reader : Reading) (state : State) → reader ≡ new_reading → state ≡ opening → Progress known before before 0 reader state false
+progress_start known before reader state new opened = rw (new, opened) (record {
   fed = [];
   done = [];
   long = refl;
-  begins = begins_with-nothing told;
+  begins = begins_with-nothing known;
   all = replies_to-left;
   all_whole = replies_to_whole-left;
   none_held = refl;
@@ -72,7 +72,7 @@ progress_start told before reader state new opened = rw (new, opened) (record {
 
 -- ---- one piece more
 
-module _ (told before now next : Option (List ℕ)) (taken count : ℕ) (reader after : Reading) (state left : State) (refused refuses : Bool) (piece buffer : List ℕ) where
+module _ (known before now next : Option (List ℕ)) (taken count : ℕ) (reader after : Reading) (state left : State) (refused refuses : Bool) (piece buffer : List ℕ) where
   regroup : (fed more : List ℕ) (done : List Reply) (given : List Command) (rest : List Command) → replies state (given ++ rest) ≡ replies state given ++ replies left rest
       → done ++ replies state (given ++ rest) ≡ (done ++ replies state given) ++ replies left rest
   regroup fed more done given rest split = ap (λ rs. done ++ rs) split ∙ sym (append_assoc done (replies state given) (replies left rest))
@@ -80,14 +80,14 @@ module _ (told before now next : Option (List ℕ)) (taken count : ℕ) (reader 
   split_at : (given rest : List Command) → left ≡ state_after state given → replies state (given ++ rest) ≡ replies state given ++ replies left rest
   split_at given rest carried = replies-append state given rest ∙ ap (λ s. replies state given ++ replies s rest) (sym carried)
 
-  pub progress_more : Progress told before now taken reader state refused → Answered reader after state left piece refuses now next
-      → IfSome told (λ bytes. Reads bytes taken count buffer) → count ≤ length buffer → piece ≡ take count buffer
-      → Progress told before next (taken + count) after left (refused || refuses)
+  pub progress_more : Progress known before now taken reader state refused → Answered reader after state left piece refuses now next
+      → IfSome known (λ bytes. Reads bytes taken count buffer) → count ≤ length buffer → piece ≡ take count buffer
+      → Progress known before next (taken + count) after left (refused || refuses)
   progress_more p a reads within is = record {
     fed = p.fed ++ piece;
     done = p.done ++ replies state a.given;
     long = length-append p.fed piece ∙ (ap (λ n. n + length piece) p.long ∙ ap (λ n. taken + n) (ap length is ∙ length-take-le count buffer within));
-    begins = told_front_grows told p.fed buffer (p.fed ++ piece) taken count (sym p.long) within reads (ap (λ b. p.fed ++ b) is) p.begins;
+    begins = known_prefix_grows known p.fed buffer (p.fed ++ piece) taken count (sym p.long) within reads (ap (λ b. p.fed ++ b) is) p.begins;
     all = λ more. ap replies_to (append_assoc p.fed piece more) ∙ (p.all (piece ++ more) ∙ (ap (λ cs. p.done ++ replies state cs) (a.commands more)
         ∙ regroup p.fed more p.done a.given (commands_left after more) (split_at a.given (commands_left after more) a.carried_out)));
     all_whole = λ more. ap replies_to_whole (append_assoc p.fed piece more) ∙ (p.all_whole (piece ++ more) ∙ (ap (λ cs. p.done ++ replies state cs) (a.whole more)
@@ -98,19 +98,19 @@ module _ (told before now next : Option (List ℕ)) (taken count : ℕ) (reader 
     refuses = ap (λ b. refused || b) a.refuses ∙ (ap (λ b. b || list_any is_refusal (replies state a.given)) p.refuses ∙ sym (list_any-append is_refusal p.done (replies state a.given)));
   }
 
--- ---- what is left of a told file
+-- ---- what is left of a known file
 
-rest_any : (told : Option (List ℕ)) (P : List ℕ → Type 0) (taken : ℕ) → ((more : List ℕ) → P more) → IfSome told (λ session. P (drop taken session))
+rest_any : (known : Option (List ℕ)) (P : List ℕ → Type 0) (taken : ℕ) → ((more : List ℕ) → P more) → IfSome known (λ session. P (drop taken session))
 rest_any None P taken holds = tt
 rest_any (Some session) P taken holds = holds (drop taken session)
 
 -- a piece that was read, and more
-pub rest_piece : (told : Option (List ℕ)) (P : List ℕ → Type 0) (taken count : ℕ) (buffer piece : List ℕ) → IfSome told (λ bytes. Reads bytes taken count buffer) → piece ≡ take count buffer
-    → ((more : List ℕ) → P (piece ++ more)) → IfSome told (λ session. P (drop taken session))
+pub rest_piece : (known : Option (List ℕ)) (P : List ℕ → Type 0) (taken count : ℕ) (buffer piece : List ℕ) → IfSome known (λ bytes. Reads bytes taken count buffer) → piece ≡ take count buffer
+    → ((more : List ℕ) → P (piece ++ more)) → IfSome known (λ session. P (drop taken session))
 rest_piece None P taken count buffer piece reads is holds = tt
 rest_piece (Some session) P taken count buffer piece reads is holds =
     let left = drop taken session in
-    subst P (ap (λ front. front ++ drop count left) (is ∙ reads.read) ∙ take-append-drop count left) (holds (drop count left))
+    subst P (ap (λ prefix. prefix ++ drop count left) (is ∙ reads.read) ∙ take-append-drop count left) (holds (drop count left))
 
 -- ---- what an answered piece says
 
@@ -122,16 +122,16 @@ answered (Ok refused) reader next state after piece before now given commands wh
     record { given = given; commands = commands; whole = whole; none_held = none; carried_out = carried; refuses = refuses; written = wrote }
 answered (Err error) reader next state after piece before now given commands whole none carried refuses wrote = tt
 
-pub answered_front : (result : Result Bool AnswerError) (reader next : Reading) (state : State) (piece : List ℕ) (before now : Option (List ℕ)) (given : List Command)
-    → ((more : List ℕ) → commands_left reader (piece ++ more) ≡ given ++ commands_left next more) → OnErr result (TookFront before now (texts_of (replies state given)))
-    → OnErr result ((more : List ℕ) → TookFront before now (texts_of (replies state (commands_left reader (piece ++ more)))))
-answered_front (Ok refused) reader next state piece before now given commands took = tt
-answered_front (Err error) reader next state piece before now given commands took = λ more.
+pub answered_prefix : (result : Result Bool AnswerError) (reader next : Reading) (state : State) (piece : List ℕ) (before now : Option (List ℕ)) (given : List Command)
+    → ((more : List ℕ) → commands_left reader (piece ++ more) ≡ given ++ commands_left next more) → OnErr result (TookPrefix before now (texts_of (replies state given)))
+    → OnErr result ((more : List ℕ) → TookPrefix before now (texts_of (replies state (commands_left reader (piece ++ more)))))
+answered_prefix (Ok refused) reader next state piece before now given commands took = tt
+answered_prefix (Err error) reader next state piece before now given commands took = λ more.
     let left = replies (state_after state given) (commands_left next more) in
     record {
-      front = took.front;
+      prefix = took.prefix;
       rest = took.rest ++ texts_of left;
-      whole = sym (append_assoc took.front took.rest (texts_of left)) ∙ (ap (λ t. t ++ texts_of left) took.whole
+      whole = sym (append_assoc took.prefix took.rest (texts_of left)) ∙ (ap (λ t. t ++ texts_of left) took.whole
           ∙ (sym (texts_of-append (replies state given) left)
           ∙ ap texts_of (sym (replies-append state given (commands_left next more)) ∙ ap (replies state) (sym (commands more)))));
       took = took.took;
@@ -139,38 +139,38 @@ answered_front (Err error) reader next state piece before now given commands too
 
 -- ---- where it stops
 
-module _ (told before now : Option (List ℕ)) (taken : ℕ) (reader : Reading) (state : State) (refused : Bool) (p : Progress told before now taken reader state refused) where
-  -- what was taken is the front of a told file
-  fed_is : (session : List ℕ) → told ≡ Some session → p.fed ≡ take taken session
+module _ (known before now : Option (List ℕ)) (taken : ℕ) (reader : Reading) (state : State) (refused : Bool) (p : Progress known before now taken reader state refused) where
+  -- what was taken is a prefix of a known file
+  fed_is : (session : List ℕ) → known ≡ Some session → p.fed ≡ take taken session
   fed_is session tells = subst (λ (t : Option (List ℕ)). BeginsWith t p.fed) tells p.begins ∙ ap (λ n. take n session) p.long
 
   -- the replies written and those that are left are those to the session
-  left_of : (session : List ℕ) → told ≡ Some session → replies_to session ≡ p.done ++ replies state (commands_left reader (drop taken session))
+  left_of : (session : List ℕ) → known ≡ Some session → replies_to session ≡ p.done ++ replies state (commands_left reader (drop taken session))
   left_of session tells = ap replies_to (sym (take-append-drop taken session)) ∙ (ap (λ f. replies_to (f ++ drop taken session)) (sym (fed_is session tells)) ∙ p.all (drop taken session))
 
   -- a front of the replies to what is left was written behind them
-  pub progress_front : (next : Option (List ℕ)) → IfSome told (λ session. TookFront now next (texts_of (replies state (commands_left reader (drop taken session))))) → IfSome told (λ session. TookFront before next (output session))
-  progress_front next = by told refl
+  pub progress_prefix : (next : Option (List ℕ)) → IfSome known (λ session. TookPrefix now next (texts_of (replies state (commands_left reader (drop taken session))))) → IfSome known (λ session. TookPrefix before next (output session))
+  progress_prefix next = by known refl
     where
-      by : (t : Option (List ℕ)) → told ≡ t → IfSome t (λ session. TookFront now next (texts_of (replies state (commands_left reader (drop taken session))))) → IfSome t (λ session. TookFront before next (output session))
+      by : (t : Option (List ℕ)) → known ≡ t → IfSome t (λ session. TookPrefix now next (texts_of (replies state (commands_left reader (drop taken session))))) → IfSome t (λ session. TookPrefix before next (output session))
       by None tells took = tt
       by (Some session) tells took = record {
-        front = texts_of p.done ++ took.front;
+        prefix = texts_of p.done ++ took.prefix;
         rest = took.rest;
-        whole = append_assoc (texts_of p.done) took.front took.rest ∙ (ap (λ t. texts_of p.done ++ t) took.whole
+        whole = append_assoc (texts_of p.done) took.prefix took.rest ∙ (ap (λ t. texts_of p.done ++ t) took.whole
             ∙ (sym (texts_of-append p.done (replies state (commands_left reader (drop taken session)))) ∙ ap texts_of (sym (left_of session tells))));
-        took = took.took ∙ (ap (λ w. with_text w took.front) p.holds ∙ with_text_twice before (texts_of p.done) took.front);
+        took = took.took ∙ (ap (λ w. with_text w took.prefix) p.holds ∙ with_text_twice before (texts_of p.done) took.prefix);
       }
 
   -- nothing more was written
-  pub progress_stays : IfSome told (λ session. TookFront before now (output session))
-  progress_stays = progress_front now (rest_any told (λ more. TookFront now now (texts_of (replies state (commands_left reader more)))) taken (λ more. front_nothing now (texts_of (replies state (commands_left reader more)))))
+  pub progress_stays : IfSome known (λ session. TookPrefix before now (output session))
+  progress_stays = progress_prefix now (rest_any known (λ more. TookPrefix now now (texts_of (replies state (commands_left reader more)))) taken (λ more. prefix_nothing now (texts_of (replies state (commands_left reader more)))))
 
   -- no more was taken than there is
-  pub progress_within : IfSome told (λ session. taken ≤ length session)
-  progress_within = by told refl
+  pub progress_within : IfSome known (λ session. taken ≤ length session)
+  progress_within = by known refl
     where
-      by : (t : Option (List ℕ)) → told ≡ t → IfSome t (λ session. taken ≤ length session)
+      by : (t : Option (List ℕ)) → known ≡ t → IfSome t (λ session. taken ≤ length session)
       by None tells = tt
       by (Some session) tells =
           let long : length (take taken session) ≡ taken = sym (ap length (fed_is session tells)) ∙ p.long in
@@ -178,36 +178,36 @@ module _ (told before now : Option (List ℕ)) (taken : ℕ) (reader : Reading) 
 
   -- ---- the file ended
 
-  module _ (count reached : ℕ) (buffer : List ℕ) (none : count ≡ 0) (reads : IfSome told (λ bytes. Reads bytes taken count buffer)) where
-    pub progress_length : reached ≡ taken + count → IfSome told (λ session. reached ≡ length session)
-    progress_length to = by told reads progress_within
+  module _ (count reached : ℕ) (buffer : List ℕ) (none : count ≡ 0) (reads : IfSome known (λ bytes. Reads bytes taken count buffer)) where
+    pub progress_length : reached ≡ taken + count → IfSome known (λ session. reached ≡ length session)
+    progress_length to = by known reads progress_within
       where
         by : (t : Option (List ℕ)) → IfSome t (λ bytes. Reads bytes taken count buffer) → IfSome t (λ session. taken ≤ length session) → IfSome t (λ session. reached ≡ length session)
         by None r within = tt
         by (Some session) r within = let past : length session ≤ taken = r.ends.0 none in omega arith
 
-    pub progress_end : (P : List ℕ → Type 0) → P [] → IfSome told (λ session. P (drop taken session))
-    progress_end P holds = by told reads
+    pub progress_end : (P : List ℕ → Type 0) → P [] → IfSome known (λ session. P (drop taken session))
+    progress_end P holds = by known reads
       where
         by : (t : Option (List ℕ)) → IfSome t (λ bytes. Reads bytes taken count buffer) → IfSome t (λ session. P (drop taken session))
         by None r = tt
         by (Some session) r = subst P (sym (drop_all taken session (r.ends.0 none))) holds
 
     -- the replies to all commands are written, and one of them is a refusal or none is
-    pub progress_all : (next : Option (List ℕ)) → next ≡ with_text now (texts_of (replies state (commands_left reader []))) → IfSome told (λ session. next ≡ with_text before (output session))
-    progress_all next wrote = by told refl (progress_end (λ more. next ≡ with_text now (texts_of (replies state (commands_left reader more)))) wrote)
+    pub progress_all : (next : Option (List ℕ)) → next ≡ with_text now (texts_of (replies state (commands_left reader []))) → IfSome known (λ session. next ≡ with_text before (output session))
+    progress_all next wrote = by known refl (progress_end (λ more. next ≡ with_text now (texts_of (replies state (commands_left reader more)))) wrote)
       where
-        by : (t : Option (List ℕ)) → told ≡ t → IfSome t (λ session. next ≡ with_text now (texts_of (replies state (commands_left reader (drop taken session))))) → IfSome t (λ session. next ≡ with_text before (output session))
+        by : (t : Option (List ℕ)) → known ≡ t → IfSome t (λ session. next ≡ with_text now (texts_of (replies state (commands_left reader (drop taken session))))) → IfSome t (λ session. next ≡ with_text before (output session))
         by None tells w = tt
         by (Some session) tells w =
             let left = replies state (commands_left reader (drop taken session)) in
             w ∙ (ap (λ h. with_text h (texts_of left)) p.holds ∙ (with_text_twice before (texts_of p.done) (texts_of left)
             ∙ ap (with_text before) (sym (texts_of-append p.done left) ∙ ap texts_of (sym (left_of session tells)))))
 
-    pub progress_refuses : (refuses : Bool) → refuses ≡ list_any is_refusal (replies state (commands_left reader [])) → IfSome told (λ session. (refused || refuses) ≡ has_refusal session)
-    progress_refuses refuses is = by told refl (progress_end (λ more. refuses ≡ list_any is_refusal (replies state (commands_left reader more))) is)
+    pub progress_refuses : (refuses : Bool) → refuses ≡ list_any is_refusal (replies state (commands_left reader [])) → IfSome known (λ session. (refused || refuses) ≡ has_refusal session)
+    progress_refuses refuses is = by known refl (progress_end (λ more. refuses ≡ list_any is_refusal (replies state (commands_left reader more))) is)
       where
-        by : (t : Option (List ℕ)) → told ≡ t → IfSome t (λ session. refuses ≡ list_any is_refusal (replies state (commands_left reader (drop taken session)))) → IfSome t (λ session. (refused || refuses) ≡ has_refusal session)
+        by : (t : Option (List ℕ)) → known ≡ t → IfSome t (λ session. refuses ≡ list_any is_refusal (replies state (commands_left reader (drop taken session)))) → IfSome t (λ session. (refused || refuses) ≡ has_refusal session)
         by None tells r = tt
         by (Some session) tells r =
             let left = replies state (commands_left reader (drop taken session)) in

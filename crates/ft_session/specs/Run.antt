@@ -21,15 +21,15 @@ abbrev pub with_text : Option (List ℕ) → List ℕ → Option (List ℕ)
 with_text before text = option_map (λ bytes. bytes ++ text) before
 
 -- a sink that held `before` holds `after`: it took a front of the text
-pub record TookFront (before after : Option (List ℕ)) (text : List ℕ) : Type 0 where
-  pub front : List ℕ
+pub record TookPrefix (before after : Option (List ℕ)) (text : List ℕ) : Type 0 where
+  pub prefix : List ℕ
   pub rest : List ℕ
-  pub whole : front ++ rest ≡ text
-  pub took : after ≡ with_text before front
+  pub whole : prefix ++ rest ≡ text
+  pub took : after ≡ with_text before prefix
 
--- the bytes of a file, where they are told, begin with these
+-- the bytes of a file, where they are known, begin with these
 abbrev pub BeginsWith : Option (List ℕ) → List ℕ → Type 0
-BeginsWith told front = IfSome told (λ bytes. front ≡ take (length front) bytes)
+BeginsWith known prefix = IfSome known (λ bytes. prefix ≡ take (length prefix) bytes)
 
 -- the first word of a call, where it has one
 abbrev pub first_of : List (List ℕ) → Option (List ℕ)

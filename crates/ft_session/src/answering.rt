@@ -2,7 +2,7 @@ ghost use Rattle.std.specs.Prelude.{◌≡◌, ◌+◌, ◌^◌, ◌<◌, IfErr,
 ghost use Rattle.std.specs.List.{list_any};
 ghost use Rattle.session_text.specs.Replies.{is_refusal, reply_text};
 ghost use Rattle.ft_session.specs.Output.{texts_of};
-ghost use Rattle.ft_session.specs.Run.{TookFront, with_text};
+ghost use Rattle.ft_session.specs.Run.{TookPrefix, with_text};
 ghost use Rattle.ft_session.specs.Step.{replies, state_after, step};
 
 use crate::session::Session;
@@ -53,7 +53,7 @@ pub(crate) fn answer<K: Sink, L: Ledger, M: Ledger>(
     ensures state { OnOk result (session.new ≡ (step session.old command.now).0) }
     ensures refused { IfOk result (λ refused. refused ≡ is_refusal (step session.old command.now).1) }
     ensures written { OnOk result (K.written sink.new ≡ with_text (K.written sink.old) (reply_text (step session.old command.now).1)) }
-    ensures front { OnErr result (TookFront (K.written sink.old) (K.written sink.new) (reply_text (step session.old command.now).1)) }
+    ensures prefix { OnErr result (TookPrefix (K.written sink.old) (K.written sink.new) (reply_text (step session.old command.now).1)) }
     ensures faults { OnOk result (K.faults sink.new ≡ K.faults sink.old) }
     ensures cause { IsErrOf result AnswerError.Fault → K.faults sink.old < K.faults sink.new }
 {
@@ -68,7 +68,7 @@ fn write_reply<K: Sink>(alloc: Global, reply: &Reply, sink: &mut K) -> Result<bo
     requires { K.faults sink.old + 1 < 2 ^ 64 }
     ensures refused { IfOk result (λ refused. refused ≡ is_refusal reply.now) }
     ensures written { OnOk result (K.written sink.new ≡ with_text (K.written sink.old) (reply_text reply.now)) }
-    ensures front { OnErr result (TookFront (K.written sink.old) (K.written sink.new) (reply_text reply.now)) }
+    ensures prefix { OnErr result (TookPrefix (K.written sink.old) (K.written sink.new) (reply_text reply.now)) }
     ensures faults { OnOk result (K.faults sink.new ≡ K.faults sink.old) }
     ensures cause { IsErrOf result AnswerError.Fault → K.faults sink.old < K.faults sink.new }
 {
@@ -90,7 +90,7 @@ pub(crate) fn answer_all<K: Sink, L: Ledger, M: Ledger>(
     ensures state { OnOk result (session.new ≡ state_after session.old commands.now) }
     ensures refused { IfOk result (λ refused. refused ≡ list_any is_refusal (replies session.old commands.now)) }
     ensures written { OnOk result (K.written sink.new ≡ with_text (K.written sink.old) (texts_of (replies session.old commands.now))) }
-    ensures front { OnErr result (TookFront (K.written sink.old) (K.written sink.new) (texts_of (replies session.old commands.now))) }
+    ensures prefix { OnErr result (TookPrefix (K.written sink.old) (K.written sink.new) (texts_of (replies session.old commands.now))) }
     ensures faults { OnOk result (K.faults sink.new ≡ K.faults sink.old) }
     ensures cause { IsErrOf result AnswerError.Fault → K.faults sink.old < K.faults sink.new }
 {

@@ -31,7 +31,7 @@ impl<'a> TextTest for SelectionTest<'a> {
 
     ghost meaning = { λ test. asked_of test.plans.now test.tree.now.root };
 
-    ghost spent = { λ test. 0 };
+    ghost cost = { λ test. 0 };
 
     fn contains(&mut self, selection: usize, node: NodeRef) -> Result<bool, Memory> {
         let tree = self.tree.to_tree(node)?;

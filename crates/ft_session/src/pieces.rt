@@ -1,12 +1,12 @@
 ghost use Rattle.std.specs.Prelude.{◌≡◌, ◌++◌, ◌+◌, ◌^◌, ◌<◌, ◌≤◌, [], List, ℕ, length, string_bytes, take, IfOk, IfSome, IsErrOf, IsSome, OnErr, OnOk};
 ghost use Rattle.std.specs.List.{list_any};
 ghost use Rattle.ft_base.specs.Limits.{max_session_bytes};
-ghost use Rattle.ft_io.specs.Shelf.{bytes_of, told_bytes};
+ghost use Rattle.ft_io.specs.Shelf.{bytes_of, known_bytes};
 ghost use Rattle.session_text.specs.steps.Reading.{commands_left, new_reading};
 ghost use Rattle.session_text.specs.Replies.{is_refusal};
 ghost use Rattle.ft_session.specs.Output.{has_refusal, output, output_of_whole, texts_of};
 ghost use Rattle.ft_session.specs.steps.Pieces.{Answered};
-ghost use Rattle.ft_session.specs.Run.{TookFront, with_text};
+ghost use Rattle.ft_session.specs.Run.{TookPrefix, with_text};
 ghost use Rattle.ft_session.specs.State.{opening};
 ghost use Rattle.ft_session.specs.Step.{replies};
 
@@ -82,7 +82,7 @@ fn answer_piece<K: Sink, L: Ledger, M: Ledger>(
     requires room { answering.old.lines.bytes + length piece.now < 2 ^ 63 }
     ensures answered { IfOk result (λ refused.
         Answered answering.old.lines answering.new.lines answering.old.session answering.new.session piece.now refused (K.written sink.old) (K.written sink.new)) }
-    ensures front { OnErr result ((more : List ℕ) → TookFront (K.written sink.old) (K.written sink.new)
+    ensures prefix { OnErr result ((more : List ℕ) → TookPrefix (K.written sink.old) (K.written sink.new)
         (texts_of (replies answering.old.session (commands_left answering.old.lines (piece.now ++ more))))) }
     ensures bytes { answering.new.lines.bytes ≡ answering.old.lines.bytes + length piece.now }
     ensures faults { OnOk result (K.faults sink.new ≡ K.faults sink.old) }
@@ -111,7 +111,7 @@ fn answer_end<K: Sink, L: Ledger, M: Ledger>(
     ensures refused { IfOk result (λ refused. refused ≡ list_any is_refusal (replies answering.old.session (commands_left answering.old.lines []))) }
     ensures written { OnOk result (K.written sink.new
         ≡ with_text (K.written sink.old) (texts_of (replies answering.old.session (commands_left answering.old.lines [])))) }
-    ensures front { OnErr result (TookFront (K.written sink.old) (K.written sink.new)
+    ensures prefix { OnErr result (TookPrefix (K.written sink.old) (K.written sink.new)
         (texts_of (replies answering.old.session (commands_left answering.old.lines [])))) }
     ensures faults { OnOk result (K.faults sink.new ≡ K.faults sink.old) }
     ensures cause { IsErrOf result AnswerError.Fault → K.faults sink.old < K.faults sink.new }
@@ -148,27 +148,27 @@ pub(crate) fn answer_file<S: Shelf, K: Sink, L: Ledger, M: Ledger>(
     requires rows_whole { 0 < rows.parts }
 
     // where all was answered
-    ensures present { OnOk result (IfSome (S.files shelf.old) (λ told. IsSome (bytes_of told (string_bytes name.now)))) }
-    ensures whole { OnOk result (IfSome (told_bytes (S.files shelf.old) (string_bytes name.now)) (λ session. S.reached shelf.new (string_bytes name.now) ≡ length session)) }
-    ensures written { OnOk result (IfSome (told_bytes (S.files shelf.old) (string_bytes name.now)) (λ session.
+    ensures present { OnOk result (IfSome (S.files shelf.old) (λ known. IsSome (bytes_of known (string_bytes name.now)))) }
+    ensures whole { OnOk result (IfSome (known_bytes (S.files shelf.old) (string_bytes name.now)) (λ session. S.reached shelf.new (string_bytes name.now) ≡ length session)) }
+    ensures written { OnOk result (IfSome (known_bytes (S.files shelf.old) (string_bytes name.now)) (λ session.
         K.written sink.new ≡ with_text (K.written sink.old) (output session))) }
-    ensures refused { IfOk result (λ refused. IfSome (told_bytes (S.files shelf.old) (string_bytes name.now)) (λ session. refused ≡ has_refusal session)) }
+    ensures refused { IfOk result (λ refused. IfSome (known_bytes (S.files shelf.old) (string_bytes name.now)) (λ session. refused ≡ has_refusal session)) }
     ensures below { OnOk result (S.reached shelf.new (string_bytes name.now) ≤ max_session_bytes) }
 
     // whatever came
-    ensures front { IfSome (told_bytes (S.files shelf.old) (string_bytes name.now)) (λ session. TookFront (K.written sink.old) (K.written sink.new) (output session)) }
+    ensures prefix { IfSome (known_bytes (S.files shelf.old) (string_bytes name.now)) (λ session. TookPrefix (K.written sink.old) (K.written sink.new) (output session)) }
     ensures reached_most { S.reached shelf.new (string_bytes name.now) ≤ max_session_bytes + 1 }
 
     // where it stopped
     ensures read_fault { IsErrOf result Stopped.ReadFault → S.faults shelf.old (string_bytes name.now) < S.faults shelf.new (string_bytes name.now) }
     ensures read_fault_early { IsErrOf result Stopped.ReadFault → S.reached shelf.new (string_bytes name.now) < max_session_bytes + 1 }
-    ensures read_fault_writes { IsErrOf result Stopped.ReadFault → IfSome (told_bytes (S.files shelf.old) (string_bytes name.now)) (λ session.
+    ensures read_fault_writes { IsErrOf result Stopped.ReadFault → IfSome (known_bytes (S.files shelf.old) (string_bytes name.now)) (λ session.
         K.written sink.new ≡ with_text (K.written sink.old) (output_of_whole (take (S.reached shelf.new (string_bytes name.now)) session))) }
     ensures write_fault { IsErrOf result Stopped.WriteFault → K.faults sink.old < K.faults sink.new }
     ensures too_long { IsErrOf result Stopped.TooLong → (S.reached shelf.new (string_bytes name.now) ≡ max_session_bytes + 1) × (K.faults sink.new ≡ K.faults sink.old) }
-    ensures too_long_writes { IsErrOf result Stopped.TooLong → IfSome (told_bytes (S.files shelf.old) (string_bytes name.now)) (λ session.
+    ensures too_long_writes { IsErrOf result Stopped.TooLong → IfSome (known_bytes (S.files shelf.old) (string_bytes name.now)) (λ session.
         K.written sink.new ≡ with_text (K.written sink.old) (output_of_whole (take (S.reached shelf.new (string_bytes name.now)) session))) }
-    ensures longer { IsErrOf result Stopped.TooLong → IfSome (told_bytes (S.files shelf.old) (string_bytes name.now)) (λ session. max_session_bytes + 1 ≤ length session) }
+    ensures longer { IsErrOf result Stopped.TooLong → IfSome (known_bytes (S.files shelf.old) (string_bytes name.now)) (λ session. max_session_bytes + 1 ≤ length session) }
 {
     let session = Session::new(alloc)?;
     let mut answering = Answering {
@@ -199,27 +199,27 @@ fn answer_pieces<S: Shelf, K: Sink, L: Ledger, M: Ledger>(
     requires sink_countable { K.faults sink.old + 1 < 2 ^ 64 }
 
     // where all was answered
-    ensures present { OnOk result (IfSome (S.files shelf.old) (λ told. IsSome (bytes_of told (string_bytes name.now)))) }
-    ensures whole { OnOk result (IfSome (told_bytes (S.files shelf.old) (string_bytes name.now)) (λ session. S.reached shelf.new (string_bytes name.now) ≡ length session)) }
-    ensures written { OnOk result (IfSome (told_bytes (S.files shelf.old) (string_bytes name.now)) (λ session.
+    ensures present { OnOk result (IfSome (S.files shelf.old) (λ known. IsSome (bytes_of known (string_bytes name.now)))) }
+    ensures whole { OnOk result (IfSome (known_bytes (S.files shelf.old) (string_bytes name.now)) (λ session. S.reached shelf.new (string_bytes name.now) ≡ length session)) }
+    ensures written { OnOk result (IfSome (known_bytes (S.files shelf.old) (string_bytes name.now)) (λ session.
         K.written sink.new ≡ with_text (K.written sink.old) (output session))) }
-    ensures refused { IfOk result (λ refused. IfSome (told_bytes (S.files shelf.old) (string_bytes name.now)) (λ session. refused ≡ has_refusal session)) }
+    ensures refused { IfOk result (λ refused. IfSome (known_bytes (S.files shelf.old) (string_bytes name.now)) (λ session. refused ≡ has_refusal session)) }
     ensures below { OnOk result (S.reached shelf.new (string_bytes name.now) ≤ max_session_bytes) }
 
     // whatever came
-    ensures front { IfSome (told_bytes (S.files shelf.old) (string_bytes name.now)) (λ session. TookFront (K.written sink.old) (K.written sink.new) (output session)) }
+    ensures prefix { IfSome (known_bytes (S.files shelf.old) (string_bytes name.now)) (λ session. TookPrefix (K.written sink.old) (K.written sink.new) (output session)) }
     ensures reached_most { S.reached shelf.new (string_bytes name.now) ≤ max_session_bytes + 1 }
 
     // where it stopped
     ensures read_fault { IsErrOf result Stopped.ReadFault → S.faults shelf.old (string_bytes name.now) < S.faults shelf.new (string_bytes name.now) }
     ensures read_fault_early { IsErrOf result Stopped.ReadFault → S.reached shelf.new (string_bytes name.now) < max_session_bytes + 1 }
-    ensures read_fault_writes { IsErrOf result Stopped.ReadFault → IfSome (told_bytes (S.files shelf.old) (string_bytes name.now)) (λ session.
+    ensures read_fault_writes { IsErrOf result Stopped.ReadFault → IfSome (known_bytes (S.files shelf.old) (string_bytes name.now)) (λ session.
         K.written sink.new ≡ with_text (K.written sink.old) (output_of_whole (take (S.reached shelf.new (string_bytes name.now)) session))) }
     ensures write_fault { IsErrOf result Stopped.WriteFault → K.faults sink.old < K.faults sink.new }
     ensures too_long { IsErrOf result Stopped.TooLong → (S.reached shelf.new (string_bytes name.now) ≡ max_session_bytes + 1) × (K.faults sink.new ≡ K.faults sink.old) }
-    ensures too_long_writes { IsErrOf result Stopped.TooLong → IfSome (told_bytes (S.files shelf.old) (string_bytes name.now)) (λ session.
+    ensures too_long_writes { IsErrOf result Stopped.TooLong → IfSome (known_bytes (S.files shelf.old) (string_bytes name.now)) (λ session.
         K.written sink.new ≡ with_text (K.written sink.old) (output_of_whole (take (S.reached shelf.new (string_bytes name.now)) session))) }
-    ensures longer { IsErrOf result Stopped.TooLong → IfSome (told_bytes (S.files shelf.old) (string_bytes name.now)) (λ session. max_session_bytes + 1 ≤ length session) }
+    ensures longer { IsErrOf result Stopped.TooLong → IfSome (known_bytes (S.files shelf.old) (string_bytes name.now)) (λ session. max_session_bytes + 1 ≤ length session) }
 {
     let mut piece = buffer(answering.alloc, MAX_PIECE_BYTES)?;
     let mut taken = 0;

@@ -1,7 +1,7 @@
 ghost use Rattle.std.specs.Prelude.{◌≡◌, ◌+◌, ◌^◌, ◌<◌, ◌≤◌, length, string_bytes, vec_len, IfOk, IfSome, IsSome, OnOk, MatchResult};
 ghost use Rattle.ft_base.specs.Limits.{max_session_bytes};
 ghost use Rattle.ft_io.specs.Faults.{CountsFault};
-ghost use Rattle.ft_io.specs.Shelf.{Reads, bytes_of, told_bytes};
+ghost use Rattle.ft_io.specs.Shelf.{Reads, bytes_of, known_bytes};
 
 use ft_base::MAX_SESSION_BYTES;
 use ft_io::{Failed, Shelf};
@@ -35,9 +35,9 @@ pub(crate) fn read_piece<S: Shelf>(
     ensures cause { CountsFault (S.faults shelf.old (string_bytes name.now)) (S.faults shelf.new (string_bytes name.now)) result }
     ensures files { S.files shelf.new ≡ S.files shelf.old }
 
-    // where the files are told
-    ensures present { OnOk result (IfSome (S.files shelf.old) (λ told. IsSome (bytes_of told (string_bytes name.now)))) }
-    ensures content { IfOk result (λ count. IfSome (told_bytes (S.files shelf.old) (string_bytes name.now)) (λ bytes. Reads bytes taken count buffer.new)) }
+    // where the files are known
+    ensures present { OnOk result (IfSome (S.files shelf.old) (λ known. IsSome (bytes_of known (string_bytes name.now)))) }
+    ensures content { IfOk result (λ count. IfSome (known_bytes (S.files shelf.old) (string_bytes name.now)) (λ bytes. Reads bytes taken count buffer.new)) }
 {
     let room = buffer.len().min((MOST - taken) as usize);
     shelf.read_at(name.as_str(), taken, &mut buffer[..room])

@@ -1,9 +1,9 @@
 ghost use Rattle.std.specs.Prelude.{◌≡◌, ◌⊎◌, ◌↔◌, ◌+◌, ◌^◌, ◌<◌, ◌≤◌, None, length, map, take, IfSome, IsSomeAnd, string_bytes};
 ghost use Rattle.std.specs.Option.{ForSome, option_copied, option_map};
 ghost use Rattle.ft_base.specs.Limits.{max_session_bytes};
-ghost use Rattle.ft_io.specs.Shelf.{bytes_of, told_bytes};
+ghost use Rattle.ft_io.specs.Shelf.{bytes_of, known_bytes};
 ghost use Rattle.ft_session.specs.Output.{output, output_of_whole};
-ghost use Rattle.ft_session.specs.Run.{AnswersAll, IsFinished, TookFront, first_of, is_file_word, session_file, with_text};
+ghost use Rattle.ft_session.specs.Run.{AnswersAll, IsFinished, TookPrefix, first_of, is_file_word, session_file, with_text};
 
 use crate::pieces::{Stopped, answer_file};
 use crate::status::Status;
@@ -43,8 +43,8 @@ pub fn run<S: Shelf, K: Sink>(
     ensures limit { IsFinished result → IfSome (session_file (map string_bytes words.now)) (λ name. S.reached shelf.new name ≤ max_session_bytes) }
 
     // Whatever the status, no more than a front of those replies is written.
-    ensures front { IfSome (session_file (map string_bytes words.now)) (λ name. IfSome (told_bytes (S.files shelf.old) name) (λ session.
-        TookFront (K.written sink.old) (K.written sink.new) (output session))) }
+    ensures prefix { IfSome (session_file (map string_bytes words.now)) (λ name. IfSome (known_bytes (S.files shelf.old) name) (λ session.
+        TookPrefix (K.written sink.old) (K.written sink.new) (output session))) }
 
     // The words name no session's file.
     ensures usage { (result ≡ Status.Usage) ↔ (session_file (map string_bytes words.now) ≡ None) }
@@ -55,7 +55,7 @@ pub fn run<S: Shelf, K: Sink>(
     ensures read_fault { result ≡ Status.ReadFault → IfSome (session_file (map string_bytes words.now)) (λ name.
         S.faults shelf.old name < S.faults shelf.new name) }
     ensures read_fault_writes { result ≡ Status.ReadFault → IfSome (session_file (map string_bytes words.now)) (λ name.
-        IfSome (told_bytes (S.files shelf.old) name) (λ session.
+        IfSome (known_bytes (S.files shelf.old) name) (λ session.
         K.written sink.new ≡ with_text (K.written sink.old) (output_of_whole (take (S.reached shelf.new name) session)))) }
     ensures write_fault { result ≡ Status.WriteFault → K.faults sink.old < K.faults sink.new }
 
@@ -65,13 +65,13 @@ pub fn run<S: Shelf, K: Sink>(
     ensures too_long_only { IfSome (session_file (map string_bytes words.now)) (λ name.
         S.reached shelf.new name ≡ max_session_bytes + 1 → K.faults sink.new ≡ K.faults sink.old → (result ≡ Status.TooLong) ⊎ (result ≡ Status.Memory)) }
     ensures too_long_writes { result ≡ Status.TooLong → IfSome (session_file (map string_bytes words.now)) (λ name.
-        IfSome (told_bytes (S.files shelf.old) name) (λ session.
+        IfSome (known_bytes (S.files shelf.old) name) (λ session.
         K.written sink.new ≡ with_text (K.written sink.old) (output_of_whole (take (S.reached shelf.new name) session)))) }
 
     // Where nothing fails and the session isn't too long, it is answered, unless memory runs out.
     ensures complete { IfSome (session_file (map string_bytes words.now)) (λ name.
         S.faults shelf.new name ≡ S.faults shelf.old name → K.faults sink.new ≡ K.faults sink.old →
-        IfSome (told_bytes (S.files shelf.old) name) (λ session. length session ≤ max_session_bytes →
+        IfSome (known_bytes (S.files shelf.old) name) (λ session. length session ≤ max_session_bytes →
         IsFinished result ⊎ (result ≡ Status.Memory))) }
 
     // Whatever the status, one byte more than a session may have is the last that is read.

@@ -1,5 +1,5 @@
 ghost use Rattle.std.specs.Prelude.{◌≡◌, ◌+◌, ◌^◌, ◌<◌, ◌≤◌, length, MatchResult};
-ghost use Rattle.ft_session.specs.Run.{TookFront, with_text};
+ghost use Rattle.ft_session.specs.Run.{TookPrefix, with_text};
 
 use ft_io::{Failed, Sink};
 
@@ -9,7 +9,7 @@ pub(crate) fn write_all<K: Sink>(sink: &mut K, text: &[u8]) -> Result<(), Failed
     requires { K.faults sink.old + 1 < 2 ^ 64 }
     ensures written { MatchResult result
         (λ _. K.written sink.new ≡ with_text (K.written sink.old) text.now)
-        (λ _. TookFront (K.written sink.old) (K.written sink.new) text.now) }
+        (λ _. TookPrefix (K.written sink.old) (K.written sink.new) text.now) }
     ensures cause { MatchResult result
         (λ _. K.faults sink.new ≡ K.faults sink.old)
         (λ _. K.faults sink.old < K.faults sink.new) }

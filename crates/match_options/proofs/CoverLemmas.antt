@@ -75,8 +75,8 @@ few_chars text utf8 = let bytes = ap length (encodes-chars text utf8) in omega (
 -- one character more is passed
 pub char_passed : (letters : List ℕ) (count c : ℕ) (bytes rest : List ℕ) → IsUtf8 bytes → bytes ≡ encode_utf8 c ++ rest → chars bytes ≡ drop count letters → (chars rest ≡ drop (count + 1) letters) × (count + 1 ≤ length letters)
 char_passed letters count c bytes rest utf8 split is =
-    let front = sym is ∙ behind_first bytes rest c utf8 split in
-    (sym (ap (drop 1) front) ∙ drop-drop 1 count letters, some letters count (chars rest) c front)
+    let prefix = sym is ∙ behind_first bytes rest c utf8 split in
+    (sym (ap (drop 1) prefix) ∙ drop-drop 1 count letters, some letters count (chars rest) c prefix)
   where
     some : (letters : List ℕ) (count : ℕ) (rest : List ℕ) (c : ℕ) → drop count letters ≡ c ∷ rest → count + 1 ≤ length letters
     some letters count rest c e = let size = ap length e in omega (arith, length-drop count letters, size)

@@ -11,9 +11,9 @@ use Rattle.match_options.specs.declared.atom.SizedAtom.{SizedAtom}
 use Rattle.match_options.specs.declared.atom.Number.{Number}
 use Rattle.ft_base.specs.Letters.{is_digit, number_of, begins_with}
 use Rattle.ft_base.specs.Limits.{max_number}
-use Rattle.match_options.specs.Patterns.{is_period, is_backslash, sized, number_before, upper_bound, bounds, braces_at, period_before, backslash_before, front_atom, atoms_behind, atoms_of}
+use Rattle.match_options.specs.Patterns.{is_period, is_backslash, sized, number_before, upper_bound, bounds, braces_at, period_before, backslash_before, first_atom, atoms_behind, atoms_of}
 use Rattle.match_options.specs.Grammar.{IsNumber, goes_on_with_period, Spells, letter, escaped, one, at_most_one, any_number, at_least_one, from_to, Pattern, last, before}
-use Rattle.match_options.proofs.Reading.{passed, atoms_front, atoms_bad}
+use Rattle.match_options.proofs.Reading.{passed, atoms_first, atoms_bad}
 
 -- ---- what is spelled is read
 
@@ -50,11 +50,11 @@ braces_spelled low high rest nl nh ordered small =
     ∙ cond-true _ _ _ (and_from _ _ (le-leb (number_of low) (number_of high) ordered) (le-leb (number_of high) max_number small))
     ∙ ap (sized (Gap (number_of low) (Some (number_of high)))) sizes
 
-record SpelledFront (text : List ℕ) (atom : Atom) (rest : List ℕ) : Type 0 where
+record SpelledFirst (text : List ℕ) (atom : Atom) (rest : List ℕ) : Type 0 where
   first : ℕ
   further : List ℕ
   split : text ≡ first ∷ further
-  reads : front_atom first (further ++ rest) ≡ sized atom (suc (length further))
+  reads : first_atom first (further ++ rest) ≡ sized atom (suc (length further))
 
 period_alone : (rest : List ℕ) → goes_on_with_period rest ≡ false → period_before rest ≡ sized (Gap 1 (Some 1)) 1
 period_alone [] h = refl
@@ -64,25 +64,25 @@ period_alone (c ∷ rest) h =
     let first = or_parts (c == 63) (c == 42) plus.0 in
     cond-false _ _ _ first.0 ∙ cond-false _ _ _ first.1 ∙ cond-false _ _ _ plus.1 ∙ cond-false _ _ _ braces.1
 
-letter_alone : (c : ℕ) (rest : List ℕ) → (is_period c || is_backslash c) ≡ false → front_atom c rest ≡ sized (Letter c) 1
+letter_alone : (c : ℕ) (rest : List ℕ) → (is_period c || is_backslash c) ≡ false → first_atom c rest ≡ sized (Letter c) 1
 letter_alone c rest h = let parts = or_parts (is_period c) (is_backslash c) h in cond-false _ _ _ parts.0 ∙ cond-false _ _ _ parts.1
 
-spelled_front : (text : List ℕ) (atom : Atom) (rest : List ℕ) → Spells text atom rest → SpelledFront text atom rest
-spelled_front _ _ _ (letter c rest h) = record { first = c; further = []; split = refl; reads = letter_alone c rest h }
-spelled_front _ _ _ (escaped c rest) = record { first = 92; further = c ∷ []; split = refl; reads = refl }
-spelled_front _ _ _ (one rest h) = record { first = 46; further = []; split = refl; reads = period_alone rest h }
-spelled_front _ _ _ (at_most_one rest) = record { first = 46; further = 63 ∷ []; split = refl; reads = refl }
-spelled_front _ _ _ (any_number rest) = record { first = 46; further = 42 ∷ []; split = refl; reads = refl }
-spelled_front _ _ _ (at_least_one rest) = record { first = 46; further = 43 ∷ []; split = refl; reads = refl }
-spelled_front _ _ _ (from_to low high rest nl nh ordered small) =
+spelled_first : (text : List ℕ) (atom : Atom) (rest : List ℕ) → Spells text atom rest → SpelledFirst text atom rest
+spelled_first _ _ _ (letter c rest h) = record { first = c; further = []; split = refl; reads = letter_alone c rest h }
+spelled_first _ _ _ (escaped c rest) = record { first = 92; further = c ∷ []; split = refl; reads = refl }
+spelled_first _ _ _ (one rest h) = record { first = 46; further = []; split = refl; reads = period_alone rest h }
+spelled_first _ _ _ (at_most_one rest) = record { first = 46; further = 63 ∷ []; split = refl; reads = refl }
+spelled_first _ _ _ (any_number rest) = record { first = 46; further = 42 ∷ []; split = refl; reads = refl }
+spelled_first _ _ _ (at_least_one rest) = record { first = 46; further = 43 ∷ []; split = refl; reads = refl }
+spelled_first _ _ _ (from_to low high rest nl nh ordered small) =
     record { first = 46; further = 123 ∷ (low ++ 44 ∷ (high ++ 125 ∷ [])); split = refl; reads = braces_spelled low high rest nl nh ordered small }
 
-behind_front : (first : ℕ) (further rest : List ℕ) (atom : Atom) → front_atom first (further ++ rest) ≡ sized atom (suc (length further))
+behind_first_atom : (first : ℕ) (further rest : List ℕ) (atom : Atom) → first_atom first (further ++ rest) ≡ sized atom (suc (length further))
     → atoms_behind 0 (first ∷ (further ++ rest)) ≡ option_map (λ atoms. atom ∷ atoms) (atoms_behind 0 rest)
-behind_front first further rest atom reads =
+behind_first_atom first further rest atom reads =
     let size : suc (length further) - 1 ≡ length further = omega arith in
     let within : length further ≤ length (further ++ rest) = omega (arith, length-append further rest) in
-    atoms_front first (further ++ rest) (record { atom = atom; size = suc (length further) }) reads
+    atoms_first first (further ++ rest) (record { atom = atom; size = suc (length further) }) reads
     ∙ ap (option_map (λ atoms. atom ∷ atoms)) (
     ap (λ n. atoms_behind n (further ++ rest)) size
     ∙ passed (length further) (further ++ rest) within
@@ -104,13 +104,13 @@ of_behind first rest text e = ap atoms_of e
 pub spelled_read : (text : List ℕ) (atoms : List Atom) → Pattern text atoms → atoms_of text ≡ Some atoms
 unfolding atoms_behind
 spelled_read _ _ (last text atom spells) =
-    let found = spelled_front text atom [] spells in
+    let found = spelled_first text atom [] spells in
     of_behind found.first (found.further ++ []) text (found.split ∙ ap (λ xs. found.first ∷ xs) (sym (append-nil found.further)))
-    ∙ behind_front found.first found.further [] atom found.reads
-spelled_read _ _ (before front rest atom atoms spells further) =
-    let found = spelled_front front atom rest spells in
-    of_behind found.first (found.further ++ rest) (front ++ rest) (ap (λ xs. xs ++ rest) found.split)
-    ∙ behind_front found.first found.further rest atom found.reads
+    ∙ behind_first_atom found.first found.further [] atom found.reads
+spelled_read _ _ (before prefix rest atom atoms spells further) =
+    let found = spelled_first prefix atom rest spells in
+    of_behind found.first (found.further ++ rest) (prefix ++ rest) (ap (λ xs. xs ++ rest) found.split)
+    ∙ behind_first_atom found.first found.further rest atom found.reads
     ∙ ap (option_map (λ more. atom ∷ more)) (pattern_behind rest atoms (spelled_read rest atoms further))
 
 -- ---- what is read is spelled
@@ -164,17 +164,17 @@ number_read closing letters number e =
     ]
 
 -- the characters of the atom at the front
-record FrontOf (c : ℕ) (rest : List ℕ) (first : SizedAtom) : Type 0 where
-  front : List ℕ
+record FirstOf (c : ℕ) (rest : List ℕ) (first : SizedAtom) : Type 0 where
+  prefix : List ℕ
   behind : List ℕ
-  split : rest ≡ front ++ behind
-  size : first.size ≡ suc (length front)
-  spells : Spells (c ∷ front) first.atom behind
+  split : rest ≡ prefix ++ behind
+  size : first.size ≡ suc (length prefix)
+  spells : Spells (c ∷ prefix) first.atom behind
 
 sized_is : (atom : Atom) (size : ℕ) (first : SizedAtom) → sized atom size ≡ Some first → record { atom = atom; size = size } ≡ first
 sized_is atom size first e = cc
 
-upper_read : (rest : List ℕ) (low : Number) (first : SizedAtom) → NumberOf 44 rest low → (o : Option Number) → number_before 125 (drop low.size rest) ≡ o → upper_bound low.value low.size o ≡ Some first → FrontOf 46 (123 ∷ rest) first
+upper_read : (rest : List ℕ) (low : Number) (first : SizedAtom) → NumberOf 44 rest low → (o : Option Number) → number_before 125 (drop low.size rest) ≡ o → upper_bound low.value low.size o ≡ Some first → FirstOf 46 (123 ∷ rest) first
 upper_read rest low first l None h e = cc
 upper_read rest low first l (Some high) h e =
     elim (chosen (nat_le low.value high.value && nat_le high.value max_number) (sized (Gap low.value (Some high.value)) (low.size + high.size + 2)) None (Some first) e) [
@@ -194,7 +194,7 @@ upper_read rest low first l (Some high) h e =
           let ordered_too : number_of l.digits ≤ number_of r.digits = omega arith in
           let small_too : number_of r.digits ≤ max_number = omega arith in
           record {
-            front = 123 ∷ text;
+            prefix = 123 ∷ text;
             behind = r.behind;
             split = ap (λ xs. 123 ∷ xs) (l.split ∙ ap (λ xs. l.digits ++ 44 ∷ xs) r.split ∙ sym (append_assoc l.digits (44 ∷ (r.digits ++ 125 ∷ [])) r.behind ∙ ap (λ xs. l.digits ++ 44 ∷ xs) (append_assoc r.digits (125 ∷ []) r.behind)));
             size = ap (λ f. f.size) (sym is) ∙ sizes;
@@ -204,43 +204,43 @@ upper_read rest low first l (Some high) h e =
       | inr (test, same) ↦ cc
     ]
 
-braces_read : (rest : List ℕ) (first : SizedAtom) (o : Option Number) → number_before 44 rest ≡ o → bounds o rest ≡ Some first → FrontOf 46 (123 ∷ rest) first
+braces_read : (rest : List ℕ) (first : SizedAtom) (o : Option Number) → number_before 44 rest ≡ o → bounds o rest ≡ Some first → FirstOf 46 (123 ∷ rest) first
 braces_read rest first None h e = cc
 braces_read rest first (Some low) h e = upper_read rest low first (number_read 44 rest low h) (number_before 125 (drop low.size rest)) refl e
 
-period_read : (rest : List ℕ) (first : SizedAtom) → period_before rest ≡ Some first → FrontOf 46 rest first
-period_read [] first e = subst (FrontOf 46 []) (sized_is (Gap 1 (Some 1)) 1 first e) (record { front = []; behind = []; split = refl; size = refl; spells = one [] refl })
+period_read : (rest : List ℕ) (first : SizedAtom) → period_before rest ≡ Some first → FirstOf 46 rest first
+period_read [] first e = subst (FirstOf 46 []) (sized_is (Gap 1 (Some 1)) 1 first e) (record { prefix = []; behind = []; split = refl; size = refl; spells = one [] refl })
 period_read (d ∷ rest) first e =
     let alone = sized (Gap 1 (Some 1)) 1 in
     let braces = cond (d == 123) (braces_at rest) alone in
     let plus = cond (d == 43) (sized (Gap 1 None) 2) braces in
     let star = cond (d == 42) (sized (Gap 0 None) 2) plus in
     elim (chosen (d == 63) (sized (Gap 0 (Some 1)) 2) star (Some first) e) [
-      | inl (t, same) ↦ subst (FrontOf 46 (d ∷ rest)) (sized_is (Gap 0 (Some 1)) 2 first same) (record { front = 63 ∷ []; behind = rest; split = ap (λ x. x ∷ rest) (eqb-true d 63 t); size = refl; spells = at_most_one rest })
+      | inl (t, same) ↦ subst (FirstOf 46 (d ∷ rest)) (sized_is (Gap 0 (Some 1)) 2 first same) (record { prefix = 63 ∷ []; behind = rest; split = ap (λ x. x ∷ rest) (eqb-true d 63 t); size = refl; spells = at_most_one rest })
       | inr (f1, e1) ↦ elim (chosen (d == 42) (sized (Gap 0 None) 2) plus (Some first) e1) [
-        | inl (t, same) ↦ subst (FrontOf 46 (d ∷ rest)) (sized_is (Gap 0 None) 2 first same) (record { front = 42 ∷ []; behind = rest; split = ap (λ x. x ∷ rest) (eqb-true d 42 t); size = refl; spells = any_number rest })
+        | inl (t, same) ↦ subst (FirstOf 46 (d ∷ rest)) (sized_is (Gap 0 None) 2 first same) (record { prefix = 42 ∷ []; behind = rest; split = ap (λ x. x ∷ rest) (eqb-true d 42 t); size = refl; spells = any_number rest })
         | inr (f2, e2) ↦ elim (chosen (d == 43) (sized (Gap 1 None) 2) braces (Some first) e2) [
-          | inl (t, same) ↦ subst (FrontOf 46 (d ∷ rest)) (sized_is (Gap 1 None) 2 first same) (record { front = 43 ∷ []; behind = rest; split = ap (λ x. x ∷ rest) (eqb-true d 43 t); size = refl; spells = at_least_one rest })
+          | inl (t, same) ↦ subst (FirstOf 46 (d ∷ rest)) (sized_is (Gap 1 None) 2 first same) (record { prefix = 43 ∷ []; behind = rest; split = ap (λ x. x ∷ rest) (eqb-true d 43 t); size = refl; spells = at_least_one rest })
           | inr (f3, e3) ↦ elim (chosen (d == 123) (braces_at rest) alone (Some first) e3) [
-            | inl (t, same) ↦ subst (λ x. FrontOf 46 (x ∷ rest) first) (sym (eqb-true d 123 t)) (braces_read rest first (number_before 44 rest) refl same)
-            | inr (f4, same) ↦ subst (FrontOf 46 (d ∷ rest)) (sized_is (Gap 1 (Some 1)) 1 first same) (record { front = []; behind = d ∷ rest; split = refl; size = refl; spells = one (d ∷ rest) (λ i. ((f1 i || f2 i) || f3 i) || f4 i) })
+            | inl (t, same) ↦ subst (λ x. FirstOf 46 (x ∷ rest) first) (sym (eqb-true d 123 t)) (braces_read rest first (number_before 44 rest) refl same)
+            | inr (f4, same) ↦ subst (FirstOf 46 (d ∷ rest)) (sized_is (Gap 1 (Some 1)) 1 first same) (record { prefix = []; behind = d ∷ rest; split = refl; size = refl; spells = one (d ∷ rest) (λ i. ((f1 i || f2 i) || f3 i) || f4 i) })
           ]
         ]
       ]
     ]
 
-backslash_read : (rest : List ℕ) (first : SizedAtom) → backslash_before rest ≡ Some first → FrontOf 92 rest first
+backslash_read : (rest : List ℕ) (first : SizedAtom) → backslash_before rest ≡ Some first → FirstOf 92 rest first
 backslash_read [] first e = cc
-backslash_read (d ∷ rest) first e = subst (FrontOf 92 (d ∷ rest)) (sized_is (Letter d) 2 first e) (record { front = d ∷ []; behind = rest; split = refl; size = refl; spells = escaped d rest })
+backslash_read (d ∷ rest) first e = subst (FirstOf 92 (d ∷ rest)) (sized_is (Letter d) 2 first e) (record { prefix = d ∷ []; behind = rest; split = refl; size = refl; spells = escaped d rest })
 
-front_read : (c : ℕ) (rest : List ℕ) (first : SizedAtom) → front_atom c rest ≡ Some first → FrontOf c rest first
-front_read c rest first e =
+first_read : (c : ℕ) (rest : List ℕ) (first : SizedAtom) → first_atom c rest ≡ Some first → FirstOf c rest first
+first_read c rest first e =
     let alone = sized (Letter c) 1 in
     elim (chosen (is_period c) (period_before rest) (cond (is_backslash c) (backslash_before rest) alone) (Some first) e) [
-      | inl (t, same) ↦ subst (λ x. FrontOf x rest first) (sym (eqb-true c 46 t)) (period_read rest first same)
+      | inl (t, same) ↦ subst (λ x. FirstOf x rest first) (sym (eqb-true c 46 t)) (period_read rest first same)
       | inr (f1, e1) ↦ elim (chosen (is_backslash c) (backslash_before rest) alone (Some first) e1) [
-        | inl (t, same) ↦ subst (λ x. FrontOf x rest first) (sym (eqb-true c 92 t)) (backslash_read rest first same)
-        | inr (f2, same) ↦ subst (FrontOf c rest) (sized_is (Letter c) 1 first same) (record { front = []; behind = rest; split = refl; size = refl; spells = letter c rest (λ i. f1 i || f2 i) })
+        | inl (t, same) ↦ subst (λ x. FirstOf x rest first) (sym (eqb-true c 92 t)) (backslash_read rest first same)
+        | inr (f2, same) ↦ subst (FirstOf c rest) (sized_is (Letter c) 1 first same) (record { prefix = []; behind = rest; split = refl; size = refl; spells = letter c rest (λ i. f1 i || f2 i) })
       ]
     ]
 
@@ -248,40 +248,40 @@ mapped : (atom : Atom) (o : Option (List Atom)) (atoms : List Atom) → option_m
 mapped atom None atoms e = cc
 mapped atom (Some more) atoms e = (more, refl, cc)
 
-read_front : (c : ℕ) (rest : List ℕ) (first : SizedAtom) (f : FrontOf c rest first) → front_atom c rest ≡ Some first → atoms_behind 0 (c ∷ rest) ≡ option_map (λ atoms. first.atom ∷ atoms) (atoms_behind 0 f.behind)
-read_front c rest first f e =
-    let size : first.size - 1 ≡ length f.front = omega (arith, f.size) in
-    let within : length f.front ≤ length (f.front ++ f.behind) = omega (arith, length-append f.front f.behind) in
-    atoms_front c rest first e
+read_first : (c : ℕ) (rest : List ℕ) (first : SizedAtom) (f : FirstOf c rest first) → first_atom c rest ≡ Some first → atoms_behind 0 (c ∷ rest) ≡ option_map (λ atoms. first.atom ∷ atoms) (atoms_behind 0 f.behind)
+read_first c rest first f e =
+    let size : first.size - 1 ≡ length f.prefix = omega (arith, f.size) in
+    let within : length f.prefix ≤ length (f.prefix ++ f.behind) = omega (arith, length-append f.prefix f.behind) in
+    atoms_first c rest first e
     ∙ ap (option_map (λ atoms. first.atom ∷ atoms)) (
     (λ i. atoms_behind (size i) (f.split i))
-    ∙ passed (length f.front) (f.front ++ f.behind) within
-    ∙ ap (atoms_behind 0) (drop-append_seam f.front f.behind))
+    ∙ passed (length f.prefix) (f.prefix ++ f.behind) within
+    ∙ ap (atoms_behind 0) (drop-append_seam f.prefix f.behind))
 
-none_read : (c : ℕ) (rest : List ℕ) (atoms : List Atom) (o : Option SizedAtom) → front_atom c rest ≡ o → atoms_behind 0 (c ∷ rest) ≡ Some atoms → (first : SizedAtom) × (front_atom c rest ≡ Some first)
+none_read : (c : ℕ) (rest : List ℕ) (atoms : List Atom) (o : Option SizedAtom) → first_atom c rest ≡ o → atoms_behind 0 (c ∷ rest) ≡ Some atoms → (first : SizedAtom) × (first_atom c rest ≡ Some first)
 none_read c rest atoms None h e = let bad = atoms_bad c rest h in cc
 none_read c rest atoms (Some first) h e = (first, h)
 
-joined : (front behind : List ℕ) (atom : Atom) (atoms : List Atom) → Spells front atom behind → option_map (λ more. atom ∷ more) (atoms_behind 0 behind) ≡ Some atoms
-    → ((more : List Atom) → atoms_of behind ≡ Some more → Pattern behind more) → Pattern (front ++ behind) atoms
+joined : (prefix behind : List ℕ) (atom : Atom) (atoms : List Atom) → Spells prefix atom behind → option_map (λ more. atom ∷ more) (atoms_behind 0 behind) ≡ Some atoms
+    → ((more : List Atom) → atoms_of behind ≡ Some more → Pattern behind more) → Pattern (prefix ++ behind) atoms
 unfolding atoms_behind atoms_of
-joined front [] atom atoms spells e further =
+joined prefix [] atom atoms spells e further =
     let is : atom ∷ [] ≡ atoms = cc in
-    subst (λ t. Pattern t atoms) (sym (append-nil front)) (subst (Pattern front) is (last front atom spells))
-joined front (x ∷ behind) atom atoms spells e further =
+    subst (λ t. Pattern t atoms) (sym (append-nil prefix)) (subst (Pattern prefix) is (last prefix atom spells))
+joined prefix (x ∷ behind) atom atoms spells e further =
     let more = mapped atom (atoms_behind 0 (x ∷ behind)) atoms e in
-    subst (Pattern (front ++ x ∷ behind)) more.2 (before front (x ∷ behind) atom more.0 spells (further more.0 more.1))
+    subst (Pattern (prefix ++ x ∷ behind)) more.2 (before prefix (x ∷ behind) atom more.0 spells (further more.0 more.1))
 
 letters_spelled : (bound : ℕ) (letters : List ℕ) (atoms : List Atom) → length letters ≤ bound → atoms_of letters ≡ Some atoms → Pattern letters atoms
 letters_spelled bound [] atoms h e = absurd (no_atoms atoms e)
 letters_spelled zero (c ∷ rest) atoms h e = absurd (omega arith)
 letters_spelled (suc bound) (c ∷ rest) atoms h e =
     let behind = pattern_behind (c ∷ rest) atoms e in
-    let found = none_read c rest atoms (front_atom c rest) refl behind in
-    let f = front_read c rest found.0 found.1 in
-    let left : length f.behind ≤ bound = omega (arith, ap length f.split, length-append f.front f.behind) in
+    let found = none_read c rest atoms (first_atom c rest) refl behind in
+    let f = first_read c rest found.0 found.1 in
+    let left : length f.behind ≤ bound = omega (arith, ap length f.split, length-append f.prefix f.behind) in
     subst (λ t. Pattern t atoms) (ap (λ xs. c ∷ xs) (sym f.split))
-    (joined (c ∷ f.front) f.behind found.0.atom atoms f.spells (sym (read_front c rest found.0 f found.1) ∙ behind) (λ more h2. letters_spelled bound f.behind more left h2))
+    (joined (c ∷ f.prefix) f.behind found.0.atom atoms f.spells (sym (read_first c rest found.0 f found.1) ∙ behind) (λ more h2. letters_spelled bound f.behind more left h2))
 
 pub read_spelled : (text : List ℕ) (atoms : List Atom) → atoms_of text ≡ Some atoms → Pattern text atoms
 read_spelled text atoms e = letters_spelled (length text) text atoms (omega arith) e

@@ -12,9 +12,9 @@ use Rattle.match_options.specs.steps.PartsLeft.{ended, parts_left}
 -- ---- parts
 
 -- characters put before the first of some lists
-onto_front : List ℕ → List (List ℕ) → List (List ℕ)
-onto_front front [] = []
-onto_front front (part ∷ rest) = (front ++ part) ∷ rest
+onto_prefix : List ℕ → List (List ℕ) → List (List ℕ)
+onto_prefix prefix [] = []
+onto_prefix prefix (part ∷ rest) = (prefix ++ part) ∷ rest
 
 texts : List (List ℕ) → List (List ℕ)
 texts pieces = map encode_utf8_all (filter is_not_empty pieces)
@@ -24,13 +24,13 @@ unfolding texts
 texts_cons [] rest = refl
 texts_cons (c ∷ piece) rest = refl
 
-onto_one : (front : List ℕ) (c : ℕ) (pieces : List (List ℕ)) → 0 < length pieces → onto_front front (onto_first c pieces) ≡ onto_front (front ++ c ∷ []) pieces
-unfolding onto_front
-onto_one front c [] h = absurd (omega arith)
-onto_one front c (piece ∷ rest) h = ap (λ p. p ∷ rest) (sym (append_assoc front (c ∷ []) piece))
+onto_one : (prefix : List ℕ) (c : ℕ) (pieces : List (List ℕ)) → 0 < length pieces → onto_prefix prefix (onto_first c pieces) ≡ onto_prefix (prefix ++ c ∷ []) pieces
+unfolding onto_prefix
+onto_one prefix c [] h = absurd (omega arith)
+onto_one prefix c (piece ∷ rest) h = ap (λ p. p ∷ rest) (sym (append_assoc prefix (c ∷ []) piece))
 
-onto_none : (pieces : List (List ℕ)) → onto_front [] pieces ≡ pieces
-unfolding onto_front
+onto_none : (pieces : List (List ℕ)) → onto_prefix [] pieces ≡ pieces
+unfolding onto_prefix
 onto_none [] = refl
 onto_none (piece ∷ rest) = refl
 
@@ -38,20 +38,20 @@ some_pieces : (cs : List ℕ) → 0 < length (slice_split is_whitespace cs)
 some_pieces cs = rw (length-slice_split is_whitespace cs) (omega arith)
 
 -- what is left makes the parts that it makes behind the first characters of a part
-left_split : (front cs : List ℕ) → texts (onto_front front (slice_split is_whitespace cs)) ≡ parts_left front cs
-unfolding onto_front texts parts_left
-left_split front [] = ap (λ f. texts (f ∷ [])) (append-nil front)
-left_split front (c ∷ cs) = elim (cases_Bool (is_whitespace c)) [
+left_split : (prefix cs : List ℕ) → texts (onto_prefix prefix (slice_split is_whitespace cs)) ≡ parts_left prefix cs
+unfolding onto_prefix texts parts_left
+left_split prefix [] = ap (λ f. texts (f ∷ [])) (append-nil prefix)
+left_split prefix (c ∷ cs) = elim (cases_Bool (is_whitespace c)) [
   | inl white ↦
-      ap (λ pieces. texts (onto_front front pieces)) (slice_split-cons_yes is_whitespace c cs white)
-      ∙ ap (λ f. texts (f ∷ slice_split is_whitespace cs)) (append-nil front)
-      ∙ texts_cons front (slice_split is_whitespace cs)
-      ∙ ap (λ ts. ended front ++ ts) (ap texts (sym (onto_none (slice_split is_whitespace cs))) ∙ left_split [] cs)
+      ap (λ pieces. texts (onto_prefix prefix pieces)) (slice_split-cons_yes is_whitespace c cs white)
+      ∙ ap (λ f. texts (f ∷ slice_split is_whitespace cs)) (append-nil prefix)
+      ∙ texts_cons prefix (slice_split is_whitespace cs)
+      ∙ ap (λ ts. ended prefix ++ ts) (ap texts (sym (onto_none (slice_split is_whitespace cs))) ∙ left_split [] cs)
       ∙ sym (cond-true _ _ _ white)
   | inr other ↦
-      ap (λ pieces. texts (onto_front front pieces)) (slice_split-cons_no is_whitespace c cs other)
-      ∙ ap texts (onto_one front c (slice_split is_whitespace cs) (some_pieces cs))
-      ∙ left_split (front ++ c ∷ []) cs
+      ap (λ pieces. texts (onto_prefix prefix pieces)) (slice_split-cons_no is_whitespace c cs other)
+      ∙ ap texts (onto_one prefix c (slice_split is_whitespace cs) (some_pieces cs))
+      ∙ left_split (prefix ++ c ∷ []) cs
       ∙ sym (cond-false _ _ _ other)
 ]
 

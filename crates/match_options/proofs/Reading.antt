@@ -4,7 +4,7 @@ use Rattle.std.specs.Prelude.{option_map, ◌==◌, false}
 use Rattle.std.proofs.lemmas.List.{drop_more, drop_all}
 use Rattle.match_options.specs.declared.atom.Atom.{Atom}
 use Rattle.match_options.specs.declared.atom.SizedAtom.{SizedAtom}
-use Rattle.match_options.specs.Patterns.{front_atom, atom_before, atoms_behind, atoms_of}
+use Rattle.match_options.specs.Patterns.{first_atom, atom_before, atoms_behind, atoms_of}
 
 -- the characters of an atom that is read are passed
 pub passed : (n : ℕ) (letters : List ℕ) → n ≤ length letters → atoms_behind n letters ≡ atoms_behind 0 (drop n letters)
@@ -15,18 +15,18 @@ passed (suc n) (c ∷ rest) h = passed n rest (omega arith)
 
 -- atoms that are read, before what is left
 abbrev pub behind_read : List Atom → Option (List Atom) → Option (List Atom)
-behind_read front further = option_map (λ rest. front ++ rest) further
+behind_read prefix further = option_map (λ rest. prefix ++ rest) further
 
-one_read : (front more : List Atom) (atom : Atom) (further : Option (List Atom)) → more ≡ front ++ atom ∷ [] → behind_read front (option_map (λ atoms. atom ∷ atoms) further) ≡ behind_read more further
-one_read front more atom None e = refl
-one_read front more atom (Some rest) e = ap Some (sym (ap (λ xs. xs ++ rest) e ∙ append_assoc front (atom ∷ []) rest))
+one_read : (prefix more : List Atom) (atom : Atom) (further : Option (List Atom)) → more ≡ prefix ++ atom ∷ [] → behind_read prefix (option_map (λ atoms. atom ∷ atoms) further) ≡ behind_read more further
+one_read prefix more atom None e = refl
+one_read prefix more atom (Some rest) e = ap Some (sym (ap (λ xs. xs ++ rest) e ∙ append_assoc prefix (atom ∷ []) rest))
 
 -- the front atom of what is left
-pub atoms_front : (c : ℕ) (rest : List ℕ) (first : SizedAtom) → front_atom c rest ≡ Some first → atoms_behind 0 (c ∷ rest) ≡ option_map (λ atoms. first.atom ∷ atoms) (atoms_behind (first.size - 1) rest)
+pub atoms_first : (c : ℕ) (rest : List ℕ) (first : SizedAtom) → first_atom c rest ≡ Some first → atoms_behind 0 (c ∷ rest) ≡ option_map (λ atoms. first.atom ∷ atoms) (atoms_behind (first.size - 1) rest)
 unfolding atoms_behind
-atoms_front c rest first e = ap (λ o. atom_before o (λ n. atoms_behind n rest)) e
+atoms_first c rest first e = ap (λ o. atom_before o (λ n. atoms_behind n rest)) e
 
-pub atoms_bad : (c : ℕ) (rest : List ℕ) → front_atom c rest ≡ None → atoms_behind 0 (c ∷ rest) ≡ None
+pub atoms_bad : (c : ℕ) (rest : List ℕ) → first_atom c rest ≡ None → atoms_behind 0 (c ∷ rest) ≡ None
 unfolding atoms_behind
 atoms_bad c rest e = ap (λ o. atom_before o (λ n. atoms_behind n rest)) e
 
@@ -35,11 +35,11 @@ module _ (letters : List ℕ) {whole : Option (List Atom)} (atoms : List Atom) (
   split = drop_more letters i c h ∙ ap (λ d. d ∷ drop (i + 1) letters) (sym is)
 
   -- no atom begins here
-  pub bad_here : front_atom c (drop (i + 1) letters) ≡ None → None ≡ whole
+  pub bad_here : first_atom c (drop (i + 1) letters) ≡ None → None ≡ whole
   bad_here bad = sym (ap (behind_read atoms) (ap (atoms_behind 0) split ∙ atoms_bad c (drop (i + 1) letters) bad)) ∙ told
 
   -- one atom more
-  pub atom_read : (first : SizedAtom) (new : List Atom) → front_atom c (drop (i + 1) letters) ≡ Some first → 0 < first.size → first.size ≤ length (drop (i + 1) letters) + 1 → new ≡ atoms ++ first.atom ∷ []
+  pub atom_read : (first : SizedAtom) (new : List Atom) → first_atom c (drop (i + 1) letters) ≡ Some first → 0 < first.size → first.size ≤ length (drop (i + 1) letters) + 1 → new ≡ atoms ++ first.atom ∷ []
       → behind_read new (atoms_behind 0 (drop (i + first.size) letters)) ≡ whole
   atom_read first new found some within written =
       let place : i + first.size ≡ (i + 1) + (first.size - 1) = omega arith in
@@ -47,7 +47,7 @@ module _ (letters : List ℕ) {whole : Option (List Atom)} (atoms : List Atom) (
       ∙ ap (λ d. behind_read new (atoms_behind 0 d)) (sym (drop-drop (first.size - 1) (i + 1) letters))
       ∙ ap (behind_read new) (sym (passed (first.size - 1) (drop (i + 1) letters) (omega arith)))
       ∙ sym (one_read atoms new first.atom (atoms_behind (first.size - 1) (drop (i + 1) letters)) written)
-      ∙ ap (behind_read atoms) (sym (ap (atoms_behind 0) split ∙ atoms_front c (drop (i + 1) letters) first found))
+      ∙ ap (behind_read atoms) (sym (ap (atoms_behind 0) split ∙ atoms_first c (drop (i + 1) letters) first found))
       ∙ told
 
 -- nothing is left

@@ -38,4 +38,4 @@ pub data Spells : List ℕ → Atom → List ℕ → Type 0 where
 -- a pattern is one atom or more
 pub data Pattern : List ℕ → List Atom → Type 0 where
   last : (text : List ℕ) (atom : Atom) → Spells text atom [] → Pattern text (atom ∷ [])
-  before : (front rest : List ℕ) (atom : Atom) (atoms : List Atom) → Spells front atom rest → Pattern rest atoms → Pattern (front ++ rest) (atom ∷ atoms)
+  before : (prefix rest : List ℕ) (atom : Atom) (atoms : List Atom) → Spells prefix atom rest → Pattern rest atoms → Pattern (prefix ++ rest) (atom ∷ atoms)

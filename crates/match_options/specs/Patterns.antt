@@ -73,8 +73,8 @@ backslash_before [] = None
 backslash_before (c ∷ rest) = sized (Letter c) 2
 
 -- the atom at the front of a pattern that begins with a character
-abbrev pub front_atom : ℕ → List ℕ → Option SizedAtom
-front_atom c rest =
+abbrev pub first_atom : ℕ → List ℕ → Option SizedAtom
+first_atom c rest =
     if is_period c then period_before rest
     else if is_backslash c then backslash_before rest
     else sized (Letter c) 1
@@ -87,7 +87,7 @@ atom_before (Some first) further = option_map (λ atoms. first.atom ∷ atoms) (
 unfoldable pub atoms_behind : ℕ → List ℕ → Option (List Atom)
 atoms_behind zero [] = Some []
 atoms_behind (suc passed) [] = None
-atoms_behind zero (c ∷ rest) = atom_before (front_atom c rest) (λ passed. atoms_behind passed rest)
+atoms_behind zero (c ∷ rest) = atom_before (first_atom c rest) (λ passed. atoms_behind passed rest)
 atoms_behind (suc passed) (c ∷ rest) = atoms_behind passed rest
 
 -- the atoms of a pattern, unless it is badly formed; it has at least one

@@ -4,7 +4,7 @@ ghost use Rattle.std.specs.Prelude.{◌≡◌, IfOk, option_map, chars};
 ghost use Rattle.match_options.specs.Patterns as spec;
 
 use crate::atom::{Atom, SizedAtom};
-use crate::prefix::front_atom;
+use crate::prefix::first_atom;
 use crate::splitting::parts;
 use ft_base::{Memory, letters_of};
 use std::alloc::Global;
@@ -58,7 +58,7 @@ fn atoms_of(alloc: Global, letters: &[char]) -> Result<Option<Vec<Atom>>, Memory
     let mut atoms = Vec::new(alloc);
     let mut next = 0;
     while next < letters.len() {
-        let Some(SizedAtom { atom, size }) = front_atom(letters[next], &letters[next + 1..]) else {
+        let Some(SizedAtom { atom, size }) = first_atom(letters[next], &letters[next + 1..]) else {
             return Ok(None);
         };
         atoms.push(atom)?;

@@ -7,14 +7,14 @@ use crate::atom::{Atom, Number, SizedAtom};
 use ft_base::{MAX_NUMBER, begins_with, digit_run, number_of};
 
 /// The atom that begins with the character, where one does.
-pub(crate) fn front_atom(first: char, behind: &[char]) -> Option<SizedAtom>
-    ensures value { result ≡ spec.front_atom first behind.now }
+pub(crate) fn first_atom(first: char, rest: &[char]) -> Option<SizedAtom>
+    ensures value { result ≡ spec.first_atom first rest.now }
     ensures some { IfSome result (λ sized. 0 < sized.size) }
-    ensures within { IfSome result (λ sized. sized.size ≤ length behind.now + 1) }
+    ensures within { IfSome result (λ sized. sized.size ≤ length rest.now + 1) }
 {
     match first {
-        '.' => period_before(behind),
-        '\\' => backslash_before(behind),
+        '.' => period_before(rest),
+        '\\' => backslash_before(rest),
         _ => sized(Atom::Letter(first), 1),
     }
 }
@@ -26,28 +26,28 @@ fn sized(atom: Atom, size: usize) -> Option<SizedAtom>
 }
 
 /// A backslash makes the next character a letter.
-fn backslash_before(behind: &[char]) -> Option<SizedAtom>
-    ensures value { result ≡ spec.backslash_before behind.now }
+fn backslash_before(rest: &[char]) -> Option<SizedAtom>
+    ensures value { result ≡ spec.backslash_before rest.now }
     ensures some { IfSome result (λ sized. 0 < sized.size) }
-    ensures within { IfSome result (λ sized. sized.size ≤ length behind.now + 1) }
+    ensures within { IfSome result (λ sized. sized.size ≤ length rest.now + 1) }
 {
-    match behind.first() {
+    match rest.first() {
         None => None,
         Some(letter) => sized(Atom::Letter(*letter), 2),
     }
 }
 
 /// The longest form that begins with a period.
-fn period_before(behind: &[char]) -> Option<SizedAtom>
-    ensures value { result ≡ spec.period_before behind.now }
+fn period_before(rest: &[char]) -> Option<SizedAtom>
+    ensures value { result ≡ spec.period_before rest.now }
     ensures some { IfSome result (λ sized. 0 < sized.size) }
-    ensures within { IfSome result (λ sized. sized.size ≤ length behind.now + 1) }
+    ensures within { IfSome result (λ sized. sized.size ≤ length rest.now + 1) }
 {
-    match behind.first() {
+    match rest.first() {
         Some('?') => sized(Atom::Gap(0, Some(1)), 2),
         Some('*') => sized(Atom::Gap(0, None), 2),
         Some('+') => sized(Atom::Gap(1, None), 2),
-        Some('{') => braces(&behind[1..]),
+        Some('{') => braces(&rest[1..]),
         _ => sized(Atom::Gap(1, Some(1)), 1),
     }
 }

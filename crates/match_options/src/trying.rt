@@ -61,13 +61,13 @@ fn so_many_covers(
     count: usize,
     atoms: &[Atom],
     next: usize,
-    behind: &str,
+    rest: &str,
 ) -> bool
     requires { next ≤ length atoms.now }
-    ensures { result ≡ (spec.fits_gap low high count && spec.covers (drop next atoms.now) (chars behind.now)) }
+    ensures { result ≡ (spec.fits_gap low high count && spec.covers (drop next atoms.now) (chars rest.now)) }
 {
     if !fits_gap(low, high, count) {
         return false;
     }
-    covers_from(atoms, next, behind)
+    covers_from(atoms, next, rest)
 }

@@ -25,11 +25,11 @@ irreflexive [] = refl
 irreflexive (n ∷ rest) = ap (λ b. b || ((n == n) && precedes rest rest)) (nat_lt-irreflexive n) ∙ ap (λ b. (n == n) && b) (irreflexive rest) ∙ and_false (n == n)
 
 -- a common front doesn't count
-behind : (front x y : List ℕ) → precedes x y ≡ true → precedes (front ++ x) (front ++ y) ≡ true
+behind : (prefix x y : List ℕ) → precedes x y ≡ true → precedes (prefix ++ x) (prefix ++ y) ≡ true
 behind [] x y h = h
-behind (n ∷ front) x y h =
-    ap (λ b. nat_lt n n || (b && precedes (front ++ x) (front ++ y))) (equal_to_itself n)
-    ∙ ap (λ b. nat_lt n n || b) (behind front x y h)
+behind (n ∷ prefix) x y h =
+    ap (λ b. nat_lt n n || (b && precedes (prefix ++ x) (prefix ++ y))) (equal_to_itself n)
+    ∙ ap (λ b. nat_lt n n || b) (behind prefix x y h)
     ∙ or_true (nat_lt n n)
 
 -- at or below a place; at or below a child of this number or a later one

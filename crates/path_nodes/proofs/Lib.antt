@@ -17,4 +17,4 @@ pub mod WayLemmas
 pub mod NamedLemmas
 pub mod AlikeLemmas
 pub mod PriceLemmas
-pub mod SpentLemmas
+pub mod CostLemmas

@@ -9,8 +9,8 @@ pub trait TextTest {
     /// For which pairs of a selection's number and a node it may be asked, what it says of each, and its price. It never changes.
     ghost meaning: { Self → Meaning };
 
-    /// What was spent so far.
-    ghost spent: { Self → ℕ };
+    /// What the tests so far have cost.
+    ghost cost: { Self → ℕ };
 
     /// Whether the node satisfies the selection of this number. The selections of a path are numbered from 0 in the
     /// order of its text. It spends at most the price. Answers `Memory` for want of memory alone.
@@ -18,5 +18,5 @@ pub trait TextTest {
         requires { IsTrue ((meaning self.old).may_ask selection node) }
         ensures says { IfOk result (λ is. is ≡ (meaning self.old).says selection node) }
         ensures meaning { meaning self.new ≡ meaning self.old }
-        ensures spent { spent self.new ≤ spent self.old + (meaning self.old).price selection node };
+        ensures cost { cost self.new ≤ cost self.old + (meaning self.old).price selection node };
 }

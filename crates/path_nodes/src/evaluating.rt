@@ -47,7 +47,7 @@ pub(crate) fn led<T: TextTest>(
     ensures elements { IfOk result (λ found. map (element_of tree.now.root) found ≡ meaning.led (satisfied tree.now.root (T.meaning test.old)) (elements (plain tree.now.root)) (form.steps (map view.step steps.now)) (map (element_of tree.now.root) from)) }
     ensures there { IfOk result (All (IsElement tree.now.root)) }
     ensures meaning { T.meaning test.new ≡ T.meaning test.old }
-    ensures spent { T.spent test.new ≤ T.spent test.old + price.steps_price tree.now.root (T.meaning test.old) (form.steps (map view.step steps.now)) (map (element_of tree.now.root) from) }
+    ensures cost { T.cost test.new ≤ T.cost test.old + price.steps_price tree.now.root (T.meaning test.old) (form.steps (map view.step steps.now)) (map (element_of tree.now.root) from) }
 {
     let mut items = from;
     for step in steps {
@@ -74,7 +74,7 @@ fn stepped<T: TextTest>(
     ensures there { IfOk result (All (IsElement tree.now.root)) }
     ensures inside { IfOk result (All (λ r. AtOrBelow (element_of tree.now.root base) (element_of tree.now.root r))) }
     ensures meaning { T.meaning test.new ≡ T.meaning test.old }
-    ensures spent { T.spent test.new ≤ T.spent test.old + price.step_price tree.now.root (T.meaning test.old) (view.step step.now) (map meaning.item (map (element_of tree.now.root) contexts)) }
+    ensures cost { T.cost test.new ≤ T.cost test.old + price.step_price tree.now.root (T.meaning test.old) (view.step step.now) (map meaning.item (map (element_of tree.now.root) contexts)) }
 {
     let parents = parents_of(alloc, tree, step.deep, contexts)?;
     chosen(alloc, tree, step, base, &parents, test)
@@ -117,7 +117,7 @@ pub(crate) fn chosen<T: TextTest>(
     ensures there { IfOk result (All (IsElement tree.now.root)) }
     ensures inside { IfOk result (All (λ r. AtOrBelow (element_of tree.now.root base) (element_of tree.now.root r))) }
     ensures meaning { T.meaning test.new ≡ T.meaning test.old }
-    ensures spent { T.spent test.new ≤ T.spent test.old + sum_by (price.children_price tree.now.root (T.meaning test.old) (view.step step.now)) (map (element_of tree.now.root) parents.now) }
+    ensures cost { T.cost test.new ≤ T.cost test.old + sum_by (price.children_price tree.now.root (T.meaning test.old) (view.step step.now)) (map (element_of tree.now.root) parents.now) }
 {
     let mut marks = Marks::new(alloc);
     let mut ways = Marks::new(alloc);
@@ -146,7 +146,7 @@ pub(crate) fn kept<T: TextTest>(
     ensures elements { IfOk result (λ kept. map (element_of tree.now.root) kept ≡ spec.kept tree.now.root (T.meaning test.old) (view.step step.now) (map (element_of tree.now.root) items.now)) }
     ensures there { IfOk result (All (IsElement tree.now.root)) }
     ensures meaning { T.meaning test.new ≡ T.meaning test.old }
-    ensures spent { T.spent test.new ≤ T.spent test.old + price.list_price tree.now.root (T.meaning test.old) (view.step step.now) (map (element_of tree.now.root) items.now) }
+    ensures cost { T.cost test.new ≤ T.cost test.old + price.list_price tree.now.root (T.meaning test.old) (view.step step.now) (map (element_of tree.now.root) items.now) }
 {
     let mut kept = named(alloc, tree, &step.test, items)?;
     for predicate in step.predicates.as_slice() {
@@ -169,7 +169,7 @@ fn filtered<T: TextTest>(
     ensures elements { IfOk result (λ kept. map (element_of tree.now.root) kept ≡ meaning.filtered_by (satisfied tree.now.root (T.meaning test.old)) (elements (plain tree.now.root)) (view.predicate predicate.now) (map (element_of tree.now.root) items)) }
     ensures there { IfOk result (All (IsElement tree.now.root)) }
     ensures meaning { T.meaning test.new ≡ T.meaning test.old }
-    ensures spent { T.spent test.new ≤ T.spent test.old + price.predicate_price tree.now.root (T.meaning test.old) (view.predicate predicate.now) (map (element_of tree.now.root) items) }
+    ensures cost { T.cost test.new ≤ T.cost test.old + price.predicate_price tree.now.root (T.meaning test.old) (view.predicate predicate.now) (map (element_of tree.now.root) items) }
 {
     match predicate {
         Predicate::Number(number) => numbered(alloc, tree, *number, &items),
@@ -191,7 +191,7 @@ fn satisfying<T: TextTest>(
     ensures elements { IfOk result (λ kept. map (element_of tree.now.root) kept ≡ filter (meaning.is_true (satisfied tree.now.root (T.meaning test.old)) (elements (plain tree.now.root)) (view.condition condition.now)) (map (element_of tree.now.root) items)) }
     ensures there { IfOk result (All (IsElement tree.now.root)) }
     ensures meaning { T.meaning test.new ≡ T.meaning test.old }
-    ensures spent { T.spent test.new ≤ T.spent test.old + sum_by (price.condition_price tree.now.root (T.meaning test.old) (view.condition condition.now)) (map (element_of tree.now.root) items) }
+    ensures cost { T.cost test.new ≤ T.cost test.old + sum_by (price.condition_price tree.now.root (T.meaning test.old) (view.condition condition.now)) (map (element_of tree.now.root) items) }
 {
     let mut kept = Nodes::new(alloc);
     for item in items.as_slice() {
@@ -214,7 +214,7 @@ fn is_true<T: TextTest>(
     requires asked { OfCondition (MayAsk tree.now.root (T.meaning test.old)) (view.condition condition.now) }
     ensures truth { IfOk result (λ truth. truth ≡ meaning.is_true (satisfied tree.now.root (T.meaning test.old)) (elements (plain tree.now.root)) (view.condition condition.now) (element_of tree.now.root item)) }
     ensures meaning { T.meaning test.new ≡ T.meaning test.old }
-    ensures spent { T.spent test.new ≤ T.spent test.old + price.condition_price tree.now.root (T.meaning test.old) (view.condition condition.now) (element_of tree.now.root item) }
+    ensures cost { T.cost test.new ≤ T.cost test.old + price.condition_price tree.now.root (T.meaning test.old) (view.condition condition.now) (element_of tree.now.root item) }
 {
     match condition {
         Condition::Or(parts) => some_true(alloc, tree, parts, item, test),
@@ -250,7 +250,7 @@ pub fn led_from<T: TextTest>(
     ensures agrees { (satisfies : ℕ → Element → Bool) → Agrees tree.now.root (T.meaning test.old) satisfies → IfOk result (λ found. map (element_of tree.now.root) found ≡ meaning.led satisfies (elements (plain tree.now.root)) (form.steps (map view.step steps.now)) (element_of tree.now.root item ∷ [])) }
     ensures there { IfOk result (All (IsElement tree.now.root)) }
     ensures meaning { T.meaning test.new ≡ T.meaning test.old }
-    ensures spent { T.spent test.new ≤ T.spent test.old + price.steps_price tree.now.root (T.meaning test.old) (form.steps (map view.step steps.now)) (element_of tree.now.root item ∷ []) }
+    ensures cost { T.cost test.new ≤ T.cost test.old + price.steps_price tree.now.root (T.meaning test.old) (form.steps (map view.step steps.now)) (element_of tree.now.root item ∷ []) }
 {
     let from = Nodes::from_slice(alloc, &[item])?;
     led(alloc, tree, steps.as_slice(), item, from, test)
@@ -269,7 +269,7 @@ fn some_true<T: TextTest>(
     requires asked { OfConditions (MayAsk tree.now.root (T.meaning test.old)) (form.conditions (map view.condition conditions.now)) }
     ensures truth { IfOk result (λ truth. truth ≡ meaning.some_true (satisfied tree.now.root (T.meaning test.old)) (elements (plain tree.now.root)) (form.conditions (map view.condition conditions.now)) (element_of tree.now.root item)) }
     ensures meaning { T.meaning test.new ≡ T.meaning test.old }
-    ensures spent { T.spent test.new ≤ T.spent test.old + price.conditions_price tree.now.root (T.meaning test.old) (form.conditions (map view.condition conditions.now)) (element_of tree.now.root item) }
+    ensures cost { T.cost test.new ≤ T.cost test.old + price.conditions_price tree.now.root (T.meaning test.old) (form.conditions (map view.condition conditions.now)) (element_of tree.now.root item) }
 {
     for condition in conditions.as_slice() {
         if is_true(alloc, tree, condition, item, test)? {
@@ -292,7 +292,7 @@ fn each_true<T: TextTest>(
     requires asked { OfConditions (MayAsk tree.now.root (T.meaning test.old)) (form.conditions (map view.condition conditions.now)) }
     ensures truth { IfOk result (λ truth. truth ≡ meaning.each_true (satisfied tree.now.root (T.meaning test.old)) (elements (plain tree.now.root)) (form.conditions (map view.condition conditions.now)) (element_of tree.now.root item)) }
     ensures meaning { T.meaning test.new ≡ T.meaning test.old }
-    ensures spent { T.spent test.new ≤ T.spent test.old + price.conditions_price tree.now.root (T.meaning test.old) (form.conditions (map view.condition conditions.now)) (element_of tree.now.root item) }
+    ensures cost { T.cost test.new ≤ T.cost test.old + price.conditions_price tree.now.root (T.meaning test.old) (form.conditions (map view.condition conditions.now)) (element_of tree.now.root item) }
 {
     for condition in conditions.as_slice() {
         if !is_true(alloc, tree, condition, item, test)? {
@@ -313,7 +313,7 @@ fn some_contains<T: TextTest>(
     requires asked { MayAsk tree.now.root (T.meaning test.old) selection }
     ensures truth { IfOk result (λ truth. truth ≡ list_any (satisfied tree.now.root (T.meaning test.old) selection) (map (element_of tree.now.root) nodes.now)) }
     ensures meaning { T.meaning test.new ≡ T.meaning test.old }
-    ensures spent { T.spent test.new ≤ T.spent test.old + price.price_of tree.now.root (T.meaning test.old) (each_tested selection (map (element_of tree.now.root) nodes.now)) }
+    ensures cost { T.cost test.new ≤ T.cost test.old + price.price_of tree.now.root (T.meaning test.old) (each_tested selection (map (element_of tree.now.root) nodes.now)) }
 {
     let _root = tree.root();
     for node in nodes.as_slice() {

@@ -24,18 +24,18 @@ use Rattle.path_subset.proofs.Skipped.{first, turned_within}
 use Rattle.path_subset.proofs.Spelled.{Stands, with_state, step_same, next_stands, fresh_selecting, selecting_run, counted, open_same, outside}
 
 -- The reader behind some symbols and the machine with the selections beside it, where reading goes on as it was expected to.
-pub record Arrived (front behind : List Placed) (bad : Option ℕ) (size : ℕ) (expected : Result PathForm QueryFault) : Type 0 where
+pub record Arrived (prefix rest : List Placed) (bad : Option ℕ) (size : ℕ) (expected : Result PathForm QueryFault) : Type 0 where
   pub s : m.State
   pub real : m.State
   pub all : List Inside
   pub found : List PlacedForm
-  pub stands : Stands s behind all real
+  pub stands : Stands s rest all real
   pub each : Each all found
-  pub reads : m.read front ≡ Some real
-  pub is : expected ≡ read_from s found 0 behind bad size
+  pub reads : m.read prefix ≡ Some real
+  pub is : expected ≡ read_from s found 0 rest bad size
 
-arrived_as : (front behind : List Placed) (bad : Option ℕ) (size : ℕ) (x y : Result PathForm QueryFault) → x ≡ y → Arrived front behind bad size y → Arrived front behind bad size x
-arrived_as front behind bad size x y e h = record { s = h.s; real = h.real; all = h.all; found = h.found; stands = h.stands; each = h.each; reads = h.reads; is = e ∙ h.is }
+arrived_as : (prefix rest : List Placed) (bad : Option ℕ) (size : ℕ) (x y : Result PathForm QueryFault) → x ≡ y → Arrived prefix rest bad size y → Arrived prefix rest bad size x
+arrived_as prefix rest bad size x y e h = record { s = h.s; real = h.real; all = h.all; found = h.found; stands = h.stands; each = h.each; reads = h.reads; is = e ∙ h.is }
 
 -- a symbol that passes no limit leads on, and through a selection where one comes next
 pub one_read : (s t : m.State) (found : List PlacedForm) (p : Placed) (rest : List Placed) (bad : Option ℕ) (size : ℕ) (o : Option (List form.Step)) → passes (m.open_count s) p.symbol ≡ false → m.advance s p ≡ Some t → before_selection t ≡ o
@@ -53,51 +53,51 @@ selection_next done p rest s real all root i before st r a b =
 
 -- symbols lead on that may stand with what the reader has read
 abbrev Leads : Option ℕ → ℕ → List Placed → List Placed → Type 0
-Leads bad size behind u = (done : List Placed) (count : ℕ) (s real : m.State) (all : List Inside) (found : List PlacedForm) → count ≤ length u → Stands s (drop count (u ++ behind)) all real → Each all found
-    → m.read (done ++ take count (u ++ behind)) ≡ Some real → MayStand (done ++ u) behind → Arrived (done ++ u) behind bad size (read_from s found count (u ++ behind) bad size)
+Leads bad size rest u = (done : List Placed) (count : ℕ) (s real : m.State) (all : List Inside) (found : List PlacedForm) → count ≤ length u → Stands s (drop count (u ++ rest)) all real → Each all found
+    → m.read (done ++ take count (u ++ rest)) ≡ Some real → MayStand (done ++ u) rest → Arrived (done ++ u) rest bad size (read_from s found count (u ++ rest) bad size)
 
-module _ (bad : Option ℕ) (size : ℕ) (behind : List Placed) (p : Placed) (u : List Placed) (again : Leads bad size behind u) (done : List Placed) (s real : m.State) (all : List Inside) (found : List PlacedForm)
-    (st : Stands s (p ∷ u ++ behind) all real) (each : Each all found) (r : m.read done ≡ Some real) (h : MayStand (done ++ p ∷ u) behind) where
+module _ (bad : Option ℕ) (size : ℕ) (rest : List Placed) (p : Placed) (u : List Placed) (again : Leads bad size rest u) (done : List Placed) (s real : m.State) (all : List Inside) (found : List PlacedForm)
+    (st : Stands s (p ∷ u ++ rest) all real) (each : Each all found) (r : m.read done ≡ Some real) (h : MayStand (done ++ p ∷ u) rest) where
   abbrev There : Type 0
-  There = Arrived (done ++ p ∷ u) behind bad size (read_from s found 0 (p ∷ u ++ behind) bad size)
+  There = Arrived (done ++ p ∷ u) rest bad size (read_from s found 0 (p ∷ u ++ rest) bad size)
 
   below : passes (m.open_count s) p.symbol ≡ false
-  below = ap (λ n. passes n p.symbol) (open_same s real (p ∷ u ++ behind) all st) ∙ h.limits done p u real refl r (outside s real p (u ++ behind) all st)
+  below = ap (λ n. passes n p.symbol) (open_same s real (p ∷ u ++ rest) all st) ∙ h.limits done p u real refl r (outside s real p (u ++ rest) all st)
 
-  on : (count : ℕ) (t next : m.State) (these : List Inside) (those : List PlacedForm) → count ≤ length u → Stands t (drop count (u ++ behind)) these next → Each these those → m.read ((done ++ p ∷ []) ++ take count (u ++ behind)) ≡ Some next
-      → read_from s found 0 (p ∷ u ++ behind) bad size ≡ read_from t those count (u ++ behind) bad size → There
+  on : (count : ℕ) (t next : m.State) (these : List Inside) (those : List PlacedForm) → count ≤ length u → Stands t (drop count (u ++ rest)) these next → Each these those → m.read ((done ++ p ∷ []) ++ take count (u ++ rest)) ≡ Some next
+      → read_from s found 0 (p ∷ u ++ rest) bad size ≡ read_from t those count (u ++ rest) bad size → There
   on count t next these those few stands_there each_there k e =
-      subst (λ z. Arrived z behind bad size (read_from s found 0 (p ∷ u ++ behind) bad size)) (append_assoc done (p ∷ []) u)
-      (arrived_as ((done ++ p ∷ []) ++ u) behind bad size (read_from s found 0 (p ∷ u ++ behind) bad size) (read_from t those count (u ++ behind) bad size) e
-      (again (done ++ p ∷ []) count t next these those few stands_there each_there k (subst (λ z. MayStand z behind) (sym (append_assoc done (p ∷ []) u)) h)))
+      subst (λ z. Arrived z rest bad size (read_from s found 0 (p ∷ u ++ rest) bad size)) (append_assoc done (p ∷ []) u)
+      (arrived_as ((done ++ p ∷ []) ++ u) rest bad size (read_from s found 0 (p ∷ u ++ rest) bad size) (read_from t those count (u ++ rest) bad size) e
+      (again (done ++ p ∷ []) count t next these those few stands_there each_there k (subst (λ z. MayStand z rest) (sym (append_assoc done (p ∷ []) u)) h)))
 
   -- through a selection
-  through : (root : PathRoot) (i : Inner) (before : List form.Step) → m.advance s p ≡ Some (m.along root i) → before_selection_at i.stage ≡ Some before → IsReadAmong u behind bad size → There
+  through : (root : PathRoot) (i : Inner) (before : List form.Step) → m.advance s p ≡ Some (m.along root i) → before_selection_at i.stage ≡ Some before → IsReadAmong u rest bad size → There
   through root i before a b (x, n, e, few) =
-      let run = whole_read (u ++ behind) bad size x n e in
-      on n (m.along root (stand i.frames i.joint i.selections (m.ended (form.contains (steps before) (length all))))) (m.along root (stand i.frames i.joint all (m.selecting before (take n (u ++ behind)) run.shape)))
-      (all ++ inside (take n (u ++ behind)) run.selects.tree ∷ []) (found ++ placed_form x (take n (u ++ behind)) ∷ []) few
-      (Stands.ended root i.frames i.joint i.selections all before (take n (u ++ behind)) run.selects.tree run.shape (drop n (u ++ behind)) run.ends run.stops)
-      (E.further each (inside (take n (u ++ behind)) run.selects.tree) x run.selects)
-      (read-append (done ++ p ∷ []) (take n (u ++ behind)) ∙ ap (λ o. m.run_on o (take n (u ++ behind))) (selection_next done p (u ++ behind) s real all root i before st r a b)
-      ∙ selecting_run root i.frames i.joint all before (take n (u ++ behind)) [] (Shape.whole selection.start) run.shape run.reads)
-      (one_read s (m.along root i) found p (u ++ behind) bad size (Some before) below a b
-      ∙ ap (λ z. further (behind_run (m.along root i) found before (u ++ behind) z) (λ l. read_from l.state l.selections l.count (u ++ behind) bad size)) e
-      ∙ ap (λ c. read_from (m.along root (stand i.frames i.joint i.selections (m.ended (form.contains (steps before) c)))) (found ++ placed_form x (take n (u ++ behind)) ∷ []) n (u ++ behind) bad size) (counted each))
+      let run = whole_read (u ++ rest) bad size x n e in
+      on n (m.along root (stand i.frames i.joint i.selections (m.ended (form.contains (steps before) (length all))))) (m.along root (stand i.frames i.joint all (m.selecting before (take n (u ++ rest)) run.shape)))
+      (all ++ inside (take n (u ++ rest)) run.selects.tree ∷ []) (found ++ placed_form x (take n (u ++ rest)) ∷ []) few
+      (Stands.ended root i.frames i.joint i.selections all before (take n (u ++ rest)) run.selects.tree run.shape (drop n (u ++ rest)) run.ends run.stops)
+      (E.further each (inside (take n (u ++ rest)) run.selects.tree) x run.selects)
+      (read-append (done ++ p ∷ []) (take n (u ++ rest)) ∙ ap (λ o. m.run_on o (take n (u ++ rest))) (selection_next done p (u ++ rest) s real all root i before st r a b)
+      ∙ selecting_run root i.frames i.joint all before (take n (u ++ rest)) [] (Shape.whole selection.start) run.shape run.reads)
+      (one_read s (m.along root i) found p (u ++ rest) bad size (Some before) below a b
+      ∙ ap (λ z. further (behind_run (m.along root i) found before (u ++ rest) z) (λ l. read_from l.state l.selections l.count (u ++ rest) bad size)) e
+      ∙ ap (λ c. read_from (m.along root (stand i.frames i.joint i.selections (m.ended (form.contains (steps before) c)))) (found ++ placed_form x (take n (u ++ rest)) ∷ []) n (u ++ rest) bad size) (counted each))
 
   by_selection : (t : m.State) (o : Option (List form.Step)) → before_selection t ≡ o → m.advance s p ≡ Some t → There
   by_selection t None b a =
-      on 0 t (with_state all t) all found (omega arith) (next_stands s real t p (u ++ behind) all st a b) each
-      (ap m.read (append-nil (done ++ p ∷ [])) ∙ read-append done (p ∷ []) ∙ ap (λ o. m.run_on o (p ∷ [])) r ∙ ap (λ o. m.run_on o []) (step_same s real p (u ++ behind) all st ∙ ap (option_map (with_state all)) a))
-      (one_read s t found p (u ++ behind) bad size None below a b)
+      on 0 t (with_state all t) all found (omega arith) (next_stands s real t p (u ++ rest) all st a b) each
+      (ap m.read (append-nil (done ++ p ∷ [])) ∙ read-append done (p ∷ []) ∙ ap (λ o. m.run_on o (p ∷ [])) r ∙ ap (λ o. m.run_on o []) (step_same s real p (u ++ rest) all st ∙ ap (option_map (with_state all)) a))
+      (one_read s t found p (u ++ rest) bad size None below a b)
   by_selection (m.at_root stage) (Some before) b a = cc
   by_selection (m.along root i) (Some before) b a =
       through root i before a b
-      (read_among u behind bad size (h.selections (done ++ p ∷ []) u (sym (append_assoc done (p ∷ []) u)) (R.behind_text root i.frames i.joint all before (selection_next done p (u ++ behind) s real all root i before st r a b))))
+      (read_among u rest bad size (h.selections (done ++ p ∷ []) u (sym (append_assoc done (p ∷ []) u)) (R.behind_text root i.frames i.joint all before (selection_next done p (u ++ rest) s real all root i before st r a b))))
 
   stuck : m.advance s p ≡ None → (t : m.State) × (m.read (done ++ p ∷ u) ≡ Some t) → ⊥
   stuck a (t, k) =
-      let two : None ≡ Some t = ap (λ o. m.run_on o u) (sym (step_same s real p (u ++ behind) all st ∙ ap (option_map (with_state all)) a)) ∙ sym (read-append done (p ∷ u) ∙ ap (λ o. m.run_on o (p ∷ u)) r) ∙ k in cc
+      let two : None ≡ Some t = ap (λ o. m.run_on o u) (sym (step_same s real p (u ++ rest) all st ∙ ap (option_map (with_state all)) a)) ∙ sym (read-append done (p ∷ u) ∙ ap (λ o. m.run_on o (p ∷ u)) r) ∙ k in cc
 
   by_state : (o : Option m.State) → m.advance s p ≡ o → There
   by_state None a = absurd (stuck a (begins_read (done ++ p ∷ u) h.begins))
@@ -106,15 +106,15 @@ module _ (bad : Option ℕ) (size : ℕ) (behind : List Placed) (p : Placed) (u 
   pub one_leads : There
   one_leads = by_state (m.advance s p) refl
 
-along : (bad : Option ℕ) (size : ℕ) (behind u : List Placed) → Leads bad size behind u
+along : (bad : Option ℕ) (size : ℕ) (rest u : List Placed) → Leads bad size rest u
 unfolding read_from
-along bad size behind [] done zero s real all found few st each r h = record { s = s; real = real; all = all; found = found; stands = st; each = each; reads = r; is = refl }
-along bad size behind [] done (suc count) s real all found few st each r h = absurd (omega (arith, few))
-along bad size behind (p ∷ u) done zero s real all found few st each r h = one_leads bad size behind p u (along bad size behind u) done s real all found st each (ap m.read (sym (append-nil done)) ∙ r) h
-along bad size behind (p ∷ u) done (suc count) s real all found few st each r h =
-    subst (λ z. Arrived z behind bad size (read_from s found count (u ++ behind) bad size)) (append_assoc done (p ∷ []) u)
-    (along bad size behind u (done ++ p ∷ []) count s real all found (omega (arith, few)) st each (ap m.read (append_assoc done (p ∷ []) (take count (u ++ behind))) ∙ r)
-    (subst (λ z. MayStand z behind) (sym (append_assoc done (p ∷ []) u)) h))
+along bad size rest [] done zero s real all found few st each r h = record { s = s; real = real; all = all; found = found; stands = st; each = each; reads = r; is = refl }
+along bad size rest [] done (suc count) s real all found few st each r h = absurd (omega (arith, few))
+along bad size rest (p ∷ u) done zero s real all found few st each r h = one_leads bad size rest p u (along bad size rest u) done s real all found st each (ap m.read (sym (append-nil done)) ∙ r) h
+along bad size rest (p ∷ u) done (suc count) s real all found few st each r h =
+    subst (λ z. Arrived z rest bad size (read_from s found count (u ++ rest) bad size)) (append_assoc done (p ∷ []) u)
+    (along bad size rest u (done ++ p ∷ []) count s real all found (omega (arith, few)) st each (ap m.read (append_assoc done (p ∷ []) (take count (u ++ rest))) ∙ r)
+    (subst (λ z. MayStand z rest) (sym (append_assoc done (p ∷ []) u)) h))
 
-pub arrive : (before behind : List Placed) (bad : Option ℕ) (size : ℕ) → MayStand before behind → Arrived before behind bad size (read_from (m.at_root m.nothing) [] 0 (before ++ behind) bad size)
-arrive before behind bad size h = along bad size behind before [] 0 (m.at_root m.nothing) (m.at_root m.nothing) [] [] (omega arith) (Stands.at_root m.nothing (before ++ behind)) E.none refl h
+pub arrive : (before rest : List Placed) (bad : Option ℕ) (size : ℕ) → MayStand before rest → Arrived before rest bad size (read_from (m.at_root m.nothing) [] 0 (before ++ rest) bad size)
+arrive before rest bad size h = along bad size rest before [] 0 (m.at_root m.nothing) (m.at_root m.nothing) [] [] (omega arith) (Stands.at_root m.nothing (before ++ rest)) E.none refl h

@@ -136,9 +136,9 @@ within_most (p ∷ u) s last w r few = by (advance s p) refl r (λ next. within_
     by : (o : Option State) → advance s p ≡ o → run_on o u ≡ Some last → ((next : State) → WithinFrom next u → run_on (Some next) u ≡ Some last → open_count next ≤ max_open → most_open_on (Some next) u ≤ max_open) → most_open_on (Some s) (p ∷ u) ≤ max_open
     by None a k again = cc
     by (Some next) a k again =
-        let behind : most_open_on (Some next) u ≤ max_open =
+        let rest : most_open_on (Some next) u ≤ max_open =
         again next (λ before q z t e f g. w (p ∷ before) q z t (ap (λ x. p ∷ x) e) (ap (λ o. run_on o before) a ∙ f) g) k (one_few s next p a (w [] p u s refl refl) few) in
-        omega (arith, few, behind, ap (λ o. most_open_on o u) a)
+        omega (arith, few, rest, ap (λ o. most_open_on o u) a)
 
 -- what is open on the way
 passing_most : (o : Option State) (u v : List Placed) (t : State) → run_on o u ≡ Some t → open_count t ≤ most_open_on o (u ++ v)
@@ -192,8 +192,8 @@ path_depth symbols value insides whole = by (completed.path_read symbols value i
       λ h. within_few symbols x r (omega (arith, h.0, levels_most symbols value insides whole)) h.1,
     )
 
-pub front_depth : (symbols : List Placed) → Begins symbols → Within symbols ↔ (BeginsWithin max_open symbols × AreNumbersWithin symbols)
-front_depth symbols begins = by (begins_read symbols begins)
+pub prefix_depth : (symbols : List Placed) → Begins symbols → Within symbols ↔ (BeginsWithin max_open symbols × AreNumbersWithin symbols)
+prefix_depth symbols begins = by (begins_read symbols begins)
   where
     most : (x : State) → read symbols ≡ Some x → (y : State) × (read symbols ≡ Some y) × (most_open symbols ≤ max_open) → AreNumbersWithin symbols → Within symbols
     most x r h numbers = within_few symbols x r h.2 numbers

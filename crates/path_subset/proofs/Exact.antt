@@ -81,17 +81,17 @@ ends_grown root (p ∷ u) i x value insides e f = by (m.advance_inner i p) refl 
 
 -- A selection of a path that is whole: the symbols that lead on in it, which are one of the path's selections, and those behind it.
 record Passed (w : List Placed) (y : Shape selection.State) (rest : List Placed) (insides : List Inside) : Type 0 where
-  front : List Placed
+  prefix : List Placed
   back : List Placed
   shape : Shape selection.State
   tree : Tree
   first : List Inside
   last : List Inside
-  parts : rest ≡ front ++ back
-  runs : selection.run_on (Some y) front ≡ Some shape
+  parts : rest ≡ prefix ++ back
+  runs : selection.run_on (Some y) prefix ≡ Some shape
   stops : (q : Placed) (z : List Placed) → back ≡ q ∷ z → selection.advance shape q ≡ None
   ends : selection.finished_at shape ≡ Some tree
-  found : insides ≡ first ++ inside (w ++ front) tree ∷ last
+  found : insides ≡ first ++ inside (w ++ prefix) tree ∷ last
 
 module _ (root : PathRoot) (frames : List Frame) (joint : Joint) (all : List Inside) (before : List form.Step) (x : m.State) (value : form.Path) (insides : List Inside) (f : m.finished x ≡ given value insides) where
   abbrev there : List Placed → Shape selection.State → m.State
@@ -104,7 +104,7 @@ module _ (root : PathRoot) (frames : List Frame) (joint : Joint) (all : List Ins
   ended_by_next w y q rest tree (Some t) a k j e =
       let grown = ends_grown root rest t x value insides e f in
       record {
-        front = [];
+        prefix = [];
         back = q ∷ rest;
         shape = y;
         tree = tree;
@@ -130,17 +130,17 @@ module _ (root : PathRoot) (frames : List Frame) (joint : Joint) (all : List Ins
   passed_by w y q rest (Some next) a e again =
       let on = again next e in
       record {
-        front = q ∷ on.front;
+        prefix = q ∷ on.prefix;
         back = on.back;
         shape = on.shape;
         tree = on.tree;
         first = on.first;
         last = on.last;
         parts = ap (λ z. q ∷ z) on.parts;
-        runs = ap (λ o. selection.run_on o on.front) a ∙ on.runs;
+        runs = ap (λ o. selection.run_on o on.prefix) a ∙ on.runs;
         stops = on.stops;
         ends = on.ends;
-        found = on.found ∙ ap (λ z. on.first ++ inside z on.tree ∷ on.last) (append_assoc w (q ∷ []) on.front);
+        found = on.found ∙ ap (λ z. on.first ++ inside z on.tree ∷ on.last) (append_assoc w (q ∷ []) on.prefix);
       }
 
   passed : (rest w : List Placed) (y : Shape selection.State) → m.run_on (Some (there w y)) rest ≡ Some x → Passed w y rest insides
@@ -183,9 +183,9 @@ module _ (text : List ℕ) (value : PathForm) (h : SpellsPath text value) where
       by : (x : m.State) × (m.run_on (Some (m.along root (stand frames joint all (m.selecting xs [] (Shape.whole selection.start))))) rest ≡ Some x) × (m.finished x ≡ given value.path h.insides) → ⊥
       by (x, runs, f) =
           let p = passed root frames joint all xs x value.path h.insides f rest [] (Shape.whole selection.start) runs in
-          let one : Readable (inside p.front p.tree) = middle p.first p.last (inside p.front p.tree) (subst (All Readable) p.found (readable h.selections)) in
-          let is : run_read rest bad size ≡ Ok (one.0, length p.front) = ap (λ z. run_read z bad size) p.parts ∙ run_selects p.front p.back one.0 bad size (run_of p.front p.back p.shape p.runs p.stops) one.1 in
-          let two : ◌≡◌ {A = Result (Form × ℕ) QueryFault} (Err fault) (Ok (one.0, length p.front)) = sym k ∙ is in cc
+          let one : Readable (inside p.prefix p.tree) = middle p.first p.last (inside p.prefix p.tree) (subst (All Readable) p.found (readable h.selections)) in
+          let is : run_read rest bad size ≡ Ok (one.0, length p.prefix) = ap (λ z. run_read z bad size) p.parts ∙ run_selects p.prefix p.back one.0 bad size (run_of p.prefix p.back p.shape p.runs p.stops) one.1 in
+          let two : ◌≡◌ {A = Result (Form × ℕ) QueryFault} (Err fault) (Ok (one.0, length p.prefix)) = sym k ∙ is in cc
 
   not_refused : (size : ℕ) (fault : QueryFault) → Refuses symbols (symbols_of text).bad size fault → ⊥
   not_refused size fault (Refuses.limit before p rest s e may r l) = let two : true ≡ false = sym l ∙ h.limits before p rest s e r (outside_behind before p rest s may r) in cc

@@ -29,17 +29,17 @@ use Rattle.path_subset.proofs.Spelled.{Stands, with_state, step_same, open_same,
 
 -- the last symbol before a selection is `text`
 record EndsWithText (u : List Placed) : Type 0 where
-  front : List Placed
+  prefix : List Placed
   at : Spot
-  is : u ≡ front ++ name at (codes "text") ∷ []
+  is : u ≡ prefix ++ name at (codes "text") ∷ []
 
 behind_more : (u v : List Placed) → EndsWithText v → EndsWithText (u ++ v)
-behind_more u v h = record { front = u ++ h.front; at = h.at; is = ap (λ z. u ++ z) h.is ∙ sym (append_assoc u h.front (name h.at (codes "text") ∷ [])) }
+behind_more u v h = record { prefix = u ++ h.prefix; at = h.at; is = ap (λ z. u ++ z) h.is ∙ sym (append_assoc u h.prefix (name h.at (codes "text") ∷ [])) }
 
 under_ends : {frames : List Frame} {n : ℕ} {u : List Placed} {stage : Stage} {ss : List Inside} → standing.Under frames n u stage ss → (xs : List form.Step) → stage ≡ m.selecting xs [] (Shape.whole selection.start) → EndsWithText u
 under_ends (standing.selecting {u = u} rel p q v shape r) xs e =
     let none : v ≡ [] = cc in
-    subst (λ z. EndsWithText (u ++ name p (codes "contains") ∷ name q (codes "text") ∷ z)) (sym none) (behind_more u (name p (codes "contains") ∷ name q (codes "text") ∷ []) (record { front = name p (codes "contains") ∷ []; at = q; is = refl }))
+    subst (λ z. EndsWithText (u ++ name p (codes "contains") ∷ name q (codes "text") ∷ z)) (sym none) (behind_more u (name p (codes "contains") ∷ name q (codes "text") ∷ []) (record { prefix = name p (codes "contains") ∷ []; at = q; is = refl }))
 under_ends other xs e = cc
 
 inner_ends : {u : List Placed} {s : Inner} → standing.Stands u s → (xs : List form.Step) → s.stage ≡ m.selecting xs [] (Shape.whole selection.start) → EndsWithText u
@@ -55,18 +55,18 @@ state_ends : {u : List Placed} {s : m.State} → rooted.Reads u s → (xs : List
 state_ends (rooted.at_root a) xs e = cc
 state_ends (rooted.along {u = u} {v = v} {s = s} root a) xs e = let same : s.stage ≡ m.selecting xs [] (Shape.whole selection.start) = cc in behind_more u v (inner_ends a xs same)
 
-last_same : (u front : List Placed) (p q : Placed) → u ++ p ∷ [] ≡ front ++ q ∷ [] → p ≡ q
+last_same : (u prefix : List Placed) (p q : Placed) → u ++ p ∷ [] ≡ prefix ++ q ∷ [] → p ≡ q
 last_same [] [] p q e = cc
 last_same [] (r ∷ []) p q e = cc
-last_same [] (r ∷ t ∷ front) p q e = cc
+last_same [] (r ∷ t ∷ prefix) p q e = cc
 last_same (r ∷ []) [] p q e = cc
 last_same (r ∷ t ∷ u) [] p q e = cc
-last_same (r ∷ u) (t ∷ front) p q e = let tail : u ++ p ∷ [] ≡ front ++ q ∷ [] = cc in last_same u front p q tail
+last_same (r ∷ u) (t ∷ prefix) p q e = let tail : u ++ p ∷ [] ≡ prefix ++ q ∷ [] = cc in last_same u prefix p q tail
 
 text_passes_none : (before : List Placed) (p : Placed) (depth : ℕ) → WantSelection (before ++ p ∷ []) → passes depth p.symbol ≡ false
 text_passes_none before p depth (R.behind_text root frames joint insides steps r) =
     let h = state_ends (rooted.reads (before ++ p ∷ []) (m.along root (stand frames joint insides (m.selecting steps [] (Shape.whole selection.start)))) r) steps refl in
-    ap (λ (q : Placed). passes depth q.symbol) (last_same before h.front p (name h.at (codes "text")) h.is)
+    ap (λ (q : Placed). passes depth q.symbol) (last_same before h.prefix p (name h.at (codes "text")) h.is)
 
 -- a selection comes next for the reader where it does for the machine
 fresh_at : (stage : Stage) → before_selection_at (fresh stage) ≡ before_selection_at stage

@@ -23,44 +23,44 @@ use Rattle.path_subset.specs.Runs as R
 use Rattle.path_subset.specs.Runs.{IsRun, EndsAmong, Misread}
 use Rattle.path_subset.proofs.Runs.{leading, take_more, take_all, whole_read}
 
-pub run_of : (run behind : List Placed) (shape : Shape State) → read run ≡ Some shape → ((q : Placed) (z : List Placed) → behind ≡ q ∷ z → advance shape q ≡ None) → IsRun run behind
-run_of run behind shape r stops = record {
+pub run_of : (run rest : List Placed) (shape : Shape State) → read run ≡ Some shape → ((q : Placed) (z : List Placed) → rest ≡ q ∷ z → advance shape q ≡ None) → IsRun run rest
+run_of run rest shape r stops = record {
   begins = read_begins run shape r;
   longest = λ q z e. refused_begins (run ++ q ∷ []) (read-append run (q ∷ []) ∙ ap (λ o. run_on o (q ∷ [])) r ∙ ap (λ o. run_on o []) (stops q z e));
 }
 
 -- the run is as long as the symbols that lead on
-run_taken : (run behind : List Placed) → IsRun run behind → run_length (run ++ behind) ≡ length run
-run_taken run behind h = by (read run) refl
+run_taken : (run rest : List Placed) → IsRun run rest → run_length (run ++ rest) ≡ length run
+run_taken run rest h = by (read run) refl
   where
-    by : (o : Option (Shape State)) → read run ≡ o → run_length (run ++ behind) ≡ length run
+    by : (o : Option (Shape State)) → read run ≡ o → run_length (run ++ rest) ≡ length run
     by None e = absurd (refused_begins run e h.begins)
     by (Some shape) e =
-        let taken : take (length run) (run ++ behind) ≡ run = take-append_seam run behind in
-        run_is (run ++ behind) (length run) shape (omega (arith, length-append run behind)) (ap read taken ∙ e)
-        (λ q z k. ap (λ w. read (w ++ q ∷ [])) taken ∙ not_begun (run ++ q ∷ []) (h.longest q z (sym (drop-append_seam run behind) ∙ k)))
+        let taken : take (length run) (run ++ rest) ≡ run = take-append_seam run rest in
+        run_is (run ++ rest) (length run) shape (omega (arith, length-append run rest)) (ap read taken ∙ e)
+        (λ q z k. ap (λ w. read (w ++ q ∷ [])) taken ∙ not_begun (run ++ q ∷ []) (h.longest q z (sym (drop-append_seam run rest) ∙ k)))
 
-run_counted : (run behind : List Placed) (b : Bool) (bad : Option ℕ) (size : ℕ) → IsRun run behind → is_whole run ≡ b → run_read (run ++ behind) bad size ≡ counted b (length run) (run ++ behind) bad size
-run_counted run behind b bad size h k = (run_suffices (run ++ behind) (length run) b (run_taken run behind h) (ap is_whole (take-append_seam run behind) ∙ k)).comes bad size
+run_counted : (run rest : List Placed) (b : Bool) (bad : Option ℕ) (size : ℕ) → IsRun run rest → is_whole run ≡ b → run_read (run ++ rest) bad size ≡ counted b (length run) (run ++ rest) bad size
+run_counted run rest b bad size h k = (run_suffices (run ++ rest) (length run) b (run_taken run rest h) (ap is_whole (take-append_seam run rest) ∙ k)).comes bad size
 
 spelled_whole : (run : List Placed) (tree : Tree) → Selection run tree → is_whole run ≡ true
 spelled_whole run tree a = ap is_some (spells_read run tree a)
 
-pub run_selects : (run behind : List Placed) (x : Form) (bad : Option ℕ) (size : ℕ) → IsRun run behind → Selects run None x → run_read (run ++ behind) bad size ≡ Ok (x, length run)
+pub run_selects : (run rest : List Placed) (x : Form) (bad : Option ℕ) (size : ℕ) → IsRun run rest → Selects run None x → run_read (run ++ rest) bad size ≡ Ok (x, length run)
 unfolding counted
-run_selects run behind x bad size h s =
-    run_counted run behind true bad size h (spelled_whole run s.tree s.whole.spells)
-    ∙ ap (λ w. with_number (length run) (symbols_read (symbols_with w None) size)) (take-append_seam run behind) ∙ ap (with_number (length run)) (selects_read run None size x s)
+run_selects run rest x bad size h s =
+    run_counted run rest true bad size h (spelled_whole run s.tree s.whole.spells)
+    ∙ ap (λ w. with_number (length run) (symbols_read (symbols_with w None) size)) (take-append_seam run rest) ∙ ap (with_number (length run)) (selects_read run None size x s)
 
 -- a run that is read without a fault
 abbrev pub IsReadAmong : List Placed → List Placed → Option ℕ → ℕ → Type 0
-IsReadAmong first behind bad size = (x : Form) × (count : ℕ) × (run_read (first ++ behind) bad size ≡ Ok (x, count)) × (count ≤ length first)
+IsReadAmong first rest bad size = (x : Form) × (count : ℕ) × (run_read (first ++ rest) bad size ≡ Ok (x, count)) × (count ≤ length first)
 
-pub read_among : (first behind : List Placed) (bad : Option ℕ) (size : ℕ) → EndsAmong first behind → IsReadAmong first behind bad size
-read_among first behind bad size h = (
+pub read_among : (first rest : List Placed) (bad : Option ℕ) (size : ℕ) → EndsAmong first rest → IsReadAmong first rest bad size
+read_among first rest bad size h = (
   h.form,
   length h.run,
-  ap (λ w. run_read (w ++ behind) bad size) h.parts ∙ ap (λ w. run_read w bad size) (append_assoc h.run h.after behind) ∙ run_selects h.run (h.after ++ behind) h.form bad size h.is_run h.selects,
+  ap (λ w. run_read (w ++ rest) bad size) h.parts ∙ ap (λ w. run_read w bad size) (append_assoc h.run h.after rest) ∙ run_selects h.run (h.after ++ rest) h.form bad size h.is_run h.selects,
   omega (arith, ap length h.parts, length-append h.run h.after),
 )
 
@@ -69,11 +69,11 @@ fault_kept : (n : ℕ) (r : Result Form QueryFault) (fault : QueryFault) → wit
 fault_kept n (Ok x) fault e = cc
 fault_kept n (Err f) fault e = cc
 
-whole_fault : (run behind : List Placed) (tree : Tree) (bad : Option ℕ) (size : ℕ) (fault : QueryFault) → IsRun run behind → Selection run tree → counted true (length run) (run ++ behind) bad size ≡ Err fault → Misread (run ++ behind) bad size fault
+whole_fault : (run rest : List Placed) (tree : Tree) (bad : Option ℕ) (size : ℕ) (fault : QueryFault) → IsRun run rest → Selection run tree → counted true (length run) (run ++ rest) bad size ≡ Err fault → Misread (run ++ rest) bad size fault
 unfolding counted
-whole_fault run behind tree bad size fault h a e =
-    let is : symbols_read (symbols_with run None) size ≡ Err fault = ap (λ w. symbols_read (symbols_with w None) size) (sym (take-append_seam run behind)) ∙ fault_kept (length run) _ fault e in
-    R.whole run behind tree refl h a (subst (Outcome run None size) is (all_read run None size))
+whole_fault run rest tree bad size fault h a e =
+    let is : symbols_read (symbols_with run None) size ≡ Err fault = ap (λ w. symbols_read (symbols_with w None) size) (sym (take-append_seam run rest)) ∙ fault_kept (length run) _ fault e in
+    R.whole run rest tree refl h a (subst (Outcome run None size) is (all_read run None size))
 
 -- and of one that is none
 refused_more : (u v : List Placed) (bad : Option ℕ) (size : ℕ) (fault : QueryFault) → (Begins u → ⊥) → Refuses u bad size fault → Refuses (u ++ v) bad size fault
@@ -85,26 +85,26 @@ refused_more u v bad size fault none (selected.character at e h) = absurd (none 
 refused_more u v bad size fault none (selected.end e h g) = absurd (none h.begins)
 refused_more u v bad size fault none (selected.selection tree f e h g) = absurd (none ([], tree, subst (λ w. Selection w tree) (sym (append-nil u)) h.spells))
 
-front_refused : (run behind : List Placed) (bad : Option ℕ) (size : ℕ) (fault : QueryFault) → IsRun run behind → counted false (length run) (run ++ behind) bad size ≡ Err fault → Refuses (run ++ behind) bad size fault
+prefix_refused : (run rest : List Placed) (bad : Option ℕ) (size : ℕ) (fault : QueryFault) → IsRun run rest → counted false (length run) (run ++ rest) bad size ≡ Err fault → Refuses (run ++ rest) bad size fault
 unfolding counted
-front_refused run [] bad size fault h e =
+prefix_refused run [] bad size fault h e =
     let taken : take (suc (length run)) (run ++ []) ≡ run ++ [] = take_all (length run) (run ++ []) (drop-append_seam run []) ∙ take-append_seam run [] ∙ sym (append-nil run) in
     let is : symbols_read (symbols_with (run ++ []) bad) size ≡ Err fault = ap (λ w. symbols_read (symbols_with w bad) size) (sym taken) ∙ fault_kept (length run) _ fault e in
     subst (Outcome (run ++ []) bad size) is (all_read (run ++ []) bad size)
-front_refused run (q ∷ z) bad size fault h e =
+prefix_refused run (q ∷ z) bad size fault h e =
     let taken : take (suc (length run)) (run ++ q ∷ z) ≡ run ++ q ∷ [] = take_more (length run) (run ++ q ∷ z) q z (drop-append_seam run (q ∷ z)) ∙ ap (λ w. w ++ q ∷ []) (take-append_seam run (q ∷ z)) in
     let is : symbols_read (symbols_with (run ++ q ∷ []) bad) size ≡ Err fault = ap (λ w. symbols_read (symbols_with w bad) size) (sym taken) ∙ fault_kept (length run) _ fault e in
     subst (λ w. Refuses w bad size fault) (append_assoc run (q ∷ []) z) (refused_more (run ++ q ∷ []) z bad size fault (h.longest q z refl) (subst (Outcome (run ++ q ∷ []) bad size) is (all_read (run ++ q ∷ []) bad size)))
 
 -- what the run is
-parted : (run behind : List Placed) (bad : Option ℕ) (size : ℕ) (fault : QueryFault) → IsRun run behind → run_read (run ++ behind) bad size ≡ Err fault → Misread (run ++ behind) bad size fault
-parted run behind bad size fault h e = by (finished (read run)) refl
+parted : (run rest : List Placed) (bad : Option ℕ) (size : ℕ) (fault : QueryFault) → IsRun run rest → run_read (run ++ rest) bad size ≡ Err fault → Misread (run ++ rest) bad size fault
+parted run rest bad size fault h e = by (finished (read run)) refl
   where
-    by : (o : Option Tree) → finished (read run) ≡ o → Misread (run ++ behind) bad size fault
-    by (Some tree) k = whole_fault run behind tree bad size fault h (read_spells run tree k) (sym (run_counted run behind true bad size h (ap is_some k)) ∙ e)
+    by : (o : Option Tree) → finished (read run) ≡ o → Misread (run ++ rest) bad size fault
+    by (Some tree) k = whole_fault run rest tree bad size fault h (read_spells run tree k) (sym (run_counted run rest true bad size h (ap is_some k)) ∙ e)
     by None k =
-        R.part run behind refl h (λ tree a. let two : None ≡ Some tree = sym k ∙ spells_read run tree a in cc)
-        (front_refused run behind bad size fault h (sym (run_counted run behind false bad size h (ap is_some k)) ∙ e))
+        R.part run rest refl h (λ tree a. let two : None ≡ Some tree = sym k ∙ spells_read run tree a in cc)
+        (prefix_refused run rest bad size fault h (sym (run_counted run rest false bad size h (ap is_some k)) ∙ e))
 
 pub misread : (symbols : List Placed) (bad : Option ℕ) (size : ℕ) (fault : QueryFault) → run_read symbols bad size ≡ Err fault → Misread symbols bad size fault
 misread symbols bad size fault e =
@@ -114,13 +114,13 @@ misread symbols bad size fault e =
     subst (λ w. Misread w bad size fault) parts (parted (take n symbols) (drop n symbols) bad size fault (run_of (take n symbols) (drop n symbols) on.there on.runs on.stops) (ap (λ w. run_read w bad size) parts ∙ e))
 
 -- the run that is none is not read, so that it has one fault
-unread : (run behind : List Placed) (x : Form) (n : ℕ) (bad : Option ℕ) (size : ℕ) → IsRun run behind → ((tree : Tree) → Selection run tree → ⊥) → run_read (run ++ behind) bad size ≡ Ok (x, n) → ⊥
-unread run behind x n bad size h none e =
-    let all = whole_read (run ++ behind) bad size x n e in
-    let parts : take n (run ++ behind) ++ drop n (run ++ behind) ≡ run ++ behind = take-append-drop n (run ++ behind) in
-    let length_is : run_length (run ++ behind) ≡ n = ap run_length (sym parts) ∙ run_taken (take n (run ++ behind)) (drop n (run ++ behind)) (run_of (take n (run ++ behind)) (drop n (run ++ behind)) all.shape all.reads all.stops) ∙ length-take-le n (run ++ behind) all.within in
-    let same : n ≡ length run = sym length_is ∙ run_taken run behind h in
-    none all.selects.tree (subst (λ w. Selection w all.selects.tree) (ap (λ k. take k (run ++ behind)) same ∙ take-append_seam run behind) all.selects.whole.spells)
+unread : (run rest : List Placed) (x : Form) (n : ℕ) (bad : Option ℕ) (size : ℕ) → IsRun run rest → ((tree : Tree) → Selection run tree → ⊥) → run_read (run ++ rest) bad size ≡ Ok (x, n) → ⊥
+unread run rest x n bad size h none e =
+    let all = whole_read (run ++ rest) bad size x n e in
+    let parts : take n (run ++ rest) ++ drop n (run ++ rest) ≡ run ++ rest = take-append-drop n (run ++ rest) in
+    let length_is : run_length (run ++ rest) ≡ n = ap run_length (sym parts) ∙ run_taken (take n (run ++ rest)) (drop n (run ++ rest)) (run_of (take n (run ++ rest)) (drop n (run ++ rest)) all.shape all.reads all.stops) ∙ length-take-le n (run ++ rest) all.within in
+    let same : n ≡ length run = sym length_is ∙ run_taken run rest h in
+    none all.selects.tree (subst (λ w. Selection w all.selects.tree) (ap (λ k. take k (run ++ rest)) same ∙ take-append_seam run rest) all.selects.whole.spells)
 
 not_whole : (run : List Placed) → ((tree : Tree) → Selection run tree → ⊥) → is_whole run ≡ false
 not_whole run none = by (finished (read run)) refl
@@ -129,19 +129,19 @@ not_whole run none = by (finished (read run)) refl
     by None k = refl
     by (Some tree) k = absurd (none tree (read_spells run tree k))
 
-front_fault : (run behind : List Placed) (bad : Option ℕ) (size : ℕ) (fault : QueryFault) → IsRun run behind → ((tree : Tree) → Selection run tree → ⊥) → Refuses (run ++ behind) bad size fault → run_read (run ++ behind) bad size ≡ Err fault
-front_fault run behind bad size fault h none r = by (run_read (run ++ behind) bad size) refl
+prefix_fault : (run rest : List Placed) (bad : Option ℕ) (size : ℕ) (fault : QueryFault) → IsRun run rest → ((tree : Tree) → Selection run tree → ⊥) → Refuses (run ++ rest) bad size fault → run_read (run ++ rest) bad size ≡ Err fault
+prefix_fault run rest bad size fault h none r = by (run_read (run ++ rest) bad size) refl
   where
-    by : (o : Result (Form × ℕ) QueryFault) → run_read (run ++ behind) bad size ≡ o → o ≡ Err fault
-    by (Ok (x, n)) e = absurd (unread run behind x n bad size h none e)
+    by : (o : Result (Form × ℕ) QueryFault) → run_read (run ++ rest) bad size ≡ o → o ≡ Err fault
+    by (Ok (x, n)) e = absurd (unread run rest x n bad size h none e)
     by (Err f) e =
-        let other : Refuses (run ++ behind) bad size f = front_refused run behind bad size f h (sym (run_counted run behind false bad size h (not_whole run none)) ∙ e) in
-        let both : ◌≡◌ {A = Result Form QueryFault} (Err f) (Err fault) = sym (refuses_read (run ++ behind) bad size f other) ∙ refuses_read (run ++ behind) bad size fault r in
+        let other : Refuses (run ++ rest) bad size f = prefix_refused run rest bad size f h (sym (run_counted run rest false bad size h (not_whole run none)) ∙ e) in
+        let both : ◌≡◌ {A = Result Form QueryFault} (Err f) (Err fault) = sym (refuses_read (run ++ rest) bad size f other) ∙ refuses_read (run ++ rest) bad size fault r in
         let same : f ≡ fault = cc in ap Err same
 
 pub misread_read : (symbols : List Placed) (bad : Option ℕ) (size : ℕ) (fault : QueryFault) → Misread symbols bad size fault → run_read symbols bad size ≡ Err fault
 unfolding counted
-misread_read symbols bad size fault (R.whole run behind tree e h a r) =
-    ap (λ w. run_read w bad size) e ∙ run_counted run behind true bad size h (spelled_whole run tree a)
-    ∙ ap (λ w. with_number (length run) (symbols_read (symbols_with w None) size)) (take-append_seam run behind) ∙ ap (with_number (length run)) (refuses_read run None size fault r)
-misread_read symbols bad size fault (R.part run behind e h none r) = ap (λ w. run_read w bad size) e ∙ front_fault run behind bad size fault h none (subst (λ w. Refuses w bad size fault) e r)
+misread_read symbols bad size fault (R.whole run rest tree e h a r) =
+    ap (λ w. run_read w bad size) e ∙ run_counted run rest true bad size h (spelled_whole run tree a)
+    ∙ ap (λ w. with_number (length run) (symbols_read (symbols_with w None) size)) (take-append_seam run rest) ∙ ap (with_number (length run)) (refuses_read run None size fault r)
+misread_read symbols bad size fault (R.part run rest e h none r) = ap (λ w. run_read w bad size) e ∙ prefix_fault run rest bad size fault h none (subst (λ w. Refuses w bad size fault) e r)

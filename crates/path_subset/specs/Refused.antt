@@ -19,10 +19,10 @@ pub data WantSelection (before : List Placed) : Type 0 where
 
 -- Nothing is wrong with some symbols before others: they begin a path; outside of all selections none of them passes a limit; and each selection that
 -- begins among them is within the limits and without a fault, and ends among them.
-pub record MayStand (before behind : List Placed) : Type 0 where
+pub record MayStand (before rest : List Placed) : Type 0 where
   pub begins : Begins before
   pub limits : Within before
-  pub selections : (front inner : List Placed) → before ≡ front ++ inner → WantSelection front → EndsAmong inner behind
+  pub selections : (prefix inner : List Placed) → before ≡ prefix ++ inner → WantSelection prefix → EndsAmong inner rest
 
 -- The cause of a fault, in a text of so many bytes that has a character that begins no symbol, or none. Nothing is wrong with the symbols before it, so
 -- that the first fault counts. Any fault of a selection counts where the selection begins: before all that stands behind the selection, and behind

@@ -15,11 +15,11 @@ use Rattle.plan_compiler.proofs.DecidedLemmas.{form-Words, form-Not, form-Filter
 
 module _ (lists : NamedLists) where
   -- the first of some names, or else of those behind them
-  pub missing_append : (front behind : List Named) → missing_among lists (front ++ behind) ≡ option_or (missing_among lists front) (missing_among lists behind)
-  missing_append [] behind = refl
-  missing_append (first ∷ front) behind =
-      elim (is_missing lists first) as (λ t. cond t (Some (name_of first)) (missing_among lists (front ++ behind)) ≡ option_or (cond t (Some (name_of first)) (missing_among lists front)) (missing_among lists behind))
-      [ true ↦ refl | false ↦ missing_append front behind ]
+  pub missing_append : (prefix rest : List Named) → missing_among lists (prefix ++ rest) ≡ option_or (missing_among lists prefix) (missing_among lists rest)
+  missing_append [] rest = refl
+  missing_append (first ∷ prefix) rest =
+      elim (is_missing lists first) as (λ t. cond t (Some (name_of first)) (missing_among lists (prefix ++ rest)) ≡ option_or (cond t (Some (name_of first)) (missing_among lists prefix)) (missing_among lists rest))
+      [ true ↦ refl | false ↦ missing_append prefix rest ]
 
   module _ (selection : Selection) where
     pub missing-Words : (value : Words) → selection ≡ S.Words value → first_missing lists (form selection) ≡ missing_among lists (option_names value.options)

@@ -11,7 +11,7 @@ use Rattle.selection_grammar.specs.declared.symbol.Symbol.TheVariants.{Text}
 use Rattle.selection_grammar.specs.declared.symbol.Symbols.{Symbols}
 use Rattle.ft_base.specs.Letters.{is_digit, begins_with}
 use Rattle.ft_base.proofs.CharacterLemmas.{start_is_inside}
-use Rattle.query_symbols.specs.Symbols.{run_of, is_quote, is_slash, is_blank, goes_on_as_name, number_at, name_at, quoted_at, string_at, slash_at, mark_of, mark_at, front_mark, front_string, front_number, front, before, bytes_of_first, with_further, symbols_within}
+use Rattle.query_symbols.specs.Symbols.{run_of, is_quote, is_slash, is_blank, goes_on_as_name, number_at, name_at, quoted_at, string_at, slash_at, mark_of, mark_at, first_mark, first_string, first_number, first_lexeme, before, bytes_of_first, with_further, symbols_within}
 
 abbrev HasLetter : Option Lexeme → Type 0
 HasLetter found = IfSome found (λ lexeme. 1 ≤ lexeme.size)
@@ -42,12 +42,12 @@ mark_letter c = sized (mark_of c)
     sized None = tt
     sized (Some symbol) = omega arith
 
-front_letter : (c : ℕ) (rest : List ℕ) → HasLetter (front (c ∷ rest))
-unfolding front
-front_letter c rest =
-    cond_both (is_name_start c) (name_at (c ∷ rest)) (front_number c rest) HasLetter (name_letter c rest) (λ _.
-    cond_both (is_digit c) (number_at (c ∷ rest)) (front_string c rest) HasLetter (number_letter c rest) (λ _.
-    cond_both (is_quote c) (string_at c rest) (front_mark c rest) HasLetter (λ _. string_letter c rest) (λ _.
+first_letter : (c : ℕ) (rest : List ℕ) → HasLetter (first_lexeme (c ∷ rest))
+unfolding first_lexeme
+first_letter c rest =
+    cond_both (is_name_start c) (name_at (c ∷ rest)) (first_number c rest) HasLetter (name_letter c rest) (λ _.
+    cond_both (is_digit c) (number_at (c ∷ rest)) (first_string c rest) HasLetter (number_letter c rest) (λ _.
+    cond_both (is_quote c) (string_at c rest) (first_mark c rest) HasLetter (λ _. string_letter c rest) (λ _.
     cond_both (is_slash c) (slash_at rest) (mark_at c) HasLetter (λ _. slash_letter rest) (λ _. mark_letter c))))
 
 same_further : (place : ℕ) (letters : List ℕ) (one two : ℕ → List ℕ → Symbols) (found : Option Lexeme) → HasLetter found → ((to : ℕ) (left : List ℕ) → suc (length left) ≤ length letters → one to left ≡ two to left) → 1 ≤ length letters
@@ -64,6 +64,6 @@ enough_steps zero m place (c ∷ rest) h k = absurd (omega arith)
 enough_steps (suc n) zero place (c ∷ rest) h k = absurd (omega arith)
 enough_steps (suc n) (suc m) place (c ∷ rest) h k =
     let blank : symbols_within n (place + 1) rest ≡ symbols_within m (place + 1) rest = enough_steps n m (place + 1) rest (omega arith) (omega arith) in
-    let other : with_further place (c ∷ rest) (symbols_within n) (front (c ∷ rest)) ≡ with_further place (c ∷ rest) (symbols_within m) (front (c ∷ rest)) =
-    same_further place (c ∷ rest) (symbols_within n) (symbols_within m) (front (c ∷ rest)) (front_letter c rest) (λ to left short. enough_steps n m to left (omega arith) (omega arith)) (omega arith) in
+    let other : with_further place (c ∷ rest) (symbols_within n) (first_lexeme (c ∷ rest)) ≡ with_further place (c ∷ rest) (symbols_within m) (first_lexeme (c ∷ rest)) =
+    same_further place (c ∷ rest) (symbols_within n) (symbols_within m) (first_lexeme (c ∷ rest)) (first_letter c rest) (λ to left short. enough_steps n m to left (omega arith) (omega arith)) (omega arith) in
     λ i. cond (is_blank c) (blank i) (other i)

@@ -1,5 +1,5 @@
 pub mod Bounds
-pub mod Fronts
+pub mod FirstLexemes
 pub mod Places
 pub mod QuotedStrings
 pub mod Turns

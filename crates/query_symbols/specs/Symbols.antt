@@ -40,7 +40,7 @@ quoted_at quote (c ∷ d ∷ rest) =
     else with_letter c 1 (quoted_at quote (d ∷ rest))
 
 abbrev pub string_at : ℕ → List ℕ → Option Lexeme
-string_at quote behind = option_map (λ quoted. record { symbol = Text quoted.text; size = quoted.size + 1 }) (quoted_at quote behind)
+string_at quote rest = option_map (λ quoted. record { symbol = Text quoted.text; size = quoted.size + 1 }) (quoted_at quote rest)
 
 -- the marks of one character
 abbrev pub mark_of : ℕ → Option Symbol
@@ -56,7 +56,7 @@ abbrev pub mark_at : ℕ → Option Lexeme
 mark_at c = option_map (λ symbol. record { symbol = symbol; size = 1 }) (mark_of c)
 
 abbrev pub slash_at : List ℕ → Option Lexeme
-slash_at behind = if begins_with 47 behind then Some record { symbol = DoubleSlash; size = 2 } else Some record { symbol = Slash; size = 1 }
+slash_at rest = if begins_with 47 rest then Some record { symbol = DoubleSlash; size = 2 } else Some record { symbol = Slash; size = 1 }
 
 abbrev pub is_quote : ℕ → Bool
 is_quote c = (c == 34) || (c == 39)
@@ -65,18 +65,18 @@ abbrev pub is_slash : ℕ → Bool
 is_slash c = c == 47
 
 -- the symbol that begins with the first character, the longest one: a name, else a number, else a string, else a mark
-abbrev pub front_mark : ℕ → List ℕ → Option Lexeme
-front_mark c rest = if is_slash c then slash_at rest else mark_at c
+abbrev pub first_mark : ℕ → List ℕ → Option Lexeme
+first_mark c rest = if is_slash c then slash_at rest else mark_at c
 
-abbrev pub front_string : ℕ → List ℕ → Option Lexeme
-front_string c rest = if is_quote c then string_at c rest else front_mark c rest
+abbrev pub first_string : ℕ → List ℕ → Option Lexeme
+first_string c rest = if is_quote c then string_at c rest else first_mark c rest
 
-abbrev pub front_number : ℕ → List ℕ → Option Lexeme
-front_number c rest = if is_digit c then number_at (c ∷ rest) else front_string c rest
+abbrev pub first_number : ℕ → List ℕ → Option Lexeme
+first_number c rest = if is_digit c then number_at (c ∷ rest) else first_string c rest
 
-unfoldable pub front : List ℕ → Option Lexeme
-front [] = None
-front (c ∷ rest) = if is_name_start c then name_at (c ∷ rest) else front_number c rest
+unfoldable pub first_lexeme : List ℕ → Option Lexeme
+first_lexeme [] = None
+first_lexeme (c ∷ rest) = if is_name_start c then name_at (c ∷ rest) else first_number c rest
 
 abbrev pub is_blank : ℕ → Bool
 is_blank c = (c == 32) || (c == 9)
@@ -108,7 +108,7 @@ unfoldable pub symbols_within : ℕ → ℕ → List ℕ → Symbols
 symbols_within bound place [] = nothing_left
 symbols_within zero place (c ∷ rest) = nothing_left
 symbols_within (suc bound) place (c ∷ rest) =
-    if is_blank c then symbols_within bound (place + 1) rest else with_further place (c ∷ rest) (symbols_within bound) (front (c ∷ rest))
+    if is_blank c then symbols_within bound (place + 1) rest else with_further place (c ∷ rest) (symbols_within bound) (first_lexeme (c ∷ rest))
 
 -- the symbols of a text
 unfoldable pub symbols_of : List ℕ → Symbols

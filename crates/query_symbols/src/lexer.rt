@@ -6,7 +6,7 @@ ghost use Rattle.query_symbols.specs.Symbols.{Stays_within, Steps_to, symbols_of
 
 use crate::characters::is_blank;
 use crate::lexeme::Turn;
-use crate::prefix::front;
+use crate::prefix::first_lexeme;
 use ft_base::{Items, Memory, letters_of};
 use selection_grammar::{Placed, Symbols};
 use std::alloc::Global;
@@ -76,7 +76,7 @@ fn turn(
     if is_blank(letters[next]) {
         return Ok(Turn::Passed(next + 1, place + 1));
     }
-    let Some(lexeme) = front(alloc, &letters[next..])? else {
+    let Some(lexeme) = first_lexeme(alloc, &letters[next..])? else {
         return Ok(Turn::Bad);
     };
     let size = lexeme.size;

@@ -13,9 +13,9 @@ use selection_grammar::Symbol;
 use std::alloc::Global;
 
 /// The symbol that begins with the first character.
-pub(crate) fn front(alloc: Global, letters: &[char]) -> Result<Option<Lexeme>, Memory>
+pub(crate) fn first_lexeme(alloc: Global, letters: &[char]) -> Result<Option<Lexeme>, Memory>
     requires { 0 < length letters.now }
-    ensures value { IfOk result (λ lexeme. lexeme ≡ spec.front letters.now) }
+    ensures value { IfOk result (λ lexeme. lexeme ≡ spec.first_lexeme letters.now) }
     ensures within { IfOk result (λ lexeme. IfSome lexeme (λ l. l.size ≤ length letters.now)) }
 {
     let first = letters[0];

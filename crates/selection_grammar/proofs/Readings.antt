@@ -6,7 +6,7 @@ use Rattle.selection_grammar.specs.declared.symbol.Placed.{Placed}
 use Rattle.selection_grammar.specs.Shapes as shapes
 use Rattle.selection_grammar.specs.Shapes.{Shape, whole, nothing, word, number, text, mark, Mark, is_word, is_mark, number_of, text_of, number_leads, text_leads, or_else, and_then, step, run}
 use Rattle.selection_grammar.proofs.Ended.{Ends}
-use Rattle.selection_grammar.specs.steps.Reading.{reading, front_is, front_is_mark, front_number, front_text, front_place, by_number, by_text, further}
+use Rattle.selection_grammar.specs.steps.Reading.{reading, first_is, first_is_mark, first_number, first_text, first_place, by_number, by_text, further}
 
 map_number : {A B : Type 0} (f : A → B) (there : ℕ → A) (otherwise : A) (o : Option ℕ) → by_number (λ n. f (there n)) (f otherwise) o ≡ f (by_number there otherwise o)
 map_number f there otherwise None = refl
@@ -36,10 +36,10 @@ same_cond false x x' y y' e f = f
 pub reading-and_then : {A B : Type 0} (t : Shape A) (k : A → Shape B) (w : List Placed) (i : ℕ) → reading (and_then t k) w i ≡ further (reading t w i) (λ a n. reading (k a) w n)
 reading-and_then (whole a) k w i = refl
 reading-and_then nothing k w i = refl
-reading-and_then {A = A} {B = B} (word key to rest) k w i = same_cond (front_is key (drop i w)) _ _ _ _ (reading-and_then (to (front_place (drop i w))) k w (i + 1)) (reading-and_then rest k w i) ∙ map_cond (λ r. further r (λ a n. reading (k a) w n)) (front_is key (drop i w)) (reading (to (front_place (drop i w))) w (i + 1)) (reading rest w i)
-reading-and_then (number to rest) k w i = same_number _ _ _ _ (front_number (drop i w)) (λ n. reading-and_then (to n) k w (i + 1)) (reading-and_then rest k w i) ∙ map_number (λ r. further r (λ a n. reading (k a) w n)) (λ n. reading (to n) w (i + 1)) (reading rest w i) (front_number (drop i w))
-reading-and_then (text to rest) k w i = same_text _ _ _ _ (front_text (drop i w)) (λ s. reading-and_then (to (front_place (drop i w)) s) k w (i + 1)) (reading-and_then rest k w i) ∙ map_text (λ r. further r (λ a n. reading (k a) w n)) (λ s. reading (to (front_place (drop i w)) s) w (i + 1)) (reading rest w i) (front_text (drop i w))
-reading-and_then (mark m to rest) k w i = same_cond (front_is_mark m (drop i w)) _ _ _ _ (reading-and_then to k w (i + 1)) (reading-and_then rest k w i) ∙ map_cond (λ r. further r (λ a n. reading (k a) w n)) (front_is_mark m (drop i w)) (reading to w (i + 1)) (reading rest w i)
+reading-and_then {A = A} {B = B} (word key to rest) k w i = same_cond (first_is key (drop i w)) _ _ _ _ (reading-and_then (to (first_place (drop i w))) k w (i + 1)) (reading-and_then rest k w i) ∙ map_cond (λ r. further r (λ a n. reading (k a) w n)) (first_is key (drop i w)) (reading (to (first_place (drop i w))) w (i + 1)) (reading rest w i)
+reading-and_then (number to rest) k w i = same_number _ _ _ _ (first_number (drop i w)) (λ n. reading-and_then (to n) k w (i + 1)) (reading-and_then rest k w i) ∙ map_number (λ r. further r (λ a n. reading (k a) w n)) (λ n. reading (to n) w (i + 1)) (reading rest w i) (first_number (drop i w))
+reading-and_then (text to rest) k w i = same_text _ _ _ _ (first_text (drop i w)) (λ s. reading-and_then (to (first_place (drop i w)) s) k w (i + 1)) (reading-and_then rest k w i) ∙ map_text (λ r. further r (λ a n. reading (k a) w n)) (λ s. reading (to (first_place (drop i w)) s) w (i + 1)) (reading rest w i) (first_text (drop i w))
+reading-and_then (mark m to rest) k w i = same_cond (first_is_mark m (drop i w)) _ _ _ _ (reading-and_then to k w (i + 1)) (reading-and_then rest k w i) ∙ map_cond (λ r. further r (λ a n. reading (k a) w n)) (first_is_mark m (drop i w)) (reading to w (i + 1)) (reading rest w i)
 
 pub same_further : {A B : Type 0} (r : Result (A × ℕ) ℕ) (f g : A → ℕ → Result (B × ℕ) ℕ) → ((a : A) (n : ℕ) → f a n ≡ g a n) → further r f ≡ further r g
 same_further (Ok (a, n)) f g h = h a n
@@ -105,7 +105,7 @@ outcome_past {A = A} t rest u v (Err n) open_end same ends x = go x.last x.along
 shifted : {A : Type 0} (t : Shape A) (u z : List Placed) (p : Placed) → reading t ((u ++ p ∷ []) ++ z) (length (u ++ p ∷ [])) ≡ reading t (u ++ p ∷ z) (length u + 1)
 shifted t u z p = ap (λ w. reading t w (length (u ++ p ∷ []))) (append_assoc u (p ∷ []) z) ∙ ap (reading t (u ++ p ∷ z)) (omega (arith, length-append u (p ∷ [])))
 
-word_case : {B : Type 0} (key : List ℕ) (v : List Placed) (x : ℕ → B) (y r : B) (C : Type 0) → ((p : Placed) (z : List Placed) → v ≡ p ∷ z → is_word key p.symbol ≡ true → x p.from ≡ r → C) → (((p : Placed) (z : List Placed) → v ≡ p ∷ z → is_word key p.symbol ≡ false) → y ≡ r → C) → cond (front_is key v) (x (front_place v)) y ≡ r → C
+word_case : {B : Type 0} (key : List ℕ) (v : List Placed) (x : ℕ → B) (y r : B) (C : Type 0) → ((p : Placed) (z : List Placed) → v ≡ p ∷ z → is_word key p.symbol ≡ true → x p.from ≡ r → C) → (((p : Placed) (z : List Placed) → v ≡ p ∷ z → is_word key p.symbol ≡ false) → y ≡ r → C) → cond (first_is key v) (x (first_place v)) y ≡ r → C
 word_case key [] x y r C there past e = past (λ p z k. cc) e
 word_case key (q ∷ w) x y r C there past e = go (is_word key q.symbol) refl e
   where
@@ -113,7 +113,7 @@ word_case key (q ∷ w) x y r C there past e = go (is_word key q.symbol) refl e
     go true k h = there q w refl k h
     go false k h = past (λ p z s. let same : q ≡ p = cc in subst (λ (o : Placed). is_word key o.symbol ≡ false) same k) h
 
-mark_case : {B : Type 0} (m : Mark) (v : List Placed) (x y r : B) (C : Type 0) → ((p : Placed) (z : List Placed) → v ≡ p ∷ z → is_mark m p.symbol ≡ true → x ≡ r → C) → (((p : Placed) (z : List Placed) → v ≡ p ∷ z → is_mark m p.symbol ≡ false) → y ≡ r → C) → cond (front_is_mark m v) x y ≡ r → C
+mark_case : {B : Type 0} (m : Mark) (v : List Placed) (x y r : B) (C : Type 0) → ((p : Placed) (z : List Placed) → v ≡ p ∷ z → is_mark m p.symbol ≡ true → x ≡ r → C) → (((p : Placed) (z : List Placed) → v ≡ p ∷ z → is_mark m p.symbol ≡ false) → y ≡ r → C) → cond (first_is_mark m v) x y ≡ r → C
 mark_case m [] x y r C there past e = past (λ p z k. cc) e
 mark_case m (q ∷ w) x y r C there past e = go (is_mark m q.symbol) refl e
   where
@@ -121,7 +121,7 @@ mark_case m (q ∷ w) x y r C there past e = go (is_mark m q.symbol) refl e
     go true k h = there q w refl k h
     go false k h = past (λ p z s. let same : q ≡ p = cc in subst (λ (o : Placed). is_mark m o.symbol ≡ false) same k) h
 
-number_case : {B : Type 0} (v : List Placed) (x : ℕ → B) (y r : B) (C : Type 0) → ((p : Placed) (z : List Placed) (n : ℕ) → v ≡ p ∷ z → number_of p.symbol ≡ Some n → x n ≡ r → C) → (((p : Placed) (z : List Placed) → v ≡ p ∷ z → number_of p.symbol ≡ None) → y ≡ r → C) → by_number x y (front_number v) ≡ r → C
+number_case : {B : Type 0} (v : List Placed) (x : ℕ → B) (y r : B) (C : Type 0) → ((p : Placed) (z : List Placed) (n : ℕ) → v ≡ p ∷ z → number_of p.symbol ≡ Some n → x n ≡ r → C) → (((p : Placed) (z : List Placed) → v ≡ p ∷ z → number_of p.symbol ≡ None) → y ≡ r → C) → by_number x y (first_number v) ≡ r → C
 number_case [] x y r C there past e = past (λ p z k. cc) e
 number_case (q ∷ w) x y r C there past e = go (number_of q.symbol) refl e
   where
@@ -129,7 +129,7 @@ number_case (q ∷ w) x y r C there past e = go (number_of q.symbol) refl e
     go (Some n) k h = there q w n refl k h
     go None k h = past (λ p z s. let same : q ≡ p = cc in subst (λ (o : Placed). number_of o.symbol ≡ None) same k) h
 
-text_case : {B : Type 0} (v : List Placed) (x : ℕ → List ℕ → B) (y r : B) (C : Type 0) → ((p : Placed) (z : List Placed) (n : List ℕ) → v ≡ p ∷ z → text_of p.symbol ≡ Some n → x p.from n ≡ r → C) → (((p : Placed) (z : List Placed) → v ≡ p ∷ z → text_of p.symbol ≡ None) → y ≡ r → C) → by_text (x (front_place v)) y (front_text v) ≡ r → C
+text_case : {B : Type 0} (v : List Placed) (x : ℕ → List ℕ → B) (y r : B) (C : Type 0) → ((p : Placed) (z : List Placed) (n : List ℕ) → v ≡ p ∷ z → text_of p.symbol ≡ Some n → x p.from n ≡ r → C) → (((p : Placed) (z : List Placed) → v ≡ p ∷ z → text_of p.symbol ≡ None) → y ≡ r → C) → by_text (x (first_place v)) y (first_text v) ≡ r → C
 text_case [] x y r C there past e = past (λ p z k. cc) e
 text_case (q ∷ w) x y r C there past e = go (text_of q.symbol) refl e
   where
@@ -143,16 +143,16 @@ outcome {A = A} b nothing h u v r e = subst (Outcome nothing u v) e (record { la
 outcome {A = A} b (word key to rest) h u v r e = word_case key v (λ i. reading (to i) (u ++ v) (length u + 1)) (reading rest (u ++ v) (length u)) r (Outcome (word key to rest) u v r)
     (λ p z s k i. outcome_cons (word key to rest) (to p.from) u z v p r s (ap (λ c. cond c (Some (to p.from)) (step rest p)) k) (outcome false (to p.from) (h.0 p.from) (u ++ p ∷ []) z r (shifted (to p.from) u z p ∙ ap (λ w. reading (to p.from) (u ++ w) (length u + 1)) (sym s) ∙ i)))
     (λ k i. outcome_past (word key to rest) rest u v r refl (λ p z s. ap (λ c. cond c (Some (to p.from)) (step rest p)) (k p z s)) h.1 (outcome true rest h.1 u v r i))
-    (ap (λ w. cond (front_is key w) (reading (to (front_place w)) (u ++ v) (length u + 1)) (reading rest (u ++ v) (length u))) (sym (drop-append_seam u v)) ∙ e)
+    (ap (λ w. cond (first_is key w) (reading (to (first_place w)) (u ++ v) (length u + 1)) (reading rest (u ++ v) (length u))) (sym (drop-append_seam u v)) ∙ e)
 outcome {A = A} b (mark m to rest) h u v r e = mark_case m v (reading to (u ++ v) (length u + 1)) (reading rest (u ++ v) (length u)) r (Outcome (mark m to rest) u v r)
     (λ p z s k i. outcome_cons (mark m to rest) to u z v p r s (ap (λ c. cond c (Some to) (step rest p)) k) (outcome false to h.0 (u ++ p ∷ []) z r (shifted to u z p ∙ ap (λ w. reading to (u ++ w) (length u + 1)) (sym s) ∙ i)))
     (λ k i. outcome_past (mark m to rest) rest u v r refl (λ p z s. ap (λ c. cond c (Some to) (step rest p)) (k p z s)) h.1 (outcome true rest h.1 u v r i))
-    (ap (λ w. cond (front_is_mark m w) (reading to (u ++ v) (length u + 1)) (reading rest (u ++ v) (length u))) (sym (drop-append_seam u v)) ∙ e)
+    (ap (λ w. cond (first_is_mark m w) (reading to (u ++ v) (length u + 1)) (reading rest (u ++ v) (length u))) (sym (drop-append_seam u v)) ∙ e)
 outcome {A = A} b (number to rest) h u v r e = number_case v (λ n. reading (to n) (u ++ v) (length u + 1)) (reading rest (u ++ v) (length u)) r (Outcome (number to rest) u v r)
     (λ p z n s k i. outcome_cons (number to rest) (to n) u z v p r s (ap (number_leads to (step rest p)) k) (outcome false (to n) (h.0 n) (u ++ p ∷ []) z r (shifted (to n) u z p ∙ ap (λ w. reading (to n) (u ++ w) (length u + 1)) (sym s) ∙ i)))
     (λ k i. outcome_past (number to rest) rest u v r refl (λ p z s. ap (number_leads to (step rest p)) (k p z s)) h.1 (outcome true rest h.1 u v r i))
-    (ap (λ w. by_number (λ n. reading (to n) (u ++ v) (length u + 1)) (reading rest (u ++ v) (length u)) (front_number w)) (sym (drop-append_seam u v)) ∙ e)
+    (ap (λ w. by_number (λ n. reading (to n) (u ++ v) (length u + 1)) (reading rest (u ++ v) (length u)) (first_number w)) (sym (drop-append_seam u v)) ∙ e)
 outcome {A = A} b (text to rest) h u v r e = text_case v (λ i n. reading (to i n) (u ++ v) (length u + 1)) (reading rest (u ++ v) (length u)) r (Outcome (text to rest) u v r)
     (λ p z n s k i. outcome_cons (text to rest) (to p.from n) u z v p r s (ap (text_leads (to p.from) (step rest p)) k) (outcome false (to p.from n) (h.0 p.from n) (u ++ p ∷ []) z r (shifted (to p.from n) u z p ∙ ap (λ w. reading (to p.from n) (u ++ w) (length u + 1)) (sym s) ∙ i)))
     (λ k i. outcome_past (text to rest) rest u v r refl (λ p z s. ap (text_leads (to p.from) (step rest p)) (k p z s)) h.1 (outcome true rest h.1 u v r i))
-    (ap (λ w. by_text (λ n. reading (to (front_place w) n) (u ++ v) (length u + 1)) (reading rest (u ++ v) (length u)) (front_text w)) (sym (drop-append_seam u v)) ∙ e)
+    (ap (λ w. by_text (λ n. reading (to (first_place w) n) (u ++ v) (length u + 1)) (reading rest (u ++ v) (length u)) (first_text w)) (sym (drop-append_seam u v)) ∙ e)

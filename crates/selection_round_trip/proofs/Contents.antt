@@ -3,7 +3,7 @@ use Rattle.std.proofs.Common.{◌+◌, ℕ, zero, suc, Bool, true, false, cond, 
 use Rattle.std.specs.Prelude.{option_map, encode_utf8}
 use Rattle.ft_base.specs.Characters.{is_name_start}
 use Rattle.ft_base.specs.Letters.{is_digit, number_of, begins_with}
-use Rattle.query_symbols.specs.Symbols.{front, front_number, front_string, front_mark, name_at, number_at, string_at, slash_at, mark_at, mark_of, quoted_at, with_letter, is_quote, is_slash, is_blank, goes_on_as_name, run_of, bytes_of_first, with_further, symbols_within}
+use Rattle.query_symbols.specs.Symbols.{first_lexeme, first_number, first_string, first_mark, name_at, number_at, string_at, slash_at, mark_at, mark_of, quoted_at, with_letter, is_quote, is_slash, is_blank, goes_on_as_name, run_of, bytes_of_first, with_further, symbols_within}
 use Rattle.selection_grammar.specs.declared.symbol.Placed.{Placed}
 use Rattle.selection_grammar.specs.declared.symbol.Symbol.{Symbol}
 use Rattle.selection_grammar.specs.declared.symbol.Symbol.TheVariants as S
@@ -23,7 +23,7 @@ abbrev Quoted : Type 0
 Quoted = Held (quoted_at 34 [])
 
 abbrev Lexeme : Type 0
-Lexeme = Held (front [])
+Lexeme = Held (first_lexeme [])
 
 -- a string
 abbrev QuotedText : Option Quoted → Type 0
@@ -50,26 +50,26 @@ quoted_text quote (c ∷ d ∷ rest) =
     (letter_text c 1 (quoted_at quote (d ∷ rest)) (quoted_text quote (d ∷ rest)))
 
 -- the first symbol
-abbrev FrontContent : Option Lexeme → Type 0
-FrontContent None = Unit {0}
-FrontContent (Some lexeme) = Content lexeme.symbol
+abbrev FirstContent : Option Lexeme → Type 0
+FirstContent None = Unit {0}
+FirstContent (Some lexeme) = Content lexeme.symbol
 
-by_front : (b : Bool) (x y : Option Lexeme) → FrontContent x → FrontContent y → FrontContent (cond b x y)
-by_front true x y h k = h
-by_front false x y h k = k
+by_first : (b : Bool) (x y : Option Lexeme) → FirstContent x → FirstContent y → FirstContent (cond b x y)
+by_first true x y h k = h
+by_first false x y h k = k
 
-string_content : (quote : ℕ) (behind : List ℕ) → FrontContent (string_at quote behind)
-string_content quote behind = go (quoted_at quote behind) (quoted_text quote behind)
+string_content : (quote : ℕ) (rest : List ℕ) → FirstContent (string_at quote rest)
+string_content quote rest = go (quoted_at quote rest) (quoted_text quote rest)
   where
-    go : (q : Option Quoted) → QuotedText q → FrontContent (option_map (λ (quoted : Quoted). record { symbol = S.Text quoted.text; size = quoted.size + 1 }) q)
+    go : (q : Option Quoted) → QuotedText q → FirstContent (option_map (λ (quoted : Quoted). record { symbol = S.Text quoted.text; size = quoted.size + 1 }) q)
     go None k = tt
     go (Some quoted) k = k
 
-number_content : (letters : List ℕ) → FrontContent (number_at letters)
-number_content letters = by_front (goes_on_as_name (drop (run_of is_digit letters) letters)) None (Some record { symbol = S.Number (number_of (take (run_of is_digit letters) letters)); size = run_of is_digit letters }) tt tt
+number_content : (letters : List ℕ) → FirstContent (number_at letters)
+number_content letters = by_first (goes_on_as_name (drop (run_of is_digit letters) letters)) None (Some record { symbol = S.Number (number_of (take (run_of is_digit letters) letters)); size = run_of is_digit letters }) tt tt
 
-slash_content : (behind : List ℕ) → FrontContent (slash_at behind)
-slash_content behind = by_front (begins_with 47 behind) (Some record { symbol = S.DoubleSlash; size = 2 }) (Some record { symbol = S.Slash; size = 1 }) tt tt
+slash_content : (rest : List ℕ) → FirstContent (slash_at rest)
+slash_content rest = by_first (begins_with 47 rest) (Some record { symbol = S.DoubleSlash; size = 2 }) (Some record { symbol = S.Slash; size = 1 }) tt tt
 
 -- marks hold no text
 abbrev MarkContent : Option Symbol → Type 0
@@ -89,21 +89,21 @@ mark_symbol c =
     (either_mark c 123 S.OpenBrace _ tt (either_mark c 125 S.CloseBrace _ tt (either_mark c 44 S.Comma _ tt (either_mark c 64 S.At _ tt
     (either_mark c 61 S.Equals _ tt (either_mark c 46 S.Period _ tt (either_mark c 42 S.Star None tt tt))))))))))
 
-mark_content : (c : ℕ) → FrontContent (mark_at c)
+mark_content : (c : ℕ) → FirstContent (mark_at c)
 mark_content c = go (mark_of c) (mark_symbol c)
   where
-    go : (o : Option Symbol) → MarkContent o → FrontContent (option_map (λ (symbol : Symbol). record { symbol = symbol; size = 1 }) o)
+    go : (o : Option Symbol) → MarkContent o → FirstContent (option_map (λ (symbol : Symbol). record { symbol = symbol; size = 1 }) o)
     go None k = tt
     go (Some s) k = k
 
-front_content : (letters : List ℕ) → FrontContent (front letters)
-unfolding front
-front_content [] = tt
-front_content (c ∷ rest) =
-    by_front (is_name_start c) (name_at (c ∷ rest)) (front_number c rest) tt
-    (by_front (is_digit c) (number_at (c ∷ rest)) (front_string c rest) (number_content (c ∷ rest))
-    (by_front (is_quote c) (string_at c rest) (front_mark c rest) (string_content c rest)
-    (by_front (is_slash c) (slash_at rest) (mark_at c) (slash_content rest) (mark_content c))))
+first_content : (letters : List ℕ) → FirstContent (first_lexeme letters)
+unfolding first_lexeme
+first_content [] = tt
+first_content (c ∷ rest) =
+    by_first (is_name_start c) (name_at (c ∷ rest)) (first_number c rest) tt
+    (by_first (is_digit c) (number_at (c ∷ rest)) (first_string c rest) (number_content (c ∷ rest))
+    (by_first (is_quote c) (string_at c rest) (first_mark c rest) (string_content c rest)
+    (by_first (is_slash c) (slash_at rest) (mark_at c) (slash_content rest) (mark_content c))))
 
 -- all symbols
 pub all_contents : (bound place : ℕ) (letters : List ℕ) → AllContent (symbols_within bound place letters).placed
@@ -111,14 +111,14 @@ unfolding symbols_within
 all_contents bound place [] = tt
 all_contents zero place (c ∷ rest) = tt
 all_contents (suc bound) place (c ∷ rest) =
-    by_blank (is_blank c) (symbols_within bound (place + 1) rest) (with_further place (c ∷ rest) (symbols_within bound) (front (c ∷ rest)))
+    by_blank (is_blank c) (symbols_within bound (place + 1) rest) (with_further place (c ∷ rest) (symbols_within bound) (first_lexeme (c ∷ rest)))
     (all_contents bound (place + 1) rest)
-    (by_symbol (front (c ∷ rest)) (front_content (c ∷ rest)) (λ n. all_contents bound (place + bytes_of_first n (c ∷ rest)) (drop n (c ∷ rest))))
+    (by_symbol (first_lexeme (c ∷ rest)) (first_content (c ∷ rest)) (λ n. all_contents bound (place + bytes_of_first n (c ∷ rest)) (drop n (c ∷ rest))))
   where
     by_blank : (b : Bool) (x y : Symbols) → AllContent x.placed → AllContent y.placed → AllContent (cond b x y).placed
     by_blank true x y k l = k
     by_blank false x y k l = l
 
-    by_symbol : (o : Option Lexeme) → FrontContent o → ((n : ℕ) → AllContent (symbols_within bound (place + bytes_of_first n (c ∷ rest)) (drop n (c ∷ rest))).placed) → AllContent (with_further place (c ∷ rest) (symbols_within bound) o).placed
+    by_symbol : (o : Option Lexeme) → FirstContent o → ((n : ℕ) → AllContent (symbols_within bound (place + bytes_of_first n (c ∷ rest)) (drop n (c ∷ rest))).placed) → AllContent (with_further place (c ∷ rest) (symbols_within bound) o).placed
     by_symbol None k l = tt
     by_symbol (Some lexeme) k l = (k, l lexeme.size)

@@ -8,9 +8,9 @@ use Rattle.ft_base.specs.Characters.{is_name_start, is_name_char}
 use Rattle.ft_base.proofs.CharacterLemmas.{start_is_inside}
 use Rattle.selection_grammar.specs.declared.symbol.Symbol.TheVariants.{Name}
 use Rattle.selection_grammar.specs.declared.symbol.Symbols.{Symbols}
-use Rattle.query_symbols.specs.Symbols.{front, front_number, name_at, goes_on_as_name, is_blank, with_further, symbols_within}
+use Rattle.query_symbols.specs.Symbols.{first_lexeme, first_number, name_at, goes_on_as_name, is_blank, with_further, symbols_within}
 use Rattle.selection_round_trip.specs.Strings.{with_symbol}
-use Rattle.selection_round_trip.proofs.PrintedStrings.{take_front}
+use Rattle.selection_round_trip.proofs.PrintedStrings.{take_prefix}
 
 pub run_all : (test : ℕ → Bool) (xs rest : List ℕ) → list_all test xs ≡ true → prefix_len test rest ≡ 0 → prefix_len test (xs ++ rest) ≡ length xs
 run_all test [] rest h k = k
@@ -39,11 +39,11 @@ named bound place taken left = with_symbol bound place (Name (encode_utf8_all ta
 
 pub name_read : (bound place c : ℕ) (letters rest : List ℕ) → is_name_start c ≡ true → list_all is_name_char letters ≡ true → goes_on_as_name rest ≡ false
     → symbols_within (suc bound) place (c ∷ letters ++ rest) ≡ with_symbol bound place (Name (encode_utf8_all (c ∷ letters))) (encode_utf8_all (c ∷ letters)) rest
-unfolding symbols_within front
+unfolding symbols_within first_lexeme
 name_read bound place c letters rest h k r =
     let all : list_all is_name_char (c ∷ letters) ≡ true = ap (λ b. b && list_all is_name_char letters) (start_is_inside c h) ∙ k in
-    ap (λ b. cond b (symbols_within bound (place + 1) (letters ++ rest)) (with_further place (c ∷ letters ++ rest) (symbols_within bound) (front (c ∷ letters ++ rest)))) (not_blank c h (eqb c 32) (eqb c 9) refl refl)
-    ∙ ap (λ b. with_further place (c ∷ letters ++ rest) (symbols_within bound) (cond b (name_at (c ∷ letters ++ rest)) (front_number c (letters ++ rest)))) h
+    ap (λ b. cond b (symbols_within bound (place + 1) (letters ++ rest)) (with_further place (c ∷ letters ++ rest) (symbols_within bound) (first_lexeme (c ∷ letters ++ rest)))) (not_blank c h (eqb c 32) (eqb c 9) refl refl)
+    ∙ ap (λ b. with_further place (c ∷ letters ++ rest) (symbols_within bound) (cond b (name_at (c ∷ letters ++ rest)) (first_number c (letters ++ rest)))) h
     ∙ ap (λ n. named bound place (take n (c ∷ letters ++ rest)) (drop n (c ∷ letters ++ rest))) (run_all is_name_char (c ∷ letters) rest all (run_ends rest r))
-    ∙ ap (λ t. named bound place t (drop (length (c ∷ letters)) (c ∷ letters ++ rest))) (take_front (c ∷ letters) rest)
+    ∙ ap (λ t. named bound place t (drop (length (c ∷ letters)) (c ∷ letters ++ rest))) (take_prefix (c ∷ letters) rest)
     ∙ ap (λ d. named bound place (c ∷ letters) d) (drop-append_seam (c ∷ letters) rest)

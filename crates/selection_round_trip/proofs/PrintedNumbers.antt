@@ -15,10 +15,10 @@ use Rattle.ft_base.specs.Letters.{is_digit, number_of}
 use Rattle.ft_base.specs.Limits.{max_number}
 use Rattle.selection_grammar.specs.declared.symbol.Symbol.TheVariants.{Number}
 use Rattle.selection_grammar.specs.declared.symbol.Symbols.{Symbols}
-use Rattle.query_symbols.specs.Symbols.{front, front_number, front_string, name_at, number_at, goes_on_as_name, is_blank, run_of, with_further, symbols_within}
+use Rattle.query_symbols.specs.Symbols.{first_lexeme, first_number, first_string, name_at, number_at, goes_on_as_name, is_blank, run_of, with_further, symbols_within}
 use Rattle.selection_round_trip.specs.Strings.{with_symbol}
 use Rattle.selection_round_trip.proofs.PrintedNames.{run_all}
-use Rattle.selection_round_trip.proofs.PrintedStrings.{take_front}
+use Rattle.selection_round_trip.proofs.PrintedStrings.{take_prefix}
 
 -- digits
 all_digits : (ds : List ℕ) → AllDigits 10 ds → list_all is_digit ds ≡ true
@@ -81,19 +81,19 @@ numbered bound place n taken left = with_symbol bound place (Number n) (encode_u
 
 digits_read : (bound place n c : ℕ) (ds rest : List ℕ) → list_all is_digit (c ∷ ds) ≡ true → number_of (c ∷ ds) ≡ n → encode_utf8_all (c ∷ ds) ≡ c ∷ ds → goes_on_as_name rest ≡ false
     → symbols_within (suc bound) place (c ∷ ds ++ rest) ≡ with_symbol bound place (Number n) (c ∷ ds) rest
-unfolding symbols_within front
+unfolding symbols_within first_lexeme
 digits_read bound place n c ds rest h v ascii r =
     let word : List ℕ = c ∷ ds in
     let first = and_parts (is_digit c) (list_all is_digit ds) h in
     let bounds = and_parts (nat_le 48 c) (nat_le c 57) first.0 in
     let size : run_of is_digit (word ++ rest) ≡ length word = run_all is_digit word rest h (run_ends rest r) in
-    ap (λ b. cond b (symbols_within bound (place + 1) (ds ++ rest)) (with_further place (word ++ rest) (symbols_within bound) (front (word ++ rest)))) (no_blank c (leb-true 48 c bounds.0) (eqb c 32) (eqb c 9) refl refl)
-    ∙ ap (λ b. with_further place (word ++ rest) (symbols_within bound) (cond b (name_at (word ++ rest)) (front_number c (ds ++ rest)))) (no_name_start c (leb-true c 57 bounds.1))
-    ∙ ap (λ b. with_further place (word ++ rest) (symbols_within bound) (cond b (number_at (word ++ rest)) (front_string c (ds ++ rest)))) first.0
+    ap (λ b. cond b (symbols_within bound (place + 1) (ds ++ rest)) (with_further place (word ++ rest) (symbols_within bound) (first_lexeme (word ++ rest)))) (no_blank c (leb-true 48 c bounds.0) (eqb c 32) (eqb c 9) refl refl)
+    ∙ ap (λ b. with_further place (word ++ rest) (symbols_within bound) (cond b (name_at (word ++ rest)) (first_number c (ds ++ rest)))) (no_name_start c (leb-true c 57 bounds.1))
+    ∙ ap (λ b. with_further place (word ++ rest) (symbols_within bound) (cond b (number_at (word ++ rest)) (first_string c (ds ++ rest)))) first.0
     ∙ ap (λ m. with_further place (word ++ rest) (symbols_within bound) (cond (goes_on_as_name (drop m (word ++ rest))) None (Some record { symbol = Number (number_of (take m (word ++ rest))); size = m }))) size
     ∙ ap (λ w. with_further place (word ++ rest) (symbols_within bound) (cond (goes_on_as_name w) None (Some record { symbol = Number (number_of (take (length word) (word ++ rest))); size = length word }))) (drop-append_seam word rest)
     ∙ ap (λ b. with_further place (word ++ rest) (symbols_within bound) (cond b None (Some record { symbol = Number (number_of (take (length word) (word ++ rest))); size = length word }))) r
-    ∙ ap (λ t. numbered bound place (number_of t) t (drop (length word) (word ++ rest))) (take_front word rest)
+    ∙ ap (λ t. numbered bound place (number_of t) t (drop (length word) (word ++ rest))) (take_prefix word rest)
     ∙ ap (λ w. numbered bound place (number_of word) word w) (drop-append_seam word rest)
     ∙ ap (λ m. numbered bound place m word rest) v
     ∙ ap (λ w. with_symbol bound place (Number n) w rest) ascii

@@ -10,7 +10,7 @@ use Rattle.ft_base.specs.Characters.{is_name_start}
 use Rattle.ft_base.specs.Letters.{begins_with}
 use Rattle.selection_grammar.specs.declared.symbol.Symbol.TheVariants as S
 use Rattle.selection_grammar.specs.declared.symbol.Symbols.{Symbols}
-use Rattle.query_symbols.specs.Symbols.{with_letter, quoted_at, front, before, with_further, symbols_within}
+use Rattle.query_symbols.specs.Symbols.{with_letter, quoted_at, first_lexeme, before, with_further, symbols_within}
 use Rattle.ft_syntax.specs.OptionSymbols.{in_quotes, string_symbol}
 use Rattle.ft_syntax.proofs.Quotes.{in_quotes_letter}
 use Rattle.selection_round_trip.specs.Strings.{with_string}
@@ -65,15 +65,15 @@ unfolding lib.Utf8.encode
 string_written letters = ap (λ w. 34 ∷ w) (encodes-append (flat_map in_quotes letters) (34 ∷ []) ∙ ap (λ w. w ++ 34 ∷ []) (sym (bytes_doubled letters)))
 
 -- the first symbol, and what is left
-pub take_front : (xs ys : List ℕ) → take (length xs) (xs ++ ys) ≡ xs
-take_front [] ys = refl
-take_front (x ∷ xs) ys = ap (λ w. x ∷ w) (take_front xs ys)
+pub take_prefix : (xs ys : List ℕ) → take (length xs) (xs ++ ys) ≡ xs
+take_prefix [] ys = refl
+take_prefix (x ∷ xs) ys = ap (λ w. x ∷ w) (take_prefix xs ys)
 
 abbrev behind : ℕ → ℕ → List ℕ → List ℕ → List ℕ → Symbols
 behind bound place letters taken left = before (record { symbol = S.Text (encode_utf8_all letters); from = place; to = place + length (encode_utf8_all taken) }) (symbols_within bound (place + length (encode_utf8_all taken)) left)
 
 pub string_read : (bound place : ℕ) (letters rest : List ℕ) → begins_with 34 rest ≡ false → symbols_within (suc bound) place (34 ∷ flat_map in_quotes letters ++ 34 ∷ rest) ≡ with_string bound place (encode_utf8_all letters) rest
-unfolding symbols_within front is_name_start
+unfolding symbols_within first_lexeme is_name_start
 string_read bound place letters rest h =
     let word : List ℕ = 34 ∷ flat_map in_quotes letters ++ 34 ∷ [] in
     let split : 34 ∷ flat_map in_quotes letters ++ 34 ∷ rest ≡ word ++ rest = sym (append_assoc (34 ∷ flat_map in_quotes letters) (34 ∷ []) rest) in
@@ -81,6 +81,6 @@ string_read bound place letters rest h =
     ap (λ q. with_further place (34 ∷ flat_map in_quotes letters ++ 34 ∷ rest) (symbols_within bound) (option_map (λ z. record { symbol = S.Text z.text; size = z.size + 1 }) q)) (quoted_letters letters rest h)
     ∙ ap (λ n. behind bound place letters (take n (34 ∷ flat_map in_quotes letters ++ 34 ∷ rest)) (drop n (34 ∷ flat_map in_quotes letters ++ 34 ∷ rest))) size
     ∙ ap (λ w. behind bound place letters (take (length word) w) (drop (length word) w)) split
-    ∙ ap (λ w. behind bound place letters w (drop (length word) (word ++ rest))) (take_front word rest)
+    ∙ ap (λ w. behind bound place letters w (drop (length word) (word ++ rest))) (take_prefix word rest)
     ∙ ap (λ w. behind bound place letters word w) (drop-append_seam word rest)
     ∙ ap (λ w. before (record { symbol = S.Text (encode_utf8_all letters); from = place; to = place + length w }) (symbols_within bound (place + length w) rest)) (string_written letters)

@@ -17,7 +17,7 @@ use Rattle.ft_syntax.specs.OptionSymbols.{in_quotes, string_symbol}
 use Rattle.ft_syntax.specs.Spacing.{opens, closes}
 use Rattle.selection_grammar.specs.declared.symbol.Symbol.{Symbol}
 use Rattle.selection_grammar.specs.declared.symbol.Symbol.TheVariants as S
-use Rattle.query_symbols.specs.Symbols.{front, goes_on_as_name, symbols_within}
+use Rattle.query_symbols.specs.Symbols.{first_lexeme, goes_on_as_name, symbols_within}
 use Rattle.selection_round_trip.specs.Printable.{IsEncoded, is_small_letter, is_keyword, Printable}
 use Rattle.selection_round_trip.specs.Printed.{spelling}
 use Rattle.selection_round_trip.specs.Strings.{with_symbol, with_string}
@@ -153,7 +153,7 @@ closing_mark : (s : Symbol) (c : ℕ) → encode_utf8_all (c ∷ []) ≡ spellin
 closing_mark s c w e f r = record { first = c; more = []; written = w; reads = λ bound place rest apart. r bound place rest; follows = λ k. (e, f) }
 
 pub readable : (s : Symbol) → Printable s → Readable s
-unfolding symbols_within front is_name_start is_name_char lib.Utf8.encode
+unfolding symbols_within first_lexeme is_name_start is_name_char lib.Utf8.encode
 readable (S.Name name) h = readable_name name h
 readable (S.Number n) h = readable_number n h
 readable (S.Text text) h = readable_text text h

@@ -206,7 +206,7 @@ impl TextTest for Judge {
       price = λ selection r. 1;
     } };
 
-    ghost spent = { λ test. test.asked };
+    ghost cost = { λ test. test.asked };
 
     fn contains(&mut self, _selection: usize, node: NodeRef) -> Result<bool, Memory> {
         self.asked = self.asked.saturating_add(1);

@@ -194,8 +194,8 @@ const INSIDES: [&str; 2] = ["1", r#". contains text ((("a")))"#];
 /// Tries what stands in them one after the other.
 fn expect_all_nested(rt: &impl Abort, alloc: Global, insides: &[&'static str]) -> Result<(), Fail> {
     for inside in insides {
-        let front = repeated(alloc, "query collection()/", 64, "a[", inside)?;
-        let session = repeated(alloc, front.as_str(), 64, "]", "\n")?;
+        let prefix = repeated(alloc, "query collection()/", 64, "a[", inside)?;
+        let session = repeated(alloc, prefix.as_str(), 64, "]", "\n")?;
         expect_output(rt, alloc, session.as_str(), &["= 0\n"], Status::Done)?;
     }
     Ok(())

@@ -162,12 +162,12 @@ fn expect_prefixes(rt: &impl Abort, alloc: Global, rows: &[PrefixRow]) -> Result
 }
 
 #[test]
-fn the_longest_front_is_read(rt: HostRuntime) -> Result<(), Fail> {
+fn the_longest_prefix_is_read(rt: HostRuntime) -> Result<(), Fail> {
     expect_prefixes(&rt, rt.alloc(), &READ)
 }
 
 #[test]
-fn fronts_that_are_no_selections_are_refused(rt: HostRuntime) -> Result<(), Fail> {
+fn prefixes_that_are_no_selections_are_refused(rt: HostRuntime) -> Result<(), Fail> {
     expect_prefixes(&rt, rt.alloc(), &REFUSED)
 }
 
@@ -187,7 +187,7 @@ fn expect_all_deep(rt: &impl Abort, alloc: Global, rows: &[DeepRow]) -> Result<(
 }
 
 #[test]
-fn what_is_limited_in_a_front_has_its_place(rt: HostRuntime) -> Result<(), Fail> {
+fn what_is_limited_in_a_prefix_has_its_place(rt: HostRuntime) -> Result<(), Fail> {
     expect_all_deep(&rt, rt.alloc(), &DEEP)
 }
 
@@ -205,7 +205,7 @@ fn expect_place(rt: &impl Abort, alloc: Global, text: &str, place: usize) {
 }
 
 #[test]
-fn what_is_limited_is_counted_in_the_front_alone(rt: HostRuntime) -> Result<(), Fail> {
+fn what_is_limited_is_counted_in_the_prefix_alone(rt: HostRuntime) -> Result<(), Fail> {
     let levels = repeated(rt.alloc(), "", 64, "(", r#""a""#)?;
     let levels = repeated(rt.alloc(), levels.as_str(), 64, ")", " (")?;
     expect_place(&rt, rt.alloc(), levels.as_str(), 131);

@@ -139,8 +139,8 @@ fn expect_all_read(rt: &impl Abort, alloc: Global, rows: &[RepeatedRow]) -> Resu
 fn expect_all_nested(rt: &impl Abort, alloc: Global, rows: &[NestedRow]) -> Result<(), Fail> {
     for row in rows {
         let (count, inside, behind) = *row;
-        let front = repeated(alloc, "", count, "(", inside)?;
-        let text = repeated(alloc, front.as_str(), count, ")", behind)?;
+        let prefix = repeated(alloc, "", count, "(", inside)?;
+        let text = repeated(alloc, prefix.as_str(), count, ")", behind)?;
         expect_read(rt, alloc, text.as_str());
     }
     Ok(())

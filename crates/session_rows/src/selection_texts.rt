@@ -16,8 +16,8 @@ fn expect_reply(
     reply: &str,
     status: Status,
 ) -> Result<(), Fail> {
-    let front = "query collection()//a[. contains text ";
-    let session = repeated(alloc, front, count, "\"a\" ftor ", selection)?;
+    let prefix = "query collection()//a[. contains text ";
+    let session = repeated(alloc, prefix, count, "\"a\" ftor ", selection)?;
     let session = joined(alloc, &[session.as_str(), "]\n"])?;
     let answered = is_answered(alloc, session.as_bytes(), NEVER, NEVER, &[reply], status)?;
     assert!(rt; answered, "{count} {selection}");

@@ -16,9 +16,9 @@ abbrev pub feed_at : List ℕ → ℕ
 feed_at bytes = position_or_len is_line_feed bytes
 
 -- the bytes before the first line feed hold none
-unended_front : (bytes : List ℕ) → is_unended (take (feed_at bytes) bytes) ≡ true
-unended_front [] = refl
-unended_front (byte ∷ bytes) = by (is_line_feed byte) refl (unended_front bytes)
+unended_prefix : (bytes : List ℕ) → is_unended (take (feed_at bytes) bytes) ≡ true
+unended_prefix [] = refl
+unended_prefix (byte ∷ bytes) = by (is_line_feed byte) refl (unended_prefix bytes)
   where
     by : (t : Bool) → is_line_feed byte ≡ t → is_unended (take (feed_at bytes) bytes) ≡ true → is_unended (take (cond (not t) (1 + feed_at bytes) 0) (byte ∷ bytes)) ≡ true
     by true e h = refl
@@ -38,7 +38,7 @@ first_line : (at_end : Bool) (place : Place) (bytes more : List ℕ) → is_unen
 first_line at_end place bytes more rest_open within =
     ap (λ w. commands_from at_end place (w ++ more)) (at_feed bytes within)
     ∙ (ap (commands_from at_end place) (append_assoc (take (feed_at bytes) bytes) (10 ∷ drop (feed_at bytes + 1) bytes) more)
-    ∙ commands_from-line at_end place (take (feed_at bytes) bytes) (drop (feed_at bytes + 1) bytes ++ more) rest_open (unended_front bytes))
+    ∙ commands_from-line at_end place (take (feed_at bytes) bytes) (drop (feed_at bytes + 1) bytes ++ more) rest_open (unended_prefix bytes))
 
 -- the commands so far and those of what is left, behind one more line
 pub line_added : (at_end : Bool) (place new : Place) (bytes behind more : List ℕ) (end : ℕ) (found after : List Command) (command : Option Command)
@@ -58,4 +58,4 @@ line_added at_end place new bytes behind more end found after command rest_open 
     ∙ ap (λ commands. commands ++ commands_from at_end new (behind ++ more)) (sym added))
 
 pub unended_rest : (rest behind : List ℕ) → is_unended rest ≡ true → length behind ≤ position_or_len is_line_feed behind → is_unended (rest ++ behind) ≡ true
-unended_rest rest behind rest_open past = unended_append rest behind rest_open (ap is_unended (sym (take_all (feed_at behind) behind past)) ∙ unended_front behind)
+unended_rest rest behind rest_open past = unended_append rest behind rest_open (ap is_unended (sym (take_all (feed_at behind) behind past)) ∙ unended_prefix behind)

@@ -1,2 +1,2 @@
 pub mod LineLemmas
-pub mod SpokenLemmas
+pub mod ContentLemmas

@@ -50,13 +50,13 @@ abbrev pub behind_first_word : List ℕ → List ℕ
 behind_first_word text = trimmed_start (drop (length (first_word text)) text)
 
 -- a line that isn't skipped: its number, counted from 1, and what it says
-pub record Spoken : Type 0 where
+pub record Content : Type 0 where
   pub number : ℕ
   pub text : List ℕ
 
 -- the lines that aren't skipped, where the first of them all has that number
-unfoldable pub spoken : ℕ → List (List ℕ) → List Spoken
-spoken number [] = []
-spoken number (line ∷ lines) =
-    if is_skipped line then spoken (number + 1) lines
-    else record { number = number; text = trimmed_line line } ∷ spoken (number + 1) lines
+unfoldable pub content_lines : ℕ → List (List ℕ) → List Content
+content_lines number [] = []
+content_lines number (line ∷ lines) =
+    if is_skipped line then content_lines (number + 1) lines
+    else record { number = number; text = trimmed_line line } ∷ content_lines (number + 1) lines

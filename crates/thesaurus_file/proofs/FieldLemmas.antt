@@ -41,9 +41,9 @@ start_trimmed (b ∷ bs) = elim (is_blank b) as (λ t. is_blank b ≡ t → trim
 -- a carriage return is no blank
 pub returned_end : (text : List ℕ) → ends_with nat_eq text (13 ∷ []) ≡ true → trimmed_end text ≡ text
 returned_end text ends =
-    let front = take (length text - 1) text in
-    let cut : text ≡ front ++ 13 ∷ [] = sym (take-append-drop (length text - 1) text) ∙ ap (λ l. front ++ l) (sym ((bytes_decides (13 ∷ []) (drop (length text - 1) text)).0 ends)) in
-    ap trimmed_end cut ∙ trimmed_end_other front 13 refl ∙ sym cut
+    let prefix = take (length text - 1) text in
+    let cut : text ≡ prefix ++ 13 ∷ [] = sym (take-append-drop (length text - 1) text) ∙ ap (λ l. prefix ++ l) (sym ((bytes_decides (13 ∷ []) (drop (length text - 1) text)).0 ends)) in
+    ap trimmed_end cut ∙ trimmed_end_other prefix 13 refl ∙ sym cut
 
 -- without one a line says what is left without the blanks
 pub other_end : (text rest : List ℕ) → rest ≡ trimmed_start text → ends_with nat_eq rest (13 ∷ []) ≡ false → trimmed_line rest ≡ trimmed text

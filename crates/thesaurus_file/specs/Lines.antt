@@ -5,7 +5,7 @@ use Rattle.std.specs.List.{slice_split}
 use Rattle.std.specs.Option.{option_and_then}
 use Rattle.std.specs.Str.{is_utf8}
 use Rattle.text_forms.specs.Forms.{key_of}
-use Rattle.text_lines.specs.Lines.{lines, spoken, trimmed_start, trimmed_end}
+use Rattle.text_lines.specs.Lines.{lines, content_lines, trimmed_start, trimmed_end}
 use Rattle.text_lines.specs.Lists.{read_lines}
 use Rattle.tokenizer.specs.Words.{words}
 use Rattle.thesaurus_file.specs.Links.{Links, with_link}
@@ -49,4 +49,4 @@ with_line thesaurus text = option_map (with_link thesaurus) (line_of text)
 
 -- the links of a thesaurus, or the number of the first bad line
 unfoldable pub thesaurus_of : List ℕ → Result Links ℕ
-thesaurus_of file = read_lines with_line [] (spoken 1 (lines file))
+thesaurus_of file = read_lines with_line [] (content_lines 1 (lines file))

@@ -37,10 +37,10 @@ fn three_parts(text: &str) -> Option<(&str, &str, &str)>
     ensures { MatchOption result (three (slice_split is_bar text.now) ≡ None)
         (λ parts. three (slice_split is_bar text.now) ≡ Some (parts.0.now, parts.1.now, parts.2.now)) }
 {
-    let Some((first, behind)) = split_at_bar(text) else {
+    let Some((first, rest)) = split_at_bar(text) else {
         return None;
     };
-    let Some((second, third)) = split_at_bar(behind) else {
+    let Some((second, third)) = split_at_bar(rest) else {
         return None;
     };
     if split_at_bar(third).is_some() {

@@ -16,7 +16,7 @@ use ft_base::{Items, ListFault, Memory};
 use std::alloc::Global;
 use std::collections::{BTreeMap, BTreeSet};
 use std::marker::Model;
-use text_lines::SpokenLines;
+use text_lines::ContentLines;
 
 /// A thesaurus, which contracts see as the phrases that its lines begin with, in their order, each with where these lines lead.
 #[derive(Drop)]
@@ -50,7 +50,7 @@ impl Thesaurus {
         ensures err { IfErr result (λ fault. IsFault fault (thesaurus_of bytes.now)) }
     {
         let mut thesaurus = Thesaurus::empty(alloc);
-        let mut lines = SpokenLines::of(bytes);
+        let mut lines = ContentLines::of(bytes);
         while let Some(line) = lines.next() {
             match thesaurus.add_line(alloc, line.text) {
                 Ok(true) => {}

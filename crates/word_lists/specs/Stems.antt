@@ -4,7 +4,7 @@ use Rattle.std.specs.Map.{lookup}
 use Rattle.std.specs.List.{list_any}
 use Rattle.std.specs.Option.{option_and_then}
 use Rattle.text_forms.specs.Forms.{key_of}
-use Rattle.text_lines.specs.Lines.{lines, spoken}
+use Rattle.text_lines.specs.Lines.{lines, content_lines}
 use Rattle.text_lines.specs.Lists.{read_lines}
 use Rattle.word_lists.specs.Words.{only_two, words_of_line}
 
@@ -25,7 +25,7 @@ with_stem_line stems text = option_and_then (λ two. with_stem stems (key_of two
 
 -- the stems of a dictionary, or the number of the first bad line
 unfoldable pub stems_of : List ℕ → Result (List Stem) ℕ
-stems_of file = read_lines with_stem_line [] (spoken 1 (lines file))
+stems_of file = read_lines with_stem_line [] (content_lines 1 (lines file))
 
 -- the stem of a key: the key itself where it has none
 abbrev pub stem_in : List Stem → List ℕ → List ℕ

@@ -2,7 +2,7 @@
 use Rattle.std.specs.Prelude.{ℕ, if◌then◌else◌, List, [], ◌∷◌, ◌++◌, Option, option_map, Result, bytes_eq}
 use Rattle.std.specs.List.{list_any}
 use Rattle.text_forms.specs.Forms.{key_of}
-use Rattle.text_lines.specs.Lines.{lines, spoken}
+use Rattle.text_lines.specs.Lines.{lines, content_lines}
 use Rattle.text_lines.specs.Lists.{read_lines}
 use Rattle.word_lists.specs.Words.{only, words_of_line}
 
@@ -16,4 +16,4 @@ with_stop_line keys text = option_map (λ word. with_key keys (key_of word)) (on
 
 -- the keys of a stop list, each once, or the number of the first bad line
 unfoldable pub stop_list_of : List ℕ → Result (List (List ℕ)) ℕ
-stop_list_of file = read_lines with_stop_line [] (spoken 1 (lines file))
+stop_list_of file = read_lines with_stop_line [] (content_lines 1 (lines file))

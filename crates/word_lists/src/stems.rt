@@ -7,7 +7,7 @@ use ft_base::{ListFault, Memory};
 use indexmap::IndexMap;
 use std::alloc::Global;
 use std::marker::Model;
-use text_lines::SpokenLines;
+use text_lines::ContentLines;
 
 /// A dictionary of stems: the keys of words with those of their stems, which contracts see as the list of these pairs.
 #[derive(Drop)]
@@ -46,7 +46,7 @@ impl Stems {
         ensures err { IfErr result (λ fault. IsFault fault (stems_of bytes.now)) }
     {
         let mut list = Stems::empty(alloc);
-        let mut lines = SpokenLines::of(bytes);
+        let mut lines = ContentLines::of(bytes);
         while let Some(line) = lines.next() {
             match list.add_line(alloc, line.text) {
                 Ok(true) => {}

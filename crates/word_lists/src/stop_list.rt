@@ -8,7 +8,7 @@ use ft_base::{ListFault, Memory};
 use indexmap::IndexSet;
 use std::alloc::Global;
 use std::marker::Model;
-use text_lines::SpokenLines;
+use text_lines::ContentLines;
 
 /// A set of keys of words, which contracts see as the list of them, each once.
 #[derive(Drop)]
@@ -44,7 +44,7 @@ impl StopList {
         ensures err { IfErr result (λ fault. IsFault fault (stop_list_of bytes.now)) }
     {
         let mut list = StopList::empty(alloc);
-        let mut lines = SpokenLines::of(bytes);
+        let mut lines = ContentLines::of(bytes);
         while let Some(line) = lines.next() {
             match list.add_line(alloc, line.text) {
                 Ok(true) => {}

@@ -13,7 +13,7 @@ use Rattle.selection_grammar.specs.Keywords.{plain_option, range, range_without_
 use Rattle.selection_grammar.specs.Tree.{Tree, Primary, phrases}
 use Rattle.selection_grammar.specs.steps.Machine as m
 use Rattle.selection_grammar.specs.steps.Machine.{Left, Frame, Stage, State, selection_with, operand_of, filtered_state, thesaurus_ended, thesaurus_selection}
-use Rattle.selection_grammar.specs.steps.Reading.{reading, further, front_is, front_place}
+use Rattle.selection_grammar.specs.steps.Reading.{reading, further, first_is, first_place}
 use Rattle.ft_parser.specs.steps.Parts.{before_word, times_reading, filter_reading, other_filter_reading, begins_filter, begins_other_filter}
 
 abbrev pub Turn : Type 0
@@ -24,13 +24,13 @@ stands outer left stage = record { outer = outer; left = left; stage = stage }
 
 unfoldable pub using_turn : List Frame → Left → Option ℕ → Primary → List PlacedOption → ℕ → List Placed → ℕ → Turn
 using_turn outer left n x os at w i =
-    if front_is (codes "thesaurus") (drop i w) then reading (m.thesaurus_first outer left n x os at) w (i + 1)
-    else if front_is (codes "stop") (drop i w) then (if front_is (codes "words") (drop (i + 1) w) then reading (m.term_next outer left n x os at [] false) w (i + 1 + 1) else Err (i + 1))
+    if first_is (codes "thesaurus") (drop i w) then reading (m.thesaurus_first outer left n x os at) w (i + 1)
+    else if first_is (codes "stop") (drop i w) then (if first_is (codes "words") (drop (i + 1) w) then reading (m.term_next outer left n x os at [] false) w (i + 1 + 1) else Err (i + 1))
     else further (reading (plain_option at) w i) (λ o k. Ok (stands outer left (m.given_options n x (os ++ o ∷ [])), k))
 
 unfoldable pub unfiltered_turn : List Frame → Left → Option ℕ → Primary → List PlacedOption → List Placed → ℕ → Turn
 unfiltered_turn outer left n x os w i =
-    if front_is (codes "using") (drop i w) then using_turn outer left n x os (front_place (drop i w)) w (i + 1)
+    if first_is (codes "using") (drop i w) then using_turn outer left n x os (first_place (drop i w)) w (i + 1)
     else reading (m.joint_next outer left (operand_of n x os)) w i
 
 abbrev pub filtered_turn : List Frame → Tree → Result (Filter × ℕ) ℕ → Turn
@@ -43,7 +43,7 @@ options_turn outer left n x os w i =
 
 unfoldable pub moded_turn : List Frame → Left → Option ℕ → List PlacedString → Mode → List Placed → ℕ → Turn
 moded_turn outer left n strings mode w i =
-    if front_is (codes "occurs") (drop i w) then further (times_reading (front_place (drop i w)) w (i + 1)) (λ t k. Ok (stands outer left (m.given_options n (phrases strings mode (Some t)) []), k))
+    if first_is (codes "occurs") (drop i w) then further (times_reading (first_place (drop i w)) w (i + 1)) (λ t k. Ok (stands outer left (m.given_options n (phrases strings mode (Some t)) []), k))
     else options_turn outer left n (phrases strings mode None) [] w i
 
 -- the rest of levels
@@ -54,10 +54,10 @@ abbrev pub with_levels : List Frame → Left → Option ℕ → Primary → List
 with_levels outer left n x os at s r l = stands outer left (m.given_options n x (thesaurus_ended os at s r l))
 
 abbrev pub begins_bound : List Placed → Bool
-begins_bound w = front_is (codes "least") w || front_is (codes "most") w
+begins_bound w = first_is (codes "least") w || first_is (codes "most") w
 
 abbrev pub begins_range_without_at : List Placed → Bool
-begins_range_without_at w = front_is (codes "exactly") w || front_is (codes "from") w
+begins_range_without_at w = first_is (codes "exactly") w || first_is (codes "from") w
 
 unfoldable pub behind_at_turn : List Frame → Left → Option ℕ → Primary → List PlacedOption → ℕ → List ℕ → Option (List ℕ) → List Placed → ℕ → Turn
 behind_at_turn outer left n x os at s r w i =
@@ -70,12 +70,12 @@ behind_thesaurus_turn outer left n x os at s r w i =
 
 unfoldable pub thesaurus_rest_turn : List Frame → Left → Option ℕ → Primary → List PlacedOption → ℕ → List ℕ → Option (List ℕ) → List Placed → ℕ → Turn
 thesaurus_rest_turn outer left n x os at s r w i =
-    if front_is (codes "at") (drop i w) then behind_at_turn outer left n x os at s r w (i + 1)
+    if first_is (codes "at") (drop i w) then behind_at_turn outer left n x os at s r w (i + 1)
     else if begins_range_without_at (drop i w) then levels_turn (with_levels outer left n x os at s r) w (reading range_without_at w i)
     else behind_thesaurus_turn outer left n x os at s r w i
 
 abbrev pub begins_range : List Placed → Bool
-begins_range w = begins_range_without_at w || front_is (codes "at") w
+begins_range w = begins_range_without_at w || first_is (codes "at") w
 
 abbrev pub in_levels : List Frame → Left → Option ℕ → Primary → List PlacedOption → ℕ → List ThesaurusUse → List ℕ → Option (List ℕ) → Option Range → State
 in_levels outer left n x os at us s r l = stands outer left (m.thesauri_in n x os at (us ++ m.thesaurus_use s r l ∷ []))
@@ -91,33 +91,33 @@ is_none (Some a) = false
 
 unfoldable pub thesaurus_in_turn : List Frame → Left → Option ℕ → Primary → List PlacedOption → ℕ → List ThesaurusUse → List ℕ → Option (List ℕ) → List Placed → ℕ → Turn
 thesaurus_in_turn outer left n x os at us s r w i =
-    if is_none r && front_is (codes "relationship") (drop i w) then reading (m.relationship_name (λ t. stands outer left (m.thesaurus_in n x os at us s (Some t)))) w (i + 1)
+    if is_none r && first_is (codes "relationship") (drop i w) then reading (m.relationship_name (λ t. stands outer left (m.thesaurus_in n x os at us s (Some t)))) w (i + 1)
     else thesaurus_in_rest_turn outer left n x os at us s r w i
 
 unfoldable pub thesaurus_turn : List Frame → Left → Option ℕ → Primary → List PlacedOption → ℕ → List ℕ → Option (List ℕ) → List Placed → ℕ → Turn
 thesaurus_turn outer left n x os at s r w i =
-    if is_none r && front_is (codes "relationship") (drop i w) then reading (m.relationship_name (λ t. stands outer left (m.thesaurus n x os at s (Some t)))) w (i + 1)
+    if is_none r && first_is (codes "relationship") (drop i w) then reading (m.relationship_name (λ t. stands outer left (m.thesaurus n x os at s (Some t)))) w (i + 1)
     else thesaurus_rest_turn outer left n x os at s r w i
 
 unfoldable pub valued_turn : List Frame → Left → Option ℕ → List PlacedString → List Placed → ℕ → Turn
 valued_turn outer left n strings w i =
-    if front_is (codes "any") (drop i w) then Ok (stands outer left (m.any_of n strings), i + 1)
-    else if front_is (codes "all") (drop i w) then Ok (stands outer left (m.all_of n strings), i + 1)
-    else if front_is (codes "phrase") (drop i w) then Ok (stands outer left (m.moded n strings M.Phrase), i + 1)
+    if first_is (codes "any") (drop i w) then Ok (stands outer left (m.any_of n strings), i + 1)
+    else if first_is (codes "all") (drop i w) then Ok (stands outer left (m.all_of n strings), i + 1)
+    else if first_is (codes "phrase") (drop i w) then Ok (stands outer left (m.moded n strings M.Phrase), i + 1)
     else moded_turn outer left n strings M.Any w i
 
 unfoldable pub any_of_turn : List Frame → Left → Option ℕ → List PlacedString → List Placed → ℕ → Turn
 any_of_turn outer left n strings w i =
-    if front_is (codes "word") (drop i w) then Ok (stands outer left (m.moded n strings M.AnyWord), i + 1) else moded_turn outer left n strings M.Any w i
+    if first_is (codes "word") (drop i w) then Ok (stands outer left (m.moded n strings M.AnyWord), i + 1) else moded_turn outer left n strings M.Any w i
 
 unfoldable pub all_of_turn : List Frame → Left → Option ℕ → List PlacedString → List Placed → ℕ → Turn
 all_of_turn outer left n strings w i =
-    if front_is (codes "words") (drop i w) then Ok (stands outer left (m.moded n strings M.AllWords), i + 1) else moded_turn outer left n strings M.All w i
+    if first_is (codes "words") (drop i w) then Ok (stands outer left (m.moded n strings M.AllWords), i + 1) else moded_turn outer left n strings M.All w i
 
 unfoldable pub stop_terms_turn : List Frame → Left → Option ℕ → Primary → List PlacedOption → ℕ → List StopTerm → List Placed → ℕ → Turn
 stop_terms_turn outer left n x os at ts w i =
-    if front_is (codes "union") (drop i w) then reading (m.term_next outer left n x os at ts false) w (i + 1)
-    else if front_is (codes "except") (drop i w) then reading (m.term_next outer left n x os at ts true) w (i + 1)
+    if first_is (codes "union") (drop i w) then reading (m.term_next outer left n x os at ts false) w (i + 1)
+    else if first_is (codes "except") (drop i w) then reading (m.term_next outer left n x os at ts true) w (i + 1)
     else options_turn outer left n x (os ++ m.stop_option at ts ∷ []) w i
 
 unfoldable pub with_filter_turn : List Frame → Tree → List Placed → ℕ → Turn

@@ -3,26 +3,26 @@ use Rattle.std.specs.Prelude.{ℕ, ◌+◌, Bool, false, if◌then◌else◌, Li
 use Rattle.selection_grammar.specs.declared.symbol.Placed.{Placed}
 use Rattle.selection_grammar.specs.Shapes.{Shape, whole, nothing, word, number, text, mark, Mark, is_word, is_mark, number_of, text_of}
 
-abbrev pub front_is : List ℕ → List Placed → Bool
-front_is key [] = false
-front_is key (p ∷ w) = is_word key p.symbol
+abbrev pub first_is : List ℕ → List Placed → Bool
+first_is key [] = false
+first_is key (p ∷ w) = is_word key p.symbol
 
-abbrev pub front_is_mark : Mark → List Placed → Bool
-front_is_mark m [] = false
-front_is_mark m (p ∷ w) = is_mark m p.symbol
+abbrev pub first_is_mark : Mark → List Placed → Bool
+first_is_mark m [] = false
+first_is_mark m (p ∷ w) = is_mark m p.symbol
 
-abbrev pub front_number : List Placed → Option ℕ
-front_number [] = None
-front_number (p ∷ w) = number_of p.symbol
+abbrev pub first_number : List Placed → Option ℕ
+first_number [] = None
+first_number (p ∷ w) = number_of p.symbol
 
-abbrev pub front_text : List Placed → Option (List ℕ)
-front_text [] = None
-front_text (p ∷ w) = text_of p.symbol
+abbrev pub first_text : List Placed → Option (List ℕ)
+first_text [] = None
+first_text (p ∷ w) = text_of p.symbol
 
 -- the place of the first symbol
-abbrev pub front_place : List Placed → ℕ
-front_place [] = 0
-front_place (p ∷ w) = p.from
+abbrev pub first_place : List Placed → ℕ
+first_place [] = 0
+first_place (p ∷ w) = p.from
 
 abbrev pub by_number : {B : Type 0} → (ℕ → B) → B → Option ℕ → B
 by_number there otherwise None = otherwise
@@ -37,10 +37,10 @@ by_text there otherwise (Some s) = there s
 abbrev pub reading : {A : Type 0} → Shape A → List Placed → ℕ → Result (A × ℕ) ℕ
 reading (whole a) w i = Ok (a, i)
 reading nothing w i = Err i
-reading (word key to rest) w i = if front_is key (drop i w) then reading (to (front_place (drop i w))) w (i + 1) else reading rest w i
-reading (number to rest) w i = by_number (λ n. reading (to n) w (i + 1)) (reading rest w i) (front_number (drop i w))
-reading (text to rest) w i = by_text (λ s. reading (to (front_place (drop i w)) s) w (i + 1)) (reading rest w i) (front_text (drop i w))
-reading (mark m to rest) w i = if front_is_mark m (drop i w) then reading to w (i + 1) else reading rest w i
+reading (word key to rest) w i = if first_is key (drop i w) then reading (to (first_place (drop i w))) w (i + 1) else reading rest w i
+reading (number to rest) w i = by_number (λ n. reading (to n) w (i + 1)) (reading rest w i) (first_number (drop i w))
+reading (text to rest) w i = by_text (λ s. reading (to (first_place (drop i w)) s) w (i + 1)) (reading rest w i) (first_text (drop i w))
+reading (mark m to rest) w i = if first_is_mark m (drop i w) then reading to w (i + 1) else reading rest w i
 
 -- what is read behind a part
 abbrev pub further : {A B : Type 0} → Result (A × ℕ) ℕ → (A → ℕ → Result (B × ℕ) ℕ) → Result (B × ℕ) ℕ

@@ -4,7 +4,7 @@ use Rattle.std.proofs.lemmas.Bool.Decides.{nat_tests}
 use Rattle.std.proofs.lemmas.Str.{IsCharBoundary-start, IsCharBoundary-after_ascii}
 use Rattle.std.specs.List.{list_all}
 use Rattle.doc_profile.specs.steps.Plain.{is_plain}
-use Rattle.doc_profile.proofs.PlainRuns.{front_further, plain_ascii}
+use Rattle.doc_profile.proofs.PlainRuns.{prefix_further, plain_ascii}
 use Rattle.doc_profile.proofs.plain.plain_len.Goals as goal
 
 pub loop-at-init : goal.loop-at-init
@@ -18,5 +18,5 @@ loop-at-preserved c =
     record {
       within = omega (arith, inside);
       boundary = IsCharBoundary-after_ascii c.args.text.now c.loop-at.at c.utf8.text inside (plain_ascii (get_or c.args.text.now c.loop-at.at 0) plain);
-      plain = front_further c.args.text.now c.loop-at.at 0 inside c.loop-at.invariant.plain plain;
+      plain = prefix_further c.args.text.now c.loop-at.at 0 inside c.loop-at.invariant.plain plain;
     }

@@ -20,7 +20,7 @@ loop-link-init c =
     record {
       done = [];
       reading = start root c.args.parent x c.first_child-link.result first;
-      front = [];
+      prefix = [];
       parted = parted-first root c.args.parent x c.first_child-link.result first;
       counted = λ name. ap (λ es. unwrap_or (lookup (λ k. bytes_eq name k.now) es) 0) c.new-counts.ensures.empty;
       are = c.requires.numbers;

@@ -7,7 +7,7 @@ use Rattle.session_text.specs.declared.reply.Reply.{Reply}
 use Rattle.session_text.specs.Replies.{is_refusal, reply_text}
 use Rattle.ft_session.specs.Output.{texts_of}
 use Rattle.ft_session.specs.Step.{replies, step}
-use Rattle.ft_session.proofs.AnswerLemmas.{WrittenSoFar, front_more, replies-next, state_after-next, written_more, written_start}
+use Rattle.ft_session.proofs.AnswerLemmas.{WrittenSoFar, prefix_more, replies-next, state_after-next, written_more, written_start}
 use Rattle.ft_session.proofs.answering.answer_all.Goals as goal
 
 pub loop-command-init : goal.loop-command-init
@@ -40,8 +40,8 @@ loop-command-preserved g c =
       faults = c.in_ok-refused.ensures.faults ∙ c.loop-command.invariant.faults;
     }
 
-pub returns-in_err-refused-clause-front : goal.returns-in_err-refused-clause-front
-returns-in_err-refused-clause-front g c =
+pub returns-in_err-refused-clause-prefix : goal.returns-in_err-refused-clause-prefix
+returns-in_err-refused-clause-prefix g c =
     let p = err_from_is_err_and c.from_residual.result c.from_residual.ensures.1 in
     let items = c.args.commands.now in
     let at = c.loop-command.command-index in
@@ -49,6 +49,6 @@ returns-in_err-refused-clause-front g c =
     let now = step c.loop-command.session c.command-item.result in
     let left = replies now.0 (drop (at + 1) items) in
     let next = replies-next c.loop-command.session now.0 items at c.command-item.result c.loop-command-test.true c.command-item.is refl in
-    rw p.1 (front_more (g.K.Sink.written c.args.sink.now) (g.K.Sink.written c.loop-command.sink) (g.K.Sink.written c.answer.new.sink) (reply_text now.1) (texts_of left) all
+    rw p.1 (prefix_more (g.K.Sink.written c.args.sink.now) (g.K.Sink.written c.loop-command.sink) (g.K.Sink.written c.answer.new.sink) (reply_text now.1) (texts_of left) all
     (subst (λ (rs : List Reply). WrittenSoFar (g.K.Sink.written c.args.sink.now) (g.K.Sink.written c.loop-command.sink) (texts_of rs) all) next c.loop-command.invariant.written)
-    c.in_err-refused.ensures.front)
+    c.in_err-refused.ensures.prefix)

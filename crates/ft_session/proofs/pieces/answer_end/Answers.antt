@@ -4,10 +4,10 @@ use Rattle.std.proofs.lemmas.Result.{err_from_is_err_and}
 use Rattle.session_text.specs.steps.Reading.{commands_left}
 use Rattle.ft_session.specs.Output.{texts_of}
 use Rattle.ft_session.specs.Step.{replies}
-use Rattle.ft_session.proofs.AnswerLemmas.{front_nothing}
+use Rattle.ft_session.proofs.AnswerLemmas.{prefix_nothing}
 use Rattle.ft_session.proofs.pieces.answer_end.Goals as goal
 
-pub returns-in_err-command-clause-front : goal.returns-in_err-command-clause-front
-returns-in_err-command-clause-front g c =
+pub returns-in_err-command-clause-prefix : goal.returns-in_err-command-clause-prefix
+returns-in_err-command-clause-prefix g c =
     let p = err_from_is_err_and c.from_residual.result c.from_residual.ensures.1 in
-    rw p.1 (front_nothing (g.K.Sink.written c.args.sink.now) (texts_of (replies c.args.answering.now.session (commands_left c.args.answering.now.lines []))))
+    rw p.1 (prefix_nothing (g.K.Sink.written c.args.sink.now) (texts_of (replies c.args.answering.now.session (commands_left c.args.answering.now.lines []))))

@@ -2,7 +2,7 @@
 use Rattle.std.proofs.Common.{◌≡◌, ◌+◌, ◌-◌, ◌≤◌}
 use Rattle.std.specs.Prelude.{string_bytes, vec_len}
 use Rattle.ft_base.specs.Limits.{max_piece_bytes, max_session_bytes}
-use Rattle.ft_io.specs.Shelf.{told_bytes}
+use Rattle.ft_io.specs.Shelf.{known_bytes}
 use Rattle.ft_session.proofs.ProgressLemmas.{Progress}
 use Rattle.ft_session.proofs.pieces.answer_pieces.Given as goal
 
@@ -15,7 +15,7 @@ invariant-loop-taken g l = record {
   files : g.S.Shelf.files l.shelf ≡ g.S.Shelf.files l.fn.shelf;
   write_faults : g.K.Sink.faults l.sink ≡ g.K.Sink.faults l.fn.sink;
   bytes : l.answering.lines.bytes ≡ l.taken;
-  progress : Progress (told_bytes (g.S.Shelf.files l.fn.shelf) (string_bytes l.name)) (g.K.Sink.written l.fn.sink) (g.K.Sink.written l.sink) l.taken l.answering.lines l.answering.session l.refused;
+  progress : Progress (known_bytes (g.S.Shelf.files l.fn.shelf) (string_bytes l.name)) (g.K.Sink.written l.fn.sink) (g.K.Sink.written l.sink) l.taken l.answering.lines l.answering.session l.refused;
 }
 
 abbrev pub decreases-loop-taken : goal.decreases-loop-taken

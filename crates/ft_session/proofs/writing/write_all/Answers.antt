@@ -26,7 +26,7 @@ pub returns-in_err-at-clause-written : goal.returns-in_err-at-clause-written
 returns-in_err-at-clause-written g c =
     let p = err_from_is_err_and c.from_residual.result c.from_residual.ensures.1 in
     rw p.1 (record {
-      front = take c.loop-at.at c.args.text.now;
+      prefix = take c.loop-at.at c.args.text.now;
       rest = drop c.loop-at.at c.args.text.now;
       whole = take-append-drop c.loop-at.at c.args.text.now;
       took = c.in_err-at.ensures.written ∙ c.loop-at.invariant.written;

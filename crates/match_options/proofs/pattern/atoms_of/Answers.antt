@@ -2,7 +2,7 @@
 use Rattle.std.proofs.Common.{◌+◌, ◌-◌, ◌≡◌, take, length-drop, ◌∙◌, sym, ap, drop, length, arith}
 use Rattle.std.proofs.lemmas.Bool.{eqb-true}
 use Rattle.std.proofs.lemmas.List.{take_rest}
-use Rattle.match_options.specs.Patterns.{front_atom, atoms_behind}
+use Rattle.match_options.specs.Patterns.{first_atom, atoms_behind}
 use Rattle.match_options.proofs.Reading.{bad_here, atom_read, all_read, no_pattern, some_pattern, nothing_read, not_empty}
 use Rattle.match_options.proofs.pattern.atoms_of.Goals as goal
 
@@ -18,7 +18,7 @@ loop-next-init c = record {
 pub returns-in_default : goal.returns-in_default
 returns-in_default c =
     bad_here c.args.letters.now (c.loop-next.atoms.items) c.loop-next.next c.index-letters-next.result c.loop-next-test.true c.index-letters-next.is c.loop-next.invariant.told
-    (ap (front_atom c.index-letters-next.result) (sym (take_rest c.args.letters.now (c.loop-next.next + 1))) ∙ sym c.front_atom.ensures.value ∙ c.in_default.is)
+    (ap (first_atom c.index-letters-next.result) (sym (take_rest c.args.letters.now (c.loop-next.next + 1))) ∙ sym c.first_atom.ensures.value ∙ c.in_default.is)
 
 pub loop-next-preserved : goal.loop-next-preserved
 loop-next-preserved c =
@@ -28,7 +28,7 @@ loop-next-preserved c =
       within = omega (arith, c.in-Some.ensures.within);
       told = atom_read c.args.letters.now c.loop-next.atoms.items c.loop-next.next c.index-letters-next.result c.loop-next-test.true c.index-letters-next.is c.loop-next.invariant.told
           c.in-Some.field-0 c.push.new.self.items
-          (ap (front_atom c.index-letters-next.result) (sym (take_rest c.args.letters.now (c.loop-next.next + 1))) ∙ sym c.front_atom.ensures.value ∙ c.in-Some.is) c.in-Some.ensures.some (omega (arith, c.in-Some.ensures.within)) c.in_ok-push.ensures.items;
+          (ap (first_atom c.index-letters-next.result) (sym (take_rest c.args.letters.now (c.loop-next.next + 1))) ∙ sym c.first_atom.ensures.value ∙ c.in-Some.is) c.in-Some.ensures.some (omega (arith, c.in-Some.ensures.within)) c.in_ok-push.ensures.items;
     }
 
 pub returns : goal.returns

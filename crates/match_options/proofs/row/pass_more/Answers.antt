@@ -34,5 +34,5 @@ loop-passed-preserved c =
       told = λ p more. end_told (λ q. reaches c.args.low c.args.high (drop q old)) old row place c.is_reached.result before_row is
           (λ q behind. c.loop-passed.invariant.told q (omega (arith, behind, next))) p (omega (arith, more, at));
       left = λ p less. end_left (λ q. reaches c.args.low c.args.high (drop q old)) old row place c.is_reached.result before_row is
-          (λ q front. c.loop-passed.invariant.left q (omega (arith, front, next))) p (omega (arith, less, at));
+          (λ q prefix. c.loop-passed.invariant.left q (omega (arith, prefix, next))) p (omega (arith, less, at));
     }

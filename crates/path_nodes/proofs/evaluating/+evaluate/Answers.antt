@@ -29,7 +29,7 @@ use Rattle.path_nodes.proofs.ListedLemmas.{or-cases, same-offered, same-inside}
 use Rattle.path_nodes.proofs.ListLemmas.{any-more-of, filter-more, more-there}
 use Rattle.path_nodes.proofs.NamedLemmas.{agrees-there}
 use Rattle.path_nodes.proofs.PriceLemmas.{price-holds, price-or, price-and, price-not, price-exists, price-contains, step-price}
-use Rattle.path_nodes.proofs.SpentLemmas.{spent-within, at-first, at-price, at-most, step-spent, predicate-spent, condition-spent, first-spent, first-within, both-spent, first-part-spent}
+use Rattle.path_nodes.proofs.CostLemmas.{cost-within, at-first, at-price, at-most, step-cost, predicate-cost, condition-cost, first-cost, first-within, both-cost, first-part-cost}
 use Rattle.path_nodes.proofs.SpotLemmas.{of_number}
 use Rattle.path_nodes.proofs.WayLemmas.{lead-kept}
 use Rattle.path_nodes.proofs.evaluating.+evaluate.Goals as goal
@@ -288,7 +288,7 @@ some_true-loop-condition-preserved g t c =
     record {
       left = sym (some-next sat all items i d c.loop-condition-test.true e ∙ ap (λ b. b || rest) (sym says ∙ c.if-branch.false)) ∙ c.loop-condition.invariant.left;
       meaning = c.is_true.ensures.meaning ∙ c.loop-condition.invariant.meaning;
-      spent = condition-spent root m (g.T.TextTest.meaning c.loop-condition.test) c.loop-condition.invariant.meaning _ _ _ i items d c.loop-condition-test.true c.condition-item.is e c.is_true.ensures.spent c.loop-condition.invariant.spent;
+      cost = condition-cost root m (g.T.TextTest.meaning c.loop-condition.test) c.loop-condition.invariant.meaning _ _ _ i items d c.loop-condition-test.true c.condition-item.is e c.is_true.ensures.cost c.loop-condition.invariant.cost;
     }
 
 pub some_true-returns-clause-truth : goal.some_true-returns-clause-truth
@@ -372,7 +372,7 @@ each_true-loop-condition-preserved g t c =
     record {
       left = sym (each-next sat all items i d c.loop-condition-test.true e ∙ ap (λ b. b && rest) (sym says ∙ c.if-not-branch.false)) ∙ c.loop-condition.invariant.left;
       meaning = c.is_true.ensures.meaning ∙ c.loop-condition.invariant.meaning;
-      spent = condition-spent root m (g.T.TextTest.meaning c.loop-condition.test) c.loop-condition.invariant.meaning _ _ _ i items d c.loop-condition-test.true c.condition-item.is e c.is_true.ensures.spent c.loop-condition.invariant.spent;
+      cost = condition-cost root m (g.T.TextTest.meaning c.loop-condition.test) c.loop-condition.invariant.meaning _ _ _ i items d c.loop-condition-test.true c.condition-item.is e c.is_true.ensures.cost c.loop-condition.invariant.cost;
     }
 
 pub each_true-returns-clause-truth : goal.each_true-returns-clause-truth
@@ -436,7 +436,7 @@ led-loop-step-preserved g t c =
       there = c.in_ok-items.ensures.there;
       inside = c.in_ok-items.ensures.inside;
       meaning = c.stepped.ensures.meaning ∙ c.loop-step.invariant.meaning;
-      spent = step-spent root m (g.T.TextTest.meaning c.loop-step.test) c.loop-step.invariant.meaning _ _ _ i items d c.loop-step-test.true c.step-item.is (map (element_of root) c.loop-step.items) (map (element_of root) c.in_ok-items.items) now c.stepped.ensures.spent c.loop-step.invariant.spent;
+      cost = step-cost root m (g.T.TextTest.meaning c.loop-step.test) c.loop-step.invariant.meaning _ _ _ i items d c.loop-step-test.true c.step-item.is (map (element_of root) c.loop-step.items) (map (element_of root) c.in_ok-items.items) now c.stepped.ensures.cost c.loop-step.invariant.cost;
     }
 
 pub led-returns-clause-elements : goal.led-returns-clause-elements
@@ -492,7 +492,7 @@ kept-loop-predicate-preserved g t c =
       left = filtered-next (satisfied root m) all items i d c.loop-predicate-test.true before (map (element_of root) c.in_ok-kept-2.kept) now ∙ c.loop-predicate.invariant.left;
       there = c.in_ok-kept-2.ensures.there;
       meaning = c.filtered.ensures.meaning ∙ c.loop-predicate.invariant.meaning;
-      spent = predicate-spent root m (g.T.TextTest.meaning c.loop-predicate.test) c.loop-predicate.invariant.meaning _ _ _ i items d c.loop-predicate-test.true c.predicate-item.is before (map (element_of root) c.in_ok-kept-2.kept) now c.filtered.ensures.spent c.loop-predicate.invariant.spent;
+      cost = predicate-cost root m (g.T.TextTest.meaning c.loop-predicate.test) c.loop-predicate.invariant.meaning _ _ _ i items d c.loop-predicate-test.true c.predicate-item.is before (map (element_of root) c.in_ok-kept-2.kept) now c.filtered.ensures.cost c.loop-predicate.invariant.cost;
     }
 
 pub kept-returns-clause-elements : goal.kept-returns-clause-elements
@@ -538,8 +538,8 @@ chosen-loop-parent-preserved g t c =
           (lead-kept root m s q y c.mark_way_to.new.ways c.in_ok-mark_way_to.ensures.ways c.in_ok-kept.kept kept c.in_ok-mark_way_to.ensures.there r x e h)
           (λ before. c.in_ok-mark_way_to.ensures.more r (c.loop-parent.invariant.lead r x e h before));
       meaning = c.kept.ensures.meaning ∙ c.loop-parent.invariant.meaning;
-      spent = first-spent _ _ _ i (price.children_price root m s) (element_of root) items (of_number 0) c.loop-parent-test.true c.loop-parent.invariant.spent
-          (at-price _ _ _ _ c.kept.ensures.spent
+      cost = first-cost _ _ _ i (price.children_price root m s) (element_of root) items (of_number 0) c.loop-parent-test.true c.loop-parent.invariant.cost
+          (at-price _ _ _ _ c.kept.ensures.cost
           (ap (λ n. price.list_price root n s (map (element_of root) c.in_ok-children.children)) c.loop-parent.invariant.meaning ∙ ap (price.list_price root m s) c.in_ok-children.ensures.elements));
     }
 
@@ -580,164 +580,164 @@ chosen-returns-clause-inside g t c =
 
 -- ---- what was spent
 
-pub filtered-returns-in-Holds-clause-spent : goal.filtered-returns-in-Holds-clause-spent
-filtered-returns-in-Holds-clause-spent g t c =
+pub filtered-returns-in-Holds-clause-cost : goal.filtered-returns-in-Holds-clause-cost
+filtered-returns-in-Holds-clause-cost g t c =
     let root = c.args.tree.now.root in
     let m = g.T.TextTest.meaning c.args.test.now in
-    at-price _ _ _ _ c.satisfying.ensures.spent (price-holds root m c.args.predicate.now c.in-Holds.condition (map (element_of root) c.args.items) c.in-Holds.is)
+    at-price _ _ _ _ c.satisfying.ensures.cost (price-holds root m c.args.predicate.now c.in-Holds.condition (map (element_of root) c.args.items) c.in-Holds.is)
 
-pub is_true-returns-in-Or-clause-spent : goal.is_true-returns-in-Or-clause-spent
-is_true-returns-in-Or-clause-spent g t c =
-    let root = c.args.tree.now.root in
-    let m = g.T.TextTest.meaning c.args.test.now in
-    let e = element_of root c.args.item in
-    at-price _ _ _ _ c.some_true.ensures.spent (price-or root m c.args.condition.now e c.in-Or.parts c.in-Or.is)
-
-pub is_true-returns-in-And-clause-spent : goal.is_true-returns-in-And-clause-spent
-is_true-returns-in-And-clause-spent g t c =
+pub is_true-returns-in-Or-clause-cost : goal.is_true-returns-in-Or-clause-cost
+is_true-returns-in-Or-clause-cost g t c =
     let root = c.args.tree.now.root in
     let m = g.T.TextTest.meaning c.args.test.now in
     let e = element_of root c.args.item in
-    at-price _ _ _ _ c.each_true.ensures.spent (price-and root m c.args.condition.now e c.in-And.parts c.in-And.is)
+    at-price _ _ _ _ c.some_true.ensures.cost (price-or root m c.args.condition.now e c.in-Or.parts c.in-Or.is)
 
-pub is_true-returns-in_err-is_true-in-Not-clause-spent : goal.is_true-returns-in_err-is_true-in-Not-clause-spent
-is_true-returns-in_err-is_true-in-Not-clause-spent g t c =
+pub is_true-returns-in-And-clause-cost : goal.is_true-returns-in-And-clause-cost
+is_true-returns-in-And-clause-cost g t c =
     let root = c.args.tree.now.root in
     let m = g.T.TextTest.meaning c.args.test.now in
     let e = element_of root c.args.item in
-    at-price _ _ _ _ c.is_true.ensures.spent (ap (λ x. price.condition_price root m (view.condition x) e) c.deref.ensures ∙ price-not root m c.args.condition.now e c.in-Not.operand c.in-Not.is)
+    at-price _ _ _ _ c.each_true.ensures.cost (price-and root m c.args.condition.now e c.in-And.parts c.in-And.is)
 
-pub is_true-returns-in_ok-is_true-in-Not-clause-spent : goal.is_true-returns-in_ok-is_true-in-Not-clause-spent
-is_true-returns-in_ok-is_true-in-Not-clause-spent g t c =
+pub is_true-returns-in_err-is_true-in-Not-clause-cost : goal.is_true-returns-in_err-is_true-in-Not-clause-cost
+is_true-returns-in_err-is_true-in-Not-clause-cost g t c =
     let root = c.args.tree.now.root in
     let m = g.T.TextTest.meaning c.args.test.now in
     let e = element_of root c.args.item in
-    at-price _ _ _ _ c.is_true.ensures.spent (ap (λ x. price.condition_price root m (view.condition x) e) c.deref.ensures ∙ price-not root m c.args.condition.now e c.in-Not.operand c.in-Not.is)
+    at-price _ _ _ _ c.is_true.ensures.cost (ap (λ x. price.condition_price root m (view.condition x) e) c.deref.ensures ∙ price-not root m c.args.condition.now e c.in-Not.operand c.in-Not.is)
 
-pub is_true-returns-in_err-nodes-in-Exists-clause-spent : goal.is_true-returns-in_err-nodes-in-Exists-clause-spent
-is_true-returns-in_err-nodes-in-Exists-clause-spent g t c =
+pub is_true-returns-in_ok-is_true-in-Not-clause-cost : goal.is_true-returns-in_ok-is_true-in-Not-clause-cost
+is_true-returns-in_ok-is_true-in-Not-clause-cost g t c =
     let root = c.args.tree.now.root in
     let m = g.T.TextTest.meaning c.args.test.now in
     let e = element_of root c.args.item in
-    at-price _ _ _ _ c.in_err-nodes-in-Exists.ensures.spent (price-exists root m c.args.condition.now e c.in-Exists.steps c.in-Exists.is)
+    at-price _ _ _ _ c.is_true.ensures.cost (ap (λ x. price.condition_price root m (view.condition x) e) c.deref.ensures ∙ price-not root m c.args.condition.now e c.in-Not.operand c.in-Not.is)
 
-pub is_true-returns-in_ok-nodes-in-Exists-clause-spent : goal.is_true-returns-in_ok-nodes-in-Exists-clause-spent
-is_true-returns-in_ok-nodes-in-Exists-clause-spent g t c =
+pub is_true-returns-in_err-nodes-in-Exists-clause-cost : goal.is_true-returns-in_err-nodes-in-Exists-clause-cost
+is_true-returns-in_err-nodes-in-Exists-clause-cost g t c =
     let root = c.args.tree.now.root in
     let m = g.T.TextTest.meaning c.args.test.now in
     let e = element_of root c.args.item in
-    at-price _ _ _ _ c.in_ok-nodes-in-Exists.ensures.spent (price-exists root m c.args.condition.now e c.in-Exists.steps c.in-Exists.is)
+    at-price _ _ _ _ c.in_err-nodes-in-Exists.ensures.cost (price-exists root m c.args.condition.now e c.in-Exists.steps c.in-Exists.is)
 
-pub is_true-returns-in_err-nodes-in-Contains-clause-spent : goal.is_true-returns-in_err-nodes-in-Contains-clause-spent
-is_true-returns-in_err-nodes-in-Contains-clause-spent g t c =
+pub is_true-returns-in_ok-nodes-in-Exists-clause-cost : goal.is_true-returns-in_ok-nodes-in-Exists-clause-cost
+is_true-returns-in_ok-nodes-in-Exists-clause-cost g t c =
+    let root = c.args.tree.now.root in
+    let m = g.T.TextTest.meaning c.args.test.now in
+    let e = element_of root c.args.item in
+    at-price _ _ _ _ c.in_ok-nodes-in-Exists.ensures.cost (price-exists root m c.args.condition.now e c.in-Exists.steps c.in-Exists.is)
+
+pub is_true-returns-in_err-nodes-in-Contains-clause-cost : goal.is_true-returns-in_err-nodes-in-Contains-clause-cost
+is_true-returns-in_err-nodes-in-Contains-clause-cost g t c =
     let root = c.args.tree.now.root in
     let m = g.T.TextTest.meaning c.args.test.now in
     let e = element_of root c.args.item in
     let steps = form.steps (map view.step c.in-Contains.steps) in
-    first-part-spent _ _ _ _ _ c.in_err-nodes-in-Contains.ensures.spent
+    first-part-cost _ _ _ _ _ c.in_err-nodes-in-Contains.ensures.cost
     (price-contains root m c.args.condition.now e c.in-Contains.steps c.in-Contains.selection c.in-Contains.is (meaning.led (satisfied root m) (elements (plain root)) steps (e ∷ [])) refl)
 
-pub is_true-returns-in_ok-nodes-in-Contains-clause-spent : goal.is_true-returns-in_ok-nodes-in-Contains-clause-spent
-is_true-returns-in_ok-nodes-in-Contains-clause-spent g t c =
+pub is_true-returns-in_ok-nodes-in-Contains-clause-cost : goal.is_true-returns-in_ok-nodes-in-Contains-clause-cost
+is_true-returns-in_ok-nodes-in-Contains-clause-cost g t c =
     let root = c.args.tree.now.root in
     let m = g.T.TextTest.meaning c.args.test.now in
     let e = element_of root c.args.item in
     let found = map (element_of root) c.in_ok-nodes-in-Contains.nodes in
-    both-spent _ _ _ _ _ _ c.in_ok-nodes-in-Contains.ensures.spent
-    (at-first (λ n. price.price_of root n (each_tested c.in-Contains.selection found)) m _ _ _ c.in_ok-nodes-in-Contains.ensures.meaning c.some_contains.ensures.spent)
+    both-cost _ _ _ _ _ _ c.in_ok-nodes-in-Contains.ensures.cost
+    (at-first (λ n. price.price_of root n (each_tested c.in-Contains.selection found)) m _ _ _ c.in_ok-nodes-in-Contains.ensures.meaning c.some_contains.ensures.cost)
     (price-contains root m c.args.condition.now e c.in-Contains.steps c.in-Contains.selection c.in-Contains.is found c.in_ok-nodes-in-Contains.ensures.elements)
 
-pub some_true-returns-in_err-is_true-clause-spent : goal.some_true-returns-in_err-is_true-clause-spent
-some_true-returns-in_err-is_true-clause-spent g t c =
+pub some_true-returns-in_err-is_true-clause-cost : goal.some_true-returns-in_err-is_true-clause-cost
+some_true-returns-in_err-is_true-clause-cost g t c =
     let root = c.args.tree.now.root in
     let m = g.T.TextTest.meaning c.args.test.now in
     let e = element_of root c.args.item in
     let items = c.as_slice-condition-items.result.now in
     let i = c.loop-condition.condition-index in
     let d = c.condition-item.result in
-    spent-within _ _ _
-    (condition-spent root m (g.T.TextTest.meaning c.loop-condition.test) c.loop-condition.invariant.meaning _ _ _ i items d c.loop-condition-test.true c.condition-item.is e c.is_true.ensures.spent c.loop-condition.invariant.spent)
+    cost-within _ _ _
+    (condition-cost root m (g.T.TextTest.meaning c.loop-condition.test) c.loop-condition.invariant.meaning _ _ _ i items d c.loop-condition-test.true c.condition-item.is e c.is_true.ensures.cost c.loop-condition.invariant.cost)
 
-pub some_true-returns-then-branch-clause-spent : goal.some_true-returns-then-branch-clause-spent
-some_true-returns-then-branch-clause-spent g t c =
+pub some_true-returns-then-branch-clause-cost : goal.some_true-returns-then-branch-clause-cost
+some_true-returns-then-branch-clause-cost g t c =
     let root = c.args.tree.now.root in
     let m = g.T.TextTest.meaning c.args.test.now in
     let e = element_of root c.args.item in
     let items = c.as_slice-condition-items.result.now in
     let i = c.loop-condition.condition-index in
     let d = c.condition-item.result in
-    spent-within _ _ _
-    (condition-spent root m (g.T.TextTest.meaning c.loop-condition.test) c.loop-condition.invariant.meaning _ _ _ i items d c.loop-condition-test.true c.condition-item.is e c.is_true.ensures.spent c.loop-condition.invariant.spent)
+    cost-within _ _ _
+    (condition-cost root m (g.T.TextTest.meaning c.loop-condition.test) c.loop-condition.invariant.meaning _ _ _ i items d c.loop-condition-test.true c.condition-item.is e c.is_true.ensures.cost c.loop-condition.invariant.cost)
 
-pub each_true-returns-in_err-is_true-clause-spent : goal.each_true-returns-in_err-is_true-clause-spent
-each_true-returns-in_err-is_true-clause-spent g t c =
+pub each_true-returns-in_err-is_true-clause-cost : goal.each_true-returns-in_err-is_true-clause-cost
+each_true-returns-in_err-is_true-clause-cost g t c =
     let root = c.args.tree.now.root in
     let m = g.T.TextTest.meaning c.args.test.now in
     let e = element_of root c.args.item in
     let items = c.as_slice-condition-items.result.now in
     let i = c.loop-condition.condition-index in
     let d = c.condition-item.result in
-    spent-within _ _ _
-    (condition-spent root m (g.T.TextTest.meaning c.loop-condition.test) c.loop-condition.invariant.meaning _ _ _ i items d c.loop-condition-test.true c.condition-item.is e c.is_true.ensures.spent c.loop-condition.invariant.spent)
+    cost-within _ _ _
+    (condition-cost root m (g.T.TextTest.meaning c.loop-condition.test) c.loop-condition.invariant.meaning _ _ _ i items d c.loop-condition-test.true c.condition-item.is e c.is_true.ensures.cost c.loop-condition.invariant.cost)
 
-pub each_true-returns-then-not-branch-clause-spent : goal.each_true-returns-then-not-branch-clause-spent
-each_true-returns-then-not-branch-clause-spent g t c =
+pub each_true-returns-then-not-branch-clause-cost : goal.each_true-returns-then-not-branch-clause-cost
+each_true-returns-then-not-branch-clause-cost g t c =
     let root = c.args.tree.now.root in
     let m = g.T.TextTest.meaning c.args.test.now in
     let e = element_of root c.args.item in
     let items = c.as_slice-condition-items.result.now in
     let i = c.loop-condition.condition-index in
     let d = c.condition-item.result in
-    spent-within _ _ _
-    (condition-spent root m (g.T.TextTest.meaning c.loop-condition.test) c.loop-condition.invariant.meaning _ _ _ i items d c.loop-condition-test.true c.condition-item.is e c.is_true.ensures.spent c.loop-condition.invariant.spent)
+    cost-within _ _ _
+    (condition-cost root m (g.T.TextTest.meaning c.loop-condition.test) c.loop-condition.invariant.meaning _ _ _ i items d c.loop-condition-test.true c.condition-item.is e c.is_true.ensures.cost c.loop-condition.invariant.cost)
 
-pub led-returns-in_err-items-clause-spent : goal.led-returns-in_err-items-clause-spent
-led-returns-in_err-items-clause-spent g t c =
+pub led-returns-in_err-items-clause-cost : goal.led-returns-in_err-items-clause-cost
+led-returns-in_err-items-clause-cost g t c =
     let root = c.args.tree.now.root in
     let m = g.T.TextTest.meaning c.args.test.now in
     let items = c.args.steps.now in
     let i = c.loop-step.step-index in
     let d = c.step-item.result in
     let from = map (element_of root) c.loop-step.items in
-    spent-within _ _ _
-    (step-spent root m (g.T.TextTest.meaning c.loop-step.test) c.loop-step.invariant.meaning _ _ _ i items d c.loop-step-test.true c.step-item.is from (meaning.stepped (satisfied root m) (elements (plain root)) (view.step (get_or items i d)) (map meaning.item from)) refl
-    c.stepped.ensures.spent c.loop-step.invariant.spent)
+    cost-within _ _ _
+    (step-cost root m (g.T.TextTest.meaning c.loop-step.test) c.loop-step.invariant.meaning _ _ _ i items d c.loop-step-test.true c.step-item.is from (meaning.stepped (satisfied root m) (elements (plain root)) (view.step (get_or items i d)) (map meaning.item from)) refl
+    c.stepped.ensures.cost c.loop-step.invariant.cost)
 
-pub kept-returns-in_err-kept-2-clause-spent : goal.kept-returns-in_err-kept-2-clause-spent
-kept-returns-in_err-kept-2-clause-spent g t c =
+pub kept-returns-in_err-kept-2-clause-cost : goal.kept-returns-in_err-kept-2-clause-cost
+kept-returns-in_err-kept-2-clause-cost g t c =
     let root = c.args.tree.now.root in
     let m = g.T.TextTest.meaning c.args.test.now in
     let items = c.as_slice-predicate-items.result.now in
     let i = c.loop-predicate.predicate-index in
     let d = c.predicate-item.result in
     let before = map (element_of root) c.loop-predicate.kept in
-    spent-within _ _ _
-    (predicate-spent root m (g.T.TextTest.meaning c.loop-predicate.test) c.loop-predicate.invariant.meaning _ _ _ i items d c.loop-predicate-test.true c.predicate-item.is before (meaning.filtered_by (satisfied root m) (elements (plain root)) (view.predicate (get_or items i d)) before) refl
-    c.filtered.ensures.spent c.loop-predicate.invariant.spent)
+    cost-within _ _ _
+    (predicate-cost root m (g.T.TextTest.meaning c.loop-predicate.test) c.loop-predicate.invariant.meaning _ _ _ i items d c.loop-predicate-test.true c.predicate-item.is before (meaning.filtered_by (satisfied root m) (elements (plain root)) (view.predicate (get_or items i d)) before) refl
+    c.filtered.ensures.cost c.loop-predicate.invariant.cost)
 
-pub satisfying-returns-in_err-wanted-clause-spent : goal.satisfying-returns-in_err-wanted-clause-spent
-satisfying-returns-in_err-wanted-clause-spent g t c =
+pub satisfying-returns-in_err-wanted-clause-cost : goal.satisfying-returns-in_err-wanted-clause-cost
+satisfying-returns-in_err-wanted-clause-cost g t c =
     let root = c.args.tree.now.root in
     let m = g.T.TextTest.meaning c.args.test.now in
     let items = c.as_slice-item-items.result.now in
     let i = c.loop-item.item-index in
     let q = get_or items i (of_number 0) in
-    let cost = price.condition_price root m (view.condition c.args.condition.now) in
-    first-within _ _ (i + 1) cost (element_of root) items c.args.items c.as_slice-item-items.ensures
-    (first-spent _ _ _ i cost (element_of root) items (of_number 0) c.loop-item-test.true c.loop-item.invariant.spent
-    (at-first (λ n. price.condition_price root n (view.condition c.args.condition.now) (element_of root q)) m _ _ _ c.loop-item.invariant.meaning c.is_true.ensures.spent))
+    let own_price = price.condition_price root m (view.condition c.args.condition.now) in
+    first-within _ _ (i + 1) own_price (element_of root) items c.args.items c.as_slice-item-items.ensures
+    (first-cost _ _ _ i own_price (element_of root) items (of_number 0) c.loop-item-test.true c.loop-item.invariant.cost
+    (at-first (λ n. price.condition_price root n (view.condition c.args.condition.now) (element_of root q)) m _ _ _ c.loop-item.invariant.meaning c.is_true.ensures.cost))
 
-pub satisfying-returns-in_err-push_if-clause-spent : goal.satisfying-returns-in_err-push_if-clause-spent
-satisfying-returns-in_err-push_if-clause-spent g t c =
+pub satisfying-returns-in_err-push_if-clause-cost : goal.satisfying-returns-in_err-push_if-clause-cost
+satisfying-returns-in_err-push_if-clause-cost g t c =
     let root = c.args.tree.now.root in
     let m = g.T.TextTest.meaning c.args.test.now in
     let items = c.as_slice-item-items.result.now in
     let i = c.loop-item.item-index in
     let q = get_or items i (of_number 0) in
-    let cost = price.condition_price root m (view.condition c.args.condition.now) in
-    first-within _ _ (i + 1) cost (element_of root) items c.args.items c.as_slice-item-items.ensures
-    (first-spent _ _ _ i cost (element_of root) items (of_number 0) c.loop-item-test.true c.loop-item.invariant.spent
-    (at-first (λ n. price.condition_price root n (view.condition c.args.condition.now) (element_of root q)) m _ _ _ c.loop-item.invariant.meaning c.is_true.ensures.spent))
+    let own_price = price.condition_price root m (view.condition c.args.condition.now) in
+    first-within _ _ (i + 1) own_price (element_of root) items c.args.items c.as_slice-item-items.ensures
+    (first-cost _ _ _ i own_price (element_of root) items (of_number 0) c.loop-item-test.true c.loop-item.invariant.cost
+    (at-first (λ n. price.condition_price root n (view.condition c.args.condition.now) (element_of root q)) m _ _ _ c.loop-item.invariant.meaning c.is_true.ensures.cost))
 
 pub satisfying-loop-item-preserved : goal.satisfying-loop-item-preserved
 satisfying-loop-item-preserved g t c =
@@ -746,7 +746,7 @@ satisfying-loop-item-preserved g t c =
     let items = c.as_slice-item-items.result.now in
     let i = c.loop-item.item-index in
     let q = get_or items i (of_number 0) in
-    let cost = price.condition_price root m (view.condition c.args.condition.now) in
+    let own_price = price.condition_price root m (view.condition c.args.condition.now) in
     let true-of = meaning.is_true (satisfied root m) (elements (plain root)) (view.condition c.args.condition.now) in
     let all : All (IsElement root) items = subst (All (IsElement root)) (sym c.as_slice-item-items.ensures) c.requires.items in
     record {
@@ -754,64 +754,64 @@ satisfying-loop-item-preserved g t c =
           (c.in_ok-wanted.ensures.truth ∙ ap (λ n. meaning.is_true (satisfied root n) (elements (plain root)) (view.condition c.args.condition.now) (element_of root q)) c.loop-item.invariant.meaning);
       there = more-there (IsElement root) c.loop-item.kept c.push_if.new.nodes q c.in_ok-wanted.wanted c.in_ok-push_if.ensures (All-get_or (IsElement root) items i (of_number 0) c.loop-item-test.true all) c.loop-item.invariant.there;
       meaning = c.is_true.ensures.meaning ∙ c.loop-item.invariant.meaning;
-      spent = first-spent _ _ _ i cost (element_of root) items (of_number 0) c.loop-item-test.true c.loop-item.invariant.spent
-          (at-first (λ n. price.condition_price root n (view.condition c.args.condition.now) (element_of root q)) m _ _ _ c.loop-item.invariant.meaning c.is_true.ensures.spent);
+      cost = first-cost _ _ _ i own_price (element_of root) items (of_number 0) c.loop-item-test.true c.loop-item.invariant.cost
+          (at-first (λ n. price.condition_price root n (view.condition c.args.condition.now) (element_of root q)) m _ _ _ c.loop-item.invariant.meaning c.is_true.ensures.cost);
     }
 
-pub chosen-returns-in_err-children-clause-spent : goal.chosen-returns-in_err-children-clause-spent
-chosen-returns-in_err-children-clause-spent g t c =
+pub chosen-returns-in_err-children-clause-cost : goal.chosen-returns-in_err-children-clause-cost
+chosen-returns-in_err-children-clause-cost g t c =
     let root = c.args.tree.now.root in
     let m = g.T.TextTest.meaning c.args.test.now in
     let s = view.step c.args.step.now in
     let items = c.as_slice-parent-items.result.now in
     let i = c.loop-parent.parent-index in
-    let cost = price.children_price root m s in
-    first-within _ _ i cost (element_of root) items c.args.parents.now c.as_slice-parent-items.ensures c.loop-parent.invariant.spent
+    let own_price = price.children_price root m s in
+    first-within _ _ i own_price (element_of root) items c.args.parents.now c.as_slice-parent-items.ensures c.loop-parent.invariant.cost
 
-pub chosen-returns-in_err-kept-clause-spent : goal.chosen-returns-in_err-kept-clause-spent
-chosen-returns-in_err-kept-clause-spent g t c =
+pub chosen-returns-in_err-kept-clause-cost : goal.chosen-returns-in_err-kept-clause-cost
+chosen-returns-in_err-kept-clause-cost g t c =
     let root = c.args.tree.now.root in
     let m = g.T.TextTest.meaning c.args.test.now in
     let s = view.step c.args.step.now in
     let items = c.as_slice-parent-items.result.now in
     let i = c.loop-parent.parent-index in
-    let cost = price.children_price root m s in
-    first-within _ _ (i + 1) cost (element_of root) items c.args.parents.now c.as_slice-parent-items.ensures
-    (first-spent _ _ _ i cost (element_of root) items (of_number 0) c.loop-parent-test.true c.loop-parent.invariant.spent
-    (at-price _ _ _ _ c.kept.ensures.spent
+    let own_price = price.children_price root m s in
+    first-within _ _ (i + 1) own_price (element_of root) items c.args.parents.now c.as_slice-parent-items.ensures
+    (first-cost _ _ _ i own_price (element_of root) items (of_number 0) c.loop-parent-test.true c.loop-parent.invariant.cost
+    (at-price _ _ _ _ c.kept.ensures.cost
     (ap (λ n. price.list_price root n s (map (element_of root) c.in_ok-children.children)) c.loop-parent.invariant.meaning ∙ ap (price.list_price root m s) c.in_ok-children.ensures.elements)))
 
-pub chosen-returns-in_err-mark_all-clause-spent : goal.chosen-returns-in_err-mark_all-clause-spent
-chosen-returns-in_err-mark_all-clause-spent g t c =
+pub chosen-returns-in_err-mark_all-clause-cost : goal.chosen-returns-in_err-mark_all-clause-cost
+chosen-returns-in_err-mark_all-clause-cost g t c =
     let root = c.args.tree.now.root in
     let m = g.T.TextTest.meaning c.args.test.now in
     let s = view.step c.args.step.now in
     let items = c.as_slice-parent-items.result.now in
     let i = c.loop-parent.parent-index in
-    let cost = price.children_price root m s in
-    first-within _ _ (i + 1) cost (element_of root) items c.args.parents.now c.as_slice-parent-items.ensures
-    (first-spent _ _ _ i cost (element_of root) items (of_number 0) c.loop-parent-test.true c.loop-parent.invariant.spent
-    (at-price _ _ _ _ c.kept.ensures.spent
+    let own_price = price.children_price root m s in
+    first-within _ _ (i + 1) own_price (element_of root) items c.args.parents.now c.as_slice-parent-items.ensures
+    (first-cost _ _ _ i own_price (element_of root) items (of_number 0) c.loop-parent-test.true c.loop-parent.invariant.cost
+    (at-price _ _ _ _ c.kept.ensures.cost
     (ap (λ n. price.list_price root n s (map (element_of root) c.in_ok-children.children)) c.loop-parent.invariant.meaning ∙ ap (price.list_price root m s) c.in_ok-children.ensures.elements)))
 
-pub chosen-returns-in_err-mark_way_to-clause-spent : goal.chosen-returns-in_err-mark_way_to-clause-spent
-chosen-returns-in_err-mark_way_to-clause-spent g t c =
+pub chosen-returns-in_err-mark_way_to-clause-cost : goal.chosen-returns-in_err-mark_way_to-clause-cost
+chosen-returns-in_err-mark_way_to-clause-cost g t c =
     let root = c.args.tree.now.root in
     let m = g.T.TextTest.meaning c.args.test.now in
     let s = view.step c.args.step.now in
     let items = c.as_slice-parent-items.result.now in
     let i = c.loop-parent.parent-index in
-    let cost = price.children_price root m s in
-    first-within _ _ (i + 1) cost (element_of root) items c.args.parents.now c.as_slice-parent-items.ensures
-    (first-spent _ _ _ i cost (element_of root) items (of_number 0) c.loop-parent-test.true c.loop-parent.invariant.spent
-    (at-price _ _ _ _ c.kept.ensures.spent
+    let own_price = price.children_price root m s in
+    first-within _ _ (i + 1) own_price (element_of root) items c.args.parents.now c.as_slice-parent-items.ensures
+    (first-cost _ _ _ i own_price (element_of root) items (of_number 0) c.loop-parent-test.true c.loop-parent.invariant.cost
+    (at-price _ _ _ _ c.kept.ensures.cost
     (ap (λ n. price.list_price root n s (map (element_of root) c.in_ok-children.children)) c.loop-parent.invariant.meaning ∙ ap (price.list_price root m s) c.in_ok-children.ensures.elements)))
 
-pub stepped-returns-clause-spent : goal.stepped-returns-clause-spent
-stepped-returns-clause-spent g t c =
+pub stepped-returns-clause-cost : goal.stepped-returns-clause-cost
+stepped-returns-clause-cost g t c =
     let root = c.args.tree.now.root in
     let m = g.T.TextTest.meaning c.args.test.now in
     let s = c.args.step.now in
     let contexts = map (element_of root) c.args.contexts in
-    at-most _ _ _ _ _ c.chosen.ensures.spent (c.in_ok-parents.ensures.once (price.children_price root m (view.step s)))
+    at-most _ _ _ _ _ c.chosen.ensures.cost (c.in_ok-parents.ensures.once (price.children_price root m (view.step s)))
     (step-price root m (view.step s) s.deep s.test (form.predicates (map view.predicate s.predicates)) contexts (step-is s))

@@ -24,7 +24,7 @@ invariant-chosen-loop-parent g l = record {
   ways : AreWays l.tree.root l.ways;
   lead : LeadTo l.tree.root l.ways (is_in (map (kept_children l.tree.root (g.T.TextTest.meaning l.fn.test) (view.step l.fn.step)) (map (element_of l.tree.root) (take l.parent-index l.parent-items))));
   meaning : g.T.TextTest.meaning l.test ≡ g.T.TextTest.meaning l.fn.test;
-  spent : g.T.TextTest.spent l.test ≤ g.T.TextTest.spent l.fn.test + sum_by (price.children_price l.tree.root (g.T.TextTest.meaning l.fn.test) (view.step l.fn.step)) (map (element_of l.tree.root) (take l.parent-index l.parent-items));
+  cost : g.T.TextTest.cost l.test ≤ g.T.TextTest.cost l.fn.test + sum_by (price.children_price l.tree.root (g.T.TextTest.meaning l.fn.test) (view.step l.fn.step)) (map (element_of l.tree.root) (take l.parent-index l.parent-items));
 }
 
 abbrev pub invariant-kept-loop-predicate : goal.invariant-kept-loop-predicate
@@ -33,8 +33,8 @@ invariant-kept-loop-predicate g l = record {
       ≡ kept l.tree.root (g.T.TextTest.meaning l.fn.test) (view.step l.fn.step) (map (element_of l.tree.root) l.fn.items);
   there : All (IsElement l.tree.root) l.kept;
   meaning : g.T.TextTest.meaning l.test ≡ g.T.TextTest.meaning l.fn.test;
-  spent : g.T.TextTest.spent l.test + price.predicates_price l.tree.root (g.T.TextTest.meaning l.fn.test) (form.predicates (map view.predicate (drop l.predicate-index l.predicate-items))) (map (element_of l.tree.root) l.kept)
-      ≤ g.T.TextTest.spent l.fn.test + price.list_price l.tree.root (g.T.TextTest.meaning l.fn.test) (view.step l.fn.step) (map (element_of l.tree.root) l.fn.items);
+  cost : g.T.TextTest.cost l.test + price.predicates_price l.tree.root (g.T.TextTest.meaning l.fn.test) (form.predicates (map view.predicate (drop l.predicate-index l.predicate-items))) (map (element_of l.tree.root) l.kept)
+      ≤ g.T.TextTest.cost l.fn.test + price.list_price l.tree.root (g.T.TextTest.meaning l.fn.test) (view.step l.fn.step) (map (element_of l.tree.root) l.fn.items);
 }
 
 abbrev pub invariant-led-loop-step : goal.invariant-led-loop-step
@@ -44,8 +44,8 @@ invariant-led-loop-step g l = record {
   there : All (IsElement l.tree.root) l.items;
   inside : All (λ r. AtOrBelow (element_of l.tree.root l.base) (element_of l.tree.root r)) l.items;
   meaning : g.T.TextTest.meaning l.test ≡ g.T.TextTest.meaning l.fn.test;
-  spent : g.T.TextTest.spent l.test + price.steps_price l.tree.root (g.T.TextTest.meaning l.fn.test) (form.steps (map view.step (drop l.step-index l.steps))) (map (element_of l.tree.root) l.items)
-      ≤ g.T.TextTest.spent l.fn.test + price.steps_price l.tree.root (g.T.TextTest.meaning l.fn.test) (form.steps (map view.step l.fn.steps)) (map (element_of l.tree.root) l.fn.from);
+  cost : g.T.TextTest.cost l.test + price.steps_price l.tree.root (g.T.TextTest.meaning l.fn.test) (form.steps (map view.step (drop l.step-index l.steps))) (map (element_of l.tree.root) l.items)
+      ≤ g.T.TextTest.cost l.fn.test + price.steps_price l.tree.root (g.T.TextTest.meaning l.fn.test) (form.steps (map view.step l.fn.steps)) (map (element_of l.tree.root) l.fn.from);
 }
 
 abbrev pub invariant-satisfying-loop-item : goal.invariant-satisfying-loop-item
@@ -53,7 +53,7 @@ invariant-satisfying-loop-item g l = record {
   done : map (element_of l.tree.root) l.kept ≡ filter (meaning.is_true (satisfied l.tree.root (g.T.TextTest.meaning l.fn.test)) (elements (plain l.tree.root)) (view.condition l.fn.condition)) (map (element_of l.tree.root) (take l.item-index l.item-items));
   there : All (IsElement l.tree.root) l.kept;
   meaning : g.T.TextTest.meaning l.test ≡ g.T.TextTest.meaning l.fn.test;
-  spent : g.T.TextTest.spent l.test ≤ g.T.TextTest.spent l.fn.test + sum_by (price.condition_price l.tree.root (g.T.TextTest.meaning l.fn.test) (view.condition l.fn.condition)) (map (element_of l.tree.root) (take l.item-index l.item-items));
+  cost : g.T.TextTest.cost l.test ≤ g.T.TextTest.cost l.fn.test + sum_by (price.condition_price l.tree.root (g.T.TextTest.meaning l.fn.test) (view.condition l.fn.condition)) (map (element_of l.tree.root) (take l.item-index l.item-items));
 }
 
 abbrev pub invariant-some_true-loop-condition : goal.invariant-some_true-loop-condition
@@ -61,8 +61,8 @@ invariant-some_true-loop-condition g l = record {
   left : meaning.some_true (satisfied l.tree.root (g.T.TextTest.meaning l.fn.test)) (elements (plain l.tree.root)) (form.conditions (map view.condition (drop l.condition-index l.condition-items))) (element_of l.tree.root l.item)
       ≡ meaning.some_true (satisfied l.tree.root (g.T.TextTest.meaning l.fn.test)) (elements (plain l.tree.root)) (form.conditions (map view.condition l.fn.conditions)) (element_of l.tree.root l.item);
   meaning : g.T.TextTest.meaning l.test ≡ g.T.TextTest.meaning l.fn.test;
-  spent : g.T.TextTest.spent l.test + price.conditions_price l.tree.root (g.T.TextTest.meaning l.fn.test) (form.conditions (map view.condition (drop l.condition-index l.condition-items))) (element_of l.tree.root l.item)
-      ≤ g.T.TextTest.spent l.fn.test + price.conditions_price l.tree.root (g.T.TextTest.meaning l.fn.test) (form.conditions (map view.condition l.fn.conditions)) (element_of l.tree.root l.item);
+  cost : g.T.TextTest.cost l.test + price.conditions_price l.tree.root (g.T.TextTest.meaning l.fn.test) (form.conditions (map view.condition (drop l.condition-index l.condition-items))) (element_of l.tree.root l.item)
+      ≤ g.T.TextTest.cost l.fn.test + price.conditions_price l.tree.root (g.T.TextTest.meaning l.fn.test) (form.conditions (map view.condition l.fn.conditions)) (element_of l.tree.root l.item);
 }
 
 abbrev pub invariant-each_true-loop-condition : goal.invariant-each_true-loop-condition
@@ -70,6 +70,6 @@ invariant-each_true-loop-condition g l = record {
   left : meaning.each_true (satisfied l.tree.root (g.T.TextTest.meaning l.fn.test)) (elements (plain l.tree.root)) (form.conditions (map view.condition (drop l.condition-index l.condition-items))) (element_of l.tree.root l.item)
       ≡ meaning.each_true (satisfied l.tree.root (g.T.TextTest.meaning l.fn.test)) (elements (plain l.tree.root)) (form.conditions (map view.condition l.fn.conditions)) (element_of l.tree.root l.item);
   meaning : g.T.TextTest.meaning l.test ≡ g.T.TextTest.meaning l.fn.test;
-  spent : g.T.TextTest.spent l.test + price.conditions_price l.tree.root (g.T.TextTest.meaning l.fn.test) (form.conditions (map view.condition (drop l.condition-index l.condition-items))) (element_of l.tree.root l.item)
-      ≤ g.T.TextTest.spent l.fn.test + price.conditions_price l.tree.root (g.T.TextTest.meaning l.fn.test) (form.conditions (map view.condition l.fn.conditions)) (element_of l.tree.root l.item);
+  cost : g.T.TextTest.cost l.test + price.conditions_price l.tree.root (g.T.TextTest.meaning l.fn.test) (form.conditions (map view.condition (drop l.condition-index l.condition-items))) (element_of l.tree.root l.item)
+      ≤ g.T.TextTest.cost l.fn.test + price.conditions_price l.tree.root (g.T.TextTest.meaning l.fn.test) (form.conditions (map view.condition l.fn.conditions)) (element_of l.tree.root l.item);
 }

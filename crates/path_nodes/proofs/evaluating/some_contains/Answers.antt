@@ -6,7 +6,7 @@ use Rattle.path_nodes.specs.References.{IsElement, element_of}
 use Rattle.path_nodes.specs.Says.{satisfied}
 use Rattle.path_nodes.proofs.ListLemmas.{any-drop}
 use Rattle.path_nodes.proofs.PlaceLemmas.{reference-back}
-use Rattle.path_nodes.proofs.SpentLemmas.{node-spent, spent-within}
+use Rattle.path_nodes.proofs.CostLemmas.{node-cost, cost-within}
 use Rattle.path_nodes.proofs.SpotLemmas.{of_number}
 use Rattle.path_nodes.proofs.evaluating.some_contains.Goals as goal
 
@@ -48,27 +48,27 @@ loop-node-preserved g c =
       left = sym (any-drop (element_of root) f items i (of_number 0) c.loop-node-test.true ∙ ap (λ b. b || list_any f (map (element_of root) (drop (i + 1) items))) says)
           ∙ c.loop-node.invariant.left;
       meaning = c.contains.ensures.meaning ∙ c.loop-node.invariant.meaning;
-      spent = node-spent root m (g.T.TextTest.meaning c.loop-node.test) c.loop-node.invariant.meaning _ _ _ i c.args.selection items (of_number 0) c.loop-node-test.true x c.contains.ensures.spent c.loop-node.invariant.spent;
+      cost = node-cost root m (g.T.TextTest.meaning c.loop-node.test) c.loop-node.invariant.meaning _ _ _ i c.args.selection items (of_number 0) c.loop-node-test.true x c.contains.ensures.cost c.loop-node.invariant.cost;
     }
 
-pub returns-in_err-contains-clause-spent : goal.returns-in_err-contains-clause-spent
-returns-in_err-contains-clause-spent g c =
+pub returns-in_err-contains-clause-cost : goal.returns-in_err-contains-clause-cost
+returns-in_err-contains-clause-cost g c =
     let root = c.args.tree.now.root in
     let items = c.as_slice-node-items.result.now in
     let i = c.loop-node.node-index in
     let m = g.T.TextTest.meaning c.args.test.now in
     let all : All (IsElement root) items = subst (All (IsElement root)) (sym c.as_slice-node-items.ensures) c.requires.nodes in
     let x : IsElement root (get_or items i (of_number 0)) = All-get_or (IsElement root) items i (of_number 0) c.loop-node-test.true all in
-    spent-within _ _ _
-    (node-spent root m (g.T.TextTest.meaning c.loop-node.test) c.loop-node.invariant.meaning _ _ _ i c.args.selection items (of_number 0) c.loop-node-test.true x c.contains.ensures.spent c.loop-node.invariant.spent)
+    cost-within _ _ _
+    (node-cost root m (g.T.TextTest.meaning c.loop-node.test) c.loop-node.invariant.meaning _ _ _ i c.args.selection items (of_number 0) c.loop-node-test.true x c.contains.ensures.cost c.loop-node.invariant.cost)
 
-pub returns-then-branch-clause-spent : goal.returns-then-branch-clause-spent
-returns-then-branch-clause-spent g c =
+pub returns-then-branch-clause-cost : goal.returns-then-branch-clause-cost
+returns-then-branch-clause-cost g c =
     let root = c.args.tree.now.root in
     let items = c.as_slice-node-items.result.now in
     let i = c.loop-node.node-index in
     let m = g.T.TextTest.meaning c.args.test.now in
     let all : All (IsElement root) items = subst (All (IsElement root)) (sym c.as_slice-node-items.ensures) c.requires.nodes in
     let x : IsElement root (get_or items i (of_number 0)) = All-get_or (IsElement root) items i (of_number 0) c.loop-node-test.true all in
-    spent-within _ _ _
-    (node-spent root m (g.T.TextTest.meaning c.loop-node.test) c.loop-node.invariant.meaning _ _ _ i c.args.selection items (of_number 0) c.loop-node-test.true x c.contains.ensures.spent c.loop-node.invariant.spent)
+    cost-within _ _ _
+    (node-cost root m (g.T.TextTest.meaning c.loop-node.test) c.loop-node.invariant.meaning _ _ _ i c.args.selection items (of_number 0) c.loop-node-test.true x c.contains.ensures.cost c.loop-node.invariant.cost)

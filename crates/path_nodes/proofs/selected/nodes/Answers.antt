@@ -17,7 +17,7 @@ use Rattle.path_nodes.proofs.ChosenLemmas.{all-refs}
 use Rattle.path_nodes.proofs.NamedLemmas.{agrees-there}
 use Rattle.path_nodes.proofs.PriceLemmas.{selected-price}
 use Rattle.path_nodes.proofs.SelectedLemmas.{root-there, root-placed, below-root, selected-none, selected-next, later-steps, not-empty}
-use Rattle.path_nodes.proofs.SpentLemmas.{at-first, at-price, both-spent, first-part-spent}
+use Rattle.path_nodes.proofs.CostLemmas.{at-first, at-price, both-cost, first-part-cost}
 use Rattle.path_nodes.proofs.selected.nodes.Goals as goal
 
 pub returns-then-is_empty-clause-elements : goal.returns-then-is_empty-clause-elements
@@ -90,48 +90,48 @@ returns-clause-agrees g c = λ satisfies agree.
     ∙ selected-alike (satisfied root (g.T.TextTest.meaning c.args.test.now)) satisfies (plain root)
     (agrees-there root c.root-root.ensures.apart c.requires.attributes (g.T.TextTest.meaning c.args.test.now) satisfies agree) (form.steps (map view.step c.args.steps.now))
 
-pub returns-in_err-first-clause-spent : goal.returns-in_err-first-clause-spent
-returns-in_err-first-clause-spent g c =
+pub returns-in_err-first-clause-cost : goal.returns-in_err-first-clause-cost
+returns-in_err-first-clause-cost g c =
     let root = c.args.tree.now.root in
     let m = g.T.TextTest.meaning c.args.test.now in
     let items = c.args.steps.now in
     let d = c.get.result.now in
     let some = not-empty items c.is_empty.result c.is_empty.ensures.1 c.if-is_empty.false in
-    let first-one : g.T.TextTest.spent c.from_document.new.test ≤ g.T.TextTest.spent c.args.test.now + step_price root m (view.step (get_or items 0 d)) (meaning.document (plain root) ∷ []) =
-    at-price _ _ _ _ c.from_document.ensures.spent (ap (λ s. step_price root m (view.step s) (meaning.document (plain root) ∷ [])) c.get.ensures) in
-    first-part-spent _ _ _ _ _ first-one
+    let first-one : g.T.TextTest.cost c.from_document.new.test ≤ g.T.TextTest.cost c.args.test.now + step_price root m (view.step (get_or items 0 d)) (meaning.document (plain root) ∷ []) =
+    at-price _ _ _ _ c.from_document.ensures.cost (ap (λ s. step_price root m (view.step s) (meaning.document (plain root) ∷ [])) c.get.ensures) in
+    first-part-cost _ _ _ _ _ first-one
     (selected-price root m items d some (meaning.stepped (satisfied root m) (elements (plain root)) (view.step (get_or items 0 d)) (meaning.document (plain root) ∷ [])) refl)
 
-pub returns-in_err-found-clause-spent : goal.returns-in_err-found-clause-spent
-returns-in_err-found-clause-spent g c =
+pub returns-in_err-found-clause-cost : goal.returns-in_err-found-clause-cost
+returns-in_err-found-clause-cost g c =
     let root = c.args.tree.now.root in
     let m = g.T.TextTest.meaning c.args.test.now in
     let items = c.args.steps.now in
     let d = c.get.result.now in
     let some = not-empty items c.is_empty.result c.is_empty.ensures.1 c.if-is_empty.false in
-    let first-one : g.T.TextTest.spent c.from_document.new.test ≤ g.T.TextTest.spent c.args.test.now + step_price root m (view.step (get_or items 0 d)) (meaning.document (plain root) ∷ []) =
-    at-price _ _ _ _ c.from_document.ensures.spent (ap (λ s. step_price root m (view.step s) (meaning.document (plain root) ∷ [])) c.get.ensures) in
+    let first-one : g.T.TextTest.cost c.from_document.new.test ≤ g.T.TextTest.cost c.args.test.now + step_price root m (view.step (get_or items 0 d)) (meaning.document (plain root) ∷ []) =
+    at-price _ _ _ _ c.from_document.ensures.cost (ap (λ s. step_price root m (view.step s) (meaning.document (plain root) ∷ [])) c.get.ensures) in
     let steps = c.as_slice.result.now in
     let first = map (element_of root) c.in_ok-first.first in
-    both-spent _ _ _ _ _ _ first-one
-    (at-price _ _ _ _ (at-first (λ n. steps_price root n (form.steps (map view.step (take (length steps - 1) (drop 1 steps)))) first) m _ _ _ c.in_ok-first.ensures.meaning c.led.ensures.spent)
+    both-cost _ _ _ _ _ _ first-one
+    (at-price _ _ _ _ (at-first (λ n. steps_price root n (form.steps (map view.step (take (length steps - 1) (drop 1 steps)))) first) m _ _ _ c.in_ok-first.ensures.meaning c.led.ensures.cost)
     (ap (λ l. steps_price root m (form.steps (map view.step l)) first) (take_rest steps 1 ∙ ap (drop 1) c.as_slice.ensures)))
     (selected-price root m items d some first
     (c.in_ok-first.ensures.elements ∙ ap (λ s. meaning.stepped (satisfied root m) (elements (plain root)) (view.step s) (meaning.document (plain root) ∷ [])) c.get.ensures))
 
-pub returns-clause-spent : goal.returns-clause-spent
-returns-clause-spent g c =
+pub returns-clause-cost : goal.returns-clause-cost
+returns-clause-cost g c =
     let root = c.args.tree.now.root in
     let m = g.T.TextTest.meaning c.args.test.now in
     let items = c.args.steps.now in
     let d = c.get.result.now in
     let some = not-empty items c.is_empty.result c.is_empty.ensures.1 c.if-is_empty.false in
-    let first-one : g.T.TextTest.spent c.from_document.new.test ≤ g.T.TextTest.spent c.args.test.now + step_price root m (view.step (get_or items 0 d)) (meaning.document (plain root) ∷ []) =
-    at-price _ _ _ _ c.from_document.ensures.spent (ap (λ s. step_price root m (view.step s) (meaning.document (plain root) ∷ [])) c.get.ensures) in
+    let first-one : g.T.TextTest.cost c.from_document.new.test ≤ g.T.TextTest.cost c.args.test.now + step_price root m (view.step (get_or items 0 d)) (meaning.document (plain root) ∷ []) =
+    at-price _ _ _ _ c.from_document.ensures.cost (ap (λ s. step_price root m (view.step s) (meaning.document (plain root) ∷ [])) c.get.ensures) in
     let steps = c.as_slice.result.now in
     let first = map (element_of root) c.in_ok-first.first in
-    both-spent _ _ _ _ _ _ first-one
-    (at-price _ _ _ _ (at-first (λ n. steps_price root n (form.steps (map view.step (take (length steps - 1) (drop 1 steps)))) first) m _ _ _ c.in_ok-first.ensures.meaning c.led.ensures.spent)
+    both-cost _ _ _ _ _ _ first-one
+    (at-price _ _ _ _ (at-first (λ n. steps_price root n (form.steps (map view.step (take (length steps - 1) (drop 1 steps)))) first) m _ _ _ c.in_ok-first.ensures.meaning c.led.ensures.cost)
     (ap (λ l. steps_price root m (form.steps (map view.step l)) first) (take_rest steps 1 ∙ ap (drop 1) c.as_slice.ensures)))
     (selected-price root m items d some first
     (c.in_ok-first.ensures.elements ∙ ap (λ s. meaning.stepped (satisfied root m) (elements (plain root)) (view.step s) (meaning.document (plain root) ∷ [])) c.get.ensures))

@@ -1,7 +1,7 @@
 -- One step, over a blank, over a symbol, or to a character that begins none.
 use Rattle.std.proofs.Common.{◌+◌, ◌-◌, ◌≤◌, length, drop, take, sym, ap, ◌∙◌, arith, length-drop}
 use Rattle.std.proofs.lemmas.List.{take_rest}
-use Rattle.query_symbols.specs.Symbols.{front}
+use Rattle.query_symbols.specs.Symbols.{first_lexeme}
 use Rattle.query_symbols.proofs.Places.{one_left, slice_bytes, left_behind}
 use Rattle.query_symbols.proofs.Turns.{blank_turn, bad_turn, symbol_turn}
 use Rattle.query_symbols.proofs.lexer.turn.Goals as goal
@@ -19,7 +19,7 @@ returns-then-is_blank-clause-within c = (omega arith, omega (arith, c.requires.f
 pub returns-in_default-clause-value : goal.returns-in_default-clause-value
 returns-in_default-clause-value c =
     bad_turn c.args.letters.now c.args.placed.now c.args.next c.args.place c.index-letters-next.result c.requires.here c.index-letters-next.is (sym c.is_blank.ensures ∙ c.if-is_blank.false)
-    (ap front (sym (take_rest c.args.letters.now c.args.next)) ∙ sym c.in_ok-lexeme.ensures.value ∙ c.in_default.is)
+    (ap first_lexeme (sym (take_rest c.args.letters.now c.args.next)) ∙ sym c.in_ok-lexeme.ensures.value ∙ c.in_default.is)
 
 pub byte_count-requires : goal.byte_count-requires
 byte_count-requires c =
@@ -39,7 +39,7 @@ pub returns-clause-value : goal.returns-clause-value
 returns-clause-value c =
     symbol_turn c.args.letters.now c.args.placed.now c.args.next c.args.place c.index-letters-next.result c.requires.here c.index-letters-next.is c.in-Some.lexeme (c.args.place + c.byte_count.result) c.push.new.self
     (sym c.is_blank.ensures ∙ c.if-is_blank.false)
-    (ap front (sym (take_rest c.args.letters.now c.args.next)) ∙ sym c.in_ok-lexeme.ensures.value ∙ c.in-Some.is)
+    (ap first_lexeme (sym (take_rest c.args.letters.now c.args.next)) ∙ sym c.in_ok-lexeme.ensures.value ∙ c.in-Some.is)
     (ap (λ n. c.args.place + n) (c.byte_count.ensures ∙ slice_bytes c.args.next c.in-Some.lexeme.size c.args.letters.now))
     c.in_ok-push.ensures.ok
 

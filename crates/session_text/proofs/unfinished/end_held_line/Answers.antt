@@ -22,10 +22,10 @@ returns c =
     c.unquote-kept.ensures ∙ ap unquoted (is_line ∙ ap (behind_lines c.args.lines) own_rest) in
     let to : c.len-end.result - length c.unquote-kept.result.now ≡ length block - length (unquoted (behind_lines c.args.lines (drop start block))) =
     (λ i. size i - length (kept i)) in
-    let front : take c.saturating_sub-start.result block ≡ c.args.pending.opened.block = ap (λ n. take n block) from ∙ sym own_block in
+    let prefix : take c.saturating_sub-start.result block ≡ c.args.pending.opened.block = ap (λ n. take n block) from ∙ sym own_block in
     let end : drop (c.len-end.result - length c.unquote-kept.result.now) block ≡ unquoted line =
     ap (λ n. drop n block) to ∙ (kept_is c.args.lines start block ∙ ap (λ r. unquoted (behind_lines c.args.lines r)) (sym own_rest)) in
-    let removed : c.remove_bytes.new.block.items ≡ c.args.pending.opened.block ++ unquoted line = c.remove_bytes.ensures ∙ (λ i. front i ++ end i) in
+    let removed : c.remove_bytes.new.block.items ≡ c.args.pending.opened.block ++ unquoted line = c.remove_bytes.ensures ∙ (λ i. prefix i ++ end i) in
     let viewed : OpenLines → Option Command × Option OpenLines = λ p. (None, Some (open_lines p.opened.line p.opened.number 0 (c.remove_bytes.new.block.items ++ 10 ∷ []))) in
     ap (λ (p : OpenLines). (λ (e : Option Command × Option OpenLines). e) (None, Some p)) c.in_ok-pending.ensures
     ∙ (ap viewed c.pending.view_is ∙ goes_on c.args.pending.opened line (unquoted line) c.remove_bytes.new.block.items open_still refl removed)

@@ -1,49 +1,49 @@
 ghost use Rattle.std.specs.Prelude.{◌≡◌, ◌∷◌, [], MatchOption, ◌<◌, ◌+◌, ◌^◌, length, drop};
-ghost use Rattle.text_lines.specs.Lines.{lines, spoken};
-ghost use Rattle.text_lines.specs.View.{spoken_of};
+ghost use Rattle.text_lines.specs.Lines.{lines, content_lines};
+ghost use Rattle.text_lines.specs.View.{content_of};
 
 use crate::line::{is_skipped, line_end, trim_line};
 use std::marker::Model;
 
 /// A line that isn't skipped: its number, counted from 1, and what it says.
 #[derive(Clone, Copy, Debug)]
-pub struct SpokenLine<'a> {
+pub struct ContentLine<'a> {
     pub number: usize,
     pub text: &'a [u8],
 }
 
 /// The lines of a text that aren't skipped, which contracts see as the list of those that are still to come.
 #[derive(Drop)]
-pub struct SpokenLines<'a> {
+pub struct ContentLines<'a> {
     rest: &'a [u8],
     passed: usize,
 }
 
-impl<'a> Model for SpokenLines<'a> {
+impl<'a> Model for ContentLines<'a> {
     ghost use Rattle.std.specs.Prelude.{List, ◌+◌, ◌<◌, ◌^◌, length};
-    ghost use Rattle.text_lines.specs.Lines.{Spoken, lines, spoken};
+    ghost use Rattle.text_lines.specs.Lines.{Content, lines, content_lines};
 
-    ghost Value = { List Spoken };
+    ghost Value = { List Content };
 
-    ghost view = { λ l. spoken (l.passed + 1) (lines l.rest.now) };
+    ghost view = { λ l. content_lines (l.passed + 1) (lines l.rest.now) };
 
     ghost invariant = { λ l. l.passed + length l.rest.now < 2 ^ 64 };
 }
 
-impl<'a> SpokenLines<'a> {
+impl<'a> ContentLines<'a> {
     /// Before the first line of the text.
-    pub fn of(text: &'a [u8]) -> SpokenLines<'a>
-        ensures { result ≡ spoken 1 (lines text.now) }
+    pub fn of(text: &'a [u8]) -> ContentLines<'a>
+        ensures { result ≡ content_lines 1 (lines text.now) }
     {
-        SpokenLines {
+        ContentLines {
             rest: text,
             passed: 0,
         }
     }
 
     /// The next line that isn't skipped.
-    pub fn next(&mut self) -> Option<SpokenLine<'a>>
-        ensures { MatchOption result (self.old ≡ []) (λ line. self.old ≡ spoken_of line ∷ self.new) }
+    pub fn next(&mut self) -> Option<ContentLine<'a>>
+        ensures { MatchOption result (self.old ≡ []) (λ line. self.old ≡ content_of line ∷ self.new) }
     {
         while !self.rest.is_empty() {
             let end = line_end(self.rest);
@@ -51,7 +51,7 @@ impl<'a> SpokenLines<'a> {
             self.rest = behind(self.rest, end);
             self.passed += 1;
             if !is_skipped(line) {
-                return Some(SpokenLine {
+                return Some(ContentLine {
                     number: self.passed,
                     text: trim_line(line),
                 });
