@@ -19,7 +19,8 @@ begins_as passes (item ∷ items) (token ∷ tokens) = passes item token && begi
 -- at how many tokens one of some lists of items begins: `a` or `b` at three of `a x b a`
 abbrev pub places : {X Y : Type 0} → (X → Y → Bool) → List (List X) → List Y → ℕ
 places passes variants [] = 0
-places passes variants (token ∷ tokens) = (if list_any (λ items. begins_as passes items (token ∷ tokens)) variants then 1 else 0) + places passes variants tokens
+places passes variants (token ∷ tokens) =
+    (if list_any (λ items. begins_as passes items (token ∷ tokens)) variants then 1 else 0) + places passes variants tokens
 
 -- lists of items, those of one length together under it, with one more
 abbrev pub put_variant : {X : Type 0} → List X → List (ℕ × List (List X)) → List (ℕ × List (List X))

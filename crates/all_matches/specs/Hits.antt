@@ -56,7 +56,9 @@ hit_on tokens number interval = record {
 -- the intervals on which some variant of a phrase stands: `"a b"` stands on one in "a x a b", from 3 to 4
 abbrev pub intervals_of : Lexicon → Options → List Item → List Token → List Interval
 intervals_of lexicon options phrase tokens =
-    filter (λ interval. list_any (λ variant. stands_as lexicon options variant (tokens_in tokens interval)) (variants lexicon options phrase)) (intervals (length tokens))
+    filter
+    (λ interval. list_any (λ variant. stands_as lexicon options variant (tokens_in tokens interval)) (variants lexicon options phrase))
+    (intervals (length tokens))
 
 -- the hits of a phrase, one on each of these intervals
 abbrev pub hits : Lexicon → Options → ℕ → List Item → List Token → List Hit

@@ -50,7 +50,8 @@ strings_of lexicon options value = map (lexicon.items_of options) value.values
 -- the AllMatches of phrases that are numbered from `first` on
 abbrev pub each_phrase : Lexicon → Options → ℕ → List (List Item) → List Token → List (List Match)
 each_phrase lexicon options first [] tokens = []
-each_phrase lexicon options first (phrase ∷ rest) tokens = phrase_matches lexicon options first phrase tokens ∷ each_phrase lexicon options (first + 1) rest tokens
+each_phrase lexicon options first (phrase ∷ rest) tokens =
+    phrase_matches lexicon options first phrase tokens ∷ each_phrase lexicon options (first + 1) rest tokens
 
 -- the AllMatches of a value, from those of its phrases
 abbrev pub joined_by : Mode → List (List Match) → List Match

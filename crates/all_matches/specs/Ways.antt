@@ -57,7 +57,8 @@ made (by_filter way kind choice) = map (behind_filter kind (way_includes way) ch
 -- the ways of mild not: those of the left side that stand out of each of the right side
 abbrev pub standing_out : List Way → List Way → List Way
 standing_out left right =
-    if list_any (λ way. is_not_empty (way_includes way)) right then filter (λ a. list_all (λ b. stands_out (way_includes a) (way_includes b)) right) left else left
+    if list_any (λ way. is_not_empty (way_includes way)) right then filter (λ a. list_all (λ b. stands_out (way_includes a) (way_includes b)) right) left
+    else left
 
 -- the ways through a filter
 abbrev pub filtered_ways : Filter → ℕ → Way → List Way

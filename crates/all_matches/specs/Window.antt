@@ -1,5 +1,6 @@
 -- Windows (XQuery and XPath Full Text 3.0, section 4.2.7.7: ApplyFTWindow).
--- A window of a size stands round the joined hit of the includes. It is told by how far in front of that hit it starts, so that it may start in front of the text.
+-- A window of a size stands round the joined hit of the includes. It is told by how
+-- far in front of that hit it starts, so that it may start in front of the text.
 use Rattle.std.specs.Prelude.{ℕ, ◌+◌, ◌-◌, Bool, false, ◌&&◌, nat_lt, nat_le, List, [], Option, Some, None}
 use Rattle.std.specs.List.{range_with_len}
 use Rattle.ft_base.specs.declared.hit.Hit.{Hit}

@@ -1,6 +1,7 @@
 -- The grammar of documents: which texts, as characters with normalized line ends, spell which nodes.
 -- It is XML 1.0 without document types, CDATA sections and namespaces; `]]>` may stand in content and `--` in a comment.
-use Rattle.std.specs.Prelude.{◌≡◌, ℕ, ◌+◌, ◌*◌, Bool, true, false, ◌&&◌, ◌||◌, nat_eq, nat_lt, ◌==◌, List, [], ◌∷◌, ◌++◌, IsTrue, if◌then◌else◌, codes, encode_utf8, encode_utf8_all}
+use Rattle.std.specs.Prelude.{◌≡◌, ℕ, ◌+◌, ◌*◌, Bool, true, false, ◌&&◌, ◌||◌, nat_eq, nat_lt, ◌==◌, List}
+use Rattle.std.specs.Prelude.{[], ◌∷◌, ◌++◌, IsTrue, if◌then◌else◌, codes, encode_utf8, encode_utf8_all}
 use Rattle.std.specs.List.{list_any}
 use Rattle.std.specs.Cmp.Lexicographic.{pointwise}
 use Rattle.std.specs.Char.{digit_value}
@@ -49,7 +50,8 @@ pub data Remark : ℕ → List ℕ → Type 0 where
 pub data Instruction : Bool → List ℕ → Type 0 where
   nothing : Instruction false []
   mark : {b : Bool} {u : List ℕ} → Instruction b u → Instruction true (u ++ 63 ∷ [])
-  other : {b : Bool} {u : List ℕ} → Instruction b u → (c : ℕ) → IsTrue (is_char c) → (c == 63) ≡ false → ((c == 62) && b) ≡ false → Instruction false (u ++ c ∷ [])
+  other : {b : Bool} {u : List ℕ} → Instruction b u → (c : ℕ) → IsTrue (is_char c) → (c == 63) ≡ false → ((c == 62) && b) ≡ false
+      → Instruction false (u ++ c ∷ [])
 
 -- What is skipped: a comment, which ends at the first `-->`, or a processing instruction, which ends at the first `?>` (productions 15 and 16).
 pub data Skipped : List ℕ → Type 0 where
@@ -69,7 +71,8 @@ in_value c = if is_space c then 32 else c
 -- what stands between two quotes q, and its bytes (production 10)
 pub data Value (q : ℕ) : List ℕ → List ℕ → Type 0 where
   nothing : Value q [] []
-  character : {u bytes : List ℕ} → Value q u bytes → (c : ℕ) → IsTrue (is_char c) → (c == q) ≡ false → (c == 38) ≡ false → (c == 60) ≡ false → Value q (u ++ c ∷ []) (bytes ++ encode_utf8 (in_value c))
+  character : {u bytes : List ℕ} → Value q u bytes → (c : ℕ) → IsTrue (is_char c) → (c == q) ≡ false → (c == 38) ≡ false → (c == 60) ≡ false
+      → Value q (u ++ c ∷ []) (bytes ++ encode_utf8 (in_value c))
   reference : {u v bytes : List ℕ} {c : ℕ} → Value q u bytes → Reference v c → Value q (u ++ v) (bytes ++ encode_utf8 c)
 
 abbrev pub is_quote : ℕ → Bool
@@ -86,7 +89,8 @@ has_name name attrs = list_any (λ a. pointwise nat_eq a.name name) attrs
 -- a start tag up to where white space may stand before `>` or `/>`: attributes with different names, each behind white space (productions 40 and 44)
 pub data Tag : List ℕ → List ℕ → List Attr → Type 0 where
   named : {u name : List ℕ} → Name u name → Tag (codes "<" ++ u) name []
-  attribute : {u s v name : List ℕ} {attrs : List Attr} {a : Attr} → Tag u name attrs → Spaces s → (c : ℕ) → IsTrue (is_space c) → Attribute v a → has_name a.name attrs ≡ false
+  attribute : {u s v name : List ℕ} {attrs : List Attr} {a : Attr} → Tag u name attrs → Spaces s → (c : ℕ) → IsTrue (is_space c)
+      → Attribute v a → has_name a.name attrs ≡ false
       → Tag ((u ++ (s ++ c ∷ [])) ++ v) name (attrs ++ a ∷ [])
 
 -- a text that isn't empty is a node
@@ -98,16 +102,19 @@ mutual
   -- an element (productions 39, 42 and 44)
   pub data Element : List ℕ → Node → Type 0 where
     empty : {u s name : List ℕ} {attrs : List Attr} → Tag u name attrs → Spaces s → Element ((u ++ s) ++ codes "/>") (element name attrs no_nodes)
-    whole : {u s v t name bytes : List ℕ} {attrs : List Attr} {kids : List Node} → Tag u name attrs → Spaces s → Content v kids bytes → (cs : List ℕ) → encode_utf8_all cs ≡ name → Spaces t
+    whole : {u s v t name bytes : List ℕ} {attrs : List Attr} {kids : List Node} → Tag u name attrs → Spaces s → Content v kids bytes
+        → (cs : List ℕ) → encode_utf8_all cs ≡ name → Spaces t
         → Element ((((((((u ++ s) ++ codes ">") ++ v) ++ codes "</") ++ cs) ++ t) ++ codes ">")) (element name attrs (nodes (kids ++ text_node bytes)))
 
   -- content: its nodes, and the bytes of the text that stands behind the last of them (production 43)
   pub data Content : List ℕ → List Node → List ℕ → Type 0 where
     nothing : Content [] [] []
-    character : {u bytes : List ℕ} {kids : List Node} → Content u kids bytes → (c : ℕ) → IsTrue (is_char c) → (c == 60) ≡ false → (c == 38) ≡ false → Content (u ++ c ∷ []) kids (bytes ++ encode_utf8 c)
+    character : {u bytes : List ℕ} {kids : List Node} → Content u kids bytes → (c : ℕ) → IsTrue (is_char c) → (c == 60) ≡ false
+        → (c == 38) ≡ false → Content (u ++ c ∷ []) kids (bytes ++ encode_utf8 c)
     reference : {u v bytes : List ℕ} {kids : List Node} {c : ℕ} → Content u kids bytes → Reference v c → Content (u ++ v) kids (bytes ++ encode_utf8 c)
     skipped : {u v bytes : List ℕ} {kids : List Node} → Content u kids bytes → Skipped v → Content (u ++ v) kids bytes
-    child : {u v bytes : List ℕ} {kids : List Node} {node : Node} → Content u kids bytes → Element v node → Content (u ++ v) ((kids ++ text_node bytes) ++ node ∷ []) []
+    child : {u v bytes : List ℕ} {kids : List Node} {node : Node} → Content u kids bytes → Element v node
+        → Content (u ++ v) ((kids ++ text_node bytes) ++ node ∷ []) []
 
 -- a document (production 1)
 pub data Document : List ℕ → Node → Type 0 where
@@ -120,7 +127,9 @@ pub data Fragment : List ℕ → List Node → Type 0 where
 -- line ends as one LF each: CR LF, and a CR that stands alone (section 2.11)
 abbrev pub lines_from : Bool → List ℕ → List ℕ
 lines_from behind_return [] = []
-lines_from behind_return (c ∷ cs) = if c == 13 then 10 ∷ lines_from true cs else if (c == 10) && behind_return then lines_from false cs else c ∷ lines_from false cs
+lines_from behind_return (c ∷ cs) = if c == 13 then 10 ∷ lines_from true cs
+    else if (c == 10) && behind_return then lines_from false cs
+    else c ∷ lines_from false cs
 
 abbrev pub with_line_ends : List ℕ → List ℕ
 with_line_ends = lines_from false

@@ -122,4 +122,5 @@ pub data Passes (max_depth max_nodes : ℕ) (kind : Kind) (whole prefix : List �
 
 -- no limit is passed before the front
 abbrev pub KeepsLimits : ℕ → ℕ → Kind → List ℕ → List ℕ → Type 0
-KeepsLimits max_depth max_nodes kind whole prefix = (other : List ℕ) (limit : Limit) → Passes max_depth max_nodes kind whole other limit → length prefix ≤ length other
+KeepsLimits max_depth max_nodes kind whole prefix =
+    (other : List ℕ) (limit : Limit) → Passes max_depth max_nodes kind whole other limit → length prefix ≤ length other

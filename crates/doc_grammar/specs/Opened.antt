@@ -11,7 +11,8 @@ pub data At : List ℕ → Place → Type 0 where
   after : {u v w : List ℕ} {node : Node} → Misc u → Element v node → Misc w → At ((u ++ v) ++ w) (record { kids = node ∷ []; text = []; outer = document })
   in_fragment : {u bytes : List ℕ} {kids : List Node} → Content u kids bytes → At u (record { kids = kids; text = bytes; outer = fragment })
   within : {w t s u name bytes outer_text : List ℕ} {attrs : List Attr} {kids outer_kids : List Node} {outer : Outer}
-      → At w (record { kids = outer_kids; text = outer_text; outer = outer }) → IsTrue (takes_element (record { kids = outer_kids; text = outer_text; outer = outer }))
+      → At w (record { kids = outer_kids; text = outer_text; outer = outer })
+      → IsTrue (takes_element (record { kids = outer_kids; text = outer_text; outer = outer }))
       → Tag t name attrs → Spaces s → Content u kids bytes
       → At ((((w ++ t) ++ s) ++ codes ">") ++ u) (record { kids = kids; text = bytes; outer = level name attrs outer_kids outer_text outer })
 

@@ -9,10 +9,21 @@ use Rattle.doc_grammar.specs.Grammar.{Name, has_name}
 
 -- a character of a text, and of a value
 abbrev pub escaped_in_text : ℕ → List ℕ
-escaped_in_text c = if c == 38 then codes "&amp;" else if c == 60 then codes "&lt;" else if c == 62 then codes "&gt;" else if c == 13 then codes "&#13;" else if c == 10 then codes "&#10;" else c ∷ []
+escaped_in_text c = if c == 38 then codes "&amp;"
+    else if c == 60 then codes "&lt;"
+    else if c == 62 then codes "&gt;"
+    else if c == 13 then codes "&#13;"
+    else if c == 10 then codes "&#10;"
+    else c ∷ []
 
 abbrev pub escaped_in_value : ℕ → List ℕ
-escaped_in_value c = if c == 38 then codes "&amp;" else if c == 60 then codes "&lt;" else if c == 34 then codes "&quot;" else if c == 9 then codes "&#9;" else if c == 13 then codes "&#13;" else if c == 10 then codes "&#10;" else c ∷ []
+escaped_in_value c = if c == 38 then codes "&amp;"
+    else if c == 60 then codes "&lt;"
+    else if c == 34 then codes "&quot;"
+    else if c == 9 then codes "&#9;"
+    else if c == 13 then codes "&#13;"
+    else if c == 10 then codes "&#10;"
+    else c ∷ []
 
 abbrev pub printed_text : List ℕ → List ℕ
 printed_text bytes = flat_map escaped_in_text (chars bytes)
@@ -31,7 +42,8 @@ printed_attributes = flat_map printed_attribute
 abbrev mutual
   pub printed : Node → List ℕ
   printed (element name attrs no_nodes) = ((codes "<" ++ chars name) ++ printed_attributes attrs) ++ codes "/>"
-  printed (element name attrs (node_then n ns)) = ((((((codes "<" ++ chars name) ++ printed_attributes attrs) ++ codes ">") ++ printed_all (node_then n ns)) ++ codes "</") ++ chars name) ++ codes ">"
+  printed (element name attrs (node_then n ns)) =
+      ((((((codes "<" ++ chars name) ++ printed_attributes attrs) ++ codes ">") ++ printed_all (node_then n ns)) ++ codes "</") ++ chars name) ++ codes ">"
   printed (text bytes) = printed_text bytes
 
   pub printed_all : Nodes → List ℕ

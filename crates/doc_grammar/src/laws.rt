@@ -24,6 +24,7 @@ pub fn spelled_is_printable()
 
 /// A text passes no limit that the nodes which it spells keep.
 pub fn limits_of_nodes()
-    ensures { (max_depth max_nodes : ℕ) (kind : Kind) (text : List ℕ) (kids : List Node) → Spells kind text kids → heights (nodes kids) ≤ max_depth → nodes_count (nodes kids) ≤ max_nodes →
+    ensures { (max_depth max_nodes : ℕ) (kind : Kind) (text : List ℕ) (kids : List Node) → Spells kind text kids
+        → heights (nodes kids) ≤ max_depth → nodes_count (nodes kids) ≤ max_nodes →
         (prefix : List ℕ) (limit : Limit) → Passes max_depth max_nodes kind text prefix limit → ⊥ }
 {}

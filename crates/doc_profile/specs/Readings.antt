@@ -1,5 +1,6 @@
 -- What bytes are read as: the document or the fragment that they spell, or their first fault. Want of memory is none of them.
-use Rattle.std.specs.Prelude.{◌≡◌, ℕ, ◌+◌, ◌-◌, Bool, false, nat_le, ◌==◌, List, [], ◌∷◌, length, Option, Some, None, Result, Ok, Err, if◌then◌else◌, encode_utf8, ⊤}
+use Rattle.std.specs.Prelude.{◌≡◌, ℕ, ◌+◌, ◌-◌, Bool, false, nat_le, ◌==◌, List, [], ◌∷◌, length}
+use Rattle.std.specs.Prelude.{Option, Some, None, Result, Ok, Err, if◌then◌else◌, encode_utf8, ⊤}
 use Rattle.std.specs.Str.{chars, is_utf8}
 use Rattle.std.specs.Str.Lossy.{utf8_valid_len}
 use Rattle.plain_tree.specs.Document.{Node}
@@ -14,7 +15,9 @@ use Rattle.doc_profile.specs.declared.fault.DocFault.TheVariants as faults
 
 -- the limit that the next character passes, at its place
 abbrev pub element_passes : State → ℕ → Option DocFault
-element_passes s at = if nat_le max_depth (depth s.place.outer) then Some (faults.Depth (at - 1)) else if nat_le max_nodes (place_count s.place) then Some (faults.Nodes (at - 1)) else None
+element_passes s at = if nat_le max_depth (depth s.place.outer) then Some (faults.Depth (at - 1))
+    else if nat_le max_nodes (place_count s.place) then Some (faults.Nodes (at - 1))
+    else None
 
 abbrev pub text_passes : State → ℕ → Option DocFault
 text_passes s at = if nat_le max_nodes (place_count s.place) then Some (faults.Nodes at) else None
@@ -63,7 +66,9 @@ nodes_in kind text from end = at_end finished end (walk text (start (outer_of ki
 
 -- what bytes are read as by `read_doc`, and by `read_fragment`
 unfoldable pub document_of : List ℕ → Result Node DocFault
-document_of bytes = if_utf8 bytes (at_end (λ s. only (finished s)) (length bytes) (walk (without_mark (chars bytes)) (start (outer_of Kind.document)) false (mark_len (chars bytes))))
+document_of bytes =
+    if_utf8 bytes
+    (at_end (λ s. only (finished s)) (length bytes) (walk (without_mark (chars bytes)) (start (outer_of Kind.document)) false (mark_len (chars bytes))))
 
 unfoldable pub fragment_of : List ℕ → Result (List Node) DocFault
 fragment_of bytes = if_utf8 bytes (nodes_in Kind.fragment (chars bytes) 0 (length bytes))

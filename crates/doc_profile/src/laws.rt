@@ -12,13 +12,16 @@ ghost use Rattle.doc_profile.specs.declared.fault.DocFault.{DocFault};
 /// bytes spell within the limits is what they are read as.
 pub fn reading_law()
     ensures document { (bytes : List ℕ) (doc : Node) → document_of bytes ≡ Ok doc →
-        IsUtf8 bytes × Spells Kind.document (without_mark (chars bytes)) (doc ∷ []) × Fits Kind.document (without_mark (chars bytes)) × IsWithin doc × (is_document doc ≡ true) }
+        IsUtf8 bytes × Spells Kind.document (without_mark (chars bytes)) (doc ∷ []) × Fits Kind.document (without_mark (chars bytes))
+        × IsWithin doc × (is_document doc ≡ true) }
     ensures document_fault { (bytes : List ℕ) (fault : DocFault) → document_of bytes ≡ Err fault →
         IsFaultOf Kind.document bytes (without_mark (chars bytes)) (mark_len (chars bytes)) fault }
-    ensures every_document { (bytes : List ℕ) (doc : Node) → IsUtf8 bytes → Spells Kind.document (without_mark (chars bytes)) (doc ∷ []) → IsWithin doc → document_of bytes ≡ Ok doc }
+    ensures every_document { (bytes : List ℕ) (doc : Node) → IsUtf8 bytes → Spells Kind.document (without_mark (chars bytes)) (doc ∷ [])
+        → IsWithin doc → document_of bytes ≡ Ok doc }
     ensures fragment { (bytes : List ℕ) (kids : List Node) → fragment_of bytes ≡ Ok kids →
         IsUtf8 bytes × Spells Kind.fragment (chars bytes) kids × Fits Kind.fragment (chars bytes) × AreWithin (nodes kids) }
     ensures fragment_fault { (bytes : List ℕ) (fault : DocFault) → fragment_of bytes ≡ Err fault →
         IsFaultOf Kind.fragment bytes (chars bytes) 0 fault }
-    ensures every_fragment { (bytes : List ℕ) (kids : List Node) → IsUtf8 bytes → Spells Kind.fragment (chars bytes) kids → AreWithin (nodes kids) → fragment_of bytes ≡ Ok kids }
+    ensures every_fragment { (bytes : List ℕ) (kids : List Node) → IsUtf8 bytes → Spells Kind.fragment (chars bytes) kids
+        → AreWithin (nodes kids) → fragment_of bytes ≡ Ok kids }
 {}

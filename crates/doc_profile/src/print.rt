@@ -18,7 +18,8 @@ use std::alloc::Global;
 pub fn print_doc(alloc: Global, doc: &PlainDoc) -> Result<Line, Memory>
     ensures line { IfOk result (λ line. line ≡ encode_utf8_all (printed.printed doc.now)) }
     ensures spelled { IfOk result (λ line. IsPrintable doc.now → IsUtf8 line × Spells Kind.document (without_mark (chars line)) (doc.now ∷ [])) }
-    ensures only { IfOk result (λ line. IsPrintable doc.now → (other : Node) → Spells Kind.document (without_mark (chars line)) (other ∷ []) → other ≡ doc.now) }
+    ensures only { IfOk result (λ line. IsPrintable doc.now → (other : Node) → Spells Kind.document (without_mark (chars line)) (other ∷ [])
+        → other ≡ doc.now) }
     ensures read_back { IfOk result (λ line. IsPrintable doc.now → IsWithin doc.now → document_of line ≡ Ok doc.now) }
 {
     let line = print_tree(alloc, doc.root())?;
@@ -54,7 +55,8 @@ fn put_tree(out: &mut String, tree: &Tree) -> Result<(), Memory>
 /// An element: one tag where it has no children.
 #[cycle(put_tree)]
 fn put_element(out: &mut String, name: &str, attrs: &[Attr], kids: &[Tree]) -> Result<(), Memory>
-    ensures { OnOk result (string_bytes out.new ≡ string_bytes out.old ++ encode_utf8_all (printed.printed (element name.now attrs.now (nodes (map node kids.now))))) }
+    ensures { OnOk result (string_bytes out.new
+        ≡ string_bytes out.old ++ encode_utf8_all (printed.printed (element name.now attrs.now (nodes (map node kids.now))))) }
 {
     put_start(out, name, attrs)?;
     if kids.is_empty() {
@@ -79,7 +81,8 @@ fn put_kids(out: &mut String, kids: &[Tree]) -> Result<(), Memory>
 
 /// A start tag up to its end.
 fn put_start(out: &mut String, name: &str, attrs: &[Attr]) -> Result<(), Memory>
-    ensures { OnOk result (string_bytes out.new ≡ string_bytes out.old ++ encode_utf8_all ((codes "<" ++ chars name.now) ++ printed.printed_attributes attrs.now)) }
+    ensures { OnOk result (string_bytes out.new
+        ≡ string_bytes out.old ++ encode_utf8_all ((codes "<" ++ chars name.now) ++ printed.printed_attributes attrs.now)) }
 {
     out.push('<')?;
     out.push_str(name)?;

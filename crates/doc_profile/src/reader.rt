@@ -92,7 +92,10 @@ impl Reader {
 
     /// Goes to a phase if the character is the wanted one.
     pub fn only(&mut self, wanted: char, c: char, phase: Phase) -> bool
-        ensures { Stepped result (m.only wanted c (place_of self.old) (phase_in phase (string_bytes self.old.name) self.old.attrs.items (string_bytes self.old.attr) (string_bytes self.old.value))) (state_of self.new) }
+        ensures { Stepped result
+            (m.only wanted c (place_of self.old)
+            (phase_in phase (string_bytes self.old.name) self.old.attrs.items (string_bytes self.old.attr) (string_bytes self.old.value)))
+            (state_of self.new) }
     {
         if c == wanted {
             self.phase = phase;

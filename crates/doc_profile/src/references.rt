@@ -159,7 +159,8 @@ fn judge_digit(hexadecimal: bool, number: u32, c: char) -> Judged
 
 #[tactic(auto, using(std::proofs::lemmas::Bool::Decides::nat_tests))]
 fn judge_next_digit(hexadecimal: bool, number: u32, digit: u32) -> Judged
-    ensures { judged_of result ≡ (if nat_le (number * m.base hexadecimal + digit) 0x10_FFFF then m.going (m.digits hexadecimal (number * m.base hexadecimal + digit)) else m.refused) }
+    ensures { judged_of result
+        ≡ (if nat_le (number * m.base hexadecimal + digit) 0x10_FFFF then m.going (m.digits hexadecimal (number * m.base hexadecimal + digit)) else m.refused) }
 {
     let number = number as u64 * base(hexadecimal) as u64 + digit as u64;
     if number <= 0x10_FFFF {
@@ -213,7 +214,9 @@ impl Reader {
         refer: Refer,
         c: char,
     ) -> Result<bool, Memory>
-        ensures { Goes result (m.judged_quoted (place_of self.old) (name_of self.old) self.old.attrs.items (attr_of self.old) quote (value_of self.old) (m.refer (refer_of refer) c)) (state_of self.new) }
+        ensures { Goes result
+            (m.judged_quoted (place_of self.old) (name_of self.old) self.old.attrs.items (attr_of self.old) quote (value_of self.old)
+            (m.refer (refer_of refer) c)) (state_of self.new) }
     {
         match judge(refer, c) {
             Judged::Refused => Ok(false),

@@ -78,7 +78,9 @@ impl Reader {
         }
     }
 
-    #[tactic(auto, using(std::proofs::lemmas::Bool::Decides::nat_tests, plain_tree::proofs::Views::views), unfolding(doc_grammar::specs::steps::Machine::from_slashed))]
+    #[tactic(auto, using(std::proofs::lemmas::Bool::Decides::nat_tests, plain_tree::proofs::Views::views), unfolding(
+    // a tag that a slash ends
+    doc_grammar::specs::steps::Machine::from_slashed))]
     pub fn from_slashed(&mut self, c: char) -> Result<bool, Memory>
         ensures { Goes result (m.from_slashed (place_of self.old) (name_of self.old) self.old.attrs.items c) (state_of self.new) }
     {

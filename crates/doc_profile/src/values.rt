@@ -25,7 +25,8 @@ impl Reader {
 
     #[tactic(auto, using(std::proofs::lemmas::Bool::Decides::nat_tests), unfolding(doc_grammar::specs::steps::Machine::from_quoted))]
     pub fn from_quoted(&mut self, quote: char, c: char) -> Result<bool, Memory>
-        ensures { Goes result (m.from_quoted (place_of self.old) (name_of self.old) self.old.attrs.items (attr_of self.old) quote (value_of self.old) c) (state_of self.new) }
+        ensures { Goes result
+            (m.from_quoted (place_of self.old) (name_of self.old) self.old.attrs.items (attr_of self.old) quote (value_of self.old) c) (state_of self.new) }
     {
         if c == quote {
             self.put_attribute()?;
@@ -48,7 +49,11 @@ impl Reader {
     /// Puts the attribute, whose value ends, behind the others.
     #[tactic(auto, using(std::proofs::lemmas::Bool::Decides::nat_tests))]
     fn put_attribute(&mut self) -> Result<(), Memory>
-        ensures { OnOk result (state_of self.new ≡ record { place = place_of self.old; phase = m.valued (name_of self.old) (self.old.attrs.items ++ record { name = attr_of self.old; value = value_of self.old } ∷ []) }) }
+        ensures { OnOk result (state_of self.new
+            ≡ record {
+              place = place_of self.old;
+              phase = m.valued (name_of self.old) (self.old.attrs.items ++ record { name = attr_of self.old; value = value_of self.old } ∷ []);
+            }) }
     {
         let name = mem::replace(&mut self.attr, String::new(self.alloc));
         let value = mem::replace(&mut self.value, String::new(self.alloc));

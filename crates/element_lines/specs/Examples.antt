@@ -4,4 +4,6 @@ use Rattle.plain_tree.specs.Document.{Node, element, text, no_nodes, nodes}
 
 -- `<d><p>x</p><q/><p/></d>`
 abbrev pub paragraphs : Node
-paragraphs = element (codes "d") [] (nodes (element (codes "p") [] (nodes (text (codes "x") ∷ [])) ∷ element (codes "q") [] no_nodes ∷ element (codes "p") [] no_nodes ∷ []))
+paragraphs =
+    element (codes "d") []
+    (nodes (element (codes "p") [] (nodes (text (codes "x") ∷ [])) ∷ element (codes "q") [] no_nodes ∷ element (codes "p") [] no_nodes ∷ []))

@@ -58,7 +58,8 @@ fn push_steps(
 ) -> Result<(), Memory>
     requires node { IsElement tree.now.root node }
     requires numbers { AreNumbers tree.now.root numbers.old }
-    ensures text { OnOk result (string_bytes text.new ≡ string_bytes text.old ++ flat_map step_text (steps_to (plain tree.now.root) (element_of tree.now.root node).place)) }
+    ensures text { OnOk result (string_bytes text.new
+        ≡ string_bytes text.old ++ flat_map step_text (steps_to (plain tree.now.root) (element_of tree.now.root node).place)) }
     ensures numbers { OnOk result (AreNumbers tree.now.root numbers.new) }
 {
     match tree.parent(node) {

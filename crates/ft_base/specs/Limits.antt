@@ -1,6 +1,7 @@
 -- The limits of the search engine, as definitions name them. Each is the constant of the program, so that the two are one number.
 use Rattle.std.specs.Prelude.{ℕ}
-use Rattle.ft_base.specs.declared.limits.TheConstants.{MAX_SESSION_BYTES, MAX_PIECE_BYTES, MAX_LINE_BYTES, MAX_NAME_BYTES, MAX_DOCUMENTS, MAX_MARKS, MAX_LISTS, MAX_DEPTH, MAX_NODES, MAX_TOKENS, MAX_OPEN, MAX_FILTERS, MAX_PHRASES, MAX_NUMBER}
+use Rattle.ft_base.specs.declared.limits.TheConstants.{MAX_SESSION_BYTES, MAX_PIECE_BYTES, MAX_LINE_BYTES, MAX_NAME_BYTES, MAX_DOCUMENTS, MAX_MARKS}
+use Rattle.ft_base.specs.declared.limits.TheConstants.{MAX_LISTS, MAX_DEPTH, MAX_NODES, MAX_TOKENS, MAX_OPEN, MAX_FILTERS, MAX_PHRASES, MAX_NUMBER}
 
 -- the most bytes of a session, and of a piece of it that is read at once
 abbrev pub max_session_bytes : ℕ

@@ -1,4 +1,5 @@
-ghost use Rattle.std.specs.Prelude.{◌≡◌, ◌+◌, ◌-◌, ◌^◌, ◌<◌, ◌≤◌, ◌++◌, List, ℕ, Some, length, min, take, drop, find, position, option_copied, IfOk, IfSome, IsSome, OnErr, OnOk, is_err};
+ghost use Rattle.std.specs.Prelude.{◌≡◌, ◌+◌, ◌-◌, ◌^◌, ◌<◌, ◌≤◌, ◌++◌, List, ℕ, Some, length, min, take, drop};
+ghost use Rattle.std.specs.Prelude.{find, position, option_copied, IfOk, IfSome, IsSome, OnErr, OnOk, is_err};
 ghost use Rattle.std.specs.FinMap as map;
 ghost use Rattle.ft_io.specs.Faults.{CountsFault};
 ghost use Rattle.ft_io.specs.Shelf.{known_bytes, bytes_of, Reads, reached_after};

@@ -18,8 +18,8 @@ abbrev pub scanned_on : Placed → Option (Shape State) → (Shape State → Res
 scanned_on p None further = Err (Q.Syntax p.from)
 scanned_on p (Some shape) further = further shape
 
--- What symbols are from where the machine stands: the selection, if they are a whole one. The first one that can't stand there, or begins one filter more than may
--- stand directly round one another, is their fault.
+-- What symbols are from where the machine stands: the selection, if they are a whole one. The first one that can't stand there, or begins one filter more than
+-- may stand directly round one another, is their fault.
 unfoldable pub scanned_from : Shape State → List Placed → Result (Option Tree) QueryFault
 scanned_from shape [] = Ok (finished_at shape)
 scanned_from shape (p ∷ rest) = if is_deep_filter shape p.symbol then Err (Q.Deep p.from) else scanned_on p (advance shape p) (λ s. scanned_from s rest)

@@ -29,7 +29,8 @@ run_length symbols = leading_from (whole start) symbols
 abbrev pub is_whole : List Placed → Bool
 is_whole symbols = is_some (finished (read symbols))
 
--- What a run of so many symbols is read as: alone where it is a whole selection, and else with the symbol behind it, which can't stand there, or with the end of the text.
+-- What a run of so many symbols is read as: alone where it is a whole selection, and
+-- else with the symbol behind it, which can't stand there, or with the end of the text.
 abbrev pub read_with_end : Bool → ℕ → List Placed → Option ℕ → ℕ → Result Form QueryFault
 read_with_end true count symbols bad size = symbols_read (symbols_with (take count symbols) None) size
 read_with_end false count symbols bad size = symbols_read (symbols_with (take (suc count) symbols) bad) size

@@ -59,13 +59,17 @@ pub record Selects (symbols : List Placed) (bad : Option ℕ) (form : Form) : Ty
 -- Why symbols are refused, in a text of so many bytes that has a character that begins no symbol, or none. The symbols before the fault may stand.
 pub data Refuses (symbols : List Placed) (bad : Option ℕ) (size : ℕ) : QueryFault → Type 0 where
   -- a number is too great
-  number : (before : List Placed) (p : Placed) (rest : List Placed) → symbols ≡ before ++ p ∷ rest → MayStand before → is_great (number_of p.symbol) ≡ true → Refuses symbols bad size (Q.Number p.from)
+  number : (before : List Placed) (p : Placed) (rest : List Placed) → symbols ≡ before ++ p ∷ rest → MayStand before
+      → is_great (number_of p.symbol) ≡ true → Refuses symbols bad size (Q.Number p.from)
   -- a parenthesis opens where as many are open as may be
-  parenthesis : (before : List Placed) (p : Placed) (rest : List Placed) → symbols ≡ before ++ p ∷ rest → MayStand before → is_mark open_parenthesis p.symbol ≡ true → nat_le max_open (open_in before) ≡ true → Refuses symbols bad size (Q.Deep p.from)
+  parenthesis : (before : List Placed) (p : Placed) (rest : List Placed) → symbols ≡ before ++ p ∷ rest → MayStand before
+      → is_mark open_parenthesis p.symbol ≡ true → nat_le max_open (open_in before) ≡ true → Refuses symbols bad size (Q.Deep p.from)
   -- a filter begins whose operand has as many filters directly round one another as may stand so
-  filter : (before : List Placed) (p : Placed) (rest : List Placed) → symbols ≡ before ++ p ∷ rest → MayStand before → is_deep_behind before p.symbol ≡ true → Refuses symbols bad size (Q.Deep p.from)
+  filter : (before : List Placed) (p : Placed) (rest : List Placed) → symbols ≡ before ++ p ∷ rest → MayStand before
+      → is_deep_behind before p.symbol ≡ true → Refuses symbols bad size (Q.Deep p.from)
   -- with the symbol there they begin no selection
-  symbol : (before : List Placed) (p : Placed) (rest : List Placed) → symbols ≡ before ++ p ∷ rest → MayStand before → passes_limit before p.symbol ≡ false → (Begins (before ++ p ∷ []) → ⊥) → Refuses symbols bad size (Q.Syntax p.from)
+  symbol : (before : List Placed) (p : Placed) (rest : List Placed) → symbols ≡ before ++ p ∷ rest → MayStand before
+      → passes_limit before p.symbol ≡ false → (Begins (before ++ p ∷ []) → ⊥) → Refuses symbols bad size (Q.Syntax p.from)
   -- a character behind all symbols begins none
   character : (at : ℕ) → bad ≡ Some at → MayStand symbols → Refuses symbols bad size (Q.Syntax at)
   -- the text ends before the selection does

@@ -1,5 +1,11 @@
 //! How selections are put together from what was read.
-#![tactic(auto, using(selection_grammar::proofs::Views::tree_words, selection_grammar::proofs::Views::tree_or, selection_grammar::proofs::Views::tree_and, selection_grammar::proofs::Views::tree_mild, selection_grammar::proofs::Views::tree_not, selection_grammar::proofs::Views::tree_filtered, selection_grammar::proofs::Views::tree_with))]
+#![tactic(auto, using(
+// the trees of words, of `ftor` and of `ftand`
+selection_grammar::proofs::Views::tree_words, selection_grammar::proofs::Views::tree_or, selection_grammar::proofs::Views::tree_and,
+// of `not in` and of `ftnot`
+selection_grammar::proofs::Views::tree_mild, selection_grammar::proofs::Views::tree_not,
+// of filters and of match options
+selection_grammar::proofs::Views::tree_filtered, selection_grammar::proofs::Views::tree_with))]
 
 ghost use Rattle.std.specs.Prelude.{◌≡◌, [], ◌∷◌, ◌++◌, IfOk, map, option_map};
 ghost use Rattle.ft_parser.specs.steps.State.{left_of, primary_of};

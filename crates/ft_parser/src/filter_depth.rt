@@ -51,7 +51,13 @@ fn operand_has_all(operand: &Operand) -> bool
 }
 
 /// Whether so many filters stand directly round one another.
-#[tactic(auto, using(selection_grammar::proofs::Views::tree_words, selection_grammar::proofs::Views::tree_or, selection_grammar::proofs::Views::tree_and, selection_grammar::proofs::Views::tree_mild, selection_grammar::proofs::Views::tree_not, selection_grammar::proofs::Views::tree_filtered, selection_grammar::proofs::Views::tree_with))]
+#[tactic(auto, using(
+// the trees of words, of `ftor` and of `ftand`
+selection_grammar::proofs::Views::tree_words, selection_grammar::proofs::Views::tree_or, selection_grammar::proofs::Views::tree_and,
+// of `not in` and of `ftnot`
+selection_grammar::proofs::Views::tree_mild, selection_grammar::proofs::Views::tree_not,
+// of filters and of match options
+selection_grammar::proofs::Views::tree_filtered, selection_grammar::proofs::Views::tree_with))]
 fn has_filters(parsed: &Parsed, count: usize) -> bool
     ensures { result ≡ nat_le count (limits.filters_round (tree parsed.now)) }
 {

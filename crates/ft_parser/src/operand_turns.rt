@@ -195,7 +195,8 @@ fn more_in_braces(
     negation: Option<usize>,
     strings: Items<PlacedString>,
 ) -> Result<(State, usize), Halt>
-    ensures { Answers state_of result (reading (m.further_string (λ xs. stands (frames_of outer.items) (left_of left) (m.in_braces negation xs)) strings) symbols.now next) }
+    ensures { Answers state_of result
+        (reading (m.further_string (λ xs. stands (frames_of outer.items) (left_of left) (m.in_braces negation xs)) strings) symbols.now next) }
 {
     match text_at(alloc, symbols, next) {
         Err(_) => {
@@ -295,7 +296,10 @@ fn behind_not(
     left: Left,
     operand: Parsed,
 ) -> Result<(State, usize), Halt>
-    ensures { Answers state_of result (reading (keywords.key (codes "in") (whole (stands (frames_of outer.items) (record { ors = (left_of left).ors; ands = (left_of left).ands; mild = Some (m.mild_with (left_of left).mild (tree operand)) }) (m.wanted None)))) symbols.now next) }
+    ensures { Answers state_of result (reading
+        (keywords.key (codes "in") (whole (stands (frames_of outer.items)
+        (record { ors = (left_of left).ors; ands = (left_of left).ands; mild = Some (m.mild_with (left_of left).mild (tree operand)) }) (m.wanted None))))
+        symbols.now next) }
 {
     if is_word(symbols, next, "in") {
         let state = behind_mild(alloc, outer, left, operand)?;
@@ -307,7 +311,8 @@ fn behind_not(
 }
 
 fn behind_or(alloc: Global, outer: Vec<Frame>, left: Left, operand: Parsed) -> Result<State, Memory>
-    ensures { IfOk result (λ state. state_of state ≡ stands (frames_of outer.items) (record { ors = m.ors_with (left_of left) (tree operand); ands = []; mild = None }) (m.wanted None)) }
+    ensures { IfOk result (λ state. state_of state
+        ≡ stands (frames_of outer.items) (record { ors = m.ors_with (left_of left) (tree operand); ands = []; mild = None }) (m.wanted None)) }
 {
     let mild = mild_with(alloc, left.mild, operand)?;
     let and = and_with(left.ands, mild)?;
@@ -328,7 +333,8 @@ fn behind_and(
     left: Left,
     operand: Parsed,
 ) -> Result<State, Memory>
-    ensures { IfOk result (λ state. state_of state ≡ stands (frames_of outer.items) (record { ors = (left_of left).ors; ands = m.ands_with (left_of left) (tree operand); mild = None }) (m.wanted None)) }
+    ensures { IfOk result (λ state. state_of state
+        ≡ stands (frames_of outer.items) (record { ors = (left_of left).ors; ands = m.ands_with (left_of left) (tree operand); mild = None }) (m.wanted None)) }
 {
     let mild = mild_with(alloc, left.mild, operand)?;
     let mut ands = left.ands;
@@ -348,7 +354,9 @@ fn behind_mild(
     left: Left,
     operand: Parsed,
 ) -> Result<State, Memory>
-    ensures { IfOk result (λ state. state_of state ≡ stands (frames_of outer.items) (record { ors = (left_of left).ors; ands = (left_of left).ands; mild = Some (m.mild_with (left_of left).mild (tree operand)) }) (m.wanted None)) }
+    ensures { IfOk result (λ state. state_of state
+        ≡ stands (frames_of outer.items)
+        (record { ors = (left_of left).ors; ands = (left_of left).ands; mild = Some (m.mild_with (left_of left).mild (tree operand)) }) (m.wanted None)) }
 {
     let mild = mild_with(alloc, left.mild, operand)?;
     let left = Left {

@@ -77,7 +77,8 @@ pub(crate) fn with_filter(
 
 /// The whole selection that ends with an operand.
 pub(crate) fn ended(alloc: Global, left: Left, operand: Operand) -> Result<Parsed, Memory>
-    ensures { IfOk result (λ parsed. tree parsed ≡ m.selection_with (left_of left) (m.operand_of operand.negation (primary_of operand.primary) operand.options)) }
+    ensures { IfOk result (λ parsed. tree parsed
+        ≡ m.selection_with (left_of left) (m.operand_of operand.negation (primary_of operand.primary) operand.options)) }
 {
     let Ok(parsed) = operand_tree(alloc, operand) else {
         drop(left);
@@ -88,7 +89,9 @@ pub(crate) fn ended(alloc: Global, left: Left, operand: Operand) -> Result<Parse
 
 /// The whole selection that ends with a stop word option.
 pub(crate) fn stops_ended(alloc: Global, left: Left, stops: Stops) -> Result<Parsed, Memory>
-    ensures { IfOk result (λ parsed. tree parsed ≡ m.selection_with (left_of left) (m.operand_of stops.operand.negation (primary_of stops.operand.primary) (stops.operand.options ++ m.stop_option stops.at stops.terms ∷ []))) }
+    ensures { IfOk result (λ parsed. tree parsed
+        ≡ m.selection_with (left_of left)
+        (m.operand_of stops.operand.negation (primary_of stops.operand.primary) (stops.operand.options ++ m.stop_option stops.at stops.terms ∷ []))) }
 {
     let Ok(operand) = with_stops(stops) else {
         drop(left);
@@ -99,7 +102,9 @@ pub(crate) fn stops_ended(alloc: Global, left: Left, stops: Stops) -> Result<Par
 
 /// The whole selection that ends with a thesaurus without levels.
 pub(crate) fn thesaurus_ended(alloc: Global, left: Left, last: Uses) -> Result<Parsed, Memory>
-    ensures { IfOk result (λ parsed. tree parsed ≡ m.thesaurus_selection (left_of left) last.operand.negation (primary_of last.operand.primary) last.operand.options last.at last.name last.relationship) }
+    ensures { IfOk result (λ parsed. tree parsed
+        ≡ m.thesaurus_selection (left_of left) last.operand.negation (primary_of last.operand.primary) last.operand.options last.at
+        last.name last.relationship) }
 {
     let Ok(operand) = with_one_use(alloc, last, None) else {
         drop(left);
@@ -118,7 +123,8 @@ pub(crate) fn given(
     left: Left,
     operand: Operand,
 ) -> Result<(State, usize), Halt>
-    ensures { Answers state_of result (turns.options_turn (frames_of outer.items) (left_of left) operand.negation (primary_of operand.primary) operand.options symbols.now next) }
+    ensures { Answers state_of result
+        (turns.options_turn (frames_of outer.items) (left_of left) operand.negation (primary_of operand.primary) operand.options symbols.now next) }
 {
     if begins_filter(symbols, next) {
         let selection = ended(alloc, left, operand)?;
@@ -138,7 +144,8 @@ fn unfiltered(
     left: Left,
     operand: Operand,
 ) -> Result<(State, usize), Halt>
-    ensures { Answers state_of result (turns.unfiltered_turn (frames_of outer.items) (left_of left) operand.negation (primary_of operand.primary) operand.options symbols.now next) }
+    ensures { Answers state_of result
+        (turns.unfiltered_turn (frames_of outer.items) (left_of left) operand.negation (primary_of operand.primary) operand.options symbols.now next) }
 {
     if is_word(symbols, next, "using") {
         let at = place_at(symbols, next);
@@ -163,7 +170,8 @@ fn using(
     operand: Operand,
     at: usize,
 ) -> Result<(State, usize), Halt>
-    ensures { Answers state_of result (turns.using_turn (frames_of outer.items) (left_of left) operand.negation (primary_of operand.primary) operand.options at symbols.now next) }
+    ensures { Answers state_of result
+        (turns.using_turn (frames_of outer.items) (left_of left) operand.negation (primary_of operand.primary) operand.options at symbols.now next) }
 {
     if is_word(symbols, next, "thesaurus") {
         thesaurus_first(alloc, symbols, next + 1, outer, left, operand, at)
@@ -184,7 +192,10 @@ fn stop_words(
     operand: Operand,
     at: usize,
 ) -> Result<(State, usize), Halt>
-    ensures { Answers state_of result (reading (keywords.key (codes "words") (m.term_next (frames_of outer.items) (left_of left) operand.negation (primary_of operand.primary) operand.options at [] false)) symbols.now next) }
+    ensures { Answers state_of result (reading
+        (keywords.key (codes "words")
+        (m.term_next (frames_of outer.items) (left_of left) operand.negation (primary_of operand.primary) operand.options at [] false))
+        symbols.now next) }
 {
     if is_word(symbols, next, "words") {
         let terms = Items::new(alloc);
@@ -206,7 +217,11 @@ fn plain(
     operand: Operand,
     at: usize,
 ) -> Result<(State, usize), Halt>
-    ensures { Answers state_of result (further (reading (keywords.plain_option at) symbols.now next) (λ o k. Ok (turns.stands (frames_of outer.items) (left_of left) (m.given_options operand.negation (primary_of operand.primary) (operand.options ++ o ∷ [])), k))) }
+    ensures { Answers state_of result (further (reading (keywords.plain_option at) symbols.now next) (λ o k. Ok (
+      turns.stands
+          (frames_of outer.items) (left_of left) (m.given_options operand.negation (primary_of operand.primary) (operand.options ++ o ∷ [])),
+      k,
+    ))) }
 {
     match plain_option(alloc, symbols, next, at) {
         Err(halt) => {
@@ -254,7 +269,8 @@ pub(crate) fn stop_terms(
     left: Left,
     stops: Stops,
 ) -> Result<(State, usize), Halt>
-    ensures { Answers state_of result (turns.stop_terms_turn (frames_of outer.items) (left_of left) stops.operand.negation (primary_of stops.operand.primary) stops.operand.options stops.at stops.terms symbols.now next) }
+    ensures { Answers state_of result (turns.stop_terms_turn (frames_of outer.items) (left_of left) stops.operand.negation
+        (primary_of stops.operand.primary) stops.operand.options stops.at stops.terms symbols.now next) }
 {
     if is_word(symbols, next, "union") {
         term(alloc, symbols, next + 1, outer, left, stops, false)
@@ -288,7 +304,8 @@ pub(crate) fn thesaurus(
     left: Left,
     last: Uses,
 ) -> Result<(State, usize), Halt>
-    ensures { Answers state_of result (turns.thesaurus_turn (frames_of outer.items) (left_of left) last.operand.negation (primary_of last.operand.primary) last.operand.options last.at last.name last.relationship symbols.now next) }
+    ensures { Answers state_of result (turns.thesaurus_turn (frames_of outer.items) (left_of left) last.operand.negation
+        (primary_of last.operand.primary) last.operand.options last.at last.name last.relationship symbols.now next) }
 {
     if last.relationship.is_none() && is_word(symbols, next, "relationship") {
         related(alloc, symbols, next + 1, outer, left, last)
@@ -306,7 +323,8 @@ fn behind_name(
     left: Left,
     last: Uses,
 ) -> Result<(State, usize), Halt>
-    ensures { Answers state_of result (turns.thesaurus_rest_turn (frames_of outer.items) (left_of left) last.operand.negation (primary_of last.operand.primary) last.operand.options last.at last.name last.relationship symbols.now next) }
+    ensures { Answers state_of result (turns.thesaurus_rest_turn (frames_of outer.items) (left_of left) last.operand.negation
+        (primary_of last.operand.primary) last.operand.options last.at last.name last.relationship symbols.now next) }
 {
     if is_word(symbols, next, "at") {
         behind_at(alloc, symbols, next + 1, outer, left, last)
@@ -333,7 +351,9 @@ fn levels(
     last: Uses,
     read: Result<(Range, usize), usize>,
 ) -> Result<(State, usize), Halt>
-    ensures { Answers state_of result (turns.levels_turn (turns.with_levels (frames_of outer.items) (left_of left) last.operand.negation (primary_of last.operand.primary) last.operand.options last.at last.name last.relationship) symbols.now read) }
+    ensures { Answers state_of result (turns.levels_turn
+        (turns.with_levels (frames_of outer.items) (left_of left) last.operand.negation (primary_of last.operand.primary)
+        last.operand.options last.at last.name last.relationship) symbols.now read) }
 {
     match read {
         Err(stuck) => {
@@ -354,7 +374,8 @@ fn behind_at(
     left: Left,
     last: Uses,
 ) -> Result<(State, usize), Halt>
-    ensures { Answers state_of result (turns.behind_at_turn (frames_of outer.items) (left_of left) last.operand.negation (primary_of last.operand.primary) last.operand.options last.at last.name last.relationship symbols.now next) }
+    ensures { Answers state_of result (turns.behind_at_turn (frames_of outer.items) (left_of left) last.operand.negation
+        (primary_of last.operand.primary) last.operand.options last.at last.name last.relationship symbols.now next) }
 {
     if is_word(symbols, next, "least") || is_word(symbols, next, "most") {
         levels(alloc, symbols, outer, left, last, bound(symbols, next))
@@ -374,7 +395,8 @@ fn behind_thesaurus(
     left: Left,
     last: Uses,
 ) -> Result<(State, usize), Halt>
-    ensures { Answers state_of result (turns.behind_thesaurus_turn (frames_of outer.items) (left_of left) last.operand.negation (primary_of last.operand.primary) last.operand.options last.at last.name last.relationship symbols.now next) }
+    ensures { Answers state_of result (turns.behind_thesaurus_turn (frames_of outer.items) (left_of left) last.operand.negation
+        (primary_of last.operand.primary) last.operand.options last.at last.name last.relationship symbols.now next) }
 {
     if begins_other_filter(symbols, next) {
         let selection = thesaurus_ended(alloc, left, last)?;

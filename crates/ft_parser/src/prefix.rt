@@ -34,8 +34,9 @@ pub fn read_prefix(alloc: Global, text: &str, from: usize) -> Result<(Selection,
     }
 }
 
-/// Reads the selection with which symbols begin, in a text of so many bytes that has a character behind them that begins no symbol, or none. It takes the longest
-/// run of them that begins a selection, and gives the selection and the number of symbols in the run. It looks at the run and the symbol behind it only.
+/// Reads the selection with which symbols begin, in a text of so many bytes that has a character behind
+/// them that begins no symbol, or none. It takes the longest run of them that begins a selection, and gives
+/// the selection and the number of symbols in the run. It looks at the run and the symbol behind it only.
 #[tactic(none)]
 pub fn read_run(
     alloc: Global,

@@ -33,7 +33,9 @@ pub(crate) fn term(
     stops: Stops,
     except: bool,
 ) -> Result<(State, usize), Halt>
-    ensures { Answers state_of result (reading (m.term_next (frames_of outer.items) (left_of left) stops.operand.negation (primary_of stops.operand.primary) stops.operand.options stops.at stops.terms except) symbols.now next) }
+    ensures { Answers state_of result (reading
+        (m.term_next (frames_of outer.items) (left_of left) stops.operand.negation (primary_of stops.operand.primary) stops.operand.options
+        stops.at stops.terms except) symbols.now next) }
 {
     if is_word(symbols, next, "at") {
         listed(alloc, symbols, next + 1, outer, left, stops, except)
@@ -54,7 +56,9 @@ fn listed(
     stops: Stops,
     except: bool,
 ) -> Result<(State, usize), Halt>
-    ensures { Answers state_of result (reading (m.listed_term (frames_of outer.items) (left_of left) stops.operand.negation (primary_of stops.operand.primary) stops.operand.options stops.at stops.terms except) symbols.now next) }
+    ensures { Answers state_of result (reading
+        (m.listed_term (frames_of outer.items) (left_of left) stops.operand.negation (primary_of stops.operand.primary)
+        stops.operand.options stops.at stops.terms except) symbols.now next) }
 {
     match text_at(alloc, symbols, next) {
         Err(_) => {
@@ -86,7 +90,9 @@ fn written(
     stops: Stops,
     except: bool,
 ) -> Result<(State, usize), Halt>
-    ensures { Answers state_of result (reading (m.written_term (frames_of outer.items) (left_of left) stops.operand.negation (primary_of stops.operand.primary) stops.operand.options stops.at stops.terms except) symbols.now next) }
+    ensures { Answers state_of result (reading
+        (m.written_term (frames_of outer.items) (left_of left) stops.operand.negation (primary_of stops.operand.primary)
+        stops.operand.options stops.at stops.terms except) symbols.now next) }
 {
     match text_at(alloc, symbols, next) {
         Err(_) => {
@@ -130,7 +136,10 @@ pub(crate) fn stop_strings(
     except: bool,
     strings: Items<PlacedString>,
 ) -> Result<(State, usize), Halt>
-    ensures { Answers state_of result (reading (m.next_at (frames_of outer.items) (left_of left) (m.stop_strings stops.operand.negation (primary_of stops.operand.primary) stops.operand.options stops.at stops.terms except strings)) symbols.now next) }
+    ensures { Answers state_of result (reading
+        (m.next_at (frames_of outer.items) (left_of left)
+        (m.stop_strings stops.operand.negation (primary_of stops.operand.primary) stops.operand.options stops.at stops.terms except strings))
+        symbols.now next) }
 {
     if is_comma(symbols, next) {
         more_strings(
@@ -172,7 +181,11 @@ fn more_strings(
     except: bool,
     strings: Items<PlacedString>,
 ) -> Result<(State, usize), Halt>
-    ensures { Answers state_of result (reading (m.further_string (λ xs. stands (frames_of outer.items) (left_of left) (m.stop_strings stops.operand.negation (primary_of stops.operand.primary) stops.operand.options stops.at stops.terms except xs)) strings) symbols.now next) }
+    ensures { Answers state_of result (reading
+        (m.further_string
+        (λ xs. stands (frames_of outer.items) (left_of left)
+        (m.stop_strings stops.operand.negation (primary_of stops.operand.primary) stops.operand.options stops.at stops.terms except xs)) strings)
+        symbols.now next) }
 {
     match text_at(alloc, symbols, next) {
         Err(_) => {

@@ -26,7 +26,8 @@ pub(crate) fn thesaurus_first(
     operand: Operand,
     at: usize,
 ) -> Result<(State, usize), Halt>
-    ensures { Answers state_of result (reading (m.thesaurus_first (frames_of outer.items) (left_of left) operand.negation (primary_of operand.primary) operand.options at) symbols.now next) }
+    ensures { Answers state_of result
+        (reading (m.thesaurus_first (frames_of outer.items) (left_of left) operand.negation (primary_of operand.primary) operand.options at) symbols.now next) }
 {
     if is_word(symbols, next, "at") {
         name_outside(alloc, symbols, next + 1, outer, left, operand, at)
@@ -48,7 +49,8 @@ fn name_outside(
     operand: Operand,
     at: usize,
 ) -> Result<(State, usize), Halt>
-    ensures { Answers state_of result (reading (m.thesaurus_name (frames_of outer.items) (left_of left) operand.negation (primary_of operand.primary) operand.options at) symbols.now next) }
+    ensures { Answers state_of result
+        (reading (m.thesaurus_name (frames_of outer.items) (left_of left) operand.negation (primary_of operand.primary) operand.options at) symbols.now next) }
 {
     match text_at(alloc, symbols, next) {
         Err(_) => {
@@ -83,7 +85,10 @@ fn named_inside(
     at: usize,
     uses: ThesaurusUses,
 ) -> Result<(State, usize), Halt>
-    ensures { Answers state_of result (reading (keywords.key (codes "at") (m.thesaurus_name_in (frames_of outer.items) (left_of left) operand.negation (primary_of operand.primary) operand.options at uses)) symbols.now next) }
+    ensures { Answers state_of result (reading
+        (keywords.key (codes "at")
+        (m.thesaurus_name_in (frames_of outer.items) (left_of left) operand.negation (primary_of operand.primary) operand.options at uses))
+        symbols.now next) }
 {
     if is_word(symbols, next, "at") {
         name_inside(alloc, symbols, next + 1, outer, left, operand, at, uses)
@@ -103,7 +108,9 @@ fn name_inside(
     at: usize,
     uses: ThesaurusUses,
 ) -> Result<(State, usize), Halt>
-    ensures { Answers state_of result (reading (m.thesaurus_name_in (frames_of outer.items) (left_of left) operand.negation (primary_of operand.primary) operand.options at uses) symbols.now next) }
+    ensures { Answers state_of result (reading
+        (m.thesaurus_name_in (frames_of outer.items) (left_of left) operand.negation (primary_of operand.primary) operand.options at uses)
+        symbols.now next) }
 {
     match text_at(alloc, symbols, next) {
         Err(_) => {
@@ -138,7 +145,9 @@ pub(crate) fn thesauri_in(
     at: usize,
     uses: ThesaurusUses,
 ) -> Result<(State, usize), Halt>
-    ensures { Answers state_of result (reading (m.thesauri_next (frames_of outer.items) (left_of left) operand.negation (primary_of operand.primary) operand.options at uses) symbols.now next) }
+    ensures { Answers state_of result (reading
+        (m.thesauri_next (frames_of outer.items) (left_of left) operand.negation (primary_of operand.primary) operand.options at uses)
+        symbols.now next) }
 {
     if is_comma(symbols, next) {
         named_inside(alloc, symbols, next + 1, outer, left, operand, at, uses)
@@ -188,7 +197,8 @@ pub(crate) fn thesaurus_in(
     last: Uses,
     uses: ThesaurusUses,
 ) -> Result<(State, usize), Halt>
-    ensures { Answers state_of result (thesaurus_in_turn (frames_of outer.items) (left_of left) last.operand.negation (primary_of last.operand.primary) last.operand.options last.at uses last.name last.relationship symbols.now next) }
+    ensures { Answers state_of result (thesaurus_in_turn (frames_of outer.items) (left_of left) last.operand.negation
+        (primary_of last.operand.primary) last.operand.options last.at uses last.name last.relationship symbols.now next) }
 {
     if last.relationship.is_none() && is_word(symbols, next, "relationship") {
         related_in(alloc, symbols, next + 1, outer, left, last, uses)
@@ -206,7 +216,10 @@ fn related_in(
     last: Uses,
     uses: ThesaurusUses,
 ) -> Result<(State, usize), Halt>
-    ensures { Answers state_of result (reading (m.relationship_name (λ r. stands (frames_of outer.items) (left_of left) (m.thesaurus_in last.operand.negation (primary_of last.operand.primary) last.operand.options last.at uses last.name (Some r)))) symbols.now next) }
+    ensures { Answers state_of result (reading
+        (m.relationship_name (λ r. stands (frames_of outer.items) (left_of left)
+        (m.thesaurus_in last.operand.negation (primary_of last.operand.primary) last.operand.options last.at uses last.name (Some r))))
+        symbols.now next) }
 {
     match text_at(alloc, symbols, next) {
         Err(_) => {
@@ -240,7 +253,8 @@ fn behind_name_in(
     last: Uses,
     uses: ThesaurusUses,
 ) -> Result<(State, usize), Halt>
-    ensures { Answers state_of result (thesaurus_in_rest_turn (frames_of outer.items) (left_of left) last.operand.negation (primary_of last.operand.primary) last.operand.options last.at uses last.name last.relationship symbols.now next) }
+    ensures { Answers state_of result (thesaurus_in_rest_turn (frames_of outer.items) (left_of left) last.operand.negation
+        (primary_of last.operand.primary) last.operand.options last.at uses last.name last.relationship symbols.now next) }
 {
     if begins_range(symbols, next) {
         levels_in(symbols, next, outer, left, last, uses)
@@ -259,7 +273,9 @@ fn without_levels(
     last: Uses,
     uses: ThesaurusUses,
 ) -> Result<(State, usize), Halt>
-    ensures { Answers state_of result (reading (m.thesauri_next (frames_of outer.items) (left_of left) last.operand.negation (primary_of last.operand.primary) last.operand.options last.at (uses ++ m.thesaurus_use last.name last.relationship None ∷ [])) symbols.now next) }
+    ensures { Answers state_of result (reading
+        (m.thesauri_next (frames_of outer.items) (left_of left) last.operand.negation (primary_of last.operand.primary) last.operand.options
+        last.at (uses ++ m.thesaurus_use last.name last.relationship None ∷ [])) symbols.now next) }
 {
     let at = last.at;
     let (operand, uses) = with_last(last, uses, None)?;
@@ -309,7 +325,9 @@ fn levels_in(
     last: Uses,
     uses: ThesaurusUses,
 ) -> Result<(State, usize), Halt>
-    ensures { Answers state_of result (levels_turn (in_levels (frames_of outer.items) (left_of left) last.operand.negation (primary_of last.operand.primary) last.operand.options last.at uses last.name last.relationship) symbols.now (reading keywords.range symbols.now next)) }
+    ensures { Answers state_of result (levels_turn
+        (in_levels (frames_of outer.items) (left_of left) last.operand.negation (primary_of last.operand.primary) last.operand.options
+        last.at uses last.name last.relationship) symbols.now (reading keywords.range symbols.now next)) }
 {
     match range(symbols, next) {
         Err(stuck) => {
@@ -341,7 +359,10 @@ pub(crate) fn related(
     left: Left,
     last: Uses,
 ) -> Result<(State, usize), Halt>
-    ensures { Answers state_of result (reading (m.relationship_name (λ r. stands (frames_of outer.items) (left_of left) (m.thesaurus last.operand.negation (primary_of last.operand.primary) last.operand.options last.at last.name (Some r)))) symbols.now next) }
+    ensures { Answers state_of result (reading
+        (m.relationship_name (λ r. stands (frames_of outer.items) (left_of left)
+        (m.thesaurus last.operand.negation (primary_of last.operand.primary) last.operand.options last.at last.name (Some r))))
+        symbols.now next) }
 {
     match text_at(alloc, symbols, next) {
         Err(_) => {
@@ -388,7 +409,9 @@ pub(crate) fn levels_outside(
     last: Uses,
     range: Range,
 ) -> Result<(State, usize), Halt>
-    ensures { Answers state_of result (before_word (codes "levels") (with_levels (frames_of outer.items) (left_of left) last.operand.negation (primary_of last.operand.primary) last.operand.options last.at last.name last.relationship (Some range)) symbols.now end) }
+    ensures { Answers state_of result (before_word (codes "levels")
+        (with_levels (frames_of outer.items) (left_of left) last.operand.negation (primary_of last.operand.primary) last.operand.options
+        last.at last.name last.relationship (Some range)) symbols.now end) }
 {
     if !is_word(symbols, end, "levels") {
         drop((outer, left, last));

@@ -1,5 +1,6 @@
 -- What a run of a session's file may leave.
-use Rattle.std.specs.Prelude.{◌≡◌, ◌⊎◌, ℕ, Bool, ◌&&◌, not, nat_eq, if◌then◌else◌, List, [], ◌∷◌, ◌++◌, length, take, codes, Option, Some, None, IfSome, option_map}
+use Rattle.std.specs.Prelude.{◌≡◌, ◌⊎◌, ℕ, Bool, ◌&&◌, not, nat_eq, if◌then◌else◌, List, [], ◌∷◌}
+use Rattle.std.specs.Prelude.{◌++◌, length, take, codes, Option, Some, None, IfSome, option_map}
 use Rattle.std.specs.List.{starts_with}
 use Rattle.ft_session.specs.declared.status.Status.{Status}
 use Rattle.ft_session.specs.declared.status.Status.TheVariants.{Done, SomeRefused}

@@ -18,7 +18,8 @@ abbrev document_code : Coded Named
 document_code = code_by (List ℕ × Node) (coded× bytes_code node_code) (λ d. (d.name, d.root)) (λ p. record { name = p.0; root = p.1 }) (λ _. refl)
 
 abbrev link_code : Coded Link
-link_code = code_by (List ℕ × Phrase) (coded× bytes_code (coded_list bytes_code)) (λ l. (l.relation, l.to)) (λ p. record { relation = p.0; to = p.1 }) (λ _. refl)
+link_code =
+    code_by (List ℕ × Phrase) (coded× bytes_code (coded_list bytes_code)) (λ l. (l.relation, l.to)) (λ p. record { relation = p.0; to = p.1 }) (λ _. refl)
 
 abbrev lists_code : Coded NamedLists
 lists_code =

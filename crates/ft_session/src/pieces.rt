@@ -81,7 +81,8 @@ fn answer_piece<K: Sink, L: Ledger, M: Ledger>(
     requires countable { K.faults sink.old + 1 < 2 ^ 64 }
     requires room { answering.old.lines.bytes + length piece.now < 2 ^ 63 }
     ensures answered { IfOk result (λ refused.
-        Answered answering.old.lines answering.new.lines answering.old.session answering.new.session piece.now refused (K.written sink.old) (K.written sink.new)) }
+        Answered answering.old.lines answering.new.lines answering.old.session answering.new.session piece.now refused (K.written sink.old)
+        (K.written sink.new)) }
     ensures prefix { OnErr result ((more : List ℕ) → TookPrefix (K.written sink.old) (K.written sink.new)
         (texts_of (replies answering.old.session (commands_left answering.old.lines (piece.now ++ more))))) }
     ensures bytes { answering.new.lines.bytes ≡ answering.old.lines.bytes + length piece.now }
@@ -149,14 +150,16 @@ pub(crate) fn answer_file<S: Shelf, K: Sink, L: Ledger, M: Ledger>(
 
     // where all was answered
     ensures present { OnOk result (IfSome (S.files shelf.old) (λ known. IsSome (bytes_of known (string_bytes name.now)))) }
-    ensures whole { OnOk result (IfSome (known_bytes (S.files shelf.old) (string_bytes name.now)) (λ session. S.reached shelf.new (string_bytes name.now) ≡ length session)) }
+    ensures whole { OnOk result
+        (IfSome (known_bytes (S.files shelf.old) (string_bytes name.now)) (λ session. S.reached shelf.new (string_bytes name.now) ≡ length session)) }
     ensures written { OnOk result (IfSome (known_bytes (S.files shelf.old) (string_bytes name.now)) (λ session.
         K.written sink.new ≡ with_text (K.written sink.old) (output session))) }
     ensures refused { IfOk result (λ refused. IfSome (known_bytes (S.files shelf.old) (string_bytes name.now)) (λ session. refused ≡ has_refusal session)) }
     ensures below { OnOk result (S.reached shelf.new (string_bytes name.now) ≤ max_session_bytes) }
 
     // whatever came
-    ensures prefix { IfSome (known_bytes (S.files shelf.old) (string_bytes name.now)) (λ session. TookPrefix (K.written sink.old) (K.written sink.new) (output session)) }
+    ensures prefix { IfSome (known_bytes (S.files shelf.old) (string_bytes name.now))
+        (λ session. TookPrefix (K.written sink.old) (K.written sink.new) (output session)) }
     ensures reached_most { S.reached shelf.new (string_bytes name.now) ≤ max_session_bytes + 1 }
 
     // where it stopped
@@ -165,10 +168,12 @@ pub(crate) fn answer_file<S: Shelf, K: Sink, L: Ledger, M: Ledger>(
     ensures read_fault_writes { IsErrOf result Stopped.ReadFault → IfSome (known_bytes (S.files shelf.old) (string_bytes name.now)) (λ session.
         K.written sink.new ≡ with_text (K.written sink.old) (output_of_whole (take (S.reached shelf.new (string_bytes name.now)) session))) }
     ensures write_fault { IsErrOf result Stopped.WriteFault → K.faults sink.old < K.faults sink.new }
-    ensures too_long { IsErrOf result Stopped.TooLong → (S.reached shelf.new (string_bytes name.now) ≡ max_session_bytes + 1) × (K.faults sink.new ≡ K.faults sink.old) }
+    ensures too_long { IsErrOf result Stopped.TooLong
+        → (S.reached shelf.new (string_bytes name.now) ≡ max_session_bytes + 1) × (K.faults sink.new ≡ K.faults sink.old) }
     ensures too_long_writes { IsErrOf result Stopped.TooLong → IfSome (known_bytes (S.files shelf.old) (string_bytes name.now)) (λ session.
         K.written sink.new ≡ with_text (K.written sink.old) (output_of_whole (take (S.reached shelf.new (string_bytes name.now)) session))) }
-    ensures longer { IsErrOf result Stopped.TooLong → IfSome (known_bytes (S.files shelf.old) (string_bytes name.now)) (λ session. max_session_bytes + 1 ≤ length session) }
+    ensures longer { IsErrOf result Stopped.TooLong
+        → IfSome (known_bytes (S.files shelf.old) (string_bytes name.now)) (λ session. max_session_bytes + 1 ≤ length session) }
 {
     let session = Session::new(alloc)?;
     let mut answering = Answering {
@@ -200,14 +205,16 @@ fn answer_pieces<S: Shelf, K: Sink, L: Ledger, M: Ledger>(
 
     // where all was answered
     ensures present { OnOk result (IfSome (S.files shelf.old) (λ known. IsSome (bytes_of known (string_bytes name.now)))) }
-    ensures whole { OnOk result (IfSome (known_bytes (S.files shelf.old) (string_bytes name.now)) (λ session. S.reached shelf.new (string_bytes name.now) ≡ length session)) }
+    ensures whole { OnOk result
+        (IfSome (known_bytes (S.files shelf.old) (string_bytes name.now)) (λ session. S.reached shelf.new (string_bytes name.now) ≡ length session)) }
     ensures written { OnOk result (IfSome (known_bytes (S.files shelf.old) (string_bytes name.now)) (λ session.
         K.written sink.new ≡ with_text (K.written sink.old) (output session))) }
     ensures refused { IfOk result (λ refused. IfSome (known_bytes (S.files shelf.old) (string_bytes name.now)) (λ session. refused ≡ has_refusal session)) }
     ensures below { OnOk result (S.reached shelf.new (string_bytes name.now) ≤ max_session_bytes) }
 
     // whatever came
-    ensures prefix { IfSome (known_bytes (S.files shelf.old) (string_bytes name.now)) (λ session. TookPrefix (K.written sink.old) (K.written sink.new) (output session)) }
+    ensures prefix { IfSome (known_bytes (S.files shelf.old) (string_bytes name.now))
+        (λ session. TookPrefix (K.written sink.old) (K.written sink.new) (output session)) }
     ensures reached_most { S.reached shelf.new (string_bytes name.now) ≤ max_session_bytes + 1 }
 
     // where it stopped
@@ -216,10 +223,12 @@ fn answer_pieces<S: Shelf, K: Sink, L: Ledger, M: Ledger>(
     ensures read_fault_writes { IsErrOf result Stopped.ReadFault → IfSome (known_bytes (S.files shelf.old) (string_bytes name.now)) (λ session.
         K.written sink.new ≡ with_text (K.written sink.old) (output_of_whole (take (S.reached shelf.new (string_bytes name.now)) session))) }
     ensures write_fault { IsErrOf result Stopped.WriteFault → K.faults sink.old < K.faults sink.new }
-    ensures too_long { IsErrOf result Stopped.TooLong → (S.reached shelf.new (string_bytes name.now) ≡ max_session_bytes + 1) × (K.faults sink.new ≡ K.faults sink.old) }
+    ensures too_long { IsErrOf result Stopped.TooLong
+        → (S.reached shelf.new (string_bytes name.now) ≡ max_session_bytes + 1) × (K.faults sink.new ≡ K.faults sink.old) }
     ensures too_long_writes { IsErrOf result Stopped.TooLong → IfSome (known_bytes (S.files shelf.old) (string_bytes name.now)) (λ session.
         K.written sink.new ≡ with_text (K.written sink.old) (output_of_whole (take (S.reached shelf.new (string_bytes name.now)) session))) }
-    ensures longer { IsErrOf result Stopped.TooLong → IfSome (known_bytes (S.files shelf.old) (string_bytes name.now)) (λ session. max_session_bytes + 1 ≤ length session) }
+    ensures longer { IsErrOf result Stopped.TooLong
+        → IfSome (known_bytes (S.files shelf.old) (string_bytes name.now)) (λ session. max_session_bytes + 1 ≤ length session) }
 {
     let mut piece = buffer(answering.alloc, MAX_PIECE_BYTES)?;
     let mut taken = 0;

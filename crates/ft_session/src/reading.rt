@@ -31,7 +31,8 @@ pub(crate) fn read_piece<S: Shelf>(
     requires countable { S.faults shelf.old (string_bytes name.now) + 1 < 2 ^ 64 }
     ensures within { IfOk result (λ count. count ≤ length buffer.old) }
     ensures below { IfOk result (λ count. taken + count ≤ max_session_bytes + 1) }
-    ensures reached { MatchResult result (λ count. S.reached shelf.new (string_bytes name.now) ≡ taken + count) (λ _. S.reached shelf.new (string_bytes name.now) ≡ taken) }
+    ensures reached { MatchResult result (λ count. S.reached shelf.new (string_bytes name.now) ≡ taken + count)
+        (λ _. S.reached shelf.new (string_bytes name.now) ≡ taken) }
     ensures cause { CountsFault (S.faults shelf.old (string_bytes name.now)) (S.faults shelf.new (string_bytes name.now)) result }
     ensures files { S.files shelf.new ≡ S.files shelf.old }
 

@@ -62,7 +62,8 @@ fn collect_one(
     path: &PlannedPath<'_>,
 ) -> Result<Lines, Memory>
     requires { HasItsPlans path.now }
-    ensures { IfOk result (λ lines. lines ≡ flat_map (planned_lines shown path.now) (documents_of (roots.Doc name.now) (map to_document documents.now.entries))) }
+    ensures { IfOk result (λ lines. lines
+        ≡ flat_map (planned_lines shown path.now) (documents_of (roots.Doc name.now) (map to_document documents.now.entries))) }
 {
     // No two documents have one name, as the clauses of `iter` say.
     let _entries = documents.iter();

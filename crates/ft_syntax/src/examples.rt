@@ -49,25 +49,67 @@ pub fn printed_levels()
     ensures or_and { printed (two_or (two_and (quoted (codes "a")) (quoted (codes "b"))) (quoted (codes "c"))) ≡ codes "\"a\" ftand \"b\" ftor \"c\"" }
     ensures and_or { printed (two_and (two_or (quoted (codes "a")) (quoted (codes "b"))) (quoted (codes "c"))) ≡ codes "(\"a\" ftor \"b\") ftand \"c\"" }
     ensures or_or { printed (two_or (two_or (quoted (codes "a")) (quoted (codes "b"))) (quoted (codes "c"))) ≡ codes "(\"a\" ftor \"b\") ftor \"c\"" }
-    ensures mild_not_left { printed (mild_not (mild_not (quoted (codes "a")) (quoted (codes "b"))) (quoted (codes "c"))) ≡ codes "\"a\" not in \"b\" not in \"c\"" }
-    ensures mild_not_right { printed (mild_not (quoted (codes "a")) (mild_not (quoted (codes "b")) (quoted (codes "c")))) ≡ codes "\"a\" not in (\"b\" not in \"c\")" }
+    ensures mild_not_left { printed (mild_not (mild_not (quoted (codes "a")) (quoted (codes "b"))) (quoted (codes "c")))
+        ≡ codes "\"a\" not in \"b\" not in \"c\"" }
+    ensures mild_not_right { printed (mild_not (quoted (codes "a")) (mild_not (quoted (codes "b")) (quoted (codes "c"))))
+        ≡ codes "\"a\" not in (\"b\" not in \"c\")" }
     ensures not_and { printed (two_and (not_of (quoted (codes "a"))) (quoted (codes "b"))) ≡ codes "ftnot \"a\" ftand \"b\"" }
     ensures not_not { printed (not_of (not_of (quoted (codes "a")))) ≡ codes "ftnot (ftnot \"a\")" }
     ensures not_over_or { printed (not_of (two_or (quoted (codes "a")) (not_of (quoted (codes "b"))))) ≡ codes "ftnot (\"a\" ftor ftnot \"b\")" }
     ensures filter_over_or { printed (filtered (two_or (quoted (codes "a")) (quoted (codes "b"))) F.AtEnd) ≡ codes "\"a\" ftor \"b\" at end" }
     ensures filter_inside { printed (two_and (filtered (quoted (codes "a")) F.AtEnd) (quoted (codes "b"))) ≡ codes "(\"a\" at end) ftand \"b\"" }
     ensures with_options_round { printed (with_options (quoted (codes "a")) (record no_options { stemming = Some true })) ≡ codes "(\"a\") using stemming" }
-    ensures with_options_inside { printed (not_of (with_options (two_or (quoted (codes "a")) (quoted (codes "b"))) (record no_options { wildcards = Some false }))) ≡ codes "ftnot (\"a\" ftor \"b\") using no wildcards" }
+    ensures with_options_inside { printed
+        (not_of (with_options (two_or (quoted (codes "a")) (quoted (codes "b"))) (record no_options { wildcards = Some false })))
+        ≡ codes "ftnot (\"a\" ftor \"b\") using no wildcards" }
 {}
 
 /// Options stand in one order, each with `using`, and only those that were given.
 pub fn printed_options()
-    ensures insensitive { printed (words (record { values = codes "a" ∷ []; mode = M.Any; times = None; options = record no_options { case = Some C.Insensitive; diacritics_sensitive = Some false } })) ≡ codes "\"a\" using case insensitive using diacritics insensitive" }
-    ensures sensitive { printed (words (record { values = codes "a" ∷ []; mode = M.All; times = Some (R.Exactly 1); options = record no_options { case = Some C.Sensitive; diacritics_sensitive = Some true } })) ≡ codes "\"a\" all occurs exactly 1 times using case sensitive using diacritics sensitive" }
-    ensures letters { printed (with_options (with_options (quoted (codes "a")) (record no_options { case = Some C.Lower })) (record no_options { case = Some C.Upper })) ≡ codes "((\"a\") using lowercase) using uppercase" }
-    ensures all_off { printed (with_options (quoted (codes "a")) (record { case = None; diacritics_sensitive = None; stemming = Some false; thesaurus = Some T.No; stop_words = Some S.No; language = None; wildcards = Some false })) ≡ codes "(\"a\") using no stemming using no thesaurus using no stop words using no wildcards" }
-    ensures language { printed (with_options (quoted (codes "a")) (record no_options { language = Some (codes "en"); wildcards = Some true; stemming = Some true })) ≡ codes "(\"a\") using stemming using language \"en\" using wildcards" }
-    ensures one_thesaurus { printed (with_options (quoted (codes "a")) (record no_options { thesaurus = Some (T.Uses (record { name = codes "t"; relationship = Some (codes "r"); levels = Some (R.AtMost 2) } ∷ [])) })) ≡ codes "(\"a\") using thesaurus at \"t\" relationship \"r\" at most 2 levels" }
-    ensures two_thesauri { printed (with_options (quoted (codes "a")) (record no_options { thesaurus = Some (T.Uses (record { name = codes "t"; relationship = None; levels = None } ∷ record { name = codes "u"; relationship = None; levels = Some (R.FromTo 1 2) } ∷ [])) })) ≡ codes "(\"a\") using thesaurus (at \"t\", at \"u\" from 1 to 2 levels)" }
-    ensures stop_terms { printed (with_options (quoted (codes "a")) (record no_options { stop_words = Some (S.Sets (record { except = false; source = W.At (codes "s") } ∷ record { except = true; source = W.Written (codes "of" ∷ codes "at" ∷ []) } ∷ record { except = false; source = W.Written (codes "in" ∷ []) } ∷ [])) })) ≡ codes "(\"a\") using stop words at \"s\" except (\"of\", \"at\") union (\"in\")" }
+    ensures insensitive { printed (words (record {
+      values = codes "a" ∷ [];
+      mode = M.Any;
+      times = None;
+      options = record no_options { case = Some C.Insensitive; diacritics_sensitive = Some false };
+    }))
+        ≡ codes "\"a\" using case insensitive using diacritics insensitive" }
+    ensures sensitive { printed (words (record {
+      values = codes "a" ∷ [];
+      mode = M.All;
+      times = Some (R.Exactly 1);
+      options = record no_options { case = Some C.Sensitive; diacritics_sensitive = Some true };
+    }))
+        ≡ codes "\"a\" all occurs exactly 1 times using case sensitive using diacritics sensitive" }
+    ensures letters { printed
+        (with_options (with_options (quoted (codes "a")) (record no_options { case = Some C.Lower })) (record no_options { case = Some C.Upper }))
+        ≡ codes "((\"a\") using lowercase) using uppercase" }
+    ensures all_off { printed (with_options (quoted (codes "a")) (record {
+      case = None;
+      diacritics_sensitive = None;
+      stemming = Some false;
+      thesaurus = Some T.No;
+      stop_words = Some S.No;
+      language = None;
+      wildcards = Some false;
+    }))
+        ≡ codes "(\"a\") using no stemming using no thesaurus using no stop words using no wildcards" }
+    ensures language { printed
+        (with_options (quoted (codes "a")) (record no_options { language = Some (codes "en"); wildcards = Some true; stemming = Some true }))
+        ≡ codes "(\"a\") using stemming using language \"en\" using wildcards" }
+    ensures one_thesaurus { printed (with_options (quoted (codes "a"))
+        (record no_options { thesaurus = Some (T.Uses (record { name = codes "t"; relationship = Some (codes "r"); levels = Some (R.AtMost 2) } ∷ [])) }))
+        ≡ codes "(\"a\") using thesaurus at \"t\" relationship \"r\" at most 2 levels" }
+    ensures two_thesauri { printed (with_options (quoted (codes "a")) (record no_options {
+      thesaurus = Some (T.Uses
+          (record { name = codes "t"; relationship = None; levels = None }
+          ∷ record { name = codes "u"; relationship = None; levels = Some (R.FromTo 1 2) } ∷ []));
+    }))
+        ≡ codes "(\"a\") using thesaurus (at \"t\", at \"u\" from 1 to 2 levels)" }
+    ensures stop_terms { printed (with_options (quoted (codes "a")) (record no_options {
+      stop_words = Some (S.Sets
+          (record { except = false; source = W.At (codes "s") }
+          ∷ record { except = true; source = W.Written (codes "of" ∷ codes "at" ∷ []) }
+          ∷ record { except = false; source = W.Written (codes "in" ∷ []) } ∷ []));
+    }))
+        ≡ codes "(\"a\") using stop words at \"s\" except (\"of\", \"at\") union (\"in\")" }
 {}

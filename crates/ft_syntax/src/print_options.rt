@@ -4,7 +4,9 @@
 ghost use Rattle.std.specs.Prelude.{◌≡◌, [], ◌∷◌, OnOk, codes};
 ghost use Rattle.std.specs.List.{join_by};
 ghost use Rattle.ft_syntax.specs.steps.Page.{put_all};
-ghost use Rattle.ft_syntax.specs.OptionSymbols.{case_symbols, diacritics_symbols, switch_symbols, relationship_symbols, levels_symbols, use_symbols, uses_symbols, thesaurus_symbols, source_symbols, further_term_symbols, terms_symbols, stop_symbols, language_symbols, options_symbols};
+ghost use Rattle.ft_syntax.specs.OptionSymbols.{case_symbols, diacritics_symbols, switch_symbols, relationship_symbols, levels_symbols};
+ghost use Rattle.ft_syntax.specs.OptionSymbols.{use_symbols, uses_symbols, thesaurus_symbols, source_symbols, further_term_symbols};
+ghost use Rattle.ft_syntax.specs.OptionSymbols.{terms_symbols, stop_symbols, language_symbols, options_symbols};
 
 use crate::print_words::{print_range, print_strings};
 use crate::printer::Printer;

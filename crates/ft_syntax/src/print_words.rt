@@ -2,7 +2,8 @@
 
 ghost use Rattle.std.specs.Prelude.{◌≡◌, [], ◌∷◌, OnOk, codes, decimal, map};
 ghost use Rattle.ft_syntax.specs.steps.Page.{put, put_all};
-ghost use Rattle.ft_syntax.specs.OptionSymbols.{string_symbol, strings_symbols, value_symbols, mode_symbols, range_symbols, times_symbols, unit_symbol, filter_symbols};
+ghost use Rattle.ft_syntax.specs.OptionSymbols.{string_symbol, strings_symbols, value_symbols, mode_symbols};
+ghost use Rattle.ft_syntax.specs.OptionSymbols.{range_symbols, times_symbols, unit_symbol, filter_symbols};
 
 use crate::printer::Printer;
 use ft_base::{Filter, Line, Memory, Mode, Range, Unit};

@@ -17,7 +17,8 @@ same_word a b = is_eq (slice_cmp nat_cmp a b)
 abbrev pub postings_from : List ℕ → ℕ → ℕ → List (List ℕ) → List Posting
 postings_from word leaf offset [] = []
 postings_from word leaf offset (other ∷ rest) =
-    cond (same_word other word) (record { leaf = leaf; offset = offset } ∷ postings_from word leaf (offset + 1) rest) (postings_from word leaf (offset + 1) rest)
+    cond (same_word other word) (record { leaf = leaf; offset = offset } ∷ postings_from word leaf (offset + 1) rest)
+    (postings_from word leaf (offset + 1) rest)
 
 -- the posting list of a word in a document: leaf by leaf, and in a leaf in the order of the words
 abbrev pub posting_list : List ℕ → Document → List Posting

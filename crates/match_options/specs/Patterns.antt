@@ -1,6 +1,7 @@
 -- Patterns of a query string under `using wildcards` (XQuery and XPath Full Text 3.0, section 3.4.2: FTWildCardOption): the parts of a string,
 -- which of them are patterns, and the atoms of a pattern, read from left to right.
-use Rattle.std.specs.Prelude.{ℕ, zero, suc, ◌+◌, ◌-◌, Bool, true, false, ◌&&◌, ◌||◌, ◌==◌, nat_le, nat_lt, if◌then◌else◌, List, [], ◌∷◌, map, filter, take, drop, Option, Some, None, option_map, encode_utf8_all, chars}
+use Rattle.std.specs.Prelude.{ℕ, zero, suc, ◌+◌, ◌-◌, Bool, true, false, ◌&&◌, ◌||◌, ◌==◌, nat_le, nat_lt, if◌then◌else◌, List}
+use Rattle.std.specs.Prelude.{[], ◌∷◌, map, filter, take, drop, Option, Some, None, option_map, encode_utf8_all, chars}
 use Rattle.std.specs.List.{list_any, prefix_len, slice_split}
 use Rattle.std.specs.Option.{is_none}
 use Rattle.std.specs.Char.{is_whitespace}

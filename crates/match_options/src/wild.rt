@@ -139,7 +139,11 @@ fn end_run(
 }
 
 /// The form of a text that case and diacritics choose.
-#[tactic(auto, unfolding(text_forms::specs::Forms::exact_of, text_forms::specs::Forms::plain_marks_of, text_forms::specs::Forms::plain_case_of, text_forms::specs::Forms::key_of))]
+#[tactic(auto, unfolding(
+// a word as it is, and without marks
+text_forms::specs::Forms::exact_of, text_forms::specs::Forms::plain_marks_of,
+// without case, and without both
+text_forms::specs::Forms::plain_case_of, text_forms::specs::Forms::key_of))]
 fn form_by(alloc: Global, case: Case, marks: bool, text: &str) -> Result<Line, Memory>
     ensures { IfOk result (λ line. line ≡ encode_utf8_all (spec.form_by case marks (chars text.now))) }
 {

@@ -3,7 +3,8 @@ use Rattle.std.specs.Prelude.{◌≡◌, ◌≢◌, ℕ, zero, suc, ◌<◌, ◌
 use Rattle.doc_grammar.specs.Limits.{node_count, nodes_count}
 use Rattle.plain_tree.specs.Document.{is_document}
 use Rattle.ordered_tree.specs.Counts.{word_count, element_depth}
-use Rattle.ordered_tree.specs.Numbered.{Numbered, element_at, text_at, Children, no_children, child_then, plain, plain_children, reference, children, first_of, last_of}
+use Rattle.ordered_tree.specs.Numbered.{Numbered, element_at, text_at, Children, no_children, child_then}
+use Rattle.ordered_tree.specs.Numbered.{plain, plain_children, reference, children, first_of, last_of}
 use Rattle.ordered_tree.specs.Stands.{Stand, round_root, child_stands, stands_in, references}
 use Rattle.ordered_tree.specs.declared.around.Around.{Around}
 use Rattle.ft_base.specs.declared.ids.NodeRef.{NodeRef}

@@ -89,7 +89,8 @@ mutual
     parentheses : {n : ℕ} {u : List Placed} {xs : List form.Condition} {ss : List Inside} (p : Spot) → Ors n u xs ss → (q : Spot)
         → Primary n (at p S.OpenParenthesis ∷ u ++ at q S.CloseParenthesis ∷ []) (joined or_of xs) ss
     attribute : {n : ℕ} (p q : Spot) (s : List ℕ) → Primary n (at p S.At ∷ name q s ∷ []) (form.attribute s None) []
-    valued : {n : ℕ} (p q r t : Spot) (s value : List ℕ) → Primary n (at p S.At ∷ name q s ∷ at r S.Equals ∷ string t value ∷ []) (form.attribute s (Some value)) []
+    valued : {n : ℕ} (p q r t : Spot) (s value : List ℕ)
+        → Primary n (at p S.At ∷ name q s ∷ at r S.Equals ∷ string t value ∷ []) (form.attribute s (Some value)) []
     exists : {n : ℕ} {u : List Placed} {xs : List form.Step} {ss : List Inside} → Rel n u xs ss → Primary n u (form.exists (steps xs)) ss
     contains : {n : ℕ} {u v : List Placed} {xs : List form.Step} {ss : List Inside} {x : Tree} → Rel n u xs ss → (p q : Spot) → Selection v x
         → Primary n (u ++ name p (codes "contains") ∷ name q (codes "text") ∷ v) (form.contains (steps xs) (n + length ss)) (ss ++ inside v x ∷ [])

@@ -2,7 +2,9 @@
 use Rattle.std.specs.Prelude.{ℕ, suc, max, ◌≤◌, List, [], ◌∷◌, ◌++◌}
 use Rattle.selection_grammar.specs.declared.symbol.Placed.{Placed}
 use Rattle.path_grammar.specs.Form as form
-use Rattle.path_grammar.specs.Grammar.{Inside, Step, Steps, Predicate, Predicates, Ors, Ands, Primary, Rel, Path, step, no_step, further_step, number, holds, no_predicate, further_predicate, first_or, further_or, first_and, further_and, negated, parentheses, attribute, valued, exists, contains, itself, some_child, path, Begins}
+use Rattle.path_grammar.specs.Grammar.{Inside, Step, Steps, Predicate, Predicates, Ors, Ands, Primary, Rel, Path, step, no_step, further_step}
+use Rattle.path_grammar.specs.Grammar.{number, holds, no_predicate, further_predicate, first_or, further_or, first_and, further_and}
+use Rattle.path_grammar.specs.Grammar.{negated, parentheses, attribute, valued, exists, contains, itself, some_child, path, Begins}
 
 abbrev mutual
   pub step_levels : {n : ℕ} {u : List Placed} {x : form.Step} {ss : List Inside} → Step n u x ss → ℕ

@@ -43,7 +43,9 @@ tested_places satisfies path root = map (λ t. (t.selection, t.element.place)) (
 
 -- `<a><b>x</b><b>y</b><c><b>x y</b></c></a>`
 abbrev pub letters : Node
-letters = elem (codes "a") (elem (codes "b") (text (codes "x") ∷ []) ∷ elem (codes "b") (text (codes "y") ∷ []) ∷ elem (codes "c") (elem (codes "b") (text (codes "x y") ∷ []) ∷ []) ∷ [])
+letters =
+    elem (codes "a") (elem (codes "b") (text (codes "x") ∷ []) ∷ elem (codes "b") (text (codes "y") ∷ [])
+    ∷ elem (codes "c") (elem (codes "b") (text (codes "x y") ∷ []) ∷ []) ∷ [])
 
 -- `<a>x <a>y</a> z</a>`
 abbrev pub nested : Node

@@ -3,7 +3,8 @@
 use Rattle.std.specs.Prelude.{ℕ, Bool, List, [], ◌∷◌, ◌++◌, map, filter, flat_map}
 use Rattle.plain_tree.specs.Document.{Node}
 use Rattle.path_meaning.specs.Elements.{Element, elements}
-use Rattle.path_grammar.specs.Form.{Step, step, Steps, no_steps, step_then, Predicate, number, holds, Predicates, no_predicates, predicate_then, Condition, or_of, and_of, not_of, attribute, exists, contains, Conditions, no_conditions, condition_then}
+use Rattle.path_grammar.specs.Form.{Step, step, Steps, no_steps, step_then, Predicate, number, holds, Predicates, no_predicates, predicate_then}
+use Rattle.path_grammar.specs.Form.{Condition, or_of, and_of, not_of, attribute, exists, contains, Conditions, no_conditions, condition_then}
 use Rattle.path_meaning.specs.Meaning.{Context, document, item, lists, is_named, stepped, led, filtered_by}
 
 -- whether an element satisfies the selection of a number
@@ -24,12 +25,14 @@ unfoldable mutual
   -- those of steps, one behind the other
   pub steps_tests : (ℕ → Element → Bool) → List Element → Steps → List Element → List Test
   steps_tests satisfies all no_steps items = []
-  steps_tests satisfies all (step_then s rest) items = step_tests satisfies all s (map item items) ++ steps_tests satisfies all rest (stepped satisfies all s (map item items))
+  steps_tests satisfies all (step_then s rest) items =
+      step_tests satisfies all s (map item items) ++ steps_tests satisfies all rest (stepped satisfies all s (map item items))
 
   -- each predicate asks of what the ones before it have left
   pub predicates_tests : (ℕ → Element → Bool) → List Element → Predicates → List Element → List Test
   predicates_tests satisfies all no_predicates items = []
-  predicates_tests satisfies all (predicate_then p rest) items = predicate_tests satisfies all p items ++ predicates_tests satisfies all rest (filtered_by satisfies all p items)
+  predicates_tests satisfies all (predicate_then p rest) items =
+      predicate_tests satisfies all p items ++ predicates_tests satisfies all rest (filtered_by satisfies all p items)
 
   pub predicate_tests : (ℕ → Element → Bool) → List Element → Predicate → List Element → List Test
   predicate_tests satisfies all (number k) items = []
@@ -41,7 +44,8 @@ unfoldable mutual
   condition_tests satisfies all (not_of condition) e = condition_tests satisfies all condition e
   condition_tests satisfies all (attribute name value) e = []
   condition_tests satisfies all (exists steps) e = steps_tests satisfies all steps (e ∷ [])
-  condition_tests satisfies all (contains steps selection) e = steps_tests satisfies all steps (e ∷ []) ++ each_tested selection (led satisfies all steps (e ∷ []))
+  condition_tests satisfies all (contains steps selection) e =
+      steps_tests satisfies all steps (e ∷ []) ++ each_tested selection (led satisfies all steps (e ∷ []))
 
   pub conditions_tests : (ℕ → Element → Bool) → List Element → Conditions → Element → List Test
   conditions_tests satisfies all no_conditions e = []
@@ -51,4 +55,5 @@ unfoldable mutual
 unfoldable pub selected_tests : (ℕ → Element → Bool) → Steps → Node → List Test
 selected_tests satisfies no_steps root = []
 selected_tests satisfies (step_then first rest) root =
-    step_tests satisfies (elements root) first (document root ∷ []) ++ steps_tests satisfies (elements root) rest (stepped satisfies (elements root) first (document root ∷ []))
+    step_tests satisfies (elements root) first (document root ∷ [])
+    ++ steps_tests satisfies (elements root) rest (stepped satisfies (elements root) first (document root ∷ []))

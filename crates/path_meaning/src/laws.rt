@@ -29,13 +29,15 @@ pub fn steps_law()
 /// Predicates see what the predicates before them have left.
 pub fn predicates_law()
     ensures { (satisfies : ℕ → Element → Bool) (all : List Element) (first second : List Predicate) (items : List Element)
-        → filtered satisfies all (predicates (first ++ second)) items ≡ filtered satisfies all (predicates second) (filtered satisfies all (predicates first) items) }
+        → filtered satisfies all (predicates (first ++ second)) items
+        ≡ filtered satisfies all (predicates second) (filtered satisfies all (predicates first) items) }
 {}
 
 /// Two conditions one behind the other are the one that joins them by `and`.
 pub fn conditions_law()
     ensures { (satisfies : ℕ → Element → Bool) (all : List Element) (a b : Condition) (items : List Element)
-        → filtered satisfies all (predicates (holds a ∷ holds b ∷ [])) items ≡ filtered satisfies all (predicates (holds (and_of (conditions (a ∷ b ∷ []))) ∷ [])) items }
+        → filtered satisfies all (predicates (holds a ∷ holds b ∷ [])) items
+        ≡ filtered satisfies all (predicates (holds (and_of (conditions (a ∷ b ∷ []))) ∷ [])) items }
 {}
 
 /// The place of each element of a document leads to it.

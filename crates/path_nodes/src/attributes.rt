@@ -14,7 +14,8 @@ pub(crate) fn has_attribute(
     value: &Option<Line>,
 ) -> bool
     requires { IsElement tree.now.root node }
-    ensures { result ≡ list_any (λ a. bytes_eq name.now a.name && meaning.has_value value.now a.value) (meaning.attributes_of (element_of tree.now.root node).node) }
+    ensures { result
+        ≡ list_any (λ a. bytes_eq name.now a.name && meaning.has_value value.now a.value) (meaning.attributes_of (element_of tree.now.root node).node) }
 {
     match tree.attr(node, name.as_str()) {
         Some(found) => is_wanted(value, found),

@@ -44,10 +44,13 @@ pub(crate) fn led<T: TextTest>(
     requires from { All (IsElement tree.now.root) from }
     requires inside { All (λ r. AtOrBelow (element_of tree.now.root base) (element_of tree.now.root r)) from }
     requires asked { OfEach (MayAsk tree.now.root (T.meaning test.old)) (form.steps (map view.step steps.now)) }
-    ensures elements { IfOk result (λ found. map (element_of tree.now.root) found ≡ meaning.led (satisfied tree.now.root (T.meaning test.old)) (elements (plain tree.now.root)) (form.steps (map view.step steps.now)) (map (element_of tree.now.root) from)) }
+    ensures elements { IfOk result (λ found. map (element_of tree.now.root) found
+        ≡ meaning.led (satisfied tree.now.root (T.meaning test.old)) (elements (plain tree.now.root)) (form.steps (map view.step steps.now))
+        (map (element_of tree.now.root) from)) }
     ensures there { IfOk result (All (IsElement tree.now.root)) }
     ensures meaning { T.meaning test.new ≡ T.meaning test.old }
-    ensures cost { T.cost test.new ≤ T.cost test.old + price.steps_price tree.now.root (T.meaning test.old) (form.steps (map view.step steps.now)) (map (element_of tree.now.root) from) }
+    ensures cost { T.cost test.new
+        ≤ T.cost test.old + price.steps_price tree.now.root (T.meaning test.old) (form.steps (map view.step steps.now)) (map (element_of tree.now.root) from) }
 {
     let mut items = from;
     for step in steps {
@@ -70,11 +73,15 @@ fn stepped<T: TextTest>(
     requires contexts { All (IsElement tree.now.root) contexts }
     requires inside { All (λ r. AtOrBelow (element_of tree.now.root base) (element_of tree.now.root r)) contexts }
     requires asked { OfStep (MayAsk tree.now.root (T.meaning test.old)) (view.step step.now) }
-    ensures elements { IfOk result (λ found. map (element_of tree.now.root) found ≡ meaning.stepped (satisfied tree.now.root (T.meaning test.old)) (elements (plain tree.now.root)) (view.step step.now) (map meaning.item (map (element_of tree.now.root) contexts))) }
+    ensures elements { IfOk result (λ found. map (element_of tree.now.root) found
+        ≡ meaning.stepped (satisfied tree.now.root (T.meaning test.old)) (elements (plain tree.now.root)) (view.step step.now)
+        (map meaning.item (map (element_of tree.now.root) contexts))) }
     ensures there { IfOk result (All (IsElement tree.now.root)) }
     ensures inside { IfOk result (All (λ r. AtOrBelow (element_of tree.now.root base) (element_of tree.now.root r))) }
     ensures meaning { T.meaning test.new ≡ T.meaning test.old }
-    ensures cost { T.cost test.new ≤ T.cost test.old + price.step_price tree.now.root (T.meaning test.old) (view.step step.now) (map meaning.item (map (element_of tree.now.root) contexts)) }
+    ensures cost { T.cost test.new
+        ≤ T.cost test.old
+        + price.step_price tree.now.root (T.meaning test.old) (view.step step.now) (map meaning.item (map (element_of tree.now.root) contexts)) }
 {
     let parents = parents_of(alloc, tree, step.deep, contexts)?;
     chosen(alloc, tree, step, base, &parents, test)
@@ -113,11 +120,15 @@ pub(crate) fn chosen<T: TextTest>(
     requires parents { All (IsElement tree.now.root) parents.now }
     requires inside { All (λ r. AtOrBelow (element_of tree.now.root base) (element_of tree.now.root r)) parents.now }
     requires asked { OfStep (MayAsk tree.now.root (T.meaning test.old)) (view.step step.now) }
-    ensures elements { IfOk result (λ found. map (element_of tree.now.root) found ≡ filter (is_in (map (spec.kept_children tree.now.root (T.meaning test.old) (view.step step.now)) (map (element_of tree.now.root) parents.now))) (elements (plain tree.now.root))) }
+    ensures elements { IfOk result (λ found. map (element_of tree.now.root) found
+        ≡ filter
+        (is_in (map (spec.kept_children tree.now.root (T.meaning test.old) (view.step step.now)) (map (element_of tree.now.root) parents.now)))
+        (elements (plain tree.now.root))) }
     ensures there { IfOk result (All (IsElement tree.now.root)) }
     ensures inside { IfOk result (All (λ r. AtOrBelow (element_of tree.now.root base) (element_of tree.now.root r))) }
     ensures meaning { T.meaning test.new ≡ T.meaning test.old }
-    ensures cost { T.cost test.new ≤ T.cost test.old + sum_by (price.children_price tree.now.root (T.meaning test.old) (view.step step.now)) (map (element_of tree.now.root) parents.now) }
+    ensures cost { T.cost test.new
+        ≤ T.cost test.old + sum_by (price.children_price tree.now.root (T.meaning test.old) (view.step step.now)) (map (element_of tree.now.root) parents.now) }
 {
     let mut marks = Marks::new(alloc);
     let mut ways = Marks::new(alloc);
@@ -143,10 +154,12 @@ pub(crate) fn kept<T: TextTest>(
 ) -> Result<Nodes, Memory>
     requires items { All (IsElement tree.now.root) items.now }
     requires asked { OfStep (MayAsk tree.now.root (T.meaning test.old)) (view.step step.now) }
-    ensures elements { IfOk result (λ kept. map (element_of tree.now.root) kept ≡ spec.kept tree.now.root (T.meaning test.old) (view.step step.now) (map (element_of tree.now.root) items.now)) }
+    ensures elements { IfOk result (λ kept. map (element_of tree.now.root) kept
+        ≡ spec.kept tree.now.root (T.meaning test.old) (view.step step.now) (map (element_of tree.now.root) items.now)) }
     ensures there { IfOk result (All (IsElement tree.now.root)) }
     ensures meaning { T.meaning test.new ≡ T.meaning test.old }
-    ensures cost { T.cost test.new ≤ T.cost test.old + price.list_price tree.now.root (T.meaning test.old) (view.step step.now) (map (element_of tree.now.root) items.now) }
+    ensures cost { T.cost test.new
+        ≤ T.cost test.old + price.list_price tree.now.root (T.meaning test.old) (view.step step.now) (map (element_of tree.now.root) items.now) }
 {
     let mut kept = named(alloc, tree, &step.test, items)?;
     for predicate in step.predicates.as_slice() {
@@ -166,10 +179,13 @@ fn filtered<T: TextTest>(
 ) -> Result<Nodes, Memory>
     requires items { All (IsElement tree.now.root) items }
     requires asked { OfPredicate (MayAsk tree.now.root (T.meaning test.old)) (view.predicate predicate.now) }
-    ensures elements { IfOk result (λ kept. map (element_of tree.now.root) kept ≡ meaning.filtered_by (satisfied tree.now.root (T.meaning test.old)) (elements (plain tree.now.root)) (view.predicate predicate.now) (map (element_of tree.now.root) items)) }
+    ensures elements { IfOk result (λ kept. map (element_of tree.now.root) kept
+        ≡ meaning.filtered_by (satisfied tree.now.root (T.meaning test.old)) (elements (plain tree.now.root)) (view.predicate predicate.now)
+        (map (element_of tree.now.root) items)) }
     ensures there { IfOk result (All (IsElement tree.now.root)) }
     ensures meaning { T.meaning test.new ≡ T.meaning test.old }
-    ensures cost { T.cost test.new ≤ T.cost test.old + price.predicate_price tree.now.root (T.meaning test.old) (view.predicate predicate.now) (map (element_of tree.now.root) items) }
+    ensures cost { T.cost test.new
+        ≤ T.cost test.old + price.predicate_price tree.now.root (T.meaning test.old) (view.predicate predicate.now) (map (element_of tree.now.root) items) }
 {
     match predicate {
         Predicate::Number(number) => numbered(alloc, tree, *number, &items),
@@ -188,10 +204,15 @@ fn satisfying<T: TextTest>(
 ) -> Result<Nodes, Memory>
     requires items { All (IsElement tree.now.root) items }
     requires asked { OfCondition (MayAsk tree.now.root (T.meaning test.old)) (view.condition condition.now) }
-    ensures elements { IfOk result (λ kept. map (element_of tree.now.root) kept ≡ filter (meaning.is_true (satisfied tree.now.root (T.meaning test.old)) (elements (plain tree.now.root)) (view.condition condition.now)) (map (element_of tree.now.root) items)) }
+    ensures elements { IfOk result (λ kept. map (element_of tree.now.root) kept
+        ≡ filter
+        (meaning.is_true (satisfied tree.now.root (T.meaning test.old)) (elements (plain tree.now.root)) (view.condition condition.now))
+        (map (element_of tree.now.root) items)) }
     ensures there { IfOk result (All (IsElement tree.now.root)) }
     ensures meaning { T.meaning test.new ≡ T.meaning test.old }
-    ensures cost { T.cost test.new ≤ T.cost test.old + sum_by (price.condition_price tree.now.root (T.meaning test.old) (view.condition condition.now)) (map (element_of tree.now.root) items) }
+    ensures cost { T.cost test.new
+        ≤ T.cost test.old
+        + sum_by (price.condition_price tree.now.root (T.meaning test.old) (view.condition condition.now)) (map (element_of tree.now.root) items) }
 {
     let mut kept = Nodes::new(alloc);
     for item in items.as_slice() {
@@ -212,9 +233,12 @@ fn is_true<T: TextTest>(
 ) -> Result<bool, Memory>
     requires item { IsElement tree.now.root item }
     requires asked { OfCondition (MayAsk tree.now.root (T.meaning test.old)) (view.condition condition.now) }
-    ensures truth { IfOk result (λ truth. truth ≡ meaning.is_true (satisfied tree.now.root (T.meaning test.old)) (elements (plain tree.now.root)) (view.condition condition.now) (element_of tree.now.root item)) }
+    ensures truth { IfOk result (λ truth. truth
+        ≡ meaning.is_true (satisfied tree.now.root (T.meaning test.old)) (elements (plain tree.now.root)) (view.condition condition.now)
+        (element_of tree.now.root item)) }
     ensures meaning { T.meaning test.new ≡ T.meaning test.old }
-    ensures cost { T.cost test.new ≤ T.cost test.old + price.condition_price tree.now.root (T.meaning test.old) (view.condition condition.now) (element_of tree.now.root item) }
+    ensures cost { T.cost test.new
+        ≤ T.cost test.old + price.condition_price tree.now.root (T.meaning test.old) (view.condition condition.now) (element_of tree.now.root item) }
 {
     match condition {
         Condition::Or(parts) => some_true(alloc, tree, parts, item, test),
@@ -246,11 +270,16 @@ pub fn led_from<T: TextTest>(
 ) -> Result<Nodes, Memory>
     requires item { IsElement tree.now.root item }
     requires asked { OfEach (MayAsk tree.now.root (T.meaning test.old)) (form.steps (map view.step steps.now)) }
-    ensures elements { IfOk result (λ found. map (element_of tree.now.root) found ≡ meaning.led (satisfied tree.now.root (T.meaning test.old)) (elements (plain tree.now.root)) (form.steps (map view.step steps.now)) (element_of tree.now.root item ∷ [])) }
-    ensures agrees { (satisfies : ℕ → Element → Bool) → Agrees tree.now.root (T.meaning test.old) satisfies → IfOk result (λ found. map (element_of tree.now.root) found ≡ meaning.led satisfies (elements (plain tree.now.root)) (form.steps (map view.step steps.now)) (element_of tree.now.root item ∷ [])) }
+    ensures elements { IfOk result (λ found. map (element_of tree.now.root) found
+        ≡ meaning.led (satisfied tree.now.root (T.meaning test.old)) (elements (plain tree.now.root)) (form.steps (map view.step steps.now))
+        (element_of tree.now.root item ∷ [])) }
+    ensures agrees { (satisfies : ℕ → Element → Bool) → Agrees tree.now.root (T.meaning test.old) satisfies
+        → IfOk result (λ found. map (element_of tree.now.root) found
+        ≡ meaning.led satisfies (elements (plain tree.now.root)) (form.steps (map view.step steps.now)) (element_of tree.now.root item ∷ [])) }
     ensures there { IfOk result (All (IsElement tree.now.root)) }
     ensures meaning { T.meaning test.new ≡ T.meaning test.old }
-    ensures cost { T.cost test.new ≤ T.cost test.old + price.steps_price tree.now.root (T.meaning test.old) (form.steps (map view.step steps.now)) (element_of tree.now.root item ∷ []) }
+    ensures cost { T.cost test.new
+        ≤ T.cost test.old + price.steps_price tree.now.root (T.meaning test.old) (form.steps (map view.step steps.now)) (element_of tree.now.root item ∷ []) }
 {
     let from = Nodes::from_slice(alloc, &[item])?;
     led(alloc, tree, steps.as_slice(), item, from, test)
@@ -267,9 +296,13 @@ fn some_true<T: TextTest>(
 ) -> Result<bool, Memory>
     requires item { IsElement tree.now.root item }
     requires asked { OfConditions (MayAsk tree.now.root (T.meaning test.old)) (form.conditions (map view.condition conditions.now)) }
-    ensures truth { IfOk result (λ truth. truth ≡ meaning.some_true (satisfied tree.now.root (T.meaning test.old)) (elements (plain tree.now.root)) (form.conditions (map view.condition conditions.now)) (element_of tree.now.root item)) }
+    ensures truth { IfOk result (λ truth. truth
+        ≡ meaning.some_true (satisfied tree.now.root (T.meaning test.old)) (elements (plain tree.now.root))
+        (form.conditions (map view.condition conditions.now)) (element_of tree.now.root item)) }
     ensures meaning { T.meaning test.new ≡ T.meaning test.old }
-    ensures cost { T.cost test.new ≤ T.cost test.old + price.conditions_price tree.now.root (T.meaning test.old) (form.conditions (map view.condition conditions.now)) (element_of tree.now.root item) }
+    ensures cost { T.cost test.new
+        ≤ T.cost test.old
+        + price.conditions_price tree.now.root (T.meaning test.old) (form.conditions (map view.condition conditions.now)) (element_of tree.now.root item) }
 {
     for condition in conditions.as_slice() {
         if is_true(alloc, tree, condition, item, test)? {
@@ -290,9 +323,13 @@ fn each_true<T: TextTest>(
 ) -> Result<bool, Memory>
     requires item { IsElement tree.now.root item }
     requires asked { OfConditions (MayAsk tree.now.root (T.meaning test.old)) (form.conditions (map view.condition conditions.now)) }
-    ensures truth { IfOk result (λ truth. truth ≡ meaning.each_true (satisfied tree.now.root (T.meaning test.old)) (elements (plain tree.now.root)) (form.conditions (map view.condition conditions.now)) (element_of tree.now.root item)) }
+    ensures truth { IfOk result (λ truth. truth
+        ≡ meaning.each_true (satisfied tree.now.root (T.meaning test.old)) (elements (plain tree.now.root))
+        (form.conditions (map view.condition conditions.now)) (element_of tree.now.root item)) }
     ensures meaning { T.meaning test.new ≡ T.meaning test.old }
-    ensures cost { T.cost test.new ≤ T.cost test.old + price.conditions_price tree.now.root (T.meaning test.old) (form.conditions (map view.condition conditions.now)) (element_of tree.now.root item) }
+    ensures cost { T.cost test.new
+        ≤ T.cost test.old
+        + price.conditions_price tree.now.root (T.meaning test.old) (form.conditions (map view.condition conditions.now)) (element_of tree.now.root item) }
 {
     for condition in conditions.as_slice() {
         if !is_true(alloc, tree, condition, item, test)? {
@@ -311,9 +348,11 @@ fn some_contains<T: TextTest>(
 ) -> Result<bool, Memory>
     requires nodes { All (IsElement tree.now.root) nodes.now }
     requires asked { MayAsk tree.now.root (T.meaning test.old) selection }
-    ensures truth { IfOk result (λ truth. truth ≡ list_any (satisfied tree.now.root (T.meaning test.old) selection) (map (element_of tree.now.root) nodes.now)) }
+    ensures truth { IfOk result (λ truth. truth
+        ≡ list_any (satisfied tree.now.root (T.meaning test.old) selection) (map (element_of tree.now.root) nodes.now)) }
     ensures meaning { T.meaning test.new ≡ T.meaning test.old }
-    ensures cost { T.cost test.new ≤ T.cost test.old + price.price_of tree.now.root (T.meaning test.old) (each_tested selection (map (element_of tree.now.root) nodes.now)) }
+    ensures cost { T.cost test.new
+        ≤ T.cost test.old + price.price_of tree.now.root (T.meaning test.old) (each_tested selection (map (element_of tree.now.root) nodes.now)) }
 {
     let _root = tree.root();
     for node in nodes.as_slice() {

@@ -32,7 +32,8 @@ pub(crate) fn has_mark(marks: &Marks, node: NodeRef) -> bool
 /// Marks the elements of a list.
 pub(crate) fn mark_all(tree: &DocTree, marks: &mut Marks, nodes: &Nodes) -> Result<(), Memory>
     requires { All (IsElement tree.now.root) nodes.now }
-    ensures { OnOk result ((r : NodeRef) → IsElement tree.now.root r → is_marked marks.new r ≡ (list_any (is_same (element_of tree.now.root r)) (map (element_of tree.now.root) nodes.now) || is_marked marks.old r)) }
+    ensures { OnOk result ((r : NodeRef) → IsElement tree.now.root r
+        → is_marked marks.new r ≡ (list_any (is_same (element_of tree.now.root r)) (map (element_of tree.now.root) nodes.now) || is_marked marks.old r)) }
 {
     for node in nodes.as_slice() {
         mark(marks, *node)?;

@@ -28,7 +28,8 @@ pub(crate) fn named(
     items: &Nodes,
 ) -> Result<Nodes, Memory>
     requires { All (IsElement tree.now.root) items.now }
-    ensures elements { IfOk result (λ kept. map (element_of tree.now.root) kept ≡ filter (λ e. meaning.is_named test.now e.node) (map (element_of tree.now.root) items.now)) }
+    ensures elements { IfOk result (λ kept. map (element_of tree.now.root) kept
+        ≡ filter (λ e. meaning.is_named test.now e.node) (map (element_of tree.now.root) items.now)) }
     ensures there { IfOk result (All (IsElement tree.now.root)) }
 {
     let mut kept = Nodes::new(alloc);

@@ -31,11 +31,17 @@ pub fn nodes<T: TextTest>(
     requires root { is_element tree.now.root ≡ true }
     requires attributes { HasSingleAttributes tree.now.root }
     requires asked { OfEach (MayAsk tree.now.root (T.meaning test.old)) (form.steps (map view.step steps.now)) }
-    ensures elements { IfOk result (λ found. map (element_of tree.now.root) found.items ≡ meaning.selected (satisfied tree.now.root (T.meaning test.old)) (form.steps (map view.step steps.now)) (plain tree.now.root)) }
-    ensures agrees { (satisfies : ℕ → Element → Bool) → Agrees tree.now.root (T.meaning test.old) satisfies → IfOk result (λ found. map (element_of tree.now.root) found.items ≡ meaning.selected satisfies (form.steps (map view.step steps.now)) (plain tree.now.root)) }
+    ensures elements { IfOk result (λ found. map (element_of tree.now.root) found.items
+        ≡ meaning.selected (satisfied tree.now.root (T.meaning test.old)) (form.steps (map view.step steps.now)) (plain tree.now.root)) }
+    ensures agrees { (satisfies : ℕ → Element → Bool) → Agrees tree.now.root (T.meaning test.old) satisfies
+        → IfOk result (λ found. map (element_of tree.now.root) found.items
+        ≡ meaning.selected satisfies (form.steps (map view.step steps.now)) (plain tree.now.root)) }
     ensures there { IfOk result (λ found. All (IsElement tree.now.root) found.items) }
     ensures meaning { T.meaning test.new ≡ T.meaning test.old }
-    ensures cost { T.cost test.new ≤ T.cost test.old + price_of tree.now.root (T.meaning test.old) (selected_tests (satisfied tree.now.root (T.meaning test.old)) (form.steps (map view.step steps.now)) (plain tree.now.root)) }
+    ensures cost { T.cost test.new
+        ≤ T.cost test.old
+        + price_of tree.now.root (T.meaning test.old)
+        (selected_tests (satisfied tree.now.root (T.meaning test.old)) (form.steps (map view.step steps.now)) (plain tree.now.root)) }
 {
     let root = tree.root();
     if steps.is_empty() {
@@ -57,10 +63,13 @@ fn from_document<T: TextTest>(
     requires root { IsElement tree.now.root root }
     requires first { element_of tree.now.root root ≡ placed [] (plain tree.now.root) }
     requires asked { OfStep (MayAsk tree.now.root (T.meaning test.old)) (view.step step.now) }
-    ensures elements { IfOk result (λ found. map (element_of tree.now.root) found ≡ meaning.stepped (satisfied tree.now.root (T.meaning test.old)) (elements (plain tree.now.root)) (view.step step.now) (meaning.document (plain tree.now.root) ∷ [])) }
+    ensures elements { IfOk result (λ found. map (element_of tree.now.root) found
+        ≡ meaning.stepped (satisfied tree.now.root (T.meaning test.old)) (elements (plain tree.now.root)) (view.step step.now)
+        (meaning.document (plain tree.now.root) ∷ [])) }
     ensures there { IfOk result (All (IsElement tree.now.root)) }
     ensures meaning { T.meaning test.new ≡ T.meaning test.old }
-    ensures cost { T.cost test.new ≤ T.cost test.old + step_price tree.now.root (T.meaning test.old) (view.step step.now) (meaning.document (plain tree.now.root) ∷ []) }
+    ensures cost { T.cost test.new
+        ≤ T.cost test.old + step_price tree.now.root (T.meaning test.old) (view.step step.now) (meaning.document (plain tree.now.root) ∷ []) }
 {
     let only = Nodes::from_slice(alloc, &[root])?;
     let mut found = kept(alloc, tree, step, &only, test)?;

@@ -26,7 +26,8 @@ pub(crate) fn add_elements(
 ) -> Result<(), Memory>
     requires here { IsElement tree.now.root here }
     requires found { All (IsElement tree.now.root) found.old }
-    ensures elements { OnOk result (map (element_of tree.now.root) found.new ≡ map (element_of tree.now.root) found.old ++ at_or_below (element_of tree.now.root here)) }
+    ensures elements { OnOk result (map (element_of tree.now.root) found.new
+        ≡ map (element_of tree.now.root) found.old ++ at_or_below (element_of tree.now.root here)) }
     ensures there { OnOk result (All (IsElement tree.now.root) found.new) }
 {
     found.push(here)?;
@@ -44,7 +45,8 @@ pub(crate) fn with_descendants(
     contexts: &Nodes,
 ) -> Result<Nodes, Memory>
     requires { All (IsElement tree.now.root) contexts.now }
-    ensures members { IfOk result (λ found. HaveSame (map (element_of tree.now.root) found) (flat_map at_or_below (map (element_of tree.now.root) contexts.now))) }
+    ensures members { IfOk result (λ found.
+        HaveSame (map (element_of tree.now.root) found) (flat_map at_or_below (map (element_of tree.now.root) contexts.now))) }
     ensures once { IfOk result (λ found. AreAmong (map (element_of tree.now.root) found) (flat_map at_or_below (map (element_of tree.now.root) contexts.now))) }
     ensures there { IfOk result (All (IsElement tree.now.root)) }
 {
@@ -67,8 +69,12 @@ fn add_unlisted(
     requires here { IsElement tree.now.root here }
     requires listed { AreListed tree.now.root listed.old (map (element_of tree.now.root) found.old) }
     requires found { All (IsElement tree.now.root) found.old }
-    ensures members { OnOk result ((p : Element → Bool) → list_any p (map (element_of tree.now.root) found.new) ≡ (list_any p (map (element_of tree.now.root) found.old) || list_any p (at_or_below (element_of tree.now.root here)))) }
-    ensures once { OnOk result ((count : Element → ℕ) → sum_by count (map (element_of tree.now.root) found.new) ≤ sum_by count (map (element_of tree.now.root) found.old) + sum_by count (at_or_below (element_of tree.now.root here))) }
+    ensures members { OnOk result ((p : Element → Bool)
+        → list_any p (map (element_of tree.now.root) found.new)
+        ≡ (list_any p (map (element_of tree.now.root) found.old) || list_any p (at_or_below (element_of tree.now.root here)))) }
+    ensures once { OnOk result ((count : Element → ℕ)
+        → sum_by count (map (element_of tree.now.root) found.new)
+        ≤ sum_by count (map (element_of tree.now.root) found.old) + sum_by count (at_or_below (element_of tree.now.root here))) }
     ensures listed { OnOk result (AreListed tree.now.root listed.new (map (element_of tree.now.root) found.new)) }
     ensures there { OnOk result (All (IsElement tree.now.root) found.new) }
 {
@@ -94,7 +100,8 @@ pub(crate) fn add_marked(
 ) -> Result<(), Memory>
     requires here { IsElement tree.now.root here }
     requires found { All (IsElement tree.now.root) found.old }
-    ensures elements { OnOk result ((test : Element → Bool) → ((r : NodeRef) → IsElement tree.now.root r → is_marked marks.now r ≡ test (element_of tree.now.root r))
+    ensures elements { OnOk result ((test : Element → Bool)
+        → ((r : NodeRef) → IsElement tree.now.root r → is_marked marks.now r ≡ test (element_of tree.now.root r))
         → LeadTo tree.now.root ways.now test
         → map (element_of tree.now.root) found.new ≡ map (element_of tree.now.root) found.old ++ filter test (below (element_of tree.now.root here))) }
     ensures there { OnOk result (All (IsElement tree.now.root) found.new) }

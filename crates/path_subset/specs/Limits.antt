@@ -37,11 +37,14 @@ goes_on (along root s) p = goes_on_at s.stage p
 
 -- Outside of all selections none of the symbols passes a limit, from where the machine stands.
 abbrev pub WithinFrom : State → List Placed → Type 0
-WithinFrom s symbols = (before : List Placed) (p : Placed) (rest : List Placed) (t : State) → symbols ≡ before ++ p ∷ rest → run_on (Some s) before ≡ Some t → goes_on t p ≡ false → passes (open_count t) p.symbol ≡ false
+WithinFrom s symbols = (before : List Placed) (p : Placed) (rest : List Placed) (t : State) → symbols ≡ before ++ p ∷ rest
+    → run_on (Some s) before ≡ Some t → goes_on t p ≡ false → passes (open_count t) p.symbol ≡ false
 
 abbrev pub Within : List Placed → Type 0
-Within symbols = (before : List Placed) (p : Placed) (rest : List Placed) (t : State) → symbols ≡ before ++ p ∷ rest → read before ≡ Some t → goes_on t p ≡ false → passes (open_count t) p.symbol ≡ false
+Within symbols = (before : List Placed) (p : Placed) (rest : List Placed) (t : State) → symbols ≡ before ++ p ∷ rest → read before ≡ Some t
+    → goes_on t p ≡ false → passes (open_count t) p.symbol ≡ false
 
 -- Outside of all selections no number is too great.
 abbrev pub AreNumbersWithin : List Placed → Type 0
-AreNumbersWithin symbols = (before : List Placed) (p : Placed) (rest : List Placed) (t : State) (n : ℕ) → symbols ≡ before ++ p ∷ rest → read before ≡ Some t → goes_on t p ≡ false → p.symbol ≡ S.Number n → n ≤ max_number
+AreNumbersWithin symbols = (before : List Placed) (p : Placed) (rest : List Placed) (t : State) (n : ℕ) → symbols ≡ before ++ p ∷ rest
+    → read before ≡ Some t → goes_on t p ≡ false → p.symbol ≡ S.Number n → n ≤ max_number

@@ -15,7 +15,8 @@ use Rattle.path_subset.specs.Runs.{EndsAmong, Misread}
 
 -- The symbols before a place end with `contains text`.
 pub data WantSelection (before : List Placed) : Type 0 where
-  behind_text : (root : PathRoot) (frames : List Frame) (joint : Joint) (insides : List Inside) (steps : List form.Step) → read before ≡ Some (along root (stand frames joint insides (selecting steps [] (whole selection.start)))) → WantSelection before
+  behind_text : (root : PathRoot) (frames : List Frame) (joint : Joint) (insides : List Inside) (steps : List form.Step)
+      → read before ≡ Some (along root (stand frames joint insides (selecting steps [] (whole selection.start)))) → WantSelection before
 
 -- Nothing is wrong with some symbols before others: they begin a path; outside of all selections none of them passes a limit; and each selection that
 -- begins among them is within the limits and without a fault, and ends among them.
@@ -29,16 +30,20 @@ pub record MayStand (before rest : List Placed) : Type 0 where
 -- the faults of the selections before it.
 pub data Refuses (symbols : List Placed) (bad : Option ℕ) (size : ℕ) : QueryFault → Type 0 where
   -- a number is too great, or a bracket or parenthesis opens where as many are open as may be
-  limit : (before : List Placed) (p : Placed) (rest : List Placed) (s : State) → symbols ≡ before ++ p ∷ rest → MayStand before (p ∷ rest) → read before ≡ Some s → passes (open_count s) p.symbol ≡ true → Refuses symbols bad size (limit_fault p)
+  limit : (before : List Placed) (p : Placed) (rest : List Placed) (s : State) → symbols ≡ before ++ p ∷ rest → MayStand before (p ∷ rest)
+      → read before ≡ Some s → passes (open_count s) p.symbol ≡ true → Refuses symbols bad size (limit_fault p)
   -- with the symbol there, which passes no limit, they begin no path
-  symbol : (before : List Placed) (p : Placed) (rest : List Placed) (s : State) → symbols ≡ before ++ p ∷ rest → MayStand before (p ∷ rest) → read before ≡ Some s → passes (open_count s) p.symbol ≡ false → (Begins (before ++ p ∷ []) → ⊥)
+  symbol : (before : List Placed) (p : Placed) (rest : List Placed) (s : State) → symbols ≡ before ++ p ∷ rest → MayStand before (p ∷ rest)
+      → read before ≡ Some s → passes (open_count s) p.symbol ≡ false → (Begins (before ++ p ∷ []) → ⊥)
       → Refuses symbols bad size (Q.Syntax p.from)
   -- behind `contains text`, of which that symbol is the last, no selection is read
-  misread : (before : List Placed) (p : Placed) (rest : List Placed) (fault : QueryFault) → symbols ≡ before ++ p ∷ rest → MayStand before (p ∷ rest) → WantSelection (before ++ p ∷ []) → Misread rest bad size fault → Refuses symbols bad size fault
+  misread : (before : List Placed) (p : Placed) (rest : List Placed) (fault : QueryFault) → symbols ≡ before ++ p ∷ rest
+      → MayStand before (p ∷ rest) → WantSelection (before ++ p ∷ []) → Misread rest bad size fault → Refuses symbols bad size fault
   -- a character behind all symbols begins none
   character : (at : ℕ) → bad ≡ Some at → MayStand symbols [] → Refuses symbols bad size (Q.Syntax at)
   -- the text ends before the path does
-  end : bad ≡ None → MayStand symbols [] → ((value : form.Path) (insides : List Inside) → Path symbols value insides → ⊥) → Refuses symbols bad size (Q.Syntax size)
+  end : bad ≡ None → MayStand symbols [] → ((value : form.Path) (insides : List Inside) → Path symbols value insides → ⊥)
+      → Refuses symbols bad size (Q.Syntax size)
 
 -- the same of a text
 abbrev pub IsFaultOf : List ℕ → QueryFault → Type 0

@@ -25,6 +25,8 @@ pub record EndsAmong (first rest : List Placed) : Type 0 where
 -- The fault of symbols where a selection is to begin, in a text of so many bytes that has a character that begins no symbol, or none.
 pub data Misread (symbols : List Placed) (bad : Option ℕ) (size : ℕ) (fault : QueryFault) : Type 0 where
   -- the run is a selection, and has the fault, whatever stands behind it
-  whole : (run rest : List Placed) (tree : Tree) → symbols ≡ run ++ rest → IsRun run rest → Selection run tree → Refuses run None size fault → Misread symbols bad size fault
+  whole : (run rest : List Placed) (tree : Tree) → symbols ≡ run ++ rest → IsRun run rest → Selection run tree → Refuses run None size fault
+      → Misread symbols bad size fault
   -- the run is none: the symbols all together are refused as a selection
-  part : (run rest : List Placed) → symbols ≡ run ++ rest → IsRun run rest → ((tree : Tree) → Selection run tree → ⊥) → Refuses symbols bad size fault → Misread symbols bad size fault
+  part : (run rest : List Placed) → symbols ≡ run ++ rest → IsRun run rest → ((tree : Tree) → Selection run tree → ⊥)
+      → Refuses symbols bad size fault → Misread symbols bad size fault

@@ -10,7 +10,8 @@ use Rattle.path_subset.specs.Paths.{PlacedForm, placed_form, PathForm}
 -- Each selection inside a path is within the limits and without a fault, and has this form and this place in the text.
 pub data Each : List Inside → List PlacedForm → Type 0 where
   none : Each [] []
-  further : {insides : List Inside} {found : List PlacedForm} → Each insides found → (i : Inside) (x : Form) → Selects i.symbols None x → Each (insides ++ i ∷ []) (found ++ placed_form x i.symbols ∷ [])
+  further : {insides : List Inside} {found : List PlacedForm} → Each insides found → (i : Inside) (x : Form) → Selects i.symbols None x
+      → Each (insides ++ i ∷ []) (found ++ placed_form x i.symbols ∷ [])
 
 -- The symbols make up the whole text and spell the path, by the grammar and within the limits.
 pub record SpellsPath (text : List ℕ) (value : PathForm) : Type 0 where

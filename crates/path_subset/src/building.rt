@@ -1,5 +1,9 @@
 //! How steps and conditions are put together from what was read.
-#![tactic(auto, using(path_grammar::proofs::Views::view_step, path_grammar::proofs::Views::view_or, path_grammar::proofs::Views::view_and, path_grammar::proofs::Views::view_not))]
+#![tactic(auto, using(
+// what steps and `or` stand for
+path_grammar::proofs::Views::view_step, path_grammar::proofs::Views::view_or,
+// `and` and `not`
+path_grammar::proofs::Views::view_and, path_grammar::proofs::Views::view_not))]
 
 ghost use Rattle.std.specs.Prelude.{◌≡◌, [], ◌∷◌, ◌++◌, IfOk, map};
 ghost use Rattle.path_grammar.specs.Form as form;

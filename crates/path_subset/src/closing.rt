@@ -1,5 +1,9 @@
 //! Steps of the reader behind a whole condition: what closes, `and`, `or`.
-#![tactic(auto, using(crate::proofs::Frames::frames_pushed, crate::proofs::Turns::joint_next_by, path_grammar::proofs::Views::view_number, path_grammar::proofs::Views::view_holds))]
+#![tactic(auto, using(
+// the frames that are left
+crate::proofs::Frames::frames_pushed, crate::proofs::Turns::joint_next_by,
+// what a predicate stands for
+path_grammar::proofs::Views::view_number, path_grammar::proofs::Views::view_holds))]
 
 ghost use Rattle.std.specs.Prelude.{◌≡◌, [], ◌∷◌, IfOk, Some};
 ghost use Rattle.path_grammar.specs.Form as form;

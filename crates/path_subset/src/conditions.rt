@@ -87,7 +87,9 @@ pub(crate) fn attribute(
     name: Line,
     symbol: &Symbol,
 ) -> Result<Option<Inner>, Memory>
-    ensures { Leads (m.otherwise (m.attribute_next (frames_of frames.items) (joint_of joint) [] name symbol.now) (m.joint_next (frames_of frames.items) (joint_of joint) (form.attribute name None) [] symbol.now)) result }
+    ensures { Leads
+        (m.otherwise (m.attribute_next (frames_of frames.items) (joint_of joint) [] name symbol.now)
+        (m.joint_next (frames_of frames.items) (joint_of joint) (form.attribute name None) [] symbol.now)) result }
 {
     match symbol {
         Symbol::Equals => Ok(Some(stand(frames, joint, Stage::Equals(name)))),

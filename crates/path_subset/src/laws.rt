@@ -32,7 +32,10 @@ pub fn refused_law()
 /// levels deep in one another than may be open at once and no number is too great; symbols that begin a path, where some path of no more
 /// levels goes on with them. A bracket or parenthesis that may stand behind them passes the limit exactly where none does with it.
 pub fn depth_law()
-    ensures path { (symbols : List Placed) (value : form.Path) (insides : List Inside) → (whole : Path symbols value insides) → Within symbols ↔ ((levels whole ≤ max_open) × AreNumbersWithin symbols) }
+    ensures path { (symbols : List Placed) (value : form.Path) (insides : List Inside) → (whole : Path symbols value insides)
+        → Within symbols ↔ ((levels whole ≤ max_open) × AreNumbersWithin symbols) }
     ensures prefix { (symbols : List Placed) → Begins symbols → Within symbols ↔ (BeginsWithin max_open symbols × AreNumbersWithin symbols) }
-    ensures symbol { (before : List Placed) (p : Placed) (state : State) → read before ≡ Some state → Within before → Begins (before ++ p ∷ []) → opens p.symbol ≡ true → goes_on state p ≡ false → (passes (open_count state) p.symbol ≡ true) ↔ OpensTooDeep max_open before p }
+    ensures symbol { (before : List Placed) (p : Placed) (state : State) → read before ≡ Some state → Within before
+        → Begins (before ++ p ∷ []) → opens p.symbol ≡ true → goes_on state p ≡ false
+        → (passes (open_count state) p.symbol ≡ true) ↔ OpensTooDeep max_open before p }
 {}

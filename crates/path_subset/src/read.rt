@@ -107,7 +107,8 @@ fn at_root(
     stage: RootStage,
     found: Items<Found>,
 ) -> Result<(Reading, usize), QueryFault>
-    ensures value { (rest : List Placed) (bad : Option ℕ) (size : ℕ) → Answered led_of (spec.led_by placed.now (m.root_next (root_stage_of stage) placed.now.symbol) (map found_form found) rest bad size) result }
+    ensures value { (rest : List Placed) (bad : Option ℕ) (size : ℕ)
+        → Answered led_of (spec.led_by placed.now (m.root_next (root_stage_of stage) placed.now.symbol) (map found_form found) rest bad size) result }
     ensures within { IfOk result (λ there. there.1 ≡ 0) }
 {
     match root_turn(alloc, stage, &placed.symbol) {
@@ -127,7 +128,8 @@ fn along(
     inner: Inner,
     found: Items<Found>,
 ) -> Result<(Reading, usize), QueryFault>
-    ensures value { Answered led_of (spec.led_by placed.now (m.along_to root (m.advance_inner (inner_of inner) placed.now)) (map found_form found) rest.now bad size) result }
+    ensures value { Answered led_of
+        (spec.led_by placed.now (m.along_to root (m.advance_inner (inner_of inner) placed.now)) (map found_form found) rest.now bad size) result }
     ensures within { IfOk result (λ there. there.1 ≤ length rest.now) }
 {
     match inner_turn(alloc, inner, placed) {
@@ -179,7 +181,8 @@ fn selection(
     before: Vec<Step>,
     found: Items<Found>,
 ) -> Result<(Reading, usize), QueryFault>
-    ensures value { Answered led_of (run_led root (frames_of frames.items) (joint_of joint) (steps_of before.items) (map found_form found) rest.now (run_read rest.now bad size)) result }
+    ensures value { Answered led_of
+        (run_led root (frames_of frames.items) (joint_of joint) (steps_of before.items) (map found_form found) rest.now (run_read rest.now bad size)) result }
     ensures within { IfOk result (λ there. there.1 ≤ length rest.now) }
 {
     match read_run(alloc, rest, bad, size) {
@@ -293,7 +296,8 @@ fn whole_along(root: PathRoot, inner: Inner) -> Result<Option<Path>, Memory>
 }
 
 fn whole_steps(root: PathRoot, frames: Vec<Frame>, last: LastStep) -> Result<Option<Path>, Memory>
-    ensures { IfOk result (λ path. option_map view.path path ≡ option_map (λ whole. whole.0) (m.finished_inner root (frames_of frames.items) [] (m.stepped (last_of last)))) }
+    ensures { IfOk result (λ path. option_map view.path path
+        ≡ option_map (λ whole. whole.0) (m.finished_inner root (frames_of frames.items) [] (m.stepped (last_of last)))) }
 {
     if !frames.is_empty() {
         drop((frames, last));

@@ -24,7 +24,9 @@ pub(crate) fn behind_steps(
     before: Vec<Step>,
     symbol: &Symbol,
 ) -> Result<Option<Inner>, Memory>
-    ensures { Leads (m.otherwise (m.steps_next (frames_of frames.items) (joint_of joint) [] (steps_of before.items) symbol.now) (m.joint_next (frames_of frames.items) (joint_of joint) (form.exists (form.steps (steps_of before.items))) [] symbol.now)) result }
+    ensures { Leads
+        (m.otherwise (m.steps_next (frames_of frames.items) (joint_of joint) [] (steps_of before.items) symbol.now)
+        (m.joint_next (frames_of frames.items) (joint_of joint) (form.exists (form.steps (steps_of before.items))) [] symbol.now)) result }
 {
     match symbol {
         Symbol::Slash => Ok(Some(stand(frames, joint, Stage::Slashes(before, false)))),
@@ -61,7 +63,9 @@ pub(crate) fn stepped(
     last: LastStep,
     symbol: &Symbol,
 ) -> Result<Option<Inner>, Memory>
-    ensures { Leads (m.otherwise (m.step_next (frames_of frames.items) (joint_of joint) [] (last_of last) symbol.now) (m.joint_next (frames_of frames.items) (joint_of joint) (form.exists (form.steps (m.all_steps (last_of last)))) [] symbol.now)) result }
+    ensures { Leads
+        (m.otherwise (m.step_next (frames_of frames.items) (joint_of joint) [] (last_of last) symbol.now)
+        (m.joint_next (frames_of frames.items) (joint_of joint) (form.exists (form.steps (m.all_steps (last_of last)))) [] symbol.now)) result }
 {
     match symbol {
         Symbol::OpenBracket => opened(alloc, frames, Frame::Brackets(joint, last), true),
@@ -79,7 +83,9 @@ pub(crate) fn not_name(
     joint: Joint,
     symbol: &Symbol,
 ) -> Result<Option<Inner>, Memory>
-    ensures { Leads (m.otherwise (m.not_next (frames_of frames.items) (joint_of joint) [] symbol.now) (m.joint_next (frames_of frames.items) (joint_of joint) (form.exists (form.steps (m.all_steps m.not_step))) [] symbol.now)) result }
+    ensures { Leads
+        (m.otherwise (m.not_next (frames_of frames.items) (joint_of joint) [] symbol.now)
+        (m.joint_next (frames_of frames.items) (joint_of joint) (form.exists (form.steps (m.all_steps m.not_step))) [] symbol.now)) result }
 {
     match symbol {
         Symbol::OpenParenthesis => opened(alloc, frames, Frame::Negation(joint), false),

@@ -19,7 +19,8 @@ unfoldable pub node : Tree → Node
 node = fold-Tree Node layer
 
 -- its equations, at a tree made of one layer
-pub node-roll_elem : (name : List ℕ) (attrs : List Attr) (kids : List Tree) → node (roll-Tree (Tree-F.Elem name attrs kids)) ≡ element name attrs (nodes (map node kids))
+pub node-roll_elem : (name : List ℕ) (attrs : List Attr) (kids : List Tree)
+    → node (roll-Tree (Tree-F.Elem name attrs kids)) ≡ element name attrs (nodes (map node kids))
 unfolding node
 node-roll_elem name attrs kids = fold-roll-Tree Node layer (Tree-F.Elem name attrs kids)
 

@@ -27,7 +27,8 @@ same_stem stems case query w = bytes_eq (stem_in stems (key_of query)) (stem_in 
 -- whether a word of a text passes an item under its options. A pattern has no stem
 abbrev pub accepts : List Stem → Options → Item → List ℕ → Bool
 accepts stems options any_word w = true
-accepts stems options (word query) w = if is_on options.stemming then same_stem stems (case_of options.case) query w else item_passes (choice_of options) (word query) (forms_of w)
+accepts stems options (word query) w = if is_on options.stemming then same_stem stems (case_of options.case) query w
+    else item_passes (choice_of options) (word query) (forms_of w)
 accepts stems options (pattern p) w = item_passes (choice_of options) (pattern p) (forms_of w)
 
 -- whether a stop list holds a key, if there is the list

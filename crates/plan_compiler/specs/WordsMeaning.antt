@@ -52,7 +52,8 @@ stem_test stems case query w = bytes_eq (stem_in stems (key_of query)) w.stem &&
 -- what a word has to be for an item that is no stop word
 unfoldable pub bare_test : Reading → Item → TextWord → Bool
 bare_test reading any_word w = true
-bare_test reading (word query) w = if reading.stemming then stem_test reading.lists.now.stems reading.choice.case query w else item_passes reading.choice (word query) w.forms
+bare_test reading (word query) w = if reading.stemming then stem_test reading.lists.now.stems reading.choice.case query w
+    else item_passes reading.choice (word query) w.forms
 bare_test reading (pattern p) w = item_passes reading.choice (pattern p) w.forms
 
 abbrev pub item_test : Reading → Item → TextWord → Bool
@@ -63,7 +64,8 @@ item_test reading item = bare_test reading (read_item reading item)
 -- the phrase itself, and those that thesauri reach from it
 abbrev pub phrases_for : Reading → List Item → List (List Item)
 phrases_for reading [] = []
-phrases_for reading (first ∷ rest) = (first ∷ rest) ∷ reached_phrases (lexicon reading.lists.now) (option_map (λ lent. lent.now) reading.thesaurus) (first ∷ rest)
+phrases_for reading (first ∷ rest) =
+    (first ∷ rest) ∷ reached_phrases (lexicon reading.lists.now) (option_map (λ lent. lent.now) reading.thesaurus) (first ∷ rest)
 
 -- the tests of the phrases for a phrase, those of one length together
 abbrev pub grouped_tests : Reading → List Item → List (List (List (TextWord → Bool)))

@@ -61,7 +61,8 @@ fn compile_boxed(
     requires options { IsTrue (are_served looks (options_of chosen.now)) }
     requires selection { IsTrue (is_served looks (form operand.now.value)) }
     ensures { IfOk result (λ node. (tokens : List Token) →
-        truth node.value (words_of_tokens looks lists.now.stems tokens) ≡ sat_under (lexicon lists.now) (options_of chosen.now) (form operand.now.value) tokens) }
+        truth node.value (words_of_tokens looks lists.now.stems tokens)
+        ≡ sat_under (lexicon lists.now) (options_of chosen.now) (form operand.now.value) tokens) }
 {
     let node = compile(alloc, lists, looks, chosen, operand)?;
     Ok(Box::new(alloc, node)?)

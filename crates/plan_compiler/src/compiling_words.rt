@@ -53,7 +53,8 @@ fn plans_by(
     mode: Mode,
     strings: &Lines,
 ) -> Result<Items<PhrasePlan>, Memory>
-    ensures { IfOk result (λ plans. map spec.plan_tests plans ≡ map (spec.grouped_tests reading.now) (phrases_by mode (map (items.items_of reading.now.wildcards) strings.now))) }
+    ensures { IfOk result (λ plans. map spec.plan_tests plans
+        ≡ map (spec.grouped_tests reading.now) (phrases_by mode (map (items.items_of reading.now.wildcards) strings.now))) }
 {
     let phrases = phrases_by(alloc, reading.wildcards, mode, strings)?;
     let plans = phrase_plans(alloc, reading, phrases.as_slice())?;

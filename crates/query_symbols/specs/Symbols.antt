@@ -1,5 +1,6 @@
 -- The symbols of a query: names, numbers, strings and marks, with spaces and tabs between.
-use Rattle.std.specs.Prelude.{◌≡◌, ◌≤◌, ℕ, zero, suc, ◌+◌, Bool, false, ◌||◌, ◌==◌, if◌then◌else◌, List, [], ◌∷◌, ◌++◌, length, take, drop, Option, Some, None, option_map, encode_utf8, encode_utf8_all, chars}
+use Rattle.std.specs.Prelude.{◌≡◌, ◌≤◌, ℕ, zero, suc, ◌+◌, Bool, false, ◌||◌, ◌==◌, if◌then◌else◌, List, [], ◌∷◌, ◌++◌}
+use Rattle.std.specs.Prelude.{length, take, drop, Option, Some, None, option_map, encode_utf8, encode_utf8_all, chars}
 use Rattle.std.specs.List.{prefix_len}
 use Rattle.ft_base.specs.Characters.{is_name_start, is_name_char}
 use Rattle.ft_base.specs.Letters.{is_digit, number_of, begins_with}
@@ -8,7 +9,8 @@ use Rattle.query_symbols.specs.declared.lexeme.Turn.TheVariants.{Passed, Bad}
 use Rattle.query_symbols.specs.declared.lexeme.Lexeme.{Lexeme}
 use Rattle.query_symbols.specs.declared.lexeme.Quoted.{Quoted}
 use Rattle.selection_grammar.specs.declared.symbol.Symbol.{Symbol}
-use Rattle.selection_grammar.specs.declared.symbol.Symbol.TheVariants.{Name, Number, Text, Slash, DoubleSlash, OpenBracket, CloseBracket, OpenParenthesis, CloseParenthesis, OpenBrace, CloseBrace, Comma, At, Equals, Period, Star}
+use Rattle.selection_grammar.specs.declared.symbol.Symbol.TheVariants.{Name, Number, Text, Slash, DoubleSlash, OpenBracket, CloseBracket, OpenParenthesis}
+use Rattle.selection_grammar.specs.declared.symbol.Symbol.TheVariants.{CloseParenthesis, OpenBrace, CloseBrace, Comma, At, Equals, Period, Star}
 use Rattle.selection_grammar.specs.declared.symbol.Placed.{Placed}
 use Rattle.selection_grammar.specs.declared.symbol.Symbols.{Symbols}
 
@@ -22,7 +24,8 @@ goes_on_as_name (c ∷ rest) = is_name_char c
 
 -- a number, unless a name character stands directly behind it
 abbrev pub number_at : List ℕ → Option Lexeme
-number_at letters = if goes_on_as_name (drop (run_of is_digit letters) letters) then None else Some record { symbol = Number (number_of (take (run_of is_digit letters) letters)); size = run_of is_digit letters }
+number_at letters = if goes_on_as_name (drop (run_of is_digit letters) letters) then None
+    else Some record { symbol = Number (number_of (take (run_of is_digit letters) letters)); size = run_of is_digit letters }
 
 abbrev pub name_at : List ℕ → Option Lexeme
 name_at letters = Some record { symbol = Name (encode_utf8_all (take (run_of is_name_char letters) letters)); size = run_of is_name_char letters }
@@ -121,7 +124,8 @@ behind_placed placed others = record { placed = placed ++ others.placed; bad = o
 -- what one step leaves of the text from the character `next` on, which begins at a place
 abbrev pub Steps_to : List ℕ → List Placed → ℕ → ℕ → List Placed → Turn → Type 0
 Steps_to letters old next place new (Passed next' place') =
-    (bound : ℕ) → behind_placed new (symbols_within bound place' (drop next' letters)) ≡ behind_placed old (symbols_within (suc bound) place (drop next letters))
+    (bound : ℕ)
+    → behind_placed new (symbols_within bound place' (drop next' letters)) ≡ behind_placed old (symbols_within (suc bound) place (drop next letters))
 Steps_to letters old next place new Bad =
     (bound : ℕ) → record { placed = new; bad = Some place } ≡ behind_placed old (symbols_within (suc bound) place (drop next letters))
 

@@ -28,7 +28,10 @@ pub fn strings()
 /// Marks stand alone, but for `//`; a character of no class begins no symbol.
 pub fn marks()
     ensures slashes { symbols_of (codes "///*") ≡ whole (from_to 0 2 S.DoubleSlash ∷ from_to 2 3 S.Slash ∷ from_to 3 4 S.Star ∷ []) }
-    ensures brackets { symbols_of (codes "[(@a,={})]") ≡ whole (from_to 0 1 S.OpenBracket ∷ from_to 1 2 S.OpenParenthesis ∷ from_to 2 3 S.At ∷ from_to 3 4 (S.Name (codes "a")) ∷ from_to 4 5 S.Comma ∷ from_to 5 6 S.Equals ∷ from_to 6 7 S.OpenBrace ∷ from_to 7 8 S.CloseBrace ∷ from_to 8 9 S.CloseParenthesis ∷ from_to 9 10 S.CloseBracket ∷ []) }
+    ensures brackets { symbols_of (codes "[(@a,={})]")
+        ≡ whole (from_to 0 1 S.OpenBracket ∷ from_to 1 2 S.OpenParenthesis ∷ from_to 2 3 S.At ∷ from_to 3 4 (S.Name (codes "a"))
+        ∷ from_to 4 5 S.Comma ∷ from_to 5 6 S.Equals ∷ from_to 6 7 S.OpenBrace ∷ from_to 7 8 S.CloseBrace
+        ∷ from_to 8 9 S.CloseParenthesis ∷ from_to 9 10 S.CloseBracket ∷ []) }
     ensures no_symbol { symbols_of (codes "a # b") ≡ bad_at 2 (from_to 0 1 (S.Name (codes "a")) ∷ []) }
     ensures blanks { symbols_of (codes " \t ") ≡ whole [] }
 {}

@@ -5,5 +5,6 @@ ghost use Rattle.query_symbols.specs.Symbols.{symbols_within};
 
 /// As many steps as there are characters are enough to find all symbols: more of them find no others.
 pub fn bound_law()
-    ensures { (steps place : ℕ) (letters : List ℕ) → length letters ≤ steps → symbols_within steps place letters ≡ symbols_within (length letters) place letters }
+    ensures { (steps place : ℕ) (letters : List ℕ) → length letters ≤ steps
+        → symbols_within steps place letters ≡ symbols_within (length letters) place letters }
 {}

@@ -24,7 +24,8 @@ quoted at text = quoted_with at text []
 
 -- one string with `occurs` behind it
 abbrev pub counted : ℕ → List ℕ → ℕ → Tree
-counted at text times_at = words (record { strings = string at text ∷ []; mode = M.Any; times = Some record { at = times_at; range = AtLeast 1 }; options = [] })
+counted at text times_at =
+    words (record { strings = string at text ∷ []; mode = M.Any; times = Some record { at = times_at; range = AtLeast 1 }; options = [] })
 
 -- so many strings of one letter, each nine bytes behind the one before
 abbrev pub strings_from : ℕ → ℕ → List PlacedString

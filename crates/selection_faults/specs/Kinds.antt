@@ -26,4 +26,5 @@ inside_filter at = option_map (placed F.InsideFilter) at
 
 abbrev pub fault_at : Option ℕ → Option ℕ → Option ℕ → Option ℕ → Option ℕ → Option QueryFault
 fault_at phrases_at twice_at wildcard_at mild_at filter_at =
-    option_map (λ f. f.fault) (sooner (phrases phrases_at) (sooner (option_twice twice_at) (sooner (bad_wildcard wildcard_at) (sooner (mild_not_exclude mild_at) (inside_filter filter_at)))))
+    option_map (λ f. f.fault) (sooner (phrases phrases_at)
+    (sooner (option_twice twice_at) (sooner (bad_wildcard wildcard_at) (sooner (mild_not_exclude mild_at) (inside_filter filter_at)))))

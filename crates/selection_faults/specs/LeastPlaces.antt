@@ -53,7 +53,9 @@ abbrev pub excludes : LeastPlaces → Option ℕ
 excludes places = sooner places.nots places.times
 
 abbrev pub of_mild_not : LeastPlaces → LeastPlaces → LeastPlaces
-of_mild_not left right = record (both left right) { mild_not_excludes = sooner (sooner (excludes left) (excludes right)) (sooner left.mild_not_excludes right.mild_not_excludes) }
+of_mild_not left right = record (both left right) {
+  mild_not_excludes = sooner (sooner (excludes left) (excludes right)) (sooner left.mild_not_excludes right.mild_not_excludes);
+}
 
 abbrev pub of_not : ℕ → LeastPlaces → LeastPlaces
 of_not at operand = record operand { nots = sooner (Some at) operand.nots; nested_nots = sooner operand.nots operand.nested_nots }

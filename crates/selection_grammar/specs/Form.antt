@@ -30,7 +30,8 @@ options_of options = options_from no_options options
 
 unfoldable mutual
   pub form_of : Tree → Form
-  form_of (tree.words w) = form.words (record { values = texts_of w.strings; mode = w.mode; times = option_map (λ t. t.range) w.times; options = options_of w.options })
+  form_of (tree.words w) =
+      form.words (record { values = texts_of w.strings; mode = w.mode; times = option_map (λ t. t.range) w.times; options = options_of w.options })
   form_of (tree.or_of trees) = form.or_of (forms_of trees)
   form_of (tree.and_of trees) = form.and_of (forms_of trees)
   form_of (tree.mild_not left right) = form.mild_not (form_of left) (form_of right)

@@ -67,7 +67,8 @@ scope sentence paragraph = word (codes "sentence") (λ at. whole sentence) (word
 abbrev pub side : Shape Filter
 side = word (codes "start") (λ at. whole F.AtStart) (word (codes "end") (λ at. whole F.AtEnd) nothing)
 
--- Filter ::= "ordered" | "window" Number Unit | "distance" Range Unit | ("same" | "different") ("sentence" | "paragraph") | "entire" "content" | "at" ("start" | "end")
+-- Filter ::= "ordered" | "window" Number Unit | "distance" Range Unit | ("same" | "different") ("sentence" | "paragraph") | "entire" "content"
+--     | "at" ("start" | "end")
 abbrev pub filters_without_at : Shape Filter
 filters_without_at =
     word (codes "ordered") (λ at. whole F.Ordered)
@@ -85,7 +86,8 @@ given at option = record { at = at; option = option }
 
 -- ("insensitive" | "sensitive")
 abbrev pub sensitivity : ℕ → MatchOption → MatchOption → Shape PlacedOption
-sensitivity at insensitive sensitive = word (codes "insensitive") (λ p. whole (given at insensitive)) (word (codes "sensitive") (λ p. whole (given at sensitive)) nothing)
+sensitivity at insensitive sensitive =
+    word (codes "insensitive") (λ p. whole (given at insensitive)) (word (codes "sensitive") (λ p. whole (given at sensitive)) nothing)
 
 -- "no" ("stemming" | "wildcards" | "thesaurus" | "stop" "words")
 abbrev pub turned_off : ℕ → Shape PlacedOption

@@ -8,7 +8,8 @@ use Rattle.selection_grammar.specs.declared.symbol.Symbols.{Symbols}
 
 -- a symbol at a place, as many bytes long as these, and what is left behind it
 abbrev pub with_symbol : ℕ → ℕ → Symbol → List ℕ → List ℕ → Symbols
-with_symbol bound place symbol bytes left = before (record { symbol = symbol; from = place; to = place + length bytes }) (symbols_within bound (place + length bytes) left)
+with_symbol bound place symbol bytes left =
+    before (record { symbol = symbol; from = place; to = place + length bytes }) (symbols_within bound (place + length bytes) left)
 
 -- a text at a place, as long as its printed form is
 abbrev pub with_string : ℕ → ℕ → List ℕ → List ℕ → Symbols

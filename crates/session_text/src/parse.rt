@@ -1,6 +1,7 @@
 ghost use Rattle.std.specs.Prelude.{◌≡◌, true, false, IfOk, IfSome, IfNone};
 ghost use Rattle.text_lines.specs.Lines.{is_skipped, trimmed_line};
-ghost use Rattle.session_text.specs.Commands.{block_command, command_of_block, command_of_line, how_of, insertion, line_command, list_command, name_command, opens_block as block_follows, query, query_at};
+ghost use Rattle.session_text.specs.Commands.{block_command, command_of_block, command_of_line, how_of, insertion, line_command};
+ghost use Rattle.session_text.specs.Commands.{list_command, name_command, opens_block as block_follows, query, query_at};
 ghost use Rattle.session_text.specs.Words.{is_command_line};
 
 use crate::line::is_word;

@@ -5,7 +5,8 @@ ghost use Rattle.std.specs.Option.{option_map, option_to_list};
 ghost use Rattle.text_lines.specs.Lines.{is_line_feed};
 ghost use Rattle.session_text.specs.steps.Blocks.{without_last};
 ghost use Rattle.session_text.specs.Commands.{closes_block, unquoted};
-ghost use Rattle.session_text.specs.steps.Reading.{at_start, behind_lines, between_lines, commands_from, ended_at, held_length, is_unended, line_ended, open_at_end, open_lines, place_behind};
+ghost use Rattle.session_text.specs.steps.Reading.{at_start, behind_lines, between_lines, commands_from, ended_at, held_length};
+ghost use Rattle.session_text.specs.steps.Reading.{is_unended, line_ended, open_at_end, open_lines, place_behind};
 
 use crate::line::{is_word, skip_mark};
 use crate::parse::{opens_block, read_block, read_line};
@@ -15,7 +16,8 @@ use std::alloc::Global;
 use std::marker::Model;
 use text_lines::{drop_return, is_skipped, line_end};
 
-/// A command whose block is open: its line, and the block's lines so far, each with a line feed behind it. The bytes of the line that hasn't ended stand behind them.
+/// A command whose block is open: its line, and the block's lines so far, each with
+/// a line feed behind it. The bytes of the line that hasn't ended stand behind them.
 #[derive(Drop)]
 struct OpenBlock {
     line: Vec<u8>,
@@ -213,7 +215,8 @@ fn end_inside(
     mut pending: OpenBlock,
     part: &[u8],
 ) -> Result<(Option<Command>, Option<OpenBlock>), Memory>
-    ensures { IfOk result (λ ended. ended ≡ between_lines (line_ended pending.opened.number (Some pending.opened) (behind_lines lines (pending.rest ++ part.now)))) }
+    ensures { IfOk result (λ ended. ended
+        ≡ between_lines (line_ended pending.opened.number (Some pending.opened) (behind_lines lines (pending.rest ++ part.now)))) }
 {
     if pending.rest().is_empty() {
         return end_block_line(alloc, pending, skip_mark_at_start(lines, part));

@@ -9,7 +9,8 @@ use Rattle.thesaurus_file.specs.declared.levels.Levels.{Levels}
 -- a chain of that many lines leads from the first phrase to the second
 unfoldable pub IsChain : Links → Option (List ℕ) → ℕ → Phrase → Phrase → Type 0
 IsChain thesaurus relation zero start phrase = phrase ≡ start
-IsChain thesaurus relation (suc n) start phrase = (before : Phrase) × IsChain thesaurus relation n start before × Contains (next thesaurus relation before) phrase
+IsChain thesaurus relation (suc n) start phrase =
+    (before : Phrase) × IsChain thesaurus relation n start before × Contains (next thesaurus relation before) phrase
 
 -- a chain of that many lines leads there, and none of fewer
 pub record IsLevel (thesaurus : Links) (relation : Option (List ℕ)) (n : ℕ) (start phrase : Phrase) : Type 0 where

@@ -194,7 +194,8 @@ fn insert_ends(
     relationship: Option<&str>,
     seen: &BTreeSet<Phrase>,
 ) -> Result<(), Memory>
-    ensures { OnOk result (next.new.keys ≡ fold (insert_key phrase_cmp) next.old.keys (unseen_ends (option_copied relationship.entry) seen.now.keys links.now)) }
+    ensures { OnOk result (next.new.keys
+        ≡ fold (insert_key phrase_cmp) next.old.keys (unseen_ends (option_copied relationship.entry) seen.now.keys links.now)) }
 {
     for link in links {
         insert_end(alloc, next, link, relationship, seen)?;
@@ -210,7 +211,8 @@ fn insert_end(
     relationship: Option<&str>,
     seen: &BTreeSet<Phrase>,
 ) -> Result<(), Memory>
-    ensures { OnOk result (next.new.keys ≡ fold (insert_key phrase_cmp) next.old.keys (unseen_ends (option_copied relationship.entry) seen.now.keys (link.now ∷ []))) }
+    ensures { OnOk result (next.new.keys
+        ≡ fold (insert_key phrase_cmp) next.old.keys (unseen_ends (option_copied relationship.entry) seen.now.keys (link.now ∷ []))) }
 {
     if !is_wanted(link, relationship) {
         return Ok(());

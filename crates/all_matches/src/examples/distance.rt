@@ -29,7 +29,8 @@ pub fn distances_in_ranges()
 pub fn distances_of_neighbours()
     ensures shorter_first { sat plain (filtered (three_and (quoted (codes "a b c")) word_a (quoted (codes "d"))) (F.Distance (R.AtMost 0) U.Words))
         (text (codes "a b c d")) ≡ true }
-    ensures shorter_first_along_the_query { sat plain (filtered (three_and word_a (quoted (codes "a b c")) (quoted (codes "d"))) (F.Distance (R.AtMost 0) U.Words))
+    ensures shorter_first_along_the_query { sat plain
+        (filtered (three_and word_a (quoted (codes "a b c")) (quoted (codes "d"))) (F.Distance (R.AtMost 0) U.Words))
         (text (codes "a b c d")) ≡ true }
     ensures by_the_first_word { sat plain (filtered (three_and (quoted (codes "a b c")) word_b (quoted (codes "d"))) (F.Distance (R.AtMost 0) U.Words))
         (text (codes "a b c d")) ≡ false }

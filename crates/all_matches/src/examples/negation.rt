@@ -24,8 +24,12 @@ pub fn no_includes()
 
 /// An exclude counts where the filter keeps it: each window keeps its own.
 pub fn excludes_under_filters()
-    ensures each_window { sat plain (filtered (two_and (quoted (codes "a")) (not_of (quoted (codes "b")))) (F.Window 2 U.Words)) (text (codes "b a b")) ≡ false }
+    ensures each_window { sat plain (filtered (two_and (quoted (codes "a")) (not_of (quoted (codes "b")))) (F.Window 2 U.Words))
+        (text (codes "b a b")) ≡ false }
     ensures some_window { sat plain (filtered (two_and (quoted (codes "a")) (not_of (quoted (codes "b")))) (F.Window 2 U.Words)) (text (codes "a b")) ≡ true }
-    ensures near { sat plain (filtered (two_and (quoted (codes "a")) (not_of (quoted (codes "b")))) (F.Distance (R.AtMost 3) U.Words)) (text (codes "a b")) ≡ false }
-    ensures either_is_left_out { sat plain (filtered (two_and (quoted (codes "a")) (not_of (two_and (quoted (codes "b")) (quoted (codes "c"))))) (F.Window 3 U.Words)) (text (codes "b a x c")) ≡ true }
+    ensures near { sat plain (filtered (two_and (quoted (codes "a")) (not_of (quoted (codes "b")))) (F.Distance (R.AtMost 3) U.Words))
+        (text (codes "a b")) ≡ false }
+    ensures either_is_left_out { sat plain
+        (filtered (two_and (quoted (codes "a")) (not_of (two_and (quoted (codes "b")) (quoted (codes "c"))))) (F.Window 3 U.Words))
+        (text (codes "b a x c")) ≡ true }
 {}

@@ -43,9 +43,11 @@ pub fn inner_lists()
     ensures outer_stop_words { sat plain
         (word_inside (stopped S.No) (stopped (S.Sets (record { except = false; source = W.Written (codes "a" ∷ []) } ∷ [])))) (text (codes "x")) ≡ false }
     ensures thesaurus { sat also_x
-        (word_inside (with_thesaurus (T.Uses (record { name = codes "list"; relationship = None; levels = None } ∷ []))) (with_thesaurus T.No)) (text (codes "x")) ≡ true }
+        (word_inside (with_thesaurus (T.Uses (record { name = codes "list"; relationship = None; levels = None } ∷ []))) (with_thesaurus T.No))
+        (text (codes "x")) ≡ true }
     ensures outer_thesaurus { sat also_x
-        (word_inside (with_thesaurus T.No) (with_thesaurus (T.Uses (record { name = codes "list"; relationship = None; levels = None } ∷ [])))) (text (codes "x")) ≡ false }
+        (word_inside (with_thesaurus T.No) (with_thesaurus (T.Uses (record { name = codes "list"; relationship = None; levels = None } ∷ []))))
+        (text (codes "x")) ≡ false }
 {}
 
 /// Options further out hold where no option of their group stands further in, and the options of the words are the innermost.
@@ -53,6 +55,7 @@ pub fn outer_options()
     ensures of_another_group { sat (under_options (λ options. is_on options.stemming))
         (word_inside (with_wildcards true) (stemmed true)) (text (codes "a")) ≡ true }
     ensures of_the_words { sat (under_options (λ options. is_on options.stemming))
-        (with_options (words record { values = codes "a" ∷ []; mode = M.Any; times = None; options = stemmed false }) (stemmed true)) (text (codes "a")) ≡ false }
+        (with_options (words record { values = codes "a" ∷ []; mode = M.Any; times = None; options = stemmed false }) (stemmed true))
+        (text (codes "a")) ≡ false }
     ensures no_option { sat (under_options (λ options. is_on options.stemming)) word_a (text (codes "a")) ≡ false }
 {}

@@ -36,8 +36,22 @@ pub fn times()
 
 /// `"propagating of errors" using stop words ("of")`: a stop word stands for any one word.
 pub fn stop_words()
-    ensures one_word { sat plain (with_options (quoted (codes "propagating of errors")) (record no_options { stop_words = Some (S.Sets (record { except = false; source = W.Written (codes "of" ∷ []) } ∷ [])) })) (text (codes "propagating few errors")) ≡ true }
-    ensures no_word { sat plain (with_options (quoted (codes "propagating of errors")) (record no_options { stop_words = Some (S.Sets (record { except = false; source = W.Written (codes "of" ∷ []) } ∷ [])) })) (text (codes "propagating errors")) ≡ false }
-    ensures listed { sat plain (with_options (quoted (codes "propagating of errors")) (record no_options { stop_words = Some (S.Sets (record { except = false; source = W.At (codes "short") } ∷ [])) })) (text (codes "propagating few errors")) ≡ true }
-    ensures excepted { sat plain (with_options (quoted (codes "propagating of errors")) (record no_options { stop_words = Some (S.Sets (record { except = false; source = W.At (codes "short") } ∷ record { except = true; source = W.Written (codes "of" ∷ []) } ∷ [])) })) (text (codes "propagating few errors")) ≡ false }
+    ensures one_word { sat plain
+        (with_options (quoted (codes "propagating of errors"))
+        (record no_options { stop_words = Some (S.Sets (record { except = false; source = W.Written (codes "of" ∷ []) } ∷ [])) }))
+        (text (codes "propagating few errors")) ≡ true }
+    ensures no_word { sat plain
+        (with_options (quoted (codes "propagating of errors"))
+        (record no_options { stop_words = Some (S.Sets (record { except = false; source = W.Written (codes "of" ∷ []) } ∷ [])) }))
+        (text (codes "propagating errors")) ≡ false }
+    ensures listed { sat plain
+        (with_options (quoted (codes "propagating of errors"))
+        (record no_options { stop_words = Some (S.Sets (record { except = false; source = W.At (codes "short") } ∷ [])) }))
+        (text (codes "propagating few errors")) ≡ true }
+    ensures excepted { sat plain
+        (with_options (quoted (codes "propagating of errors")) (record no_options {
+          stop_words = Some (S.Sets
+              (record { except = false; source = W.At (codes "short") } ∷ record { except = true; source = W.Written (codes "of" ∷ []) } ∷ []));
+        }))
+        (text (codes "propagating few errors")) ≡ false }
 {}

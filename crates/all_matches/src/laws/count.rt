@@ -19,5 +19,6 @@ pub fn occurrences_law()
 /// A phrase has a hit at each place for each length of which one of its variants begins there.
 pub fn places_law()
     ensures { (lexicon : Lexicon) (options : Options) (phrase : List Item) (tokens : List Token)
-        → hit_count lexicon options tokens phrase ≡ sum (map (λ group. places (passes_item lexicon options) group.1 tokens) (by_length (variants lexicon options phrase))) }
+        → hit_count lexicon options tokens phrase
+        ≡ sum (map (λ group. places (passes_item lexicon options) group.1 tokens) (by_length (variants lexicon options phrase))) }
 {}

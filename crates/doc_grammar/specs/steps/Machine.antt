@@ -1,5 +1,6 @@
 -- A machine that goes over a text once, character by character: what is open, and which part of the markup is under way.
-use Rattle.std.specs.Prelude.{ℕ, ◌+◌, ◌*◌, Bool, true, false, ◌&&◌, ◌||◌, nat_eq, nat_le, ◌==◌, List, [], ◌∷◌, ◌++◌, length, drop, Option, Some, None, if◌then◌else◌, codes, encode_utf8}
+use Rattle.std.specs.Prelude.{ℕ, ◌+◌, ◌*◌, Bool, true, false, ◌&&◌, ◌||◌, nat_eq, nat_le, ◌==◌, List, [], ◌∷◌}
+use Rattle.std.specs.Prelude.{◌++◌, length, drop, Option, Some, None, if◌then◌else◌, codes, encode_utf8}
 use Rattle.std.specs.List.{starts_with}
 use Rattle.std.specs.Char.{digit_value}
 use Rattle.plain_tree.specs.Document.{Node, element, no_nodes, nodes}
@@ -104,7 +105,8 @@ entered p name attrs = record { kids = []; text = []; outer = level name attrs p
 abbrev pub left_from : List Node → List ℕ → Outer → Option State
 left_from kids text document = None
 left_from kids text fragment = None
-left_from kids text (level name attrs outer_kids outer_text outer) = at (with_node outer_kids outer_text outer (element name attrs (nodes (kids ++ text_node text)))) ready
+left_from kids text (level name attrs outer_kids outer_text outer) =
+    at (with_node outer_kids outer_text outer (element name attrs (nodes (kids ++ text_node text)))) ready
 
 unfoldable pub left : Place → Option State
 left p = left_from p.kids p.text p.outer
@@ -120,7 +122,9 @@ name_left [] c = gives c
 name_left (d ∷ ds) c = going (named (d ∷ ds) c)
 
 abbrev pub refer_begun : ℕ → Judged
-refer_begun c = if c == 108 then going (named (codes "t;") 60) else if c == 103 then going (named (codes "t;") 62) else if c == 113 then going (named (codes "uot;") 34)
+refer_begun c = if c == 108 then going (named (codes "t;") 60)
+    else if c == 103 then going (named (codes "t;") 62)
+    else if c == 113 then going (named (codes "uot;") 34)
     else if c == 97 then going begun_a else if c == 35 then going numbered else refused
 
 abbrev pub refer_begun_a : ℕ → Judged
@@ -138,7 +142,8 @@ refer_first hexadecimal c = if is_digit (base hexadecimal) c then going (digits 
 
 abbrev pub refer_digits : Bool → ℕ → ℕ → Judged
 refer_digits hexadecimal n c = if c == 59 then (if is_char n then gives n else refused)
-    else if is_digit (base hexadecimal) c then (if nat_le (n * base hexadecimal + digit_value c) 0x10_FFFF then going (digits hexadecimal (n * base hexadecimal + digit_value c)) else refused)
+    else if is_digit (base hexadecimal) c
+    then (if nat_le (n * base hexadecimal + digit_value c) 0x10_FFFF then going (digits hexadecimal (n * base hexadecimal + digit_value c)) else refused)
     else refused
 
 unfoldable pub refer : Refer → ℕ → Judged
@@ -166,10 +171,16 @@ from_opened p c = if c == 33 then at p bang else if c == 63 then at p (instructi
     else if is_name_start c && takes_element p then at p (start_name (encode_utf8 c)) else None
 
 unfoldable pub from_comment : Place → ℕ → ℕ → Option State
-from_comment p n c = if c == 45 then at p (comment (one_dash_more n)) else if (c == 62) && (n == 2) then at p ready else if is_char c then at p (comment 0) else None
+from_comment p n c = if c == 45 then at p (comment (one_dash_more n))
+    else if (c == 62) && (n == 2) then at p ready
+    else if is_char c then at p (comment 0)
+    else None
 
 unfoldable pub from_instruction : Place → Bool → ℕ → Option State
-from_instruction p mark c = if c == 63 then at p (instruction true) else if (c == 62) && mark then at p ready else if is_char c then at p (instruction false) else None
+from_instruction p mark c = if c == 63 then at p (instruction true)
+    else if (c == 62) && mark then at p ready
+    else if is_char c then at p (instruction false)
+    else None
 
 abbrev pub judged : Place → Judged → Option State
 judged p refused = None
@@ -189,7 +200,10 @@ from_end_name p (b ∷ bytes) c = from_end_left p (b ∷ bytes) c
 
 -- behind a tag's name or one of its attributes
 unfoldable pub from_tag : Place → List ℕ → List Attr → ℕ → Option State
-from_tag p name attrs c = if c == 62 then at (entered p name attrs) ready else if c == 47 then at p (slashed name attrs) else if is_space c then at p (spaced name attrs) else None
+from_tag p name attrs c = if c == 62 then at (entered p name attrs) ready
+    else if c == 47 then at p (slashed name attrs)
+    else if is_space c then at p (spaced name attrs)
+    else None
 
 unfoldable pub from_start_name : Place → List ℕ → ℕ → Option State
 from_start_name p name c = if is_name_char c then at p (start_name (name ++ encode_utf8 c)) else from_tag p name [] c
@@ -201,7 +215,9 @@ unfoldable pub from_attr_named : Place → List ℕ → List Attr → List ℕ �
 from_attr_named p name attrs attr c = if c == 61 then at p (equals name attrs attr) else if is_space c then at p (attr_named name attrs attr) else None
 
 unfoldable pub from_attr_name : Place → List ℕ → List Attr → List ℕ → ℕ → Option State
-from_attr_name p name attrs attr c = if is_name_char c then at p (attr_name name attrs (attr ++ encode_utf8 c)) else if has_name attr attrs then None else from_attr_named p name attrs attr c
+from_attr_name p name attrs attr c = if is_name_char c then at p (attr_name name attrs (attr ++ encode_utf8 c))
+    else if has_name attr attrs then None
+    else from_attr_named p name attrs attr c
 
 unfoldable pub from_equals : Place → List ℕ → List Attr → List ℕ → ℕ → Option State
 from_equals p name attrs attr c = if is_quote c then at p (quoted name attrs attr c []) else if is_space c then at p (equals name attrs attr) else None

@@ -18,4 +18,5 @@ with_run s run = record { place = record { kids = s.place.kids; text = s.place.t
 -- from the rest of a text to what stands behind: nothing is taken, or a run in a text, behind no carriage return
 pub data Passed (behind_return : Bool) (s : State) (rest behind : List ℕ) (t : State) : Type 0 where
   nothing : rest ≡ behind → t ≡ s → Passed behind_return s rest behind t
-  run : (cs : List ℕ) → behind_return ≡ false → is_in_text s ≡ true → list_all is_plain cs ≡ true → rest ≡ cs ++ behind → t ≡ with_run s cs → Passed behind_return s rest behind t
+  run : (cs : List ℕ) → behind_return ≡ false → is_in_text s ≡ true → list_all is_plain cs ≡ true → rest ≡ cs ++ behind → t ≡ with_run s cs
+      → Passed behind_return s rest behind t

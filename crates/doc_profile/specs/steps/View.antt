@@ -1,5 +1,6 @@
 -- What a reader has read, as a state of the machine.
-use Rattle.std.specs.Prelude.{◌≡◌, ◌==◌, ◌&&◌, ◌++◌, encode_utf8, ℕ, Bool, true, false, List, map, fold, drop, Option, Some, None, Result, Ok, Err, string_bytes, if◌then◌else◌, codes, ⊤}
+use Rattle.std.specs.Prelude.{◌≡◌, ◌==◌, ◌&&◌, ◌++◌, encode_utf8, ℕ, Bool, true, false, List, map, fold, drop}
+use Rattle.std.specs.Prelude.{Option, Some, None, Result, Ok, Err, string_bytes, if◌then◌else◌, codes, ⊤}
 use Rattle.plain_tree.specs.Document.{Node, element, nodes}
 use Rattle.plain_tree.specs.View.{node}
 use Rattle.plain_tree.specs.declared.tree.Attr.{Attr}
@@ -129,4 +130,7 @@ nodes_of kids = map node kids.items
 
 -- the element that a level's end tag makes
 abbrev pub closed : Place → Level → State
-closed p l = record { place = m.with_node (map node l.kids.items) (string_bytes l.text) p.outer (element (string_bytes l.name) l.attrs.items (nodes (p.kids ++ text_node p.text))); phase = m.ready }
+closed p l = record {
+  place = m.with_node (map node l.kids.items) (string_bytes l.text) p.outer (element (string_bytes l.name) l.attrs.items (nodes (p.kids ++ text_node p.text)));
+  phase = m.ready;
+}

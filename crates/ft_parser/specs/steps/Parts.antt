@@ -36,7 +36,9 @@ filter_reading w i =
     if first_is (codes "at") (drop i w) then reading side w (i + 1) else other_filter_reading w i
 
 abbrev pub begins_other_filter : List Placed → Bool
-begins_other_filter w = first_is (codes "ordered") w || first_is (codes "window") w || first_is (codes "distance") w || first_is (codes "same") w || first_is (codes "different") w || first_is (codes "entire") w
+begins_other_filter w =
+    first_is (codes "ordered") w || first_is (codes "window") w || first_is (codes "distance") w || first_is (codes "same") w
+    || first_is (codes "different") w || first_is (codes "entire") w
 
 abbrev pub begins_filter : List Placed → Bool
 begins_filter w = begins_other_filter w || first_is (codes "at") w

@@ -8,7 +8,8 @@ use Rattle.ft_parser.specs.declared.state.Primary.TheVariants.{Phrases, Inner}
 use Rattle.ft_parser.specs.declared.state.Left.{Left}
 use Rattle.ft_parser.specs.declared.state.Frame.{Frame}
 use Rattle.ft_parser.specs.declared.state.Stage.{Stage}
-use Rattle.ft_parser.specs.declared.state.Stage.TheVariants.{Wanted, InBraces, Valued, AnyOf, AllOf, Moded, Given, StopTerms, StopStrings, Thesaurus, ThesaurusIn, ThesauriIn, WithFilter}
+use Rattle.ft_parser.specs.declared.state.Stage.TheVariants.{Wanted, InBraces, Valued, AnyOf, AllOf, Moded, Given, StopTerms}
+use Rattle.ft_parser.specs.declared.state.Stage.TheVariants.{StopStrings, Thesaurus, ThesaurusIn, ThesauriIn, WithFilter}
 use Rattle.ft_parser.specs.declared.state.State.{State}
 use Rattle.ft_parser.specs.declared.state.Halt.{Halt}
 use Rattle.ft_parser.specs.declared.state.Halt.TheVariants.{Stuck, Memory}

@@ -25,7 +25,8 @@ stands outer left stage = record { outer = outer; left = left; stage = stage }
 unfoldable pub using_turn : List Frame → Left → Option ℕ → Primary → List PlacedOption → ℕ → List Placed → ℕ → Turn
 using_turn outer left n x os at w i =
     if first_is (codes "thesaurus") (drop i w) then reading (m.thesaurus_first outer left n x os at) w (i + 1)
-    else if first_is (codes "stop") (drop i w) then (if first_is (codes "words") (drop (i + 1) w) then reading (m.term_next outer left n x os at [] false) w (i + 1 + 1) else Err (i + 1))
+    else if first_is (codes "stop") (drop i w)
+    then (if first_is (codes "words") (drop (i + 1) w) then reading (m.term_next outer left n x os at [] false) w (i + 1 + 1) else Err (i + 1))
     else further (reading (plain_option at) w i) (λ o k. Ok (stands outer left (m.given_options n x (os ++ o ∷ [])), k))
 
 unfoldable pub unfiltered_turn : List Frame → Left → Option ℕ → Primary → List PlacedOption → List Placed → ℕ → Turn
@@ -43,7 +44,9 @@ options_turn outer left n x os w i =
 
 unfoldable pub moded_turn : List Frame → Left → Option ℕ → List PlacedString → Mode → List Placed → ℕ → Turn
 moded_turn outer left n strings mode w i =
-    if first_is (codes "occurs") (drop i w) then further (times_reading (first_place (drop i w)) w (i + 1)) (λ t k. Ok (stands outer left (m.given_options n (phrases strings mode (Some t)) []), k))
+    if first_is (codes "occurs") (drop i w)
+    then further (times_reading (first_place (drop i w)) w (i + 1))
+    (λ t k. Ok (stands outer left (m.given_options n (phrases strings mode (Some t)) []), k))
     else options_turn outer left n (phrases strings mode None) [] w i
 
 -- the rest of levels
@@ -61,7 +64,8 @@ begins_range_without_at w = first_is (codes "exactly") w || first_is (codes "fro
 
 unfoldable pub behind_at_turn : List Frame → Left → Option ℕ → Primary → List PlacedOption → ℕ → List ℕ → Option (List ℕ) → List Placed → ℕ → Turn
 behind_at_turn outer left n x os at s r w i =
-    if begins_bound (drop i w) then levels_turn (with_levels outer left n x os at s r) w (reading bound w i) else filtered_turn outer (thesaurus_selection left n x os at s r) (reading side w i)
+    if begins_bound (drop i w) then levels_turn (with_levels outer left n x os at s r) w (reading bound w i)
+    else filtered_turn outer (thesaurus_selection left n x os at s r) (reading side w i)
 
 unfoldable pub behind_thesaurus_turn : List Frame → Left → Option ℕ → Primary → List PlacedOption → ℕ → List ℕ → Option (List ℕ) → List Placed → ℕ → Turn
 behind_thesaurus_turn outer left n x os at s r w i =
@@ -80,7 +84,8 @@ begins_range w = begins_range_without_at w || first_is (codes "at") w
 abbrev pub in_levels : List Frame → Left → Option ℕ → Primary → List PlacedOption → ℕ → List ThesaurusUse → List ℕ → Option (List ℕ) → Option Range → State
 in_levels outer left n x os at us s r l = stands outer left (m.thesauri_in n x os at (us ++ m.thesaurus_use s r l ∷ []))
 
-unfoldable pub thesaurus_in_rest_turn : List Frame → Left → Option ℕ → Primary → List PlacedOption → ℕ → List ThesaurusUse → List ℕ → Option (List ℕ) → List Placed → ℕ → Turn
+unfoldable pub thesaurus_in_rest_turn : List Frame → Left → Option ℕ → Primary → List PlacedOption → ℕ → List ThesaurusUse → List ℕ
+    → Option (List ℕ) → List Placed → ℕ → Turn
 thesaurus_in_rest_turn outer left n x os at us s r w i =
     if begins_range (drop i w) then levels_turn (in_levels outer left n x os at us s r) w (reading range w i)
     else reading (m.thesauri_next outer left n x os at (us ++ m.thesaurus_use s r None ∷ [])) w i
@@ -89,14 +94,17 @@ abbrev pub is_none : {A : Type 0} → Option A → Bool
 is_none None = true
 is_none (Some a) = false
 
-unfoldable pub thesaurus_in_turn : List Frame → Left → Option ℕ → Primary → List PlacedOption → ℕ → List ThesaurusUse → List ℕ → Option (List ℕ) → List Placed → ℕ → Turn
+unfoldable pub thesaurus_in_turn : List Frame → Left → Option ℕ → Primary → List PlacedOption → ℕ → List ThesaurusUse → List ℕ
+    → Option (List ℕ) → List Placed → ℕ → Turn
 thesaurus_in_turn outer left n x os at us s r w i =
-    if is_none r && first_is (codes "relationship") (drop i w) then reading (m.relationship_name (λ t. stands outer left (m.thesaurus_in n x os at us s (Some t)))) w (i + 1)
+    if is_none r && first_is (codes "relationship") (drop i w)
+    then reading (m.relationship_name (λ t. stands outer left (m.thesaurus_in n x os at us s (Some t)))) w (i + 1)
     else thesaurus_in_rest_turn outer left n x os at us s r w i
 
 unfoldable pub thesaurus_turn : List Frame → Left → Option ℕ → Primary → List PlacedOption → ℕ → List ℕ → Option (List ℕ) → List Placed → ℕ → Turn
 thesaurus_turn outer left n x os at s r w i =
-    if is_none r && first_is (codes "relationship") (drop i w) then reading (m.relationship_name (λ t. stands outer left (m.thesaurus n x os at s (Some t)))) w (i + 1)
+    if is_none r && first_is (codes "relationship") (drop i w)
+    then reading (m.relationship_name (λ t. stands outer left (m.thesaurus n x os at s (Some t)))) w (i + 1)
     else thesaurus_rest_turn outer left n x os at s r w i
 
 unfoldable pub valued_turn : List Frame → Left → Option ℕ → List PlacedString → List Placed → ℕ → Turn

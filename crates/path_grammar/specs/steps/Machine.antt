@@ -105,7 +105,8 @@ contains_next (frame ∷ outer) joint selections before = Some (stand (frame ∷
 abbrev pub steps_next : List Frame → Joint → List Inside → List form.Step → Symbol → Option Inner
 steps_next frames joint selections before S.Slash = Some (stand frames joint selections (slashes before false))
 steps_next frames joint selections before S.DoubleSlash = Some (stand frames joint selections (slashes before true))
-steps_next frames joint selections before (S.Name name) = if is_word (codes "contains") (S.Name name) then contains_next frames joint selections before else None
+steps_next frames joint selections before (S.Name name) = if is_word (codes "contains") (S.Name name) then contains_next frames joint selections before
+    else None
 steps_next frames joint selections before other = None
 
 abbrev pub step_next : List Frame → Joint → List Inside → LastStep → Symbol → Option Inner
@@ -126,7 +127,8 @@ wanted_next frames joint selections first (S.Number k) = number_next frames join
 wanted_next frames joint selections first S.OpenParenthesis = Some (stand (parentheses joint ∷ frames) no_joint selections (wanted false))
 wanted_next frames joint selections first S.At = Some (stand frames joint selections at_sign)
 wanted_next frames joint selections first S.Period = Some (stand frames joint selections no_step)
-wanted_next frames joint selections first (S.Name name) = if is_word (codes "not") (S.Name name) then Some (stand frames joint selections not_name) else test_next frames joint selections [] false (S.Name name)
+wanted_next frames joint selections first (S.Name name) = if is_word (codes "not") (S.Name name) then Some (stand frames joint selections not_name)
+    else test_next frames joint selections [] false (S.Name name)
 wanted_next frames joint selections first other = test_next frames joint selections [] false other
 
 -- `not` is a name but for `(` directly behind it
@@ -161,7 +163,9 @@ value_next frames joint selections name (S.Text value) = Some (stand frames join
 value_next frames joint selections name other = None
 
 abbrev pub text_next : List Frame → Joint → List Inside → List form.Step → Symbol → Option Inner
-text_next frames joint selections before symbol = if is_word (codes "text") symbol then Some (stand frames joint selections (selecting before [] (Shape.whole selection.start))) else None
+text_next frames joint selections before symbol = if is_word (codes "text") symbol
+    then Some (stand frames joint selections (selecting before [] (Shape.whole selection.start)))
+    else None
 
 abbrev pub selecting_next : List Frame → Joint → List Inside → List form.Step → List Placed → Option (Shape selection.State) → Option Inner
 selecting_next frames joint selections before symbols None = None
@@ -180,7 +184,8 @@ within_next frames joint selections (attribute name) p = attribute_next frames j
 within_next frames joint selections (equals name) p = value_next frames joint selections name p.symbol
 within_next frames joint selections (ended c) p = None
 within_next frames joint selections (contains before) p = text_next frames joint selections before p.symbol
-within_next frames joint selections (selecting before symbols shape) p = selecting_next frames joint selections before (symbols ++ p ∷ []) (selection.advance shape p)
+within_next frames joint selections (selecting before symbols shape) p =
+    selecting_next frames joint selections before (symbols ++ p ∷ []) (selection.advance shape p)
 
 -- a condition with the selections up to its end
 abbrev pub selected : List Inside → List form.Step → List Placed → Option Tree → Option (form.Condition × List Inside)
@@ -244,7 +249,9 @@ pub data State : Type 0 where
   along : PathRoot → Inner → State
 
 abbrev pub root_words : Symbol → Option State
-root_words symbol = if is_word (codes "collection") symbol then Some (at_root collection_name) else if is_word (codes "doc") symbol then Some (at_root doc_name) else None
+root_words symbol = if is_word (codes "collection") symbol then Some (at_root collection_name)
+    else if is_word (codes "doc") symbol then Some (at_root doc_name)
+    else None
 
 abbrev pub root_next : RootStage → Symbol → Option State
 root_next nothing symbol = root_words symbol

@@ -9,34 +9,62 @@ ghost use Rattle.path_grammar.specs.Form.{steps, no_steps, number, holds, and_of
 
 /// `collection()//b[2]`, and what stops it: a number behind `(`, and a second number.
 pub fn read_number()
-    ensures number { value_of (row (S.Name (codes "collection") ∷ S.OpenParenthesis ∷ S.CloseParenthesis ∷ S.DoubleSlash ∷ S.Name (codes "b") ∷ S.OpenBracket ∷ S.Number 2 ∷ S.CloseBracket ∷ [])) ≡ Some (record { root = R.Collection; steps = steps (below (codes "b") (number 2 ∷ []) ∷ []) }, []) }
-    ensures in_parentheses { depth_of (row (S.Name (codes "collection") ∷ S.OpenParenthesis ∷ S.CloseParenthesis ∷ S.DoubleSlash ∷ S.Name (codes "b") ∷ S.OpenBracket ∷ S.OpenParenthesis ∷ S.Number 2 ∷ [])) ≡ None }
-    ensures twice { depth_of (row (S.Name (codes "collection") ∷ S.OpenParenthesis ∷ S.CloseParenthesis ∷ S.DoubleSlash ∷ S.Name (codes "b") ∷ S.OpenBracket ∷ S.Number 2 ∷ S.Number 2 ∷ [])) ≡ None }
-    ensures within { depth_of (row (S.Name (codes "collection") ∷ S.OpenParenthesis ∷ S.CloseParenthesis ∷ S.DoubleSlash ∷ S.Name (codes "b") ∷ S.OpenBracket ∷ S.Number 2 ∷ [])) ≡ Some 1 }
+    ensures number { value_of (row (S.Name (codes "collection") ∷ S.OpenParenthesis ∷ S.CloseParenthesis ∷ S.DoubleSlash
+        ∷ S.Name (codes "b") ∷ S.OpenBracket ∷ S.Number 2 ∷ S.CloseBracket ∷ []))
+        ≡ Some (record { root = R.Collection; steps = steps (below (codes "b") (number 2 ∷ []) ∷ []) }, []) }
+    ensures in_parentheses { depth_of (row (S.Name (codes "collection") ∷ S.OpenParenthesis ∷ S.CloseParenthesis ∷ S.DoubleSlash
+        ∷ S.Name (codes "b") ∷ S.OpenBracket ∷ S.OpenParenthesis ∷ S.Number 2 ∷ [])) ≡ None }
+    ensures twice { depth_of (row (S.Name (codes "collection") ∷ S.OpenParenthesis ∷ S.CloseParenthesis ∷ S.DoubleSlash ∷ S.Name (codes "b")
+        ∷ S.OpenBracket ∷ S.Number 2 ∷ S.Number 2 ∷ [])) ≡ None }
+    ensures within { depth_of (row (S.Name (codes "collection") ∷ S.OpenParenthesis ∷ S.CloseParenthesis ∷ S.DoubleSlash
+        ∷ S.Name (codes "b") ∷ S.OpenBracket ∷ S.Number 2 ∷ [])) ≡ Some 1 }
 {}
 
 /// `doc("x")/a[. contains text "u" and not(@k)]`.
 pub fn read_and_not()
-    ensures whole { value_of (row (S.Name (codes "doc") ∷ S.OpenParenthesis ∷ S.Text (codes "x") ∷ S.CloseParenthesis ∷ S.Slash ∷ S.Name (codes "a") ∷ S.OpenBracket ∷ S.Period ∷ S.Name (codes "contains") ∷ S.Name (codes "text") ∷ S.Text (codes "u") ∷ S.Name (codes "and") ∷ S.Name (codes "not") ∷ S.OpenParenthesis ∷ S.At ∷ S.Name (codes "k") ∷ S.CloseParenthesis ∷ S.CloseBracket ∷ []))
-        ≡ Some (record { root = R.Doc (codes "x"); steps = steps (child (codes "a") (holds (and_of (conditions (contains no_steps 0 ∷ not_of (attribute (codes "k") None) ∷ []))) ∷ []) ∷ []) }, quoted_inside (10, 11) (codes "u") ∷ []) }
-    ensures two_open { depth_of (row (S.Name (codes "doc") ∷ S.OpenParenthesis ∷ S.Text (codes "x") ∷ S.CloseParenthesis ∷ S.Slash ∷ S.Name (codes "a") ∷ S.OpenBracket ∷ S.Period ∷ S.Name (codes "contains") ∷ S.Name (codes "text") ∷ S.Text (codes "u") ∷ S.Name (codes "and") ∷ S.Name (codes "not") ∷ S.OpenParenthesis ∷ [])) ≡ Some 2 }
+    ensures whole { value_of (row (S.Name (codes "doc") ∷ S.OpenParenthesis ∷ S.Text (codes "x") ∷ S.CloseParenthesis ∷ S.Slash
+        ∷ S.Name (codes "a") ∷ S.OpenBracket ∷ S.Period ∷ S.Name (codes "contains") ∷ S.Name (codes "text") ∷ S.Text (codes "u")
+        ∷ S.Name (codes "and") ∷ S.Name (codes "not") ∷ S.OpenParenthesis ∷ S.At ∷ S.Name (codes "k") ∷ S.CloseParenthesis
+        ∷ S.CloseBracket ∷ []))
+        ≡ Some (
+          record {
+            root = R.Doc (codes "x");
+            steps = steps (child (codes "a") (holds (and_of (conditions (contains no_steps 0 ∷ not_of (attribute (codes "k") None) ∷ []))) ∷ []) ∷ []);
+          },
+          quoted_inside (10, 11) (codes "u") ∷ [],
+        ) }
+    ensures two_open { depth_of (row (S.Name (codes "doc") ∷ S.OpenParenthesis ∷ S.Text (codes "x") ∷ S.CloseParenthesis ∷ S.Slash
+        ∷ S.Name (codes "a") ∷ S.OpenBracket ∷ S.Period ∷ S.Name (codes "contains") ∷ S.Name (codes "text") ∷ S.Text (codes "u")
+        ∷ S.Name (codes "and") ∷ S.Name (codes "not") ∷ S.OpenParenthesis ∷ [])) ≡ Some 2 }
 {}
 
 /// `collection()/a[b contains text "u" or c/d contains text "w"]`: two selections, the numbers 0 and 1.
 pub fn read_selections()
-    ensures { value_of (row (S.Name (codes "collection") ∷ S.OpenParenthesis ∷ S.CloseParenthesis ∷ S.Slash ∷ S.Name (codes "a") ∷ S.OpenBracket ∷ S.Name (codes "b") ∷ S.Name (codes "contains") ∷ S.Name (codes "text") ∷ S.Text (codes "u") ∷ S.Name (codes "or") ∷ S.Name (codes "c") ∷ S.Slash ∷ S.Name (codes "d") ∷ S.Name (codes "contains") ∷ S.Name (codes "text") ∷ S.Text (codes "w") ∷ S.CloseBracket ∷ []))
+    ensures { value_of (row (S.Name (codes "collection") ∷ S.OpenParenthesis ∷ S.CloseParenthesis ∷ S.Slash ∷ S.Name (codes "a")
+        ∷ S.OpenBracket ∷ S.Name (codes "b") ∷ S.Name (codes "contains") ∷ S.Name (codes "text") ∷ S.Text (codes "u")
+        ∷ S.Name (codes "or") ∷ S.Name (codes "c") ∷ S.Slash ∷ S.Name (codes "d") ∷ S.Name (codes "contains") ∷ S.Name (codes "text")
+        ∷ S.Text (codes "w") ∷ S.CloseBracket ∷ []))
         ≡ Some (
-          record { root = R.Collection; steps = steps (child (codes "a") (holds (or_of (conditions (contains (steps (child (codes "b") [] ∷ [])) 0 ∷ contains (steps (child (codes "c") [] ∷ child (codes "d") [] ∷ [])) 1 ∷ []))) ∷ []) ∷ []) },
+          record {
+            root = R.Collection;
+            steps = steps (child (codes "a") (holds (or_of (conditions (contains (steps (child (codes "b") [] ∷ [])) 0
+                ∷ contains (steps (child (codes "c") [] ∷ child (codes "d") [] ∷ [])) 1 ∷ []))) ∷ []) ∷ []);
+          },
           quoted_inside (9, 10) (codes "u") ∷ quoted_inside (16, 17) (codes "w") ∷ [],
         ) }
 {}
 
 /// `not` is an element's name where no `(` stands behind it, `.` takes no predicate, and the longest run of a selection decides.
 pub fn read_names()
-    ensures not { value_of (row (S.Name (codes "collection") ∷ S.OpenParenthesis ∷ S.CloseParenthesis ∷ S.Slash ∷ S.Name (codes "not") ∷ S.OpenBracket ∷ S.Name (codes "not") ∷ S.CloseBracket ∷ []))
+    ensures not { value_of (row (S.Name (codes "collection") ∷ S.OpenParenthesis ∷ S.CloseParenthesis ∷ S.Slash ∷ S.Name (codes "not")
+        ∷ S.OpenBracket ∷ S.Name (codes "not") ∷ S.CloseBracket ∷ []))
         ≡ Some (record { root = R.Collection; steps = steps (child (codes "not") (holds (exists (steps (child (codes "not") [] ∷ []))) ∷ []) ∷ []) }, []) }
-    ensures other { depth_of (row (S.Name (codes "collection") ∷ S.OpenParenthesis ∷ S.CloseParenthesis ∷ S.Slash ∷ S.Name (codes "a") ∷ S.OpenBracket ∷ S.Name (codes "b") ∷ S.OpenParenthesis ∷ [])) ≡ None }
-    ensures period { depth_of (row (S.Name (codes "collection") ∷ S.OpenParenthesis ∷ S.CloseParenthesis ∷ S.Slash ∷ S.Name (codes "a") ∷ S.OpenBracket ∷ S.Period ∷ S.OpenBracket ∷ [])) ≡ None }
-    ensures longest { depth_of (row (S.Name (codes "collection") ∷ S.OpenParenthesis ∷ S.CloseParenthesis ∷ S.Slash ∷ S.Name (codes "a") ∷ S.OpenBracket ∷ S.Period ∷ S.Name (codes "contains") ∷ S.Name (codes "text") ∷ S.Text (codes "u") ∷ S.Name (codes "not") ∷ S.OpenParenthesis ∷ [])) ≡ None }
+    ensures other { depth_of (row (S.Name (codes "collection") ∷ S.OpenParenthesis ∷ S.CloseParenthesis ∷ S.Slash ∷ S.Name (codes "a")
+        ∷ S.OpenBracket ∷ S.Name (codes "b") ∷ S.OpenParenthesis ∷ [])) ≡ None }
+    ensures period { depth_of (row (S.Name (codes "collection") ∷ S.OpenParenthesis ∷ S.CloseParenthesis ∷ S.Slash ∷ S.Name (codes "a")
+        ∷ S.OpenBracket ∷ S.Period ∷ S.OpenBracket ∷ [])) ≡ None }
+    ensures longest { depth_of (row (S.Name (codes "collection") ∷ S.OpenParenthesis ∷ S.CloseParenthesis ∷ S.Slash ∷ S.Name (codes "a")
+        ∷ S.OpenBracket ∷ S.Period ∷ S.Name (codes "contains") ∷ S.Name (codes "text") ∷ S.Text (codes "u") ∷ S.Name (codes "not")
+        ∷ S.OpenParenthesis ∷ [])) ≡ None }
     ensures no_step { value_of (row (S.Name (codes "collection") ∷ S.OpenParenthesis ∷ S.CloseParenthesis ∷ [])) ≡ None }
 {}

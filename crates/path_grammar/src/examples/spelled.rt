@@ -10,27 +10,42 @@ ghost use Rattle.path_grammar.specs.Levels.{levels};
 
 /// `collection()//b[2]`.
 pub fn spelled_number()
-    ensures { Path (row (S.Name (codes "collection") ∷ S.OpenParenthesis ∷ S.CloseParenthesis ∷ S.DoubleSlash ∷ S.Name (codes "b") ∷ S.OpenBracket ∷ S.Number 2 ∷ S.CloseBracket ∷ []))
+    ensures { Path (row (S.Name (codes "collection") ∷ S.OpenParenthesis ∷ S.CloseParenthesis ∷ S.DoubleSlash ∷ S.Name (codes "b")
+        ∷ S.OpenBracket ∷ S.Number 2 ∷ S.CloseBracket ∷ []))
         (record { root = R.Collection; steps = steps (below (codes "b") (number 2 ∷ []) ∷ []) }) [] }
 {}
 
 /// `doc("x")/a[. contains text "u" and not(@k)]`, of two levels.
 pub fn spelled_and_not()
-    ensures { (whole : Path (row (S.Name (codes "doc") ∷ S.OpenParenthesis ∷ S.Text (codes "x") ∷ S.CloseParenthesis ∷ S.Slash ∷ S.Name (codes "a") ∷ S.OpenBracket ∷ S.Period ∷ S.Name (codes "contains") ∷ S.Name (codes "text") ∷ S.Text (codes "u") ∷ S.Name (codes "and") ∷ S.Name (codes "not") ∷ S.OpenParenthesis ∷ S.At ∷ S.Name (codes "k") ∷ S.CloseParenthesis ∷ S.CloseBracket ∷ []))
-        (record { root = R.Doc (codes "x"); steps = steps (child (codes "a") (holds (and_of (conditions (contains no_steps 0 ∷ not_of (attribute (codes "k") None) ∷ []))) ∷ []) ∷ []) })
+    ensures { (whole : Path (row (S.Name (codes "doc") ∷ S.OpenParenthesis ∷ S.Text (codes "x") ∷ S.CloseParenthesis ∷ S.Slash
+        ∷ S.Name (codes "a") ∷ S.OpenBracket ∷ S.Period ∷ S.Name (codes "contains") ∷ S.Name (codes "text") ∷ S.Text (codes "u")
+        ∷ S.Name (codes "and") ∷ S.Name (codes "not") ∷ S.OpenParenthesis ∷ S.At ∷ S.Name (codes "k") ∷ S.CloseParenthesis
+        ∷ S.CloseBracket ∷ []))
+        (record {
+          root = R.Doc (codes "x");
+          steps = steps (child (codes "a") (holds (and_of (conditions (contains no_steps 0 ∷ not_of (attribute (codes "k") None) ∷ []))) ∷ []) ∷ []);
+        })
         (quoted_inside (10, 11) (codes "u") ∷ [])) × (levels whole ≡ 2) }
 {}
 
 /// `collection()/a[b contains text "u" or c/d contains text "w"]`: two selections, the numbers 0 and 1.
 pub fn spelled_selections()
-    ensures { Path (row (S.Name (codes "collection") ∷ S.OpenParenthesis ∷ S.CloseParenthesis ∷ S.Slash ∷ S.Name (codes "a") ∷ S.OpenBracket ∷ S.Name (codes "b") ∷ S.Name (codes "contains") ∷ S.Name (codes "text") ∷ S.Text (codes "u") ∷ S.Name (codes "or") ∷ S.Name (codes "c") ∷ S.Slash ∷ S.Name (codes "d") ∷ S.Name (codes "contains") ∷ S.Name (codes "text") ∷ S.Text (codes "w") ∷ S.CloseBracket ∷ []))
-        (record { root = R.Collection; steps = steps (child (codes "a") (holds (or_of (conditions (contains (steps (child (codes "b") [] ∷ [])) 0 ∷ contains (steps (child (codes "c") [] ∷ child (codes "d") [] ∷ [])) 1 ∷ []))) ∷ []) ∷ []) })
+    ensures { Path (row (S.Name (codes "collection") ∷ S.OpenParenthesis ∷ S.CloseParenthesis ∷ S.Slash ∷ S.Name (codes "a") ∷ S.OpenBracket
+        ∷ S.Name (codes "b") ∷ S.Name (codes "contains") ∷ S.Name (codes "text") ∷ S.Text (codes "u") ∷ S.Name (codes "or")
+        ∷ S.Name (codes "c") ∷ S.Slash ∷ S.Name (codes "d") ∷ S.Name (codes "contains") ∷ S.Name (codes "text") ∷ S.Text (codes "w")
+        ∷ S.CloseBracket ∷ []))
+        (record {
+          root = R.Collection;
+          steps = steps (child (codes "a") (holds (or_of (conditions (contains (steps (child (codes "b") [] ∷ [])) 0
+              ∷ contains (steps (child (codes "c") [] ∷ child (codes "d") [] ∷ [])) 1 ∷ []))) ∷ []) ∷ []);
+        })
         (quoted_inside (9, 10) (codes "u") ∷ quoted_inside (16, 17) (codes "w") ∷ []) }
 {}
 
 /// `collection()/not[or]`: keywords are names in other places.
 pub fn spelled_keywords()
-    ensures { Path (row (S.Name (codes "collection") ∷ S.OpenParenthesis ∷ S.CloseParenthesis ∷ S.Slash ∷ S.Name (codes "not") ∷ S.OpenBracket ∷ S.Name (codes "or") ∷ S.CloseBracket ∷ []))
+    ensures { Path (row (S.Name (codes "collection") ∷ S.OpenParenthesis ∷ S.CloseParenthesis ∷ S.Slash ∷ S.Name (codes "not")
+        ∷ S.OpenBracket ∷ S.Name (codes "or") ∷ S.CloseBracket ∷ []))
         (record { root = R.Collection; steps = steps (child (codes "not") (holds (exists (steps (child (codes "or") [] ∷ []))) ∷ []) ∷ []) }) [] }
 {}
 

@@ -10,12 +10,14 @@ ghost use Rattle.path_grammar.specs.steps.Machine.{State, read, finished, open_c
 
 /// What the machine ends with is spelled by the symbols.
 pub fn read_is_spelled()
-    ensures { (symbols : List Placed) (state : State) (value : form.Path) (selections : List Inside) → read symbols ≡ Some state → finished state ≡ Some (value, selections) → Path symbols value selections }
+    ensures { (symbols : List Placed) (state : State) (value : form.Path) (selections : List Inside) → read symbols ≡ Some state
+        → finished state ≡ Some (value, selections) → Path symbols value selections }
 {}
 
 /// What the symbols spell the machine reads.
 pub fn spelled_is_read()
-    ensures { (symbols : List Placed) (value : form.Path) (selections : List Inside) → Path symbols value selections → (state : State) × (read symbols ≡ Some state) × (finished state ≡ Some (value, selections)) }
+    ensures { (symbols : List Placed) (value : form.Path) (selections : List Inside) → Path symbols value selections
+        → (state : State) × (read symbols ≡ Some state) × (finished state ≡ Some (value, selections)) }
 {}
 
 /// Symbols spell one path at most, with one list of selections.
@@ -32,9 +34,14 @@ pub fn machine_begins()
 /// How much is open on the machine's way is how deep a path's brackets and parentheses stand in one another. A symbol opens
 /// a level past the most where more is open behind it.
 pub fn machine_levels()
-    ensures depth { (symbols : List Placed) (value : form.Path) (selections : List Inside) → (whole : Path symbols value selections) → levels whole ≡ most_open symbols }
-    ensures within { (most : ℕ) (symbols : List Placed) → BeginsWithin most symbols ↔ ((state : State) × (read symbols ≡ Some state) × (most_open symbols ≤ most)) }
-    ensures one_more { (symbols : List Placed) (p : Placed) (state : State) → read (symbols ++ p ∷ []) ≡ Some state → most_open (symbols ++ p ∷ []) ≡ max (most_open symbols) (open_count state) }
-    ensures too_deep { (most : ℕ) (symbols : List Placed) (p : Placed) → BeginsWithin most symbols → OpensTooDeep most symbols p ↔ ((state : State) × (read (symbols ++ p ∷ []) ≡ Some state) × (most < open_count state)) }
-    ensures symbol { (most : ℕ) (symbols : List Placed) (p : Placed) → OpensTooDeep most symbols p → (p.symbol ≡ S.OpenBracket) ⊎ (p.symbol ≡ S.OpenParenthesis) }
+    ensures depth { (symbols : List Placed) (value : form.Path) (selections : List Inside) → (whole : Path symbols value selections)
+        → levels whole ≡ most_open symbols }
+    ensures within { (most : ℕ) (symbols : List Placed)
+        → BeginsWithin most symbols ↔ ((state : State) × (read symbols ≡ Some state) × (most_open symbols ≤ most)) }
+    ensures one_more { (symbols : List Placed) (p : Placed) (state : State) → read (symbols ++ p ∷ []) ≡ Some state
+        → most_open (symbols ++ p ∷ []) ≡ max (most_open symbols) (open_count state) }
+    ensures too_deep { (most : ℕ) (symbols : List Placed) (p : Placed) → BeginsWithin most symbols
+        → OpensTooDeep most symbols p ↔ ((state : State) × (read (symbols ++ p ∷ []) ≡ Some state) × (most < open_count state)) }
+    ensures symbol { (most : ℕ) (symbols : List Placed) (p : Placed) → OpensTooDeep most symbols p
+        → (p.symbol ≡ S.OpenBracket) ⊎ (p.symbol ≡ S.OpenParenthesis) }
 {}

@@ -13,5 +13,6 @@ pub fn views_law()
     ensures holds { (c : Condition) → predicate (Holds c) ≡ form.holds (condition c) }
     ensures either { (parts : List Condition) → condition (Or parts) ≡ form.or_of (form.conditions (map condition parts)) }
     ensures exists { (further : List Step) → condition (Exists further) ≡ form.exists (form.steps (map step further)) }
-    ensures contains { (further : List Step) (selection : ℕ) → condition (Contains further selection) ≡ form.contains (form.steps (map step further)) selection }
+    ensures contains { (further : List Step) (selection : ℕ)
+        → condition (Contains further selection) ≡ form.contains (form.steps (map step further)) selection }
 {}

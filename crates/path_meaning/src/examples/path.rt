@@ -1,5 +1,9 @@
 //! What paths select in small documents, by computation.
-#![tactic(auto, unfolding(crate::specs::Meaning::stepped, crate::specs::Meaning::led, crate::specs::Meaning::filtered, crate::specs::Meaning::filtered_by, crate::specs::Meaning::is_true, crate::specs::Meaning::some_true, crate::specs::Meaning::each_true, crate::specs::Meaning::selected))]
+#![tactic(auto, unfolding(
+// where steps and predicates lead
+crate::specs::Meaning::stepped, crate::specs::Meaning::led, crate::specs::Meaning::filtered, crate::specs::Meaning::filtered_by,
+// which conditions are true, and what a path selects
+crate::specs::Meaning::is_true, crate::specs::Meaning::some_true, crate::specs::Meaning::each_true, crate::specs::Meaning::selected))]
 
 ghost use Rattle.std.specs.Prelude.{◌≡◌, [], ◌∷◌, codes, Some, None, false};
 ghost use Rattle.path_grammar.specs.declared.path.NameTest.TheVariants as T;
@@ -26,16 +30,22 @@ pub fn selected_by_number()
     ensures second { places nothing (below (codes "b") (number 2 ∷ []) ∷ []) letters ≡ (2 ∷ []) ∷ [] }
     ensures first_of_each { places nothing (below (codes "b") (number 1 ∷ []) ∷ []) letters ≡ (1 ∷ []) ∷ (3 ∷ 1 ∷ []) ∷ [] }
     ensures behind_a_text { places (has_text (codes "x")) (below (codes "b") (holds (contains no_steps 0) ∷ number 2 ∷ []) ∷ []) letters ≡ [] }
-    ensures second_as_first { places (has_text (codes "y")) (below (codes "b") (holds (contains no_steps 0) ∷ number 1 ∷ []) ∷ []) letters ≡ (2 ∷ []) ∷ (3 ∷ 1 ∷ []) ∷ [] }
-    ensures in_front_of_a_text { places (has_text (codes "y")) (below (codes "b") (number 1 ∷ holds (contains no_steps 0) ∷ []) ∷ []) letters ≡ (3 ∷ 1 ∷ []) ∷ [] }
+    ensures second_as_first { places (has_text (codes "y")) (below (codes "b") (holds (contains no_steps 0) ∷ number 1 ∷ []) ∷ []) letters
+        ≡ (2 ∷ []) ∷ (3 ∷ 1 ∷ []) ∷ [] }
+    ensures in_front_of_a_text { places (has_text (codes "y")) (below (codes "b") (number 1 ∷ holds (contains no_steps 0) ∷ []) ∷ [])
+        letters ≡ (3 ∷ 1 ∷ []) ∷ [] }
     ensures zero { places nothing (below (codes "b") (number 0 ∷ []) ∷ []) letters ≡ [] }
     ensures past_the_last { places nothing (below (codes "b") (number 1000000 ∷ []) ∷ []) letters ≡ [] }
 {}
 
 /// Conditions on an element: what steps from it lead to, its attributes, and `not`, `and`, `or`.
 pub fn selected_by_condition()
-    ensures text_below { places (has_text (codes "x y")) (child (codes "a") (holds (and_of (conditions (contains (steps (child (codes "c") [] ∷ child (codes "b") [] ∷ [])) 0 ∷ not_of (attribute (codes "k") None) ∷ []))) ∷ []) ∷ []) letters ≡ [] ∷ [] }
-    ensures other_text_below { places (has_text (codes "y x")) (child (codes "a") (holds (contains (steps (child (codes "c") [] ∷ child (codes "b") [] ∷ [])) 0) ∷ []) ∷ []) letters ≡ [] }
+    ensures text_below { places (has_text (codes "x y"))
+        (child (codes "a") (holds
+        (and_of (conditions (contains (steps (child (codes "c") [] ∷ child (codes "b") [] ∷ [])) 0 ∷ not_of (attribute (codes "k") None) ∷ []))) ∷ []) ∷ [])
+        letters ≡ [] ∷ [] }
+    ensures other_text_below { places (has_text (codes "y x"))
+        (child (codes "a") (holds (contains (steps (child (codes "c") [] ∷ child (codes "b") [] ∷ [])) 0) ∷ []) ∷ []) letters ≡ [] }
     ensures itself { places nothing (below (codes "b") (holds (exists no_steps) ∷ []) ∷ []) letters ≡ (1 ∷ []) ∷ (2 ∷ []) ∷ (3 ∷ 1 ∷ []) ∷ [] }
     ensures some_child { places nothing (below (codes "a") (holds (exists (steps (child (codes "a") [] ∷ []))) ∷ []) ∷ []) three_deep ≡ [] ∷ (1 ∷ []) ∷ [] }
     ensures text_of_both { places (has_text (codes "y")) (below (codes "a") (holds (contains no_steps 0) ∷ []) ∷ []) nested ≡ [] ∷ (2 ∷ []) ∷ [] }
@@ -45,13 +55,19 @@ pub fn selected_by_condition()
     ensures other_value { places nothing (child (codes "a") (holds (attribute (codes "t") (Some (codes "2"))) ∷ []) ∷ []) with_attribute ≡ [] }
     ensures present { places nothing (child (codes "a") (holds (attribute (codes "t") None) ∷ []) ∷ []) with_attribute ≡ [] ∷ [] }
     ensures absent { places nothing (child (codes "a") (holds (not_of (attribute (codes "t") None)) ∷ []) ∷ []) with_attribute ≡ [] }
-    ensures either { places nothing (child (codes "a") (holds (or_of (conditions (attribute (codes "k") None ∷ attribute (codes "t") None ∷ []))) ∷ []) ∷ []) with_attribute ≡ [] ∷ [] }
+    ensures either { places nothing
+        (child (codes "a") (holds (or_of (conditions (attribute (codes "k") None ∷ attribute (codes "t") None ∷ []))) ∷ []) ∷ []) with_attribute ≡ [] ∷ [] }
 {}
 
 /// A path looks into each document in order, or into the one of its name.
 pub fn selected_in_a_collection()
     ensures no_document { nodes nothing (record { root = R.Collection; steps = steps (below (codes "a") [] ∷ []) }) [] ≡ [] }
-    ensures each { nodes nothing (record { root = R.Collection; steps = steps (child (codes "a") [] ∷ []) }) (record { name = codes "y"; root = three_deep } ∷ record { name = codes "x"; root = letters } ∷ []) ≡ found_in (codes "y") (placed [] three_deep) ∷ found_in (codes "x") (placed [] letters) ∷ [] }
-    ensures one { nodes nothing (record { root = R.Doc (codes "x"); steps = steps (child (codes "a") [] ∷ []) }) (record { name = codes "y"; root = three_deep } ∷ record { name = codes "x"; root = letters } ∷ []) ≡ found_in (codes "x") (placed [] letters) ∷ [] }
-    ensures none_of_the_name { nodes nothing (record { root = R.Doc (codes "z"); steps = steps (child (codes "a") [] ∷ []) }) (record { name = codes "x"; root = letters } ∷ []) ≡ [] }
+    ensures each { nodes nothing (record { root = R.Collection; steps = steps (child (codes "a") [] ∷ []) })
+        (record { name = codes "y"; root = three_deep } ∷ record { name = codes "x"; root = letters } ∷ [])
+        ≡ found_in (codes "y") (placed [] three_deep) ∷ found_in (codes "x") (placed [] letters) ∷ [] }
+    ensures one { nodes nothing (record { root = R.Doc (codes "x"); steps = steps (child (codes "a") [] ∷ []) })
+        (record { name = codes "y"; root = three_deep } ∷ record { name = codes "x"; root = letters } ∷ [])
+        ≡ found_in (codes "x") (placed [] letters) ∷ [] }
+    ensures none_of_the_name { nodes nothing (record { root = R.Doc (codes "z"); steps = steps (child (codes "a") [] ∷ []) })
+        (record { name = codes "x"; root = letters } ∷ []) ≡ [] }
 {}

@@ -15,4 +15,5 @@ HaveSame xs ys = (p : Element → Bool) → list_any p xs ≡ list_any p ys
 
 -- Each element that is at or below a marked one is in the list.
 abbrev pub AreListed : {S : Type 0} → Numbered → HashSet ℕ S → List Element → Type 0
-AreListed root marks found = (r : NodeRef) → IsElement root r → is_marked marks r ≡ true → (p : Element → Bool) → list_any p (at_or_below (element_of root r)) ≡ true → list_any p found ≡ true
+AreListed root marks found = (r : NodeRef) → IsElement root r → is_marked marks r ≡ true → (p : Element → Bool)
+    → list_any p (at_or_below (element_of root r)) ≡ true → list_any p found ≡ true

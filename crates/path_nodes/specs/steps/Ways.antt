@@ -10,7 +10,8 @@ use Rattle.path_nodes.specs.steps.Within.{AtOrBelow, IsBelow}
 
 -- Each element above a marked one is marked.
 abbrev pub AreWays : {S : Type 0} → Numbered → HashSet ℕ S → Type 0
-AreWays root ways = (r q : NodeRef) → IsElement root r → IsElement root q → AtOrBelow (element_of root r) (element_of root q) → is_marked ways q ≡ true → is_marked ways r ≡ true
+AreWays root ways = (r q : NodeRef) → IsElement root r → IsElement root q → AtOrBelow (element_of root r) (element_of root q)
+    → is_marked ways q ≡ true → is_marked ways r ≡ true
 
 -- Each element below which one passes the test is marked.
 abbrev pub LeadTo : {S : Type 0} → Numbered → HashSet ℕ S → (Element → Bool) → Type 0

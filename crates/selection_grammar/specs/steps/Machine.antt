@@ -14,7 +14,8 @@ use Rattle.selection_grammar.specs.declared.parsed.MatchOption.TheVariants as O
 use Rattle.selection_grammar.specs.declared.parsed.PlacedString.{PlacedString}
 use Rattle.selection_grammar.specs.declared.parsed.PlacedOption.{PlacedOption}
 use Rattle.selection_grammar.specs.Shapes as shapes
-use Rattle.selection_grammar.specs.Shapes.{Shape, whole, nothing, word, text, mark, open_parenthesis, close_parenthesis, open_brace, close_brace, comma, or_else, and_then, run}
+use Rattle.selection_grammar.specs.Shapes.{Shape, whole, nothing, word, text, mark, open_parenthesis, close_parenthesis}
+use Rattle.selection_grammar.specs.Shapes.{open_brace, close_brace, comma, or_else, and_then, run}
 use Rattle.selection_grammar.specs.Keywords.{key, range, range_without_at, bound, side, filters, filters_without_at, times, plain_option, given}
 use Rattle.selection_grammar.specs.Grammar.{texts_of}
 use Rattle.selection_grammar.specs.Tree.{Tree, or_of, and_of, mild_not, filtered, joined, Primary, phrases, inner, optioned, negated}
@@ -97,16 +98,19 @@ enclosed_next outer left n = mark open_brace (first_in_braces outer left n) (mar
 
 -- what may stand where an operand is wanted
 abbrev pub operand_next : List Frame → Left → Option ℕ → Shape State
-operand_next outer left n = text (λ at s. whole (record { outer = outer; left = left; stage = valued n (record { at = at; text = s } ∷ []) })) (enclosed_next outer left n)
+operand_next outer left n =
+    text (λ at s. whole (record { outer = outer; left = left; stage = valued n (record { at = at; text = s } ∷ []) })) (enclosed_next outer left n)
 
 abbrev pub wanted_next : List Frame → Left → Option ℕ → Shape State
-wanted_next outer left None = word (codes "ftnot") (λ at. whole (record { outer = outer; left = left; stage = wanted (Some at) })) (operand_next outer left None)
+wanted_next outer left None =
+    word (codes "ftnot") (λ at. whole (record { outer = outer; left = left; stage = wanted (Some at) })) (operand_next outer left None)
 wanted_next outer left (Some at) = operand_next outer left (Some at)
 
 -- a parenthesis that closes the selection
 abbrev pub close_next : List Frame → Tree → Shape State
 close_next [] x = nothing
-close_next (frame ∷ outer) x = mark close_parenthesis (whole (record { outer = outer; left = frame.left; stage = given_options frame.negation (inner x) [] })) nothing
+close_next (frame ∷ outer) x =
+    mark close_parenthesis (whole (record { outer = outer; left = frame.left; stage = given_options frame.negation (inner x) [] })) nothing
 
 abbrev pub filtered_state : List Frame → Tree → Filter → State
 filtered_state outer x f = record { outer = outer; left = nothing_left_of; stage = with_filter (filtered x f) }
@@ -119,7 +123,8 @@ abbrev pub joint_words : List Frame → Left → Tree → Shape State
 joint_words outer left x =
     word (codes "ftor") (λ at. whole (record { outer = outer; left = record { ors = ors_with left x; ands = []; mild = None }; stage = wanted None }))
     (word (codes "ftand") (λ at. whole (record { outer = outer; left = record { ors = left.ors; ands = ands_with left x; mild = None }; stage = wanted None }))
-    (word (codes "not") (λ at. key (codes "in") (whole (record { outer = outer; left = record { ors = left.ors; ands = left.ands; mild = Some (mild_with left.mild x) }; stage = wanted None })))
+    (word (codes "not") (λ at. key (codes "in")
+    (whole (record { outer = outer; left = record { ors = left.ors; ands = left.ands; mild = Some (mild_with left.mild x) }; stage = wanted None })))
     nothing))
 
 abbrev pub joint_next : List Frame → Left → Tree → Shape State
@@ -127,10 +132,14 @@ joint_next outer left x = or_else (joint_words outer left x) (close_next outer (
 
 -- a term of a stop word option
 abbrev pub listed_term : List Frame → Left → Option ℕ → Primary → List PlacedOption → ℕ → List StopTerm → Bool → Shape State
-listed_term outer left n x options at terms except = text (λ q s. whole (record { outer = outer; left = left; stage = stop_terms n x options at (terms ++ record { except = except; source = At s } ∷ []) })) nothing
+listed_term outer left n x options at terms except =
+    text
+    (λ q s. whole (record { outer = outer; left = left; stage = stop_terms n x options at (terms ++ record { except = except; source = At s } ∷ []) }))
+    nothing
 
 abbrev pub written_term : List Frame → Left → Option ℕ → Primary → List PlacedOption → ℕ → List StopTerm → Bool → Shape State
-written_term outer left n x options at terms except = text (λ q s. whole (record { outer = outer; left = left; stage = stop_strings n x options at terms except (record { at = q; text = s } ∷ []) })) nothing
+written_term outer left n x options at terms except =
+    text (λ q s. whole (record { outer = outer; left = left; stage = stop_strings n x options at terms except (record { at = q; text = s } ∷ []) })) nothing
 
 abbrev pub term_next : List Frame → Left → Option ℕ → Primary → List PlacedOption → ℕ → List StopTerm → Bool → Shape State
 term_next outer left n x options at terms except =
@@ -150,7 +159,8 @@ abbrev pub thesaurus_name : List Frame → Left → Option ℕ → Primary → L
 thesaurus_name outer left n x options at = text (λ q s. whole (record { outer = outer; left = left; stage = thesaurus n x options at s None })) nothing
 
 abbrev pub thesaurus_name_in : List Frame → Left → Option ℕ → Primary → List PlacedOption → ℕ → List ThesaurusUse → Shape State
-thesaurus_name_in outer left n x options at uses = text (λ q s. whole (record { outer = outer; left = left; stage = thesaurus_in n x options at uses s None })) nothing
+thesaurus_name_in outer left n x options at uses =
+    text (λ q s. whole (record { outer = outer; left = left; stage = thesaurus_in n x options at uses s None })) nothing
 
 abbrev pub thesaurus_first : List Frame → Left → Option ℕ → Primary → List PlacedOption → ℕ → Shape State
 thesaurus_first outer left n x options at =
@@ -237,7 +247,8 @@ thesaurus_selection left n x options at s r = selection_with left (operand_of n 
 
 abbrev pub levels_words : List Frame → Left → Option ℕ → Primary → List PlacedOption → ℕ → List ℕ → Option (List ℕ) → Shape State
 levels_words outer left n x options at s r =
-    word (codes "at") (λ p. or_else (and_then bound (levels_end with_levels)) (and_then side (λ f. whole (filtered_state outer (thesaurus_selection left n x options at s r) f))))
+    word (codes "at") (λ p.
+    or_else (and_then bound (levels_end with_levels)) (and_then side (λ f. whole (filtered_state outer (thesaurus_selection left n x options at s r) f))))
     (and_then range_without_at (levels_end with_levels))
   where
     with_levels : Option Range → State
@@ -250,7 +261,8 @@ thesaurus_rest outer left n x options at s r =
     (unfiltered_next outer left n x (thesaurus_ended options at s r None)))
 
 abbrev pub thesaurus_next : List Frame → Left → Option ℕ → Primary → List PlacedOption → ℕ → List ℕ → Option (List ℕ) → Shape State
-thesaurus_next outer left n x options at s r = relationship_next (λ t. record { outer = outer; left = left; stage = thesaurus n x options at s (Some t) }) r (thesaurus_rest outer left n x options at s r)
+thesaurus_next outer left n x options at s r =
+    relationship_next (λ t. record { outer = outer; left = left; stage = thesaurus n x options at s (Some t) }) r (thesaurus_rest outer left n x options at s r)
 
 -- in the parentheses of a thesaurus option
 abbrev pub thesauri_next : List Frame → Left → Option ℕ → Primary → List PlacedOption → ℕ → List ThesaurusUse → Shape State
@@ -265,20 +277,30 @@ thesaurus_in_rest outer left n x options at uses s r =
     (thesauri_next outer left n x options at (uses ++ thesaurus_use s r None ∷ []))
 
 abbrev pub thesaurus_in_next : List Frame → Left → Option ℕ → Primary → List PlacedOption → ℕ → List ThesaurusUse → List ℕ → Option (List ℕ) → Shape State
-thesaurus_in_next outer left n x options at uses s r = relationship_next (λ t. record { outer = outer; left = left; stage = thesaurus_in n x options at uses s (Some t) }) r (thesaurus_in_rest outer left n x options at uses s r)
+thesaurus_in_next outer left n x options at uses s r =
+    relationship_next (λ t. record { outer = outer; left = left; stage = thesaurus_in n x options at uses s (Some t) }) r
+    (thesaurus_in_rest outer left n x options at uses s r)
 
 abbrev pub next_at : List Frame → Left → Stage → Shape State
 next_at outer left (wanted n) = wanted_next outer left n
-next_at outer left (in_braces n strings) = string_next (λ xs. record { outer = outer; left = left; stage = in_braces n xs }) strings (mark close_brace (whole (record { outer = outer; left = left; stage = valued n strings })) nothing)
+next_at outer left (in_braces n strings) =
+    string_next (λ xs. record { outer = outer; left = left; stage = in_braces n xs }) strings
+    (mark close_brace (whole (record { outer = outer; left = left; stage = valued n strings })) nothing)
 next_at outer left (valued n strings) = or_else (mode_words outer left n strings) (moded_next outer left n strings M.Any)
 next_at outer left (any_of n strings) = or_else (mode_word (codes "word") M.AnyWord outer left n strings) (moded_next outer left n strings M.Any)
 next_at outer left (all_of n strings) = or_else (mode_word (codes "words") M.AllWords outer left n strings) (moded_next outer left n strings M.All)
 next_at outer left (moded n strings mode) = moded_next outer left n strings mode
 next_at outer left (given_options n x options) = options_next outer left n x options
-next_at outer left (stop_terms n x options at terms) = or_else (term_words outer left n x options at terms) (options_next outer left n x (options ++ stop_option at terms ∷ []))
+next_at outer left (stop_terms n x options at terms) =
+    or_else (term_words outer left n x options at terms) (options_next outer left n x (options ++ stop_option at terms ∷ []))
 next_at outer left (stop_strings n x options at terms except strings) =
     string_next (λ xs. record { outer = outer; left = left; stage = stop_strings n x options at terms except xs }) strings
-    (mark close_parenthesis (whole (record { outer = outer; left = left; stage = stop_terms n x options at (terms ++ record { except = except; source = Written (texts_of strings) } ∷ []) })) nothing)
+    (mark close_parenthesis
+    (whole (record {
+      outer = outer;
+      left = left;
+      stage = stop_terms n x options at (terms ++ record { except = except; source = Written (texts_of strings) } ∷ []);
+    })) nothing)
 next_at outer left (thesaurus n x options at s r) = thesaurus_next outer left n x options at s r
 next_at outer left (thesaurus_in n x options at uses s r) = thesaurus_in_next outer left n x options at uses s r
 next_at outer left (thesauri_in n x options at uses) = thesauri_next outer left n x options at uses
@@ -317,7 +339,8 @@ selection_at left (moded n strings mode) = Some (selection_with left (operand_of
 selection_at left (given_options n x options) = Some (selection_with left (operand_of n x options))
 selection_at left (stop_terms n x options at terms) = Some (selection_with left (operand_of n x (options ++ stop_option at terms ∷ [])))
 selection_at left (stop_strings n x options at terms except strings) = None
-selection_at left (thesaurus n x options at s r) = Some (selection_with left (operand_of n x (options ++ thesaurus_option at (thesaurus_use s r None ∷ []) ∷ [])))
+selection_at left (thesaurus n x options at s r) =
+    Some (selection_with left (operand_of n x (options ++ thesaurus_option at (thesaurus_use s r None ∷ []) ∷ [])))
 selection_at left (thesaurus_in n x options at uses s r) = None
 selection_at left (thesauri_in n x options at uses) = None
 selection_at left (with_filter x) = Some x
