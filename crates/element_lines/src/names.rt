@@ -1,4 +1,4 @@
-ghost use Rattle.std.specs.Prelude.{◌≡◌, ◌++◌, All, IfOk, OnOk, map, string_bytes};
+ghost use Rattle.std.specs.Prelude.{◌≡◌, ◌++◌, All, IfOk, OnErr, OnOk, map, string_bytes};
 ghost use Rattle.std.specs.List.{flat_map};
 ghost use Rattle.element_lines.specs.Lines.{element_line, step_text};
 ghost use Rattle.element_lines.specs.steps.Numbers.{AreNumbers};
@@ -12,7 +12,8 @@ use ordered_tree::{DocTree, NodeRef};
 use std::alloc::Global;
 use std::fmt::Write;
 
-/// Puts the lines that name elements of a document to the end, in the order of the elements.
+/// Puts the lines that name elements of a document to the end, in the order of the elements. Where memory runs out, the lines stay as
+/// they were.
 pub fn push_names(
     alloc: Global,
     document: &str,
@@ -21,13 +22,29 @@ pub fn push_names(
     lines: &mut Lines,
 ) -> Result<(), Memory>
     requires { All (IsElement tree.now.root) nodes.now }
-    ensures { OnOk result (lines.new ≡ lines.old ++ map (λ r. element_line document.now (plain tree.now.root) (element_of tree.now.root r)) nodes.now) }
+    ensures ok { OnOk result (lines.new ≡ lines.old ++ map (λ r. element_line document.now (plain tree.now.root) (element_of tree.now.root r)) nodes.now) }
+    ensures err { OnErr result (lines.new ≡ lines.old) }
+{
+    let named = name_lines(alloc, document, tree, nodes)?;
+    lines.append(named)
+}
+
+/// The lines that name elements of a document, in the order of the elements.
+fn name_lines(
+    alloc: Global,
+    document: &str,
+    tree: &DocTree,
+    nodes: &[NodeRef],
+) -> Result<Lines, Memory>
+    requires { All (IsElement tree.now.root) nodes.now }
+    ensures { IfOk result (λ lines. lines ≡ map (λ r. element_line document.now (plain tree.now.root) (element_of tree.now.root r)) nodes.now) }
 {
     let mut numbers = Numbers::new(alloc);
+    let mut lines = Lines::new(alloc);
     for node in nodes {
         lines.push(name_line(alloc, document, tree, *node, &mut numbers)?)?;
     }
-    Ok(())
+    Ok(lines)
 }
 
 /// The line that names an element.

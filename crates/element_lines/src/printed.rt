@@ -1,4 +1,4 @@
-ghost use Rattle.std.specs.Prelude.{◌≡◌, ◌++◌, All, IfOk, OnOk, map};
+ghost use Rattle.std.specs.Prelude.{◌≡◌, ◌++◌, All, IfOk, OnErr, OnOk, map};
 ghost use Rattle.element_lines.specs.Lines.{printed_line};
 ghost use Rattle.path_nodes.specs.References.{IsElement, element_of};
 
@@ -7,7 +7,7 @@ use ft_base::{Line, Lines, Memory};
 use ordered_tree::{DocTree, NodeRef};
 use std::alloc::Global;
 
-/// Puts the printed forms of elements to the end, a line each.
+/// Puts the printed forms of elements to the end, a line each. Where memory runs out, the lines stay as they were.
 pub fn push_printed(
     alloc: Global,
     tree: &DocTree,
@@ -15,12 +15,23 @@ pub fn push_printed(
     lines: &mut Lines,
 ) -> Result<(), Memory>
     requires { All (IsElement tree.now.root) nodes.now }
-    ensures { OnOk result (lines.new ≡ lines.old ++ map (λ r. printed_line (element_of tree.now.root r).node) nodes.now) }
+    ensures ok { OnOk result (lines.new ≡ lines.old ++ map (λ r. printed_line (element_of tree.now.root r).node) nodes.now) }
+    ensures err { OnErr result (lines.new ≡ lines.old) }
 {
+    let printed = printed_forms(alloc, tree, nodes)?;
+    lines.append(printed)
+}
+
+/// The printed forms of elements, a line each.
+fn printed_forms(alloc: Global, tree: &DocTree, nodes: &[NodeRef]) -> Result<Lines, Memory>
+    requires { All (IsElement tree.now.root) nodes.now }
+    ensures { IfOk result (λ lines. lines ≡ map (λ r. printed_line (element_of tree.now.root r).node) nodes.now) }
+{
+    let mut lines = Lines::new(alloc);
     for node in nodes {
         lines.push(printed_form(alloc, tree, *node)?)?;
     }
-    Ok(())
+    Ok(lines)
 }
 
 /// The printed form of an element.

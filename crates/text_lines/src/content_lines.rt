@@ -41,9 +41,9 @@ impl<'a> ContentLines<'a> {
         }
     }
 
-    /// The next line that isn't skipped.
+    /// The next line that isn't skipped. Behind the last one there is none, and none comes later.
     pub fn next(&mut self) -> Option<ContentLine<'a>>
-        ensures { MatchOption result (self.old ≡ []) (λ line. self.old ≡ content_of line ∷ self.new) }
+        ensures { MatchOption result ((self.old ≡ []) × (self.new ≡ [])) (λ line. self.old ≡ content_of line ∷ self.new) }
     {
         while !self.rest.is_empty() {
             let end = line_end(self.rest);

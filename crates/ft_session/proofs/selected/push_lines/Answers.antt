@@ -15,7 +15,7 @@ returns-in-Names c =
     ap (map (λ r. element_line c.args.name.now (plain root) (element_of root r))) c.as_slice.ensures.value
     ∙ (lines-of-names c.args.name.now root c.in_ok-found.found.items _ c.in_ok-found.ensures.elements
     ∙ ap (λ s. planned_lines s c.args.path.now (to_document (c.args.name.now, c.args.document.now))) (sym c.in-Names.is)) in
-    subst (λ ls. OnOk c.push_names.result (c.push_names.new.lines ≡ c.args.lines.now ++ ls)) lines c.push_names.ensures
+    subst (λ ls. OnOk c.push_names.result (c.push_names.new.lines ≡ c.args.lines.now ++ ls)) lines c.push_names.ensures.ok
 
 pub returns : goal.returns
 returns c =
@@ -24,4 +24,4 @@ returns c =
     ap (map (λ r. printed_line (element_of root r).node)) c.as_slice-in-Texts.ensures.value
     ∙ (lines-of-texts c.args.name.now root c.in_ok-found.found.items _ c.in_ok-found.ensures.elements
     ∙ ap (λ s. planned_lines s c.args.path.now (to_document (c.args.name.now, c.args.document.now))) (sym c.in-Texts.is)) in
-    subst (λ ls. OnOk c.push_printed.result (c.push_printed.new.lines ≡ c.args.lines.now ++ ls)) lines c.push_printed.ensures
+    subst (λ ls. OnOk c.push_printed.result (c.push_printed.new.lines ≡ c.args.lines.now ++ ls)) lines c.push_printed.ensures.ok

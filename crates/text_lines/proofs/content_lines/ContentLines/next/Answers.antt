@@ -23,4 +23,6 @@ loop-self-preserved c =
     }
 
 pub returns : goal.returns
-returns c = c.loop-self.invariant.all ∙ none_left (c.loop-self.self-inside.passed + 1) c.loop-self.self-inside.rest.now (search rules)
+returns c =
+    let none = none_left (c.loop-self.self-inside.passed + 1) c.loop-self.self-inside.rest.now (search rules) in
+    (c.loop-self.invariant.all ∙ none, none)

@@ -2,9 +2,9 @@
 use Rattle.std.proofs.Common.{◌≡◌, ◌++◌, drop, map}
 use Rattle.path_nodes.specs.References.{element_of}
 use Rattle.element_lines.specs.Lines.{printed_line}
-use Rattle.element_lines.proofs.printed.push_printed.Given as goal
+use Rattle.element_lines.proofs.printed.printed_forms.Given as goal
 
 abbrev pub invariant-loop-node : goal.invariant-loop-node
 invariant-loop-node l =
     l.lines ++ map (λ r. printed_line (element_of l.tree.root r).node) (drop l.node-index l.nodes)
-    ≡ l.fn.lines ++ map (λ r. printed_line (element_of l.tree.root r).node) l.nodes
+    ≡ map (λ r. printed_line (element_of l.tree.root r).node) l.nodes

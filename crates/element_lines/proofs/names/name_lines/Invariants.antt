@@ -4,11 +4,11 @@ use Rattle.ordered_tree.specs.Numbered.{plain}
 use Rattle.path_nodes.specs.References.{element_of}
 use Rattle.element_lines.specs.Lines.{element_line}
 use Rattle.element_lines.specs.steps.Numbers.{AreNumbers}
-use Rattle.element_lines.proofs.names.push_names.Given as goal
+use Rattle.element_lines.proofs.names.name_lines.Given as goal
 
 abbrev pub invariant-loop-node : goal.invariant-loop-node
 invariant-loop-node l = record {
   numbers : AreNumbers l.tree.root l.numbers;
   lines : l.lines ++ map (λ r. element_line l.document (plain l.tree.root) (element_of l.tree.root r)) (drop l.node-index l.nodes)
-      ≡ l.fn.lines ++ map (λ r. element_line l.document (plain l.tree.root) (element_of l.tree.root r)) l.nodes;
+      ≡ map (λ r. element_line l.document (plain l.tree.root) (element_of l.tree.root r)) l.nodes;
 }
