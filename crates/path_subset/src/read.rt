@@ -24,6 +24,15 @@ use path_grammar::{Condition, Path, PathRoot, Step};
 use selection_grammar::Placed;
 use std::alloc::Global;
 
+/// What is left of a text: its symbols, the place of the character behind them all that begins no symbol, if there is one, and the bytes
+/// of the whole text.
+#[derive(Clone, Copy)]
+struct Rest<'a> {
+    symbols: &'a [Placed],
+    bad: Option<usize>,
+    size: usize,
+}
+
 /// Reads a text that is a path, and the selections in it. Each selection is as long as can be. A fault of a selection counts before
 /// what stands behind it; all places count bytes from the start of the text. It reads the text once.
 #[tactic(auto, unfolding(crate::specs::Answer::path_read))]
@@ -48,14 +57,12 @@ fn read_placed(
     let mut reading = start(alloc);
     let mut next = 0;
     while next < placed.len() {
-        match turn(
-            alloc,
-            &placed[next],
-            &placed[next + 1..],
+        let rest = Rest {
+            symbols: &placed[next + 1..],
             bad,
             size,
-            reading,
-        ) {
+        };
+        match turn(alloc, &placed[next], &rest, reading) {
             Ok((there, count)) => {
                 reading = there;
                 next = next + 1 + count;
@@ -82,13 +89,12 @@ fn start(alloc: Global) -> Reading
 fn turn(
     alloc: Global,
     placed: &Placed,
-    rest: &[Placed],
-    bad: Option<usize>,
-    size: usize,
+    rest: &Rest<'_>,
     reading: Reading,
 ) -> Result<(Reading, usize), QueryFault>
-    ensures value { Answered led_of (spec.turned (state_of reading.state) (map found_form reading.found) placed.now rest.now bad size) result }
-    ensures within { IfOk result (λ there. there.1 ≤ length rest.now) }
+    ensures value { Answered led_of
+        (spec.turned (state_of reading.state) (map found_form reading.found) placed.now rest.now.symbols.now rest.now.bad rest.now.size) result }
+    ensures within { IfOk result (λ there. there.1 ≤ length rest.now.symbols.now) }
 {
     let Reading { state, found } = reading;
     if passes(open_count(&state), &placed.symbol) {
@@ -97,7 +103,7 @@ fn turn(
     }
     match state {
         State::AtRoot(stage) => at_root(alloc, placed, stage, found),
-        State::Along(root, inner) => along(alloc, placed, rest, bad, size, root, inner, found),
+        State::Along(root, inner) => along(alloc, placed, rest, root, inner, found),
     }
 }
 
@@ -121,19 +127,18 @@ fn at_root(
 fn along(
     alloc: Global,
     placed: &Placed,
-    rest: &[Placed],
-    bad: Option<usize>,
-    size: usize,
+    rest: &Rest<'_>,
     root: PathRoot,
     inner: Inner,
     found: Items<Found>,
 ) -> Result<(Reading, usize), QueryFault>
     ensures value { Answered led_of
-        (spec.led_by placed.now (m.along_to root (m.advance_inner (inner_of inner) placed.now)) (map found_form found) rest.now bad size) result }
-    ensures within { IfOk result (λ there. there.1 ≤ length rest.now) }
+        (spec.led_by placed.now (m.along_to root (m.advance_inner (inner_of inner) placed.now)) (map found_form found) rest.now.symbols.now
+        rest.now.bad rest.now.size) result }
+    ensures within { IfOk result (λ there. there.1 ≤ length rest.now.symbols.now) }
 {
     match inner_turn(alloc, inner, placed) {
-        Ok(Some(way)) => gone(alloc, rest, bad, size, root, way, found),
+        Ok(Some(way)) => gone(alloc, rest, root, way, found),
         Ok(None) => {
             drop((root, found));
             Err(QueryFault::Syntax { at: placed.from })
@@ -148,15 +153,13 @@ fn along(
 /// On, and through a selection where one comes next.
 fn gone(
     alloc: Global,
-    rest: &[Placed],
-    bad: Option<usize>,
-    size: usize,
+    rest: &Rest<'_>,
     root: PathRoot,
     way: Way,
     found: Items<Found>,
 ) -> Result<(Reading, usize), QueryFault>
-    ensures value { Answered led_of (way_led root (way_of way) (map found_form found) rest.now bad size) result }
-    ensures within { IfOk result (λ there. there.1 ≤ length rest.now) }
+    ensures value { Answered led_of (way_led root (way_of way) (map found_form found) rest.now.symbols.now rest.now.bad rest.now.size) result }
+    ensures within { IfOk result (λ there. there.1 ≤ length rest.now.symbols.now) }
 {
     match way {
         Way::On(inner) => {
@@ -164,7 +167,7 @@ fn gone(
             Ok((Reading { state, found }, 0))
         }
         Way::Selection(frames, joint, before) => {
-            selection(alloc, rest, bad, size, root, frames, joint, before, found)
+            selection(alloc, rest, root, frames, joint, before, found)
         }
     }
 }
@@ -172,9 +175,7 @@ fn gone(
 /// The selection with which symbols begin.
 fn selection(
     alloc: Global,
-    rest: &[Placed],
-    bad: Option<usize>,
-    size: usize,
+    rest: &Rest<'_>,
     root: PathRoot,
     frames: Vec<Frame>,
     joint: Joint,
@@ -182,12 +183,13 @@ fn selection(
     found: Items<Found>,
 ) -> Result<(Reading, usize), QueryFault>
     ensures value { Answered led_of
-        (run_led root (frames_of frames.items) (joint_of joint) (steps_of before.items) (map found_form found) rest.now (run_read rest.now bad size)) result }
-    ensures within { IfOk result (λ there. there.1 ≤ length rest.now) }
+        (run_led root (frames_of frames.items) (joint_of joint) (steps_of before.items) (map found_form found) rest.now.symbols.now
+        (run_read rest.now.symbols.now rest.now.bad rest.now.size)) result }
+    ensures within { IfOk result (λ there. there.1 ≤ length rest.now.symbols.now) }
 {
-    match read_run(alloc, rest, bad, size) {
+    match read_run(alloc, rest.symbols, rest.bad, rest.size) {
         Ok((selection, count)) => {
-            let extent = extent(&rest[..count]);
+            let extent = extent(&rest.symbols[..count]);
             let whole = Condition::Contains {
                 steps: Items::from_vec(before),
                 selection: found.len(),

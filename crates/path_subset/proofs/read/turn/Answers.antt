@@ -14,6 +14,6 @@ pub returns-in-AtRoot-clause-value : goal.returns-in-AtRoot-clause-value
 returns-in-AtRoot-clause-value c =
     let below : passes (open_count (state_of c.args.reading.state)) c.args.placed.now.symbol ≡ false = ap (λ d. passes d c.args.placed.now.symbol) (sym c.open_count.ensures) ∙ sym c.passes.ensures ∙ c.if-passes.false in
     subst (λ r. Answered led_of r c.at_root.result)
-    (ap (λ s. led_by c.args.placed.now (advance (state_of s) c.args.placed.now) (map found_form c.args.reading.found) c.args.rest.now c.args.bad c.args.size) (sym c.in-AtRoot.is)
-    ∙ turned_within (state_of c.args.reading.state) (map found_form c.args.reading.found) c.args.placed.now c.args.rest.now c.args.bad c.args.size below)
-    (c.at_root.ensures.value c.args.rest.now c.args.bad c.args.size)
+    (ap (λ s. led_by c.args.placed.now (advance (state_of s) c.args.placed.now) (map found_form c.args.reading.found) c.args.rest.now.symbols.now c.args.rest.now.bad c.args.rest.now.size) (sym c.in-AtRoot.is)
+    ∙ turned_within (state_of c.args.reading.state) (map found_form c.args.reading.found) c.args.placed.now c.args.rest.now.symbols.now c.args.rest.now.bad c.args.rest.now.size below)
+    (c.at_root.ensures.value c.args.rest.now.symbols.now c.args.rest.now.bad c.args.rest.now.size)
