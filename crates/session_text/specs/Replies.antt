@@ -4,6 +4,7 @@ use Rattle.std.specs.List.{flat_map}
 use Rattle.std.specs.Fmt.{decimal}
 use Rattle.doc_profile.specs.declared.fault.DocFault.{DocFault}
 use Rattle.doc_profile.specs.declared.fault.DocFault.TheVariants as fault
+use Rattle.ft_base.specs.Limits.{max_documents, max_lists, max_marks}
 use Rattle.ft_base.specs.declared.fault.QueryFault.{QueryFault}
 use Rattle.ft_base.specs.declared.fault.QueryFault.TheVariants as query
 use Rattle.session_text.specs.declared.reply.Counts.{Counts}
@@ -22,10 +23,10 @@ ended_line line = line ++ 10 ∷ []
 
 -- how many there may be, and of what
 abbrev pub full_words : FullOf → List ℕ
-full_words full.Documents = codes "4096 documents"
-full_words full.Marks = codes "64 marks"
-full_words full.StopLists = codes "64 stop lists"
-full_words full.Thesauri = codes "64 thesauri"
+full_words full.Documents = decimal max_documents ++ codes " documents"
+full_words full.Marks = decimal max_marks ++ codes " marks"
+full_words full.StopLists = decimal max_lists ++ codes " stop lists"
+full_words full.Thesauri = decimal max_lists ++ codes " thesauri"
 
 abbrev pub limit_words : LimitOf → List ℕ
 limit_words limit.Depth = codes "depth"

@@ -5,7 +5,7 @@ ghost use Rattle.session_text.specs.Replies.{limit_words, query_words, refusal_l
 
 use crate::{Counts, FullOf, LimitOf, Refusal, Reply};
 use doc_profile::DocFault;
-use ft_base::{Line, Lines, Memory, QueryFault};
+use ft_base::{Line, Lines, MAX_DOCUMENTS, MAX_LISTS, MAX_MARKS, Memory, QueryFault};
 use std::alloc::Global;
 
 /// The lines of a reply, each ended by a line feed. A refusal for want of memory isn't one, and is answered `Memory`.
@@ -85,7 +85,7 @@ fn print_refusal(alloc: Global, refusal: &Refusal) -> Result<Line, Memory>
         Refusal::BadName { line } => print_numbered(alloc, "! 2 bad name at line ", *line),
         Refusal::NameTaken { name } => print_named(alloc, "! 3 name taken: ", name.as_str()),
         Refusal::NoSuchName { name } => print_named(alloc, "! 4 no such name: ", name.as_str()),
-        Refusal::Full { what } => print_named(alloc, "! 5 full at ", full(*what)),
+        Refusal::Full { what } => print_full(alloc, *what),
         Refusal::Document(fault) => print_document(alloc, *fault),
         Refusal::TooManyTokens => print_named(alloc, "! 6 document: ", "tokens"),
         Refusal::List { line } => print_numbered(alloc, "! 6 list: bad line ", *line),
@@ -138,15 +138,24 @@ fn print_query(alloc: Global, fault: QueryFault) -> Result<Line, Memory>
     }
 }
 
-fn full(what: FullOf) -> &'static str
-    ensures { result.now ≡ full_words what }
+/// The line of what there is as many of as there may be.
+fn print_full(alloc: Global, what: FullOf) -> Result<Line, Memory>
+    ensures { IfOk result (λ text. text ≡ ended_line (codes "! 5 full at " ++ full_words what)) }
 {
     match what {
-        FullOf::Documents => "4096 documents",
-        FullOf::Marks => "64 marks",
-        FullOf::StopLists => "64 stop lists",
-        FullOf::Thesauri => "64 thesauri",
+        FullOf::Documents => print_most(alloc, MAX_DOCUMENTS, " documents"),
+        FullOf::Marks => print_most(alloc, MAX_MARKS, " marks"),
+        FullOf::StopLists => print_most(alloc, MAX_LISTS, " stop lists"),
+        FullOf::Thesauri => print_most(alloc, MAX_LISTS, " thesauri"),
     }
+}
+
+/// The line of how many there may be, and of what.
+fn print_most(alloc: Global, count: usize, words: &str) -> Result<Line, Memory>
+    ensures { IfOk result (λ text. text ≡ ended_line (codes "! 5 full at " ++ decimal count ++ words.now)) }
+{
+    let text = format!(in alloc; "! 5 full at {count}{words}\n")?;
+    Ok(Line::from_string(text))
 }
 
 fn limit(what: LimitOf) -> &'static str
