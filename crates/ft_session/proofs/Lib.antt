@@ -1,4 +1,5 @@
 pub mod AnswerLemmas
+pub mod FileLemmas
 pub mod NamedLemmas
 pub mod PathLemmas
 pub mod QueryLemmas

@@ -1,5 +1,5 @@
 -- How far a session is read, carried out and answered.
-use Rattle.std.proofs.Common.{◌≡◌, ◌∙◌, sym, ap, refl, ℕ, ◌+◌, ◌≤◌, Bool, false, ◌||◌, List, [], ◌∷◌, ◌++◌, length, take, drop, append_assoc, length-append, length-take, subst, arith}
+use Rattle.std.proofs.Common.{◌≡◌, ◌∙◌, sym, ap, refl, ℕ, ◌+◌, ◌≤◌, Bool, false, ◌||◌, List, [], ◌∷◌, ◌++◌, length, take, drop, append_assoc, append-nil, length-append, length-take, subst, arith}
 use Rattle.std.specs.Prelude.{Option, Some, None, IfSome, Result, Ok, Err, IfOk, OnOk, OnErr}
 use Rattle.std.specs.List.{list_any}
 use Rattle.std.proofs.lemmas.List.{drop_all, take-append-drop, length-take-le}
@@ -11,7 +11,7 @@ use Rattle.session_text.specs.Commands.{commands, whole}
 use Rattle.session_text.specs.steps.Reading.{Reading, new_reading, commands_left, whole_left}
 use Rattle.session_text.specs.Replies.{is_refusal, reply_text}
 use Rattle.ft_session.specs.declared.answering.AnswerError.{AnswerError}
-use Rattle.ft_session.specs.Output.{texts_of, replies_to, replies_to_whole, output, has_refusal}
+use Rattle.ft_session.specs.Output.{texts_of, replies_to, replies_to_whole, output, output_of_whole, has_refusal}
 use Rattle.ft_session.specs.steps.Pieces.{Answered}
 use Rattle.ft_session.specs.Run.{BeginsWith, TookPrefix, with_text}
 use Rattle.ft_session.specs.State.{State, opening}
@@ -147,6 +147,17 @@ module _ (known before now : Option (List ℕ)) (taken : ℕ) (reader : Reading)
   -- the replies written and those that are left are those to the session
   left_of : (session : List ℕ) → known ≡ Some session → replies_to session ≡ p.done ++ replies state (commands_left reader (drop taken session))
   left_of session tells = ap replies_to (sym (take-append-drop taken session)) ∙ (ap (λ f. replies_to (f ++ drop taken session)) (sym (fed_is session tells)) ∙ p.all (drop taken session))
+
+  -- the replies to the commands that were whole are written
+  pub progress_whole : IfSome known (λ session. now ≡ with_text before (output_of_whole (take taken session)))
+  progress_whole = by known refl
+    where
+      done_is : p.done ≡ replies_to_whole p.fed
+      done_is = sym (append-nil p.done) ∙ (ap (λ cs. p.done ++ replies state cs) (sym p.none_held) ∙ (sym (p.all_whole []) ∙ ap replies_to_whole (append-nil p.fed)))
+
+      by : (t : Option (List ℕ)) → known ≡ t → IfSome t (λ session. now ≡ with_text before (output_of_whole (take taken session)))
+      by None tells = tt
+      by (Some session) tells = p.holds ∙ (ap (λ rs. with_text before (texts_of rs)) done_is ∙ ap (λ f. with_text before (output_of_whole f)) (fed_is session tells))
 
   -- a front of the replies to what is left was written behind them
   pub progress_prefix : (next : Option (List ℕ)) → IfSome known (λ session. TookPrefix now next (texts_of (replies state (commands_left reader (drop taken session))))) → IfSome known (λ session. TookPrefix before next (output session))

@@ -1,11 +1,9 @@
-ghost use Rattle.std.specs.Prelude.{◌≡◌, ◌++◌, ◌+◌, ◌^◌, ◌<◌, ◌≤◌, [], List, ℕ, length, string_bytes, take, IfOk, IfSome, IsErrOf, IsSome, OnErr, OnOk};
+ghost use Rattle.std.specs.Prelude.{◌≡◌, ◌++◌, ◌+◌, ◌^◌, ◌<◌, [], List, ℕ, length, string_bytes, IfOk, IsErrOf, OnErr, OnOk};
 ghost use Rattle.std.specs.List.{list_any};
-ghost use Rattle.ft_base.specs.Limits.{max_session_bytes};
-ghost use Rattle.ft_io.specs.Shelf.{bytes_of, known_bytes};
 ghost use Rattle.session_text.specs.steps.Reading.{commands_left, new_reading};
 ghost use Rattle.session_text.specs.Replies.{is_refusal};
-ghost use Rattle.ft_session.specs.Output.{has_refusal, output, output_of_whole, texts_of};
-ghost use Rattle.ft_session.specs.steps.Pieces.{Answered};
+ghost use Rattle.ft_session.specs.Output.{texts_of};
+ghost use Rattle.ft_session.specs.steps.Pieces.{Answered, FileAnswered};
 ghost use Rattle.ft_session.specs.Run.{TookPrefix, with_text};
 ghost use Rattle.ft_session.specs.State.{opening};
 ghost use Rattle.ft_session.specs.Step.{replies};
@@ -147,33 +145,9 @@ pub(crate) fn answer_file<S: Shelf, K: Sink, L: Ledger, M: Ledger>(
     requires rows_name { rows.name ≡ L.name }
     requires rows_parts { rows.parts ≡ L.parts }
     requires rows_whole { 0 < rows.parts }
-
-    // where all was answered
-    ensures present { OnOk result (IfSome (S.files shelf.old) (λ known. IsSome (bytes_of known (string_bytes name.now)))) }
-    ensures whole { OnOk result
-        (IfSome (known_bytes (S.files shelf.old) (string_bytes name.now)) (λ session. S.reached shelf.new (string_bytes name.now) ≡ length session)) }
-    ensures written { OnOk result (IfSome (known_bytes (S.files shelf.old) (string_bytes name.now)) (λ session.
-        K.written sink.new ≡ with_text (K.written sink.old) (output session))) }
-    ensures refused { IfOk result (λ refused. IfSome (known_bytes (S.files shelf.old) (string_bytes name.now)) (λ session. refused ≡ has_refusal session)) }
-    ensures below { OnOk result (S.reached shelf.new (string_bytes name.now) ≤ max_session_bytes) }
-
-    // whatever came
-    ensures prefix { IfSome (known_bytes (S.files shelf.old) (string_bytes name.now))
-        (λ session. TookPrefix (K.written sink.old) (K.written sink.new) (output session)) }
-    ensures reached_most { S.reached shelf.new (string_bytes name.now) ≤ max_session_bytes + 1 }
-
-    // where it stopped
-    ensures read_fault { IsErrOf result Stopped.ReadFault → S.faults shelf.old (string_bytes name.now) < S.faults shelf.new (string_bytes name.now) }
-    ensures read_fault_early { IsErrOf result Stopped.ReadFault → S.reached shelf.new (string_bytes name.now) < max_session_bytes + 1 }
-    ensures read_fault_writes { IsErrOf result Stopped.ReadFault → IfSome (known_bytes (S.files shelf.old) (string_bytes name.now)) (λ session.
-        K.written sink.new ≡ with_text (K.written sink.old) (output_of_whole (take (S.reached shelf.new (string_bytes name.now)) session))) }
-    ensures write_fault { IsErrOf result Stopped.WriteFault → K.faults sink.old < K.faults sink.new }
-    ensures too_long { IsErrOf result Stopped.TooLong
-        → (S.reached shelf.new (string_bytes name.now) ≡ max_session_bytes + 1) × (K.faults sink.new ≡ K.faults sink.old) }
-    ensures too_long_writes { IsErrOf result Stopped.TooLong → IfSome (known_bytes (S.files shelf.old) (string_bytes name.now)) (λ session.
-        K.written sink.new ≡ with_text (K.written sink.old) (output_of_whole (take (S.reached shelf.new (string_bytes name.now)) session))) }
-    ensures longer { IsErrOf result Stopped.TooLong
-        → IfSome (known_bytes (S.files shelf.old) (string_bytes name.now)) (λ session. max_session_bytes + 1 ≤ length session) }
+    ensures { FileAnswered (S.files shelf.old) (string_bytes name.now) (S.reached shelf.new (string_bytes name.now))
+        (S.faults shelf.old (string_bytes name.now)) (S.faults shelf.new (string_bytes name.now)) (K.faults sink.old) (K.faults sink.new)
+        (K.written sink.old) (K.written sink.new) result }
 {
     let session = Session::new(alloc)?;
     let mut answering = Answering {
@@ -202,33 +176,9 @@ fn answer_pieces<S: Shelf, K: Sink, L: Ledger, M: Ledger>(
     requires fresh { S.reached shelf.old (string_bytes name.now) ≡ 0 }
     requires shelf_countable { S.faults shelf.old (string_bytes name.now) + 1 < 2 ^ 64 }
     requires sink_countable { K.faults sink.old + 1 < 2 ^ 64 }
-
-    // where all was answered
-    ensures present { OnOk result (IfSome (S.files shelf.old) (λ known. IsSome (bytes_of known (string_bytes name.now)))) }
-    ensures whole { OnOk result
-        (IfSome (known_bytes (S.files shelf.old) (string_bytes name.now)) (λ session. S.reached shelf.new (string_bytes name.now) ≡ length session)) }
-    ensures written { OnOk result (IfSome (known_bytes (S.files shelf.old) (string_bytes name.now)) (λ session.
-        K.written sink.new ≡ with_text (K.written sink.old) (output session))) }
-    ensures refused { IfOk result (λ refused. IfSome (known_bytes (S.files shelf.old) (string_bytes name.now)) (λ session. refused ≡ has_refusal session)) }
-    ensures below { OnOk result (S.reached shelf.new (string_bytes name.now) ≤ max_session_bytes) }
-
-    // whatever came
-    ensures prefix { IfSome (known_bytes (S.files shelf.old) (string_bytes name.now))
-        (λ session. TookPrefix (K.written sink.old) (K.written sink.new) (output session)) }
-    ensures reached_most { S.reached shelf.new (string_bytes name.now) ≤ max_session_bytes + 1 }
-
-    // where it stopped
-    ensures read_fault { IsErrOf result Stopped.ReadFault → S.faults shelf.old (string_bytes name.now) < S.faults shelf.new (string_bytes name.now) }
-    ensures read_fault_early { IsErrOf result Stopped.ReadFault → S.reached shelf.new (string_bytes name.now) < max_session_bytes + 1 }
-    ensures read_fault_writes { IsErrOf result Stopped.ReadFault → IfSome (known_bytes (S.files shelf.old) (string_bytes name.now)) (λ session.
-        K.written sink.new ≡ with_text (K.written sink.old) (output_of_whole (take (S.reached shelf.new (string_bytes name.now)) session))) }
-    ensures write_fault { IsErrOf result Stopped.WriteFault → K.faults sink.old < K.faults sink.new }
-    ensures too_long { IsErrOf result Stopped.TooLong
-        → (S.reached shelf.new (string_bytes name.now) ≡ max_session_bytes + 1) × (K.faults sink.new ≡ K.faults sink.old) }
-    ensures too_long_writes { IsErrOf result Stopped.TooLong → IfSome (known_bytes (S.files shelf.old) (string_bytes name.now)) (λ session.
-        K.written sink.new ≡ with_text (K.written sink.old) (output_of_whole (take (S.reached shelf.new (string_bytes name.now)) session))) }
-    ensures longer { IsErrOf result Stopped.TooLong
-        → IfSome (known_bytes (S.files shelf.old) (string_bytes name.now)) (λ session. max_session_bytes + 1 ≤ length session) }
+    ensures { FileAnswered (S.files shelf.old) (string_bytes name.now) (S.reached shelf.new (string_bytes name.now))
+        (S.faults shelf.old (string_bytes name.now)) (S.faults shelf.new (string_bytes name.now)) (K.faults sink.old) (K.faults sink.new)
+        (K.written sink.old) (K.written sink.new) result }
 {
     let mut piece = buffer(answering.alloc, MAX_PIECE_BYTES)?;
     let mut taken = 0;

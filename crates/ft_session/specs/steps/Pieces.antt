@@ -1,6 +1,9 @@
 -- What a piece of a session does.
-use Rattle.std.specs.Prelude.{◌≡◌, ℕ, Bool, List, [], ◌++◌, Option}
+use Rattle.std.specs.Prelude.{◌≡◌, ◌<◌, ◌≤◌, ℕ, ◌+◌, Bool, List, [], ◌++◌, length, take, Option, IfSome, IsSome, Result, Ok, IsOk}
 use Rattle.std.specs.List.{list_any}
+use Rattle.std.specs.Result.{IsErrOf}
+use Rattle.ft_base.specs.Limits.{max_session_bytes}
+use Rattle.ft_io.specs.Shelf.{Files, bytes_of, known_bytes}
 use Rattle.session_text.specs.declared.command.Command.{Command}
 use Rattle.session_text.specs.steps.Reading.{Reading, commands_left, whole_left}
 use Rattle.session_text.specs.Replies.{is_refusal}
@@ -8,8 +11,8 @@ use Rattle.ft_session.specs.declared.answering.AnswerError.{AnswerError}
 use Rattle.ft_session.specs.declared.answering.AnswerError.TheVariants as unanswered
 use Rattle.ft_session.specs.declared.pieces.Stopped.{Stopped}
 use Rattle.ft_session.specs.declared.pieces.Stopped.TheVariants as stops
-use Rattle.ft_session.specs.Output.{texts_of}
-use Rattle.ft_session.specs.Run.{with_text}
+use Rattle.ft_session.specs.Output.{has_refusal, output, output_of_whole, texts_of}
+use Rattle.ft_session.specs.Run.{TookPrefix, with_text}
 use Rattle.ft_session.specs.State.{State}
 use Rattle.ft_session.specs.Step.{replies, state_after}
 
@@ -28,3 +31,27 @@ pub record Answered (reader next : Reading) (state after : State) (piece : List 
 abbrev pub stopped_by : AnswerError → Stopped
 stopped_by unanswered.Fault = stops.WriteFault
 stopped_by unanswered.Memory = stops.Memory
+
+-- A session's file is answered, to its end or until something stops it. So far is the file reached then; these are the faults that were
+-- counted for it, before and behind, and those at the sink; and that is what the sink held before and holds now.
+pub record FileAnswered (files : Option Files) (name : List ℕ) (reached read_before read_now write_before write_now : ℕ)
+    (before now : Option (List ℕ)) (result : Result Bool Stopped) : Type 0 where
+  -- whatever came
+  pub prefix : IfSome (known_bytes files name) (λ session. TookPrefix before now (output session))
+  pub reached_most : reached ≤ max_session_bytes + 1
+  -- where all was answered
+  pub present : IsOk result → IfSome files (λ known. IsSome (bytes_of known name))
+  pub whole : IsOk result → IfSome (known_bytes files name) (λ session. reached ≡ length session)
+  pub written : IsOk result → IfSome (known_bytes files name) (λ session. now ≡ with_text before (output session))
+  pub refuses : (refused : Bool) → result ≡ Ok refused → IfSome (known_bytes files name) (λ session. refused ≡ has_refusal session)
+  pub below : IsOk result → reached ≤ max_session_bytes
+  -- where it stopped
+  pub read_fault : IsErrOf result stops.ReadFault → read_before < read_now
+  pub read_fault_early : IsErrOf result stops.ReadFault → reached < max_session_bytes + 1
+  pub read_fault_writes : IsErrOf result stops.ReadFault
+      → IfSome (known_bytes files name) (λ session. now ≡ with_text before (output_of_whole (take reached session)))
+  pub write_fault : IsErrOf result stops.WriteFault → write_before < write_now
+  pub too_long : IsErrOf result stops.TooLong → (reached ≡ max_session_bytes + 1) × (write_now ≡ write_before)
+  pub too_long_writes : IsErrOf result stops.TooLong
+      → IfSome (known_bytes files name) (λ session. now ≡ with_text before (output_of_whole (take reached session)))
+  pub longer : IsErrOf result stops.TooLong → IfSome (known_bytes files name) (λ session. max_session_bytes + 1 ≤ length session)
