@@ -5,6 +5,7 @@ use Rattle.std.specs.List.{list_any, list_all, count_by, sum_by, range_with_len}
 use Rattle.std.proofs.Math.Nat.{suc-mul, mul_assoc, one-mul}
 use Rattle.std.proofs.lemmas.List.Sums.{length-filter, sum_by-cons, sum_by-append}
 use Rattle.std.proofs.lemmas.List.{length-map}
+use Rattle.std.proofs.Math.Numerals.{one-add}
 use Rattle.ft_base.specs.declared.token.Token.{Token}
 use Rattle.ft_base.specs.declared.hit.Match.{Match}
 use Rattle.ft_base.specs.declared.options.Options.{Options}
@@ -115,9 +116,6 @@ first_number q m =
     count_by-cons q 0 (range_with_len 1 m)
     ∙ ap (λ n. cond (q 0) 1 0 + n) (ap (count_by q) (moved 1 m) ∙ count_by-map q (λ k. 1 + k) (range_with_len 0 m)
     ∙ count_by-alike (λ k. q (1 + k)) (λ k. q (suc k)) (range_with_len 0 m) (λ k. ap q (one-add k)))
-  where
-    one-add : (k : ℕ) → 1 + k ≡ suc k
-    one-add k = omega arith
 
 module _ (lexicon : Lexicon) (options : Options) (stood : List (List Item)) where
   -- whether one of the lists of items stands on the tokens

@@ -2,7 +2,7 @@
 use Rattle.std.proofs.Common.{◌≡◌, refl, ap, sym, ◌∙◌, ℕ, ◌+◌, List, [], ◌∷◌, ◌++◌, Bool, true, false, ◌&&◌, length}
 use Rattle.std.specs.Prelude.{fold, cond, flat_map}
 use Rattle.std.specs.List.{list_all, list_any}
-use Rattle.std.proofs.lemmas.Bool.{and_parts}
+use Rattle.std.proofs.lemmas.Bool.{and_parts, and_from}
 use Rattle.ft_base.specs.declared.token.Token.{Token}
 use Rattle.ft_base.specs.declared.hit.Hit.{Hit}
 use Rattle.ft_base.specs.declared.hit.Match.{Match}
@@ -23,33 +23,51 @@ use Rattle.all_matches.proofs.ListTests.{list_any-alike}
 use Rattle.all_matches.proofs.OperatorMatches.{operator-matches}
 use Rattle.all_matches.proofs.WayLaws.{some_way}
 
+-- ---- operators that are joined
+
+-- what holds of each of some operators holds of them all joined, where it holds of two joined
+module _ (holds : Operator → Bool) (join : Operator → Operator → Operator) (keeps : (left right : Operator) → holds left ≡ true → holds right ≡ true → holds (join left right) ≡ true) where
+  joined : (first : Operator) (rest : List Operator) → list_all holds (first ∷ rest) ≡ true → holds (fold join first rest) ≡ true
+  joined first [] all = (and_parts (holds first) true all).0
+  joined first (next ∷ rest) all =
+      let one = and_parts (holds first) (holds next && list_all holds rest) all in
+      let two = and_parts (holds next) (list_all holds rest) one.1 in
+      joined (join first next) rest (and_from (holds (join first next)) (list_all holds rest) (keeps first next one.0 two.0) two.1)
+
+either-all : (holds : Operator → Bool) → holds (phrase []) ≡ true → ((left right : Operator) → holds left ≡ true → holds right ≡ true → holds (either left right) ≡ true)
+    → (operators : List Operator) → list_all holds operators ≡ true → holds (either_of operators) ≡ true
+either-all holds empty keeps [] all = empty
+either-all holds empty keeps (first ∷ rest) all = joined holds either keeps first rest all
+
+both-positive : (left right : Operator) → without_negation left ≡ true → without_negation right ≡ true → (without_negation left && without_negation right) ≡ true
+both-positive left right = and_from (without_negation left) (without_negation right)
+
+both-plain : (left right : Operator) → is_plain left ≡ true → is_plain right ≡ true → (is_plain left && is_plain right) ≡ true
+both-plain left right = and_from (is_plain left) (is_plain right)
+
 -- ---- words
 
 module _ (lexicon : Lexicon) (options : Options) (tokens : List Token) where
-  either-phrases : (operator : Operator) (first : ℕ) (phrases : List (List Item)) → without_negation operator ≡ true
-      → without_negation (fold either operator (phrase_operators lexicon options tokens first phrases)) ≡ true
-  either-phrases operator first [] h = h
-  either-phrases operator first (items ∷ rest) h = either-phrases (either operator (phrase (hits lexicon options first items tokens))) (first + 1) rest (λ i. h i && true)
-
-  together-phrases : (operator : Operator) (first : ℕ) (phrases : List (List Item)) → without_negation operator ≡ true
-      → without_negation (fold together operator (phrase_operators lexicon options tokens first phrases)) ≡ true
-  together-phrases operator first [] h = h
-  together-phrases operator first (items ∷ rest) h = together-phrases (together operator (phrase (hits lexicon options first items tokens))) (first + 1) rest (λ i. h i && true)
+  phrases-positive : (first : ℕ) (phrases : List (List Item)) → list_all without_negation (phrase_operators lexicon options tokens first phrases) ≡ true
+  phrases-positive first [] = refl
+  phrases-positive first (items ∷ rest) = phrases-positive (first + 1) rest
 
   some-phrase : (first : ℕ) (phrases : List (List Item)) → without_negation (either_of (phrase_operators lexicon options tokens first phrases)) ≡ true
-  some-phrase first [] = refl
-  some-phrase first (items ∷ rest) = either-phrases (phrase (hits lexicon options first items tokens)) (first + 1) rest refl
+  some-phrase first phrases = either-all without_negation refl both-positive (phrase_operators lexicon options tokens first phrases) (phrases-positive first phrases)
+
+  first-phrase : (first : ℕ) (items : List Item) (rest : List (List Item)) → without_negation (together_of (phrase_operators lexicon options tokens first (items ∷ rest))) ≡ true
+  first-phrase first items rest =
+      joined without_negation together both-positive (phrase (hits lexicon options first items tokens)) (phrase_operators lexicon options tokens (first + 1) rest) (phrases-positive first (items ∷ rest))
 
   each-phrase : (first : ℕ) (strings : List (List Item)) → list_all is_empty strings ≡ false → without_negation (together_of (phrase_operators lexicon options tokens first strings)) ≡ true
   each-phrase first [] e = cc
-  each-phrase first (items ∷ rest) e = together-phrases (phrase (hits lexicon options first items tokens)) (first + 1) rest refl
+  each-phrase first (items ∷ rest) e = first-phrase first items rest
 
   each-word : (first : ℕ) (strings : List (List Item)) → list_all is_empty strings ≡ false
       → without_negation (together_of (phrase_operators lexicon options tokens first (singly (flat_map (λ string. string) strings)))) ≡ true
   each-word first [] e = cc
   each-word first ([] ∷ rest) e = each-word first rest e
-  each-word first ((item ∷ items) ∷ rest) e =
-      together-phrases (phrase (hits lexicon options first (item ∷ []) tokens)) (first + 1) (singly (items ++ flat_map (λ string. string) rest)) refl
+  each-word first ((item ∷ items) ∷ rest) e = first-phrase first (item ∷ []) (singly (items ++ flat_map (λ string. string) rest))
 
   each-mode : (mode : Mode) (first : ℕ) (strings : List (List Item)) → list_all is_empty strings ≡ false
       → without_negation (operator_by mode (phrase_operators lexicon options tokens first (phrases_by mode strings))) ≡ true
@@ -69,16 +87,24 @@ module _ (lexicon : Lexicon) (options : Options) (tokens : List Token) where
 
 -- ---- selections without `ftnot`
 
+together-positive : (lexicon : Lexicon) (options : Options) (first : ℕ) (tokens : List Token) (forms : Forms) → has_operands forms ≡ true
+    → list_all without_negation (operators_of lexicon options first tokens forms) ≡ true → without_negation (together_of (operators_of lexicon options first tokens forms)) ≡ true
+unfolding operator_of
+together-positive lexicon options first tokens none some all = cc
+together-positive lexicon options first tokens (more form rest) some all =
+    joined without_negation together both-positive (operator_of lexicon options first tokens form) (operators_of lexicon options (first + phrase_count lexicon options form) tokens rest) all
+
 mutual
   unfolding operator_of without_not
 
   positive : (lexicon : Lexicon) (options : Options) (first : ℕ) (tokens : List Token) (form : Form) → without_not form ≡ true
       → without_negation (operator_of lexicon options first tokens form) ≡ true
   positive lexicon options first tokens (words value) h = value-positive lexicon (inside value.options options) tokens first value
-  positive lexicon options first tokens (or_of forms) h = positive-or lexicon options first tokens forms h
+  positive lexicon options first tokens (or_of forms) h =
+      either-all without_negation refl both-positive (operators_of lexicon options first tokens forms) (each-positive lexicon options first tokens forms h)
   positive lexicon options first tokens (and_of forms) h =
       let parts = and_parts (has_operands forms) (each_without_not forms) h in
-      positive-and lexicon options first tokens forms parts.0 parts.1
+      together-positive lexicon options first tokens forms parts.0 (each-positive lexicon options first tokens forms parts.1)
   positive lexicon options first tokens (mild_not left right) h =
       let parts = and_parts (without_not left) (without_not right) h in
       λ i. positive lexicon options first tokens left parts.0 i && positive lexicon options (first + phrase_count lexicon options left) tokens right parts.1 i
@@ -86,37 +112,12 @@ mutual
   positive lexicon options first tokens (filtered form kind) h = positive lexicon options first tokens form h
   positive lexicon options first tokens (with_options form inner) h = positive lexicon (inside inner options) first tokens form h
 
-  positive-or : (lexicon : Lexicon) (options : Options) (first : ℕ) (tokens : List Token) (forms : Forms) → each_without_not forms ≡ true
-      → without_negation (either_of (operators_of lexicon options first tokens forms)) ≡ true
-  positive-or lexicon options first tokens none h = refl
-  positive-or lexicon options first tokens (more form rest) h =
+  each-positive : (lexicon : Lexicon) (options : Options) (first : ℕ) (tokens : List Token) (forms : Forms) → each_without_not forms ≡ true
+      → list_all without_negation (operators_of lexicon options first tokens forms) ≡ true
+  each-positive lexicon options first tokens none h = refl
+  each-positive lexicon options first tokens (more form rest) h =
       let parts = and_parts (without_not form) (each_without_not rest) h in
-      positive-either lexicon options (first + phrase_count lexicon options form) tokens rest parts.1
-      (operator_of lexicon options first tokens form) (positive lexicon options first tokens form parts.0)
-
-  positive-and : (lexicon : Lexicon) (options : Options) (first : ℕ) (tokens : List Token) (forms : Forms) → has_operands forms ≡ true → each_without_not forms ≡ true
-      → without_negation (together_of (operators_of lexicon options first tokens forms)) ≡ true
-  positive-and lexicon options first tokens none some h = cc
-  positive-and lexicon options first tokens (more form rest) some h =
-      let parts = and_parts (without_not form) (each_without_not rest) h in
-      positive-together lexicon options (first + phrase_count lexicon options form) tokens rest parts.1
-      (operator_of lexicon options first tokens form) (positive lexicon options first tokens form parts.0)
-
-  positive-either : (lexicon : Lexicon) (options : Options) (first : ℕ) (tokens : List Token) (forms : Forms) → each_without_not forms ≡ true
-      → (operator : Operator) → without_negation operator ≡ true → without_negation (fold either operator (operators_of lexicon options first tokens forms)) ≡ true
-  positive-either lexicon options first tokens none h operator g = g
-  positive-either lexicon options first tokens (more form rest) h operator g =
-      let parts = and_parts (without_not form) (each_without_not rest) h in
-      positive-either lexicon options (first + phrase_count lexicon options form) tokens rest parts.1
-      (either operator (operator_of lexicon options first tokens form)) (λ i. g i && positive lexicon options first tokens form parts.0 i)
-
-  positive-together : (lexicon : Lexicon) (options : Options) (first : ℕ) (tokens : List Token) (forms : Forms) → each_without_not forms ≡ true
-      → (operator : Operator) → without_negation operator ≡ true → without_negation (fold together operator (operators_of lexicon options first tokens forms)) ≡ true
-  positive-together lexicon options first tokens none h operator g = g
-  positive-together lexicon options first tokens (more form rest) h operator g =
-      let parts = and_parts (without_not form) (each_without_not rest) h in
-      positive-together lexicon options (first + phrase_count lexicon options form) tokens rest parts.1
-      (together operator (operator_of lexicon options first tokens form)) (λ i. g i && positive lexicon options first tokens form parts.0 i)
+      λ i. positive lexicon options first tokens form parts.0 i && each-positive lexicon options (first + phrase_count lexicon options form) tokens rest parts.1 i
 
 -- ---- selections with `ftnot` in nothing but Or, And and filters
 
@@ -128,6 +129,10 @@ plain-positive (apart left right) h = h
 plain-positive (negated operand) h = cc
 plain-positive (through_filter operand kind) h = plain-positive operand h
 
+together-plain : (operators : List Operator) → list_all is_plain operators ≡ true → is_plain (together_of operators) ≡ true
+together-plain [] all = refl
+together-plain (first ∷ rest) all = joined is_plain together both-plain first rest all
+
 mutual
   unfolding operator_of has_plain_nots
 
@@ -135,8 +140,9 @@ mutual
       → is_plain (operator_of lexicon options first tokens form) ≡ true
   plain lexicon options first tokens (words value) h =
       plain-positive (value_operator lexicon (inside value.options options) first value tokens) (value-positive lexicon (inside value.options options) tokens first value)
-  plain lexicon options first tokens (or_of forms) h = plain-or lexicon options first tokens forms h
-  plain lexicon options first tokens (and_of forms) h = plain-and lexicon options first tokens forms h
+  plain lexicon options first tokens (or_of forms) h =
+      either-all is_plain refl both-plain (operators_of lexicon options first tokens forms) (each-plain lexicon options first tokens forms h)
+  plain lexicon options first tokens (and_of forms) h = together-plain (operators_of lexicon options first tokens forms) (each-plain lexicon options first tokens forms h)
   plain lexicon options first tokens (mild_not left right) h =
       let parts = and_parts (without_not left) (without_not right) h in
       λ i. positive lexicon options first tokens left parts.0 i && positive lexicon options (first + phrase_count lexicon options left) tokens right parts.1 i
@@ -144,37 +150,12 @@ mutual
   plain lexicon options first tokens (filtered form kind) h = plain lexicon options first tokens form h
   plain lexicon options first tokens (with_options form inner) h = plain lexicon (inside inner options) first tokens form h
 
-  plain-or : (lexicon : Lexicon) (options : Options) (first : ℕ) (tokens : List Token) (forms : Forms) → each_has_plain_nots forms ≡ true
-      → is_plain (either_of (operators_of lexicon options first tokens forms)) ≡ true
-  plain-or lexicon options first tokens none h = refl
-  plain-or lexicon options first tokens (more form rest) h =
+  each-plain : (lexicon : Lexicon) (options : Options) (first : ℕ) (tokens : List Token) (forms : Forms) → each_has_plain_nots forms ≡ true
+      → list_all is_plain (operators_of lexicon options first tokens forms) ≡ true
+  each-plain lexicon options first tokens none h = refl
+  each-plain lexicon options first tokens (more form rest) h =
       let parts = and_parts (has_plain_nots form) (each_has_plain_nots rest) h in
-      plain-either lexicon options (first + phrase_count lexicon options form) tokens rest parts.1
-      (operator_of lexicon options first tokens form) (plain lexicon options first tokens form parts.0)
-
-  plain-and : (lexicon : Lexicon) (options : Options) (first : ℕ) (tokens : List Token) (forms : Forms) → each_has_plain_nots forms ≡ true
-      → is_plain (together_of (operators_of lexicon options first tokens forms)) ≡ true
-  plain-and lexicon options first tokens none h = refl
-  plain-and lexicon options first tokens (more form rest) h =
-      let parts = and_parts (has_plain_nots form) (each_has_plain_nots rest) h in
-      plain-together lexicon options (first + phrase_count lexicon options form) tokens rest parts.1
-      (operator_of lexicon options first tokens form) (plain lexicon options first tokens form parts.0)
-
-  plain-either : (lexicon : Lexicon) (options : Options) (first : ℕ) (tokens : List Token) (forms : Forms) → each_has_plain_nots forms ≡ true
-      → (operator : Operator) → is_plain operator ≡ true → is_plain (fold either operator (operators_of lexicon options first tokens forms)) ≡ true
-  plain-either lexicon options first tokens none h operator g = g
-  plain-either lexicon options first tokens (more form rest) h operator g =
-      let parts = and_parts (has_plain_nots form) (each_has_plain_nots rest) h in
-      plain-either lexicon options (first + phrase_count lexicon options form) tokens rest parts.1
-      (either operator (operator_of lexicon options first tokens form)) (λ i. g i && plain lexicon options first tokens form parts.0 i)
-
-  plain-together : (lexicon : Lexicon) (options : Options) (first : ℕ) (tokens : List Token) (forms : Forms) → each_has_plain_nots forms ≡ true
-      → (operator : Operator) → is_plain operator ≡ true → is_plain (fold together operator (operators_of lexicon options first tokens forms)) ≡ true
-  plain-together lexicon options first tokens none h operator g = g
-  plain-together lexicon options first tokens (more form rest) h operator g =
-      let parts = and_parts (has_plain_nots form) (each_has_plain_nots rest) h in
-      plain-together lexicon options (first + phrase_count lexicon options form) tokens rest parts.1
-      (together operator (operator_of lexicon options first tokens form)) (λ i. g i && plain lexicon options first tokens form parts.0 i)
+      λ i. plain lexicon options first tokens form parts.0 i && each-plain lexicon options (first + phrase_count lexicon options form) tokens rest parts.1 i
 
 -- ---- ways
 

@@ -17,7 +17,7 @@ use Rattle.doc_grammar.proofs.Spelled.{no_return, ReferPart, EndPart, Part, Spel
 use Rattle.doc_grammar.specs.Opened.{At, before, after, in_fragment, within}
 use Rattle.doc_grammar.proofs.Classes.{differs}
 use Rattle.doc_grammar.proofs.Walks.{st, Runs, Steps, same, still, one, first_then, quoted_ends, refer_ends, attr_name_further}
-use Rattle.doc_grammar.proofs.WalksOfElements.{content_of, equals_quote, quoted_quote, attr_name_equals, spaced_slash, empty_close, end_name_runs, end_name_close, end_spaced_close}
+use Rattle.doc_grammar.proofs.WalksOfElements.{content_of, equals_quote, quoted_quote, attr_name_equals, spaced_slash, empty_close, end_name_runs, end_name_close, end_spaced_close, attr_named_equals}
 use Rattle.doc_grammar.proofs.Completed.{Ends, no_return-append, ends_after, ends_at, opened_ends, bang_ends, bang_dash_ends, comment_ends, instruction_ends, refer_completes}
 
 slashed_ends : (p : Place) (name : List ℕ) (attrs : List Attr) → Ends (st p (m.slashed name attrs))
@@ -48,10 +48,6 @@ quoted_can_end p name attrs attr quote value h = ends_after (one (quoted_quote p
 
 equals_ends : (p : Place) (name : List ℕ) (attrs : List Attr) (attr : List ℕ) → Ends (st p (m.equals name attrs attr))
 equals_ends p name attrs attr = ends_after (one (equals_quote p name attrs attr 39 refl)) refl (quoted_can_end p name attrs attr 39 [] refl)
-
-attr_named_equals : (p : Place) (name : List ℕ) (attrs : List Attr) (attr : List ℕ) → Steps (st p (m.attr_named name attrs attr)) 61 (st p (m.equals name attrs attr))
-unfolding step_at m.from_attr_named
-attr_named_equals p name attrs attr = record { gives = same }
 
 attr_named_ends : (p : Place) (name : List ℕ) (attrs : List Attr) (attr : List ℕ) → Ends (st p (m.attr_named name attrs attr))
 attr_named_ends p name attrs attr = ends_after (one (attr_named_equals p name attrs attr)) refl (equals_ends p name attrs attr)

@@ -5,6 +5,7 @@ use Rattle.std.proofs.lemmas.List.{length-append}
 use Rattle.std.proofs.lemmas.Bool.{eqb-true, and_right, and_left, and_from}
 use Rattle.std.specs.Prelude.{◌==◌, nat_eq, encode_utf8}
 use Rattle.std.specs.List.{starts_with}
+use Rattle.std.proofs.Math.Bool.{and-false}
 use Rattle.plain_tree.specs.Document.{Node, element, nodes, no_nodes, is_empty}
 use Rattle.plain_tree.specs.declared.tree.Attr.{Attr}
 use Rattle.ft_base.specs.Characters.{is_char, is_space, is_name_start, is_name_char}
@@ -96,12 +97,8 @@ text_count-encode : (t : List ℕ) (c : ℕ) → text_count (t ++ encode_utf8 c)
 text_count-encode t c = text_count-some (t ++ encode_utf8 c) (omega (arith, length-append t (encode_utf8 c), length-encode c, (len_utf8_bounds c).0))
 
 -- begins_text, by what its tests say
-no_line_feed : (x : Bool) → not (x && false) ≡ true
-no_line_feed true = refl
-no_line_feed false = refl
-
 begun_text : (p : Place) (c : ℕ) → (c == 60) ≡ false → is_content p.outer ≡ true → is_empty p.text ≡ true → is_char c ≡ true → begins_text p false c ≡ true
-begun_text p c a b d e = and_from _ _ (no_line_feed (c == 10)) (and_from _ _ (ap not a) (and_from _ _ b (and_from _ _ d e)))
+begun_text p c a b d e = and_from _ _ (ap not (and-false (c == 10))) (and_from _ _ (ap not a) (and_from _ _ b (and_from _ _ d e)))
 
 no_markup : (p : Place) (c : ℕ) → (c == 60) ≡ true → begins_text p false c ≡ false
 no_markup p c h = and_right (not ((c == 10) && false)) _ (and_left (not (c == 60)) _ (ap not h))

@@ -2,6 +2,7 @@
 use Rattle.std.proofs.Common.{◌≡◌, ℕ, Bool, true, false, ◌&&◌, not, List, [], ◌∷◌, ◌++◌, refl, ◌∙◌, ap}
 use Rattle.std.proofs.lemmas.List.{append-nil}
 use Rattle.std.proofs.lemmas.Bool.{and_parts, and_from}
+use Rattle.std.proofs.Math.Bool.{and-false}
 use Rattle.plain_tree.specs.Document.{Node, text, nodes, is_text, is_joined, are_joined, is_document}
 use Rattle.doc_grammar.specs.Grammar.{text_node, Element, Content, Document}
 
@@ -17,11 +18,7 @@ pub record Joined (ks : List Node) : Type 0 where
 
 element_behind : (ks : List Node) (n : Node) → are_joined (nodes ks) ≡ true → is_joined n ≡ true → is_text n ≡ false → are_joined (nodes (ks ++ n ∷ [])) ≡ true
 element_behind [] n h j t = and_from _ _ (and_from _ _ j (ap (λ b. not (b && false)) t)) refl
-element_behind (k ∷ []) n h j t = let two = and_parts _ _ h in and_from _ _ (and_from _ _ (and_parts _ _ two.0).0 (ap (λ b. not (is_text k && b)) t ∙ no_and (is_text k))) (element_behind [] n refl j t)
-  where
-    no_and : (b : Bool) → not (b && false) ≡ true
-    no_and true = refl
-    no_and false = refl
+element_behind (k ∷ []) n h j t = let two = and_parts _ _ h in and_from _ _ (and_from _ _ (and_parts _ _ two.0).0 (ap (λ b. not (is_text k && b)) t ∙ ap not (and-false (is_text k)))) (element_behind [] n refl j t)
 element_behind (k ∷ l ∷ ks) n h j t = let two = and_parts _ _ h in and_from _ _ two.0 (element_behind (l ∷ ks) n two.1 j t)
 
 ends_behind : (ks : List Node) (n : Node) → is_text n ≡ false → ends_with_text (ks ++ n ∷ []) ≡ false

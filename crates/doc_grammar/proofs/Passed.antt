@@ -117,44 +117,44 @@ one_longer prefix c = omega (arith, length-append prefix (c ∷ []))
 at_or_behind : (m n : ℕ) → m ≤ n → (m ≡ n → ⊥) → suc m ≤ n
 at_or_behind m n h k = omega (arith, k)
 
--- a character that passes none leaves none passed
-pub clean_further : (max_depth max_nodes : ℕ) (kind : Kind) (whole prefix : List ℕ) (c : ℕ) (more : List ℕ) (s : State) → Clean max_depth max_nodes kind whole prefix → whole ≡ prefix ++ c ∷ more → read kind prefix ≡ Some s
-    → Checked max_depth max_nodes s (returned false prefix) c → Clean max_depth max_nodes kind whole (prefix ++ c ∷ [])
-clean_further max_depth max_nodes kind whole prefix c more s clean e r checked = record {
-  texts = λ other p x h. subst (λ (n : ℕ). n ≤ length other) (sym (one_longer prefix c)) (at_or_behind (length prefix) (length other) (clean.texts other p x h) (λ l.
-      let same = text_same prefix c more s e r x l in
-      let fits : place_count s.place < max_nodes = checked.text_fits same.0 in
-      let full : max_nodes ≤ place_count s.place = subst (λ (q : Place). max_nodes ≤ place_count q) (sym same.1) h in
-      absurd (omega arith)));
-  elements = λ other p x h. subst (λ (n : ℕ). n ≤ suc (length other)) (sym (one_longer prefix c)) (at_or_behind (length prefix) (suc (length other)) (clean.elements other p x h) (λ l.
-      element_stops p h (element_same prefix c more s e r x l)));
-}
-  where
-    element_stops : (p : Place) → ((max_depth ≤ depth p.outer) ⊎ (max_nodes ≤ place_count p)) → ((element_here s c ≡ true) × (s.place ≡ p)) → ⊥
-    element_stops p (inl h) same =
-        let fits : depth s.place.outer < max_depth = checked.shallow same.0 in
-        let deep : max_depth ≤ depth s.place.outer = subst (λ (q : Place). max_depth ≤ depth q.outer) (sym same.1) h in
-        absurd (omega arith)
-    element_stops p (inr h) same =
-        let fits : place_count s.place < max_nodes = checked.element_fits same.0 in
+-- a character behind a prefix up to which no limit is passed
+module _ (max_depth max_nodes : ℕ) (kind : Kind) (whole prefix : List ℕ) (c : ℕ) (more : List ℕ) (s : State) (clean : Clean max_depth max_nodes kind whole prefix) (e : whole ≡ prefix ++ c ∷ more) (r : read kind prefix ≡ Some s) where
+  -- where it passes none, none is passed
+  pub clean_further : Checked max_depth max_nodes s (returned false prefix) c → Clean max_depth max_nodes kind whole (prefix ++ c ∷ [])
+  clean_further checked = record {
+    texts = λ other p x h. subst (λ (n : ℕ). n ≤ length other) (sym (one_longer prefix c)) (at_or_behind (length prefix) (length other) (clean.texts other p x h) (λ l.
+        let same = text_same prefix c more s e r x l in
+        let fits : place_count s.place < max_nodes = checked.text_fits same.0 in
         let full : max_nodes ≤ place_count s.place = subst (λ (q : Place). max_nodes ≤ place_count q) (sym same.1) h in
-        absurd (omega arith)
+        absurd (omega arith)));
+    elements = λ other p x h. subst (λ (n : ℕ). n ≤ suc (length other)) (sym (one_longer prefix c)) (at_or_behind (length prefix) (suc (length other)) (clean.elements other p x h) (λ l.
+        element_stops p h (element_same prefix c more s e r x l)));
+  }
+    where
+      element_stops : (p : Place) → ((max_depth ≤ depth p.outer) ⊎ (max_nodes ≤ place_count p)) → ((element_here s c ≡ true) × (s.place ≡ p)) → ⊥
+      element_stops p (inl h) same =
+          let fits : depth s.place.outer < max_depth = checked.shallow same.0 in
+          let deep : max_depth ≤ depth s.place.outer = subst (λ (q : Place). max_depth ≤ depth q.outer) (sym same.1) h in
+          absurd (omega arith)
+      element_stops p (inr h) same =
+          let fits : place_count s.place < max_nodes = checked.element_fits same.0 in
+          let full : max_nodes ≤ place_count s.place = subst (λ (q : Place). max_nodes ≤ place_count q) (sym same.1) h in
+          absurd (omega arith)
+
+  -- where no element is noticed, limits are passed there or later
+  pub clean_keeps : element_here s c ≡ false → KeepsLimits max_depth max_nodes kind whole prefix
+  clean_keeps h other limit x = go x
+    where
+      later : (p : Place) → ElementBegins kind whole other p → ((max_depth ≤ depth p.outer) ⊎ (max_nodes ≤ place_count p)) → length prefix ≤ length other
+      later p y k = let lower = at_or_behind (length prefix) (suc (length other)) (clean.elements other p y k) (λ l. let same = element_same prefix c more s e r y l in let two : true ≡ false = sym same.0 ∙ h in cc) in omega arith
+
+      go : {l : Limit} → Passes max_depth max_nodes kind whole other l → length prefix ≤ length other
+      go (too_deep p y k) = later p y (inl k)
+      go (element_too_many p y k) = later p y (inr k)
+      go (text_too_many p y k) = clean.texts other p y k
 
 -- at the end none was passed at all
 pub clean_end : (max_depth max_nodes : ℕ) (kind : Kind) (whole : List ℕ) → Clean max_depth max_nodes kind whole whole → (other : List ℕ) (limit : Limit) → Passes max_depth max_nodes kind whole other limit → ⊥
 clean_end max_depth max_nodes kind whole clean other limit (too_deep p x h) = absurd (omega (arith, clean.elements other p x (inl h), ap length x.spelled, length-append other (60 ∷ x.c ∷ x.rest)))
 clean_end max_depth max_nodes kind whole clean other limit (element_too_many p x h) = absurd (omega (arith, clean.elements other p x (inr h), ap length x.spelled, length-append other (60 ∷ x.c ∷ x.rest)))
 clean_end max_depth max_nodes kind whole clean other limit (text_too_many p x h) = absurd (omega (arith, clean.texts other p x h, ap length x.spelled, length-append other (x.c ∷ x.rest)))
-
--- a front behind which no element is noticed: limits are passed there or later
-pub clean_keeps : (max_depth max_nodes : ℕ) (kind : Kind) (whole prefix : List ℕ) (c : ℕ) (more : List ℕ) (s : State) → Clean max_depth max_nodes kind whole prefix → whole ≡ prefix ++ c ∷ more → read kind prefix ≡ Some s
-    → element_here s c ≡ false → KeepsLimits max_depth max_nodes kind whole prefix
-clean_keeps max_depth max_nodes kind whole prefix c more s clean e r h other limit x = go x
-  where
-    later : (p : Place) → ElementBegins kind whole other p → ((max_depth ≤ depth p.outer) ⊎ (max_nodes ≤ place_count p)) → length prefix ≤ length other
-    later p y k = let lower = at_or_behind (length prefix) (suc (length other)) (clean.elements other p y k) (λ l. let same = element_same prefix c more s e r y l in let two : true ≡ false = sym same.0 ∙ h in cc) in omega arith
-
-    go : {l : Limit} → Passes max_depth max_nodes kind whole other l → length prefix ≤ length other
-    go (too_deep p y k) = later p y (inl k)
-    go (element_too_many p y k) = later p y (inr k)
-    go (text_too_many p y k) = clean.texts other p y k

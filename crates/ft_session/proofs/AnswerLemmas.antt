@@ -46,17 +46,17 @@ prefix_all before after text wrote = record { prefix = text; rest = []; whole = 
 pub written_start : (before : Option (List ℕ)) (text all : List ℕ) → text ≡ all → WrittenSoFar before before text all
 written_start before text all same = record { done = []; whole = same; holds = with_nothing before }
 
--- the reply to the next command, and those to what is left
-pub replies-next : (state next : State) (found : List Command) (at : ℕ) (command : Command) → at < length found → command ≡ get_or found at command → next ≡ (step state command).0
-    → replies state (drop at found) ≡ (step state command).1 ∷ replies next (drop (at + 1) found)
-replies-next state next found at command within is after =
-    at_drop_more (replies state) found at command within
-    ∙ (ap (λ (c : Command). replies state (c ∷ drop (at + 1) found)) (sym is)
-    ∙ ap (λ s. (step state command).1 ∷ replies s (drop (at + 1) found)) (sym after))
+-- the next command of those that are left
+module _ (state next : State) (found : List Command) (at : ℕ) (command : Command) (within : at < length found) (is : command ≡ get_or found at command) (after : next ≡ (step state command).0) where
+  -- its reply, and those to what is left
+  pub replies-next : replies state (drop at found) ≡ (step state command).1 ∷ replies next (drop (at + 1) found)
+  replies-next =
+      at_drop_more (replies state) found at command within
+      ∙ (ap (λ (c : Command). replies state (c ∷ drop (at + 1) found)) (sym is)
+      ∙ ap (λ s. (step state command).1 ∷ replies s (drop (at + 1) found)) (sym after))
 
--- the state that the next command leaves
-pub state_after-next : (state next : State) (found : List Command) (at : ℕ) (command : Command) → at < length found → command ≡ get_or found at command → next ≡ (step state command).0
-    → state_after state (drop at found) ≡ state_after next (drop (at + 1) found)
-state_after-next state next found at command within is after =
-    at_drop_more (state_after state) found at command within
-    ∙ (ap (λ (c : Command). state_after state (c ∷ drop (at + 1) found)) (sym is) ∙ ap (λ s. state_after s (drop (at + 1) found)) (sym after))
+  -- the state that it leaves
+  pub state_after-next : state_after state (drop at found) ≡ state_after next (drop (at + 1) found)
+  state_after-next =
+      at_drop_more (state_after state) found at command within
+      ∙ (ap (λ (c : Command). state_after state (c ∷ drop (at + 1) found)) (sym is) ∙ ap (λ s. state_after s (drop (at + 1) found)) (sym after))

@@ -108,13 +108,12 @@ map-map [] f g = refl
 map-map (x ∷ xs) f g = ap (λ ys. g (f x) ∷ ys) (map-map xs f g)
 
 -- the lines of elements, by their references
-pub lines-of-names : (document : List ℕ) (root : Numbered) (found : List NodeRef) (elements : List Element) → map (element_of root) found ≡ elements
-    → map (λ r. element_line document (plain root) (element_of root r)) found ≡ lines_of Names document (plain root) elements
-lines-of-names document root found elements is = map-map found (element_of root) (element_line document (plain root)) ∙ ap (map (element_line document (plain root))) is
+module _ (document : List ℕ) (root : Numbered) (found : List NodeRef) (elements : List Element) (is : map (element_of root) found ≡ elements) where
+  pub lines-of-names : map (λ r. element_line document (plain root) (element_of root r)) found ≡ lines_of Names document (plain root) elements
+  lines-of-names = map-map found (element_of root) (element_line document (plain root)) ∙ ap (map (element_line document (plain root))) is
 
-pub lines-of-texts : (document : List ℕ) (root : Numbered) (found : List NodeRef) (elements : List Element) → map (element_of root) found ≡ elements
-    → map (λ r. printed_line (element_of root r).node) found ≡ lines_of Texts document (plain root) elements
-lines-of-texts document root found elements is = map-map found (element_of root) (λ (e : Element). printed_line e.node) ∙ ap (map (λ (e : Element). printed_line e.node)) is
+  pub lines-of-texts : map (λ r. printed_line (element_of root r).node) found ≡ lines_of Texts document (plain root) elements
+  lines-of-texts = map-map found (element_of root) (λ (e : Element). printed_line e.node) ∙ ap (map (λ (e : Element). printed_line e.node)) is
 
 -- what plans select is what the path selects
 pub planned-lines : (lists : NamedLists) (all : List Named) (p : PathForm) (planned : PlannedPath) (shown : Shown) → IsPlanOf lists p planned

@@ -10,6 +10,7 @@ use Rattle.ordered_tree.specs.Slots.{held, root_ref, first_child_or, row, node_a
 use Rattle.ordered_tree.specs.Stands.{round_root, round_first, round_next, stands, child_stands, stands_in, references}
 use Rattle.ordered_tree.specs.declared.around.Around.{Around}
 use Rattle.ft_base.specs.declared.ids.NodeRef.{NodeRef}
+use Rattle.ordered_tree.specs.declared.slot.Held.{Held}
 use Rattle.ordered_tree.specs.declared.slot.Held.TheVariants.{Element, Text}
 use Rattle.ordered_tree.specs.declared.slot.Slot.{Slot}
 use Rattle.ordered_tree.proofs.SlotsLemmas.{some_node, from_link-children, slot_of-stands, below-stands, first-child_stands, rest-child_stands}
@@ -137,3 +138,49 @@ plain-text (text_at r bytes') bytes h = cc
 
 pub count-element : (n : Numbered) (name : List ℕ) (attrs : _) → held n ≡ Element name attrs → node_count (plain n) ≡ 1 + nodes_count (plain_children (children n))
 count-element n name attrs h = ap node_count (plain-element n name attrs h)
+
+-- ---- a slot that was read
+
+-- the slot to which a link leads: its row is the node and those behind it, and the row behind it is smaller
+module _ (slots : List Slot) (link : Option NodeRef) (here : NodeRef) (left : IsRow slots link) (is : link ≡ Some here) (s : Slot) (read : s ≡ get_or slots here.0 s) where
+  pub step-link : Step slots here
+  step-link = step slots here (subst (IsRow slots) is left)
+
+  pub row-link : row slots link ≡ child_then step-link.n step-link.ns
+  row-link = ap (row slots) is ∙ step-link.row-is
+
+  next-link : s.around.next ≡ first_of step-link.ns
+  next-link = ap (λ (d : Slot). d.around.next) read ∙ step-link.next-is s
+
+  pub row-next : row slots s.around.next ≡ step-link.ns
+  row-next = ap (row slots) next-link ∙ step-link.rest-is
+
+  pub left-next : IsRow slots s.around.next
+  left-next = subst (IsRow slots) (sym next-link) step-link.rest
+
+  pub smaller-next : nodes_count (plain_children (row slots s.around.next)) < nodes_count (plain_children (row slots link))
+  smaller-next =
+      omega (arith, ap (λ ns. nodes_count (plain_children ns)) row-next, ap (λ ns. nodes_count (plain_children ns)) row-link, some_node step-link.n)
+
+-- the slot of a node: what it holds, and the row of its children
+module _ (slots : List Slot) (here : NodeRef) (one : IsRow slots (Some here)) (s : Slot) (read : s ≡ get_or slots here.0 s) where
+  pub held-here : (h : Held) → s.held ≡ h → held (step slots here one).n ≡ h
+  held-here h is = sym (ap (λ (d : Slot). d.held) read ∙ (step slots here one).held-is s) ∙ is
+
+  first-here : s.first_child ≡ first_of (children (step slots here one).n)
+  first-here = ap (λ (d : Slot). d.first_child) read ∙ (step slots here one).first-is s
+
+  pub row-here : row slots s.first_child ≡ children (step slots here one).n
+  row-here = ap (row slots) first-here ∙ (step slots here one).inner-is
+
+  pub inner-here : IsRow slots s.first_child
+  inner-here = subst (IsRow slots) (sym first-here) (step slots here one).inner
+
+  pub smaller-here : (name : List ℕ) (attrs : _) → s.held ≡ Element name attrs → nodes_count (plain_children (row slots s.first_child)) < nodes_count (plain_children (row slots (Some here)))
+  smaller-here name attrs is =
+      omega (
+        arith,
+        ap (λ ns. nodes_count (plain_children ns)) row-here,
+        ap (λ ns. nodes_count (plain_children ns)) (step slots here one).row-is,
+        count-element (step slots here one).n name attrs (held-here (Element name attrs) is),
+      )

@@ -23,25 +23,21 @@ pub first : (s : State) (found : List PlacedForm) (p : Placed) (rest : List Plac
 unfolding read_from
 first s found p rest bad size = refl
 
-at_symbol : (s : State) (found : List PlacedForm) (symbols : List Placed) (n : ℕ) (p : Placed) (bad : Option ℕ) (size : ℕ) → n < length symbols → p ≡ get_or symbols n p
-    → read_from s found 0 (drop n symbols) bad size ≡ further (turned s found p (drop (n + 1) symbols) bad size) (λ l. read_from l.state l.selections l.count (drop (n + 1) symbols) bad size)
-at_symbol s found symbols n p bad size h is =
-    ap (λ u. read_from s found 0 u bad size) (drop_more symbols n p h ∙ ap (λ q. q ∷ drop (n + 1) symbols) (sym is)) ∙ first s found p (drop (n + 1) symbols) bad size
+-- one symbol on, in a list of which so many are behind
+module _ (s : State) (found : List PlacedForm) (symbols : List Placed) (n : ℕ) (p : Placed) (bad : Option ℕ) (size : ℕ) (within : n < length symbols) (is : p ≡ get_or symbols n p) where
+  at_symbol : read_from s found 0 (drop n symbols) bad size ≡ further (turned s found p (drop (n + 1) symbols) bad size) (λ l. read_from l.state l.selections l.count (drop (n + 1) symbols) bad size)
+  at_symbol = ap (λ u. read_from s found 0 u bad size) (drop_more symbols n p within ∙ ap (λ q. q ∷ drop (n + 1) symbols) (sym is)) ∙ first s found p (drop (n + 1) symbols) bad size
 
-pub leads : (s : State) (found : List PlacedForm) (symbols : List Placed) (n : ℕ) (p : Placed) (bad : Option ℕ) (size : ℕ) (l : Led) → n < length symbols → p ≡ get_or symbols n p
-    → Ok l ≡ turned s found p (drop (n + 1) symbols) bad size
-    → read_from l.state l.selections 0 (drop (n + 1 + l.count) symbols) bad size ≡ read_from s found 0 (drop n symbols) bad size
-leads s found symbols n p bad size l h is e =
-    ap (λ u. read_from l.state l.selections 0 u bad size) (sym (drop-drop l.count (n + 1) symbols))
-    ∙ sym (skipped l.state l.selections l.count (drop (n + 1) symbols) bad size)
-    ∙ ap (λ r. further r (λ l. read_from l.state l.selections l.count (drop (n + 1) symbols) bad size)) e
-    ∙ sym (at_symbol s found symbols n p bad size h is)
+  pub leads : (l : Led) → Ok l ≡ turned s found p (drop (n + 1) symbols) bad size
+      → read_from l.state l.selections 0 (drop (n + 1 + l.count) symbols) bad size ≡ read_from s found 0 (drop n symbols) bad size
+  leads l e =
+      ap (λ u. read_from l.state l.selections 0 u bad size) (sym (drop-drop l.count (n + 1) symbols))
+      ∙ sym (skipped l.state l.selections l.count (drop (n + 1) symbols) bad size)
+      ∙ ap (λ r. further r (λ l. read_from l.state l.selections l.count (drop (n + 1) symbols) bad size)) e
+      ∙ sym at_symbol
 
-pub halts : (s : State) (found : List PlacedForm) (symbols : List Placed) (n : ℕ) (p : Placed) (bad : Option ℕ) (size : ℕ) → n < length symbols → p ≡ get_or symbols n p
-    → (fault : QueryFault) → Err fault ≡ turned s found p (drop (n + 1) symbols) bad size → Err fault ≡ read_from s found 0 (drop n symbols) bad size
-halts s found symbols n p bad size h is fault e =
-    ap (λ r. further r (λ l. read_from l.state l.selections l.count (drop (n + 1) symbols) bad size)) e
-    ∙ sym (at_symbol s found symbols n p bad size h is)
+  pub halts : (fault : QueryFault) → Err fault ≡ turned s found p (drop (n + 1) symbols) bad size → Err fault ≡ read_from s found 0 (drop n symbols) bad size
+  halts fault e = ap (λ r. further r (λ l. read_from l.state l.selections l.count (drop (n + 1) symbols) bad size)) e ∙ sym at_symbol
 
 -- a fault that is expected in one place is in the other
 pub stops : {A B C D : Type 0} (view : A → B) (other : C → D) (x : Result B QueryFault) (y : Result D QueryFault) (fault : QueryFault) → ((f : QueryFault) → Err f ≡ x → Err f ≡ y)

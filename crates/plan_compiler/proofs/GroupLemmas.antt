@@ -3,6 +3,7 @@ use Rattle.std.proofs.Common.{◌≡◌, refl, sym, ap, ◌∙◌, ℕ, ◌==◌
 use Rattle.std.specs.Prelude.{flat_map, nat_eq}
 use Rattle.std.specs.Map.{lookup, set_value}
 use Rattle.std.proofs.lemmas.List.{take_more, map-append, length-map}
+use Rattle.std.proofs.lemmas.List.Sums.{fold_push}
 use Rattle.all_matches.specs.Counting.{put_variant, with_variant, by_length}
 use Rattle.indexmap.specs.IndexMap.{insert_entry}
 use Rattle.plan_compiler.specs.GroupedTests.{put_behind}
@@ -11,10 +12,6 @@ pub flat_map-map : {X Y : Type 0} (f : X → List Y) (xs : List X) → flat_map 
 flat_map-map f [] = refl
 flat_map-map f (x ∷ xs) = ap (λ ys. f x ++ ys) (flat_map-map f xs)
 
-fold-push : {X Y : Type 0} (f : Y → X → Y) (a : Y) (xs : List X) (x : X) → fold f a (xs ++ x ∷ []) ≡ f (fold f a xs) x
-fold-push f a [] x = refl
-fold-push f a (y ∷ xs) x = fold-push f (f a y) xs x
-
 -- one more of what a list's items become
 pub fold_more : {X Y Z R : Type 0} (step : R → Z → R) (a : R) (g : Y → Z) (h : X → Y) (xs : List X) (i : ℕ) (x : X) → i < length xs → x ≡ get_or xs i x
     → fold step a (map g (map h (take (i + 1) xs))) ≡ step (fold step a (map g (map h (take i xs)))) (g (h x))
@@ -22,7 +19,7 @@ fold_more step a g h xs i x within is =
     ap (λ ys. fold step a (map g (map h ys))) (take_more xs i x within ∙ ap (λ y. take i xs ++ y ∷ []) (sym is))
     ∙ ap (λ ys. fold step a (map g ys)) (map-append h (take i xs) (x ∷ []))
     ∙ ap (fold step a) (map-append g (map h (take i xs)) (h x ∷ []))
-    ∙ fold-push step a (map g (map h (take i xs))) (g (h x))
+    ∙ fold_push step a (map g (map h (take i xs))) (g (h x))
 
 module _ {X Y : Type 0} (f : X → Y) where
   -- a group with its words changed

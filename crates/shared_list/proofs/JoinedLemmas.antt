@@ -1,5 +1,5 @@
 -- The items of a list that is cut into blocks, where one block changes.
-use Rattle.std.proofs.Common.{◌≡◌, ℕ, ◌+◌, ◌-◌, ◌<◌, ◌≤◌, suc, zero, List, [], ◌∷◌, ◌++◌, length, take, drop, set, get_or, refl, ap, sym, ◌∙◌, arith, append_assoc, length-append, inl, inr}
+use Rattle.std.proofs.Common.{◌≡◌, ℕ, ◌+◌, ◌-◌, ◌<◌, ◌≤◌, suc, zero, List, [], ◌∷◌, ◌++◌, length, take, drop, set, get_or, refl, ap, sym, ◌∙◌, arith, append_assoc, length-append, ◌⊎◌, inl, inr}
 use Rattle.std.specs.Prelude.{insert, remove}
 use Rattle.std.proofs.lemmas.Bool.{cases_lt}
 use Rattle.std.proofs.lemmas.List.{take_all, take_more}
@@ -73,19 +73,12 @@ start-next {T = T} blocks k there =
     omega (arith, length-append front (joined (block ∷ [])), length-append block (joined {T = T} [])) in
     ap (λ bs. length (joined bs)) (take_more blocks k [] there) ∙ ap length (flat_map-append (λ (b : List T). b) (take k blocks) (block ∷ [])) ∙ sum
 
--- how long the block is in which a place is
-pub block-end : {T : Type 0} (blocks : List (List T)) (k at : ℕ) → k < length blocks → (k + 1 < length blocks → at < start_of blocks (k + 1)) →
-    at ≤ length (joined blocks) → at ≤ start_of blocks k + length (get_or blocks k [])
-block-end blocks k at there next within = elim (cases_lt (k + 1) (length blocks)) [
-  | inl more ↦ omega (arith, start-next blocks k there, next more)
-  | inr last ↦ omega (arith, start-next blocks k there, ap (λ bs. length (joined bs)) (take_all (k + 1) blocks last))
-]
-
-pub block-holds : {T : Type 0} (blocks : List (List T)) (k at : ℕ) → k < length blocks → (k + 1 < length blocks → at < start_of blocks (k + 1)) →
-    at < length (joined blocks) → at < start_of blocks k + length (get_or blocks k [])
-block-holds blocks k at there next within = elim (cases_lt (k + 1) (length blocks)) [
-  | inl more ↦ omega (arith, start-next blocks k there, next more)
-  | inr last ↦ omega (arith, start-next blocks k there, ap (λ bs. length (joined bs)) (take_all (k + 1) blocks last))
+-- a place in front of the start of the next block is in front of the end of this one, or this one is the last
+block-end : {T : Type 0} (blocks : List (List T)) (k at : ℕ) → k < length blocks → (k + 1 < length blocks → at < start_of blocks (k + 1)) →
+    (at < start_of blocks k + length (get_or blocks k [])) ⊎ (length (joined blocks) ≡ start_of blocks k + length (get_or blocks k []))
+block-end blocks k at there next = elim (cases_lt (k + 1) (length blocks)) [
+  | inl more ↦ inl (omega (arith, start-next blocks k there, next more))
+  | inr last ↦ inr (sym (ap (λ bs. length (joined bs)) (take_all (k + 1) blocks last)) ∙ start-next blocks k there)
 ]
 
 -- the blocks with two blocks in the place of one
@@ -107,10 +100,16 @@ joined-halved (b ∷ rest) zero front back there halves = sym (append_assoc fron
 joined-halved (b ∷ rest) (suc k) front back there halves = ap (λ ys. b ++ ys) (joined-halved rest k front back (omega arith) halves)
 
 pub put-place : {T : Type 0} (blocks : List (List T)) (at k : ℕ) → IsBlockOf blocks at k → at ≤ length (joined blocks) → at - start_of blocks k ≤ length (get_or blocks k [])
-put-place blocks at k is within = omega (arith, block-end blocks k at is.there is.to within, is.from)
+put-place blocks at k is within = elim (block-end blocks k at is.there is.to) [
+  | inl inside ↦ omega (arith, inside, is.from)
+  | inr last ↦ omega (arith, last, within, is.from)
+]
 
 pub take-place : {T : Type 0} (blocks : List (List T)) (at k : ℕ) → IsBlockOf blocks at k → at < length (joined blocks) → at - start_of blocks k < length (get_or blocks k [])
-take-place blocks at k is within = omega (arith, block-holds blocks k at is.there is.to within, is.from)
+take-place blocks at k is within = elim (block-end blocks k at is.there is.to) [
+  | inl inside ↦ omega (arith, inside, is.from)
+  | inr last ↦ omega (arith, last, within, is.from)
+]
 
 pub put-at : {T : Type 0} (blocks : List (List T)) (at k : ℕ) (x : T) → IsBlockOf blocks at k → at ≤ length (joined blocks) →
     joined (set blocks k (insert (get_or blocks k []) (at - start_of blocks k) x)) ≡ insert (joined blocks) at x

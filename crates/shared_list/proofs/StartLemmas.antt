@@ -49,35 +49,31 @@ length-set_block (b ∷ rest) (suc j) zero new behind there = omega (arith, leng
 length-set_block (b ∷ rest) (suc j) (suc k) new behind there =
     omega (arith, length-set_block rest j k new (omega arith) (omega arith), length-append b (joined (take j rest)), length-append b (joined (take j (set rest k new))))
 
+-- as many blocks, of which those up to one start alike, and those behind it one place further on
+starts-moved : {T : Type 0} (low high : List (List T)) (k : ℕ) → k < length low → length low ≡ length high → ((j : ℕ) → j ≤ k → start_of low j ≡ start_of high j) → ((j : ℕ) → k < j → start_of high j ≡ start_of low j + 1) →
+    IsRaised (k + 1) (starts_from 0 low) (starts_from 0 high)
+starts-moved low high k there same front further =
+    let below = starts-length 0 low in
+    let above = starts-length 0 high in
+    record {
+      same_length = omega arith;
+      in_front = λ j before. omega (arith, starts-at 0 low j (omega arith), starts-at 0 high j (omega arith), front j (omega arith));
+      behind = λ j back within. omega (arith, starts-at 0 low j (omega arith), starts-at 0 high j (omega arith), further j (omega arith));
+    }
+
 -- a block that got one item longer moves the starts behind it
 pub starts-raised : {T : Type 0} (blocks : List (List T)) (k : ℕ) (new : List T) → k < length blocks → length new ≡ length (get_or blocks k []) + 1 →
     IsRaised (k + 1) (starts_from 0 blocks) (starts_from 0 (set blocks k new))
 starts-raised blocks k new there longer =
-    let same = length-set blocks k new in
-    let old = starts-length 0 blocks in
-    let now = starts-length 0 (set blocks k new) in
-    record {
-      same_length = omega arith;
-      in_front = λ j front. starts-at 0 (set blocks k new) j (omega arith)
-          ∙ ap (λ bs. 0 + length (joined bs)) (take-set-le j blocks k new (omega arith))
-          ∙ sym (starts-at 0 blocks j (omega arith));
-      behind = λ j back within. omega (arith, starts-at 0 (set blocks k new) j (omega arith), starts-at 0 blocks j (omega arith), length-set_block blocks j k new (omega arith) there);
-    }
+    starts-moved blocks (set blocks k new) k there (sym (length-set blocks k new)) (λ j front. sym (ap (λ bs. length (joined bs)) (take-set-le j blocks k new front)))
+    (λ j behind. omega (arith, length-set_block blocks j k new behind there, longer))
 
 -- a block that got one item shorter
 pub starts-lowered : {T : Type 0} (blocks : List (List T)) (k : ℕ) (new : List T) → k < length blocks → length (get_or blocks k []) ≡ length new + 1 →
     IsRaised (k + 1) (starts_from 0 (set blocks k new)) (starts_from 0 blocks)
 starts-lowered blocks k new there shorter =
-    let same = length-set blocks k new in
-    let old = starts-length 0 blocks in
-    let now = starts-length 0 (set blocks k new) in
-    record {
-      same_length = omega arith;
-      in_front = λ j front. starts-at 0 blocks j (omega arith)
-          ∙ ap (λ bs. 0 + length (joined bs)) (sym (take-set-le j blocks k new (omega arith)))
-          ∙ sym (starts-at 0 (set blocks k new) j (omega arith));
-      behind = λ j back within. omega (arith, starts-at 0 (set blocks k new) j (omega arith), starts-at 0 blocks j (omega arith), length-set_block blocks j k new (omega arith) there);
-    }
+    starts-moved (set blocks k new) blocks k (omega (arith, there, length-set blocks k new)) (length-set blocks k new) (λ j front. ap (λ bs. length (joined bs)) (take-set-le j blocks k new front))
+    (λ j behind. omega (arith, length-set_block blocks j k new behind there, shorter))
 
 -- no block starts behind the end of the list
 pub starts-within : {T : Type 0} (n : ℕ) (blocks : List (List T)) (k : ℕ) → k < length blocks → get_or (starts_from n blocks) k 0 ≤ n + length (joined blocks)
@@ -106,15 +102,14 @@ raised-low from low other high a b = same_number_lists low other (omega (arith, 
 ])
 
 -- the starts after an item came into a block, and after one went out of it
-pub put-starts : {T : Type 0} (blocks : List (List T)) (k : ℕ) (new : List T) (starts after : List ℕ) → starts ≡ starts_from 0 blocks → k < length blocks →
-    length new ≡ length (get_or blocks k []) + 1 → IsRaised (k + 1) starts after → after ≡ starts_from 0 (set blocks k new)
-put-starts blocks k new starts after are there longer raised =
-    raised-high (k + 1) (starts_from 0 blocks) after (starts_from 0 (set blocks k new)) (subst (λ (xs : List ℕ). IsRaised (k + 1) xs after) are raised) (starts-raised blocks k new there longer)
+module _ {T : Type 0} (blocks : List (List T)) (k : ℕ) (new : List T) (starts after : List ℕ) (are : starts ≡ starts_from 0 blocks) (there : k < length blocks) where
+  pub put-starts : length new ≡ length (get_or blocks k []) + 1 → IsRaised (k + 1) starts after → after ≡ starts_from 0 (set blocks k new)
+  put-starts longer raised =
+      raised-high (k + 1) (starts_from 0 blocks) after (starts_from 0 (set blocks k new)) (subst (λ (xs : List ℕ). IsRaised (k + 1) xs after) are raised) (starts-raised blocks k new there longer)
 
-pub take-starts : {T : Type 0} (blocks : List (List T)) (k : ℕ) (new : List T) (starts after : List ℕ) → starts ≡ starts_from 0 blocks → k < length blocks →
-    length (get_or blocks k []) ≡ length new + 1 → IsRaised (k + 1) after starts → after ≡ starts_from 0 (set blocks k new)
-take-starts blocks k new starts after are there shorter raised =
-    raised-low (k + 1) after (starts_from 0 (set blocks k new)) (starts_from 0 blocks) (subst (λ (xs : List ℕ). IsRaised (k + 1) after xs) are raised) (starts-lowered blocks k new there shorter)
+  pub take-starts : length (get_or blocks k []) ≡ length new + 1 → IsRaised (k + 1) after starts → after ≡ starts_from 0 (set blocks k new)
+  take-starts shorter raised =
+      raised-low (k + 1) after (starts_from 0 (set blocks k new)) (starts_from 0 blocks) (subst (λ (xs : List ℕ). IsRaised (k + 1) after xs) are raised) (starts-lowered blocks k new there shorter)
 
 -- how many starts there are
 pub same-length : {T : Type 0} (blocks : List (List T)) (starts : List ℕ) → starts ≡ starts_from 0 blocks → length starts ≡ length blocks

@@ -2,8 +2,8 @@
 //! are skipped, and where a word ends.
 #![tactic(auto)]
 
-mod line;
 mod content_lines;
+mod line;
 
-pub use line::{drop_return, is_skipped, line_end, skip_blanks, trim_line, word_end};
 pub use content_lines::{ContentLine, ContentLines};
+pub use line::{drop_return, is_skipped, line_end, skip_blanks, trim_line, word_end};

@@ -1,5 +1,5 @@
 -- Phrases that are put in order: what is among them, and that lists with the same phrases give the same order.
-use Rattle.std.proofs.Common.{◌≡◌, ◌∙◌, sym, ap, subst, refl, Bool, true, false, ◌&&◌, ◌||◌, List, [], ◌∷◌, map, Option, Some, None, is_some, true≢false, T}
+use Rattle.std.proofs.Common.{◌≡◌, ◌∙◌, sym, ap, subst, refl, Bool, true, false, ◌||◌, List, [], ◌∷◌, map, Option, Some, None, is_some, true≢false, T}
 use Rattle.std.specs.declared.cmp.Ordering.{Ordering}
 use Rattle.std.specs.declared.cmp.Ordering.TheVariants.{Less, Equal, Greater}
 use Rattle.std.specs.Ordering.{is_lt, match_ordering}
@@ -10,7 +10,8 @@ use Rattle.std.specs.List.Sorted.{IsStrictlySortedBy}
 use Rattle.std.specs.BTreeSet.{insert_key}
 use Rattle.std.specs.FinMap.{slice_cmp-IsAntisymmetric, nat_cmp-IsAntisymmetric}
 use Rattle.std.specs.FinMap.Entries.{below_all, by_order, put, find, is_sorted, is_some-find, is_sorted-put, same_entries}
-use Rattle.std.proofs.Math.Bool.{or-false, or_self_left}
+use Rattle.std.proofs.Math.Bool.{or-false, or_self_left, or_assoc}
+use Rattle.std.proofs.Math.Facts.{and_yes}
 use Rattle.thesaurus_file.specs.Phrases.{Phrase, in_order, phrase_cmp, phrase_eq}
 
 pub phrase_total : IsTotalOrder phrase_cmp
@@ -43,13 +44,7 @@ any_fold t [] seen = refl
 any_fold t (k ∷ ks) seen =
     any_fold t ks (insert_key phrase_cmp seen k)
     ∙ ap (λ b. list_any t ks || b) (any_insert_key t k seen)
-    ∙ turned (list_any t ks) (t k) (list_any t seen)
-  where
-    turned : (a b c : Bool) → (a || (b || c)) ≡ ((b || a) || c)
-    turned true true c = refl
-    turned true false c = refl
-    turned false true c = refl
-    turned false false c = refl
+    ∙ or_swap (list_any t ks) (t k) (list_any t seen) ∙ sym (or_assoc (t k) (list_any t ks) (list_any t seen))
 
 pub any_in_order : (t : Phrase → Bool) (ks : List Phrase) → list_any t (in_order ks) ≡ list_any t ks
 any_in_order t ks = any_fold t ks [] ∙ or-false (list_any t ks)
@@ -94,10 +89,6 @@ in_order_same xs ys same =
 
 -- ---- each once, and each before the next
 
-both_true : (a b : Bool) → T (a && b) → T a × T b
-both_true true b h = (tt, h)
-both_true false b h = absurd h
-
 is_less : (r : Ordering) → T (is_lt r) → r ≡ Less
 is_less Less h = refl
 is_less Equal h = absurd h
@@ -105,12 +96,12 @@ is_less Greater h = absurd h
 
 before_all : (k : Phrase) (ks : List Phrase) → T (below_all phrase_cmp k (marked ks)) → AllByRecursion (λ y. phrase_cmp k y ≡ Less) ks
 before_all k [] h = tt
-before_all k (x ∷ xs) h = let both = both_true (is_lt (phrase_cmp k x)) (below_all phrase_cmp k (marked xs)) h in (is_less (phrase_cmp k x) both.0, before_all k xs both.1)
+before_all k (x ∷ xs) h = let both = and_yes (is_lt (phrase_cmp k x)) (below_all phrase_cmp k (marked xs)) h in (is_less (phrase_cmp k x) both.0, before_all k xs both.1)
 
 sorted_marks : (ks : List Phrase) → T (is_sorted phrase_cmp (marked ks)) → IsStrictlySortedBy phrase_cmp ks
 unfolding IsStrictlySortedBy
 sorted_marks [] h = tt
-sorted_marks (k ∷ ks) h = let both = both_true (below_all phrase_cmp k (marked ks)) (is_sorted phrase_cmp (marked ks)) h in (before_all k ks both.0, sorted_marks ks both.1)
+sorted_marks (k ∷ ks) h = let both = and_yes (below_all phrase_cmp k (marked ks)) (is_sorted phrase_cmp (marked ks)) h in (before_all k ks both.0, sorted_marks ks both.1)
 
 pub sorted_in_order : (ks : List Phrase) → IsStrictlySortedBy phrase_cmp (in_order ks)
 sorted_in_order ks = sorted_marks (in_order ks) (sorted_fold ks [] tt)

@@ -1,13 +1,13 @@
-use Rattle.std.proofs.Common.{◌≡◌, ℕ, ◌+◌, [], ◌∷◌, ◌++◌, Some, length, sym, ap, ap₂, ◌∙◌, subst, arith, append_assoc, append-nil, OnOk, IfOk}
-use Rattle.doc_grammar.specs.Limits.{node_count, nodes_count}
+use Rattle.std.proofs.Common.{◌≡◌, ℕ, ◌+◌, [], ◌∷◌, ◌++◌, length, sym, ap, ap₂, ◌∙◌, subst, arith, append_assoc, append-nil, OnOk, IfOk}
+use Rattle.doc_grammar.specs.Limits.{nodes_count}
 use Rattle.tokenizer.specs.Words.{words}
 use Rattle.ordered_tree.specs.Leaves.{texts, texts_of, leaf_of, leaves_behind, last_leaf}
-use Rattle.ordered_tree.specs.Numbered.{plain, plain_children, children, no_children, child_then}
+use Rattle.ordered_tree.specs.Numbered.{plain_children, no_children, child_then}
 use Rattle.ordered_tree.specs.Slots.{IsRow, held, row, node_at}
 use Rattle.ordered_tree.specs.declared.slot.Held.TheVariants.{Element, Text}
 use Rattle.ordered_tree.proofs.LeavesLemmas.{leaves_behind-append, last_leaf-append, leaves_behind-nil, last_leaf-nil, texts-element, texts-text}
-use Rattle.ordered_tree.proofs.RowLemmas.{Step, step, node_at-is, count-element}
-use Rattle.ordered_tree.proofs.SlotsLemmas.{some_node, from_link-none}
+use Rattle.ordered_tree.proofs.RowLemmas.{Step, step, step-link, row-link, row-next, left-next, smaller-next, held-here, row-here, inner-here, smaller-here, node_at-is}
+use Rattle.ordered_tree.proofs.SlotsLemmas.{from_link-none}
 use Rattle.ordered_tree.proofs.leaves.+leaves.Goals as goal
 
 -- ---- add_all_leaves
@@ -21,24 +21,22 @@ add_all_leaves-index-requires t c =
 pub add_all_leaves-loop-link-smaller : goal.add_all_leaves-loop-link-smaller
 add_all_leaves-loop-link-smaller t c =
     let slots = c.args.slots.now.items in
-    let st : Step slots c.in-Some.here = step slots c.in-Some.here (subst (IsRow slots) c.in-Some.is c.loop-link.invariant.left) in
-    let next : c.index.result.now.around.next ≡ _ = ap (λ s. s.around.next) c.index.ensures ∙ st.next-is c.index.result.now in
-    let less : nodes_count (plain_children (row slots c.index.result.now.around.next)) ≡ nodes_count (plain_children st.ns) = ap (λ ns. nodes_count (plain_children ns)) (ap (row slots) next ∙ st.rest-is) in
-    let here : nodes_count (plain_children (row slots c.loop-link.link)) ≡ node_count (plain st.n) + nodes_count (plain_children st.ns) = ap (λ ns. nodes_count (plain_children ns)) (ap (row slots) c.in-Some.is ∙ st.row-is) in
-    omega (arith, less, here, some_node st.n)
+    smaller-next slots c.loop-link.link c.in-Some.here c.loop-link.invariant.left c.in-Some.is c.index.result.now c.index.ensures
 
 pub add_all_leaves-loop-link-preserved : goal.add_all_leaves-loop-link-preserved
 add_all_leaves-loop-link-preserved t c =
     let slots = c.args.slots.now.items in
-    let st : Step slots c.in-Some.here = step slots c.in-Some.here (subst (IsRow slots) c.in-Some.is c.loop-link.invariant.left) in
-    let next : c.index.result.now.around.next ≡ _ = ap (λ s. s.around.next) c.index.ensures ∙ st.next-is c.index.result.now in
-    let rest : row slots c.index.result.now.around.next ≡ st.ns = ap (row slots) next ∙ st.rest-is in
-    let all : row slots c.loop-link.link ≡ child_then st.n st.ns = ap (row slots) c.in-Some.is ∙ st.row-is in
+    let link = c.loop-link.link in
+    let left = c.loop-link.invariant.left in
+    let s = c.index.result.now in
+    let st = step-link slots link c.in-Some.here left c.in-Some.is s c.index.ensures in
+    let rest : row slots s.around.next ≡ st.ns = row-next slots link c.in-Some.here left c.in-Some.is s c.index.ensures in
+    let all : row slots link ≡ child_then st.n st.ns = row-link slots link c.in-Some.here left c.in-Some.is s c.index.ensures in
     let before = c.loop-link.before in
     let one : texts (node_at slots c.in-Some.here) ≡ texts st.n = ap texts (node_at-is slots c.in-Some.here st) in
     let last : c.in_ok-before.before ≡ last_leaf before (texts st.n) = c.in_ok-before.ensures.last ∙ ap (last_leaf before) one in
     record {
-      left = subst (IsRow slots) (sym next) st.rest;
+      left = left-next slots link c.in-Some.here left c.in-Some.is s c.index.ensures;
       done = ap₂ (λ l ns. l ++ leaves_behind c.in_ok-before.before (texts_of ns)) (c.in_ok-before.ensures.leaves ∙ ap (λ ts. c.loop-link.leaves ++ leaves_behind before ts) one) rest
           ∙ ap (λ b. (c.loop-link.leaves ++ leaves_behind before (texts st.n)) ++ leaves_behind b (texts_of st.ns)) last
           ∙ append_assoc c.loop-link.leaves (leaves_behind before (texts st.n)) _
@@ -76,19 +74,14 @@ pub add_leaves-add_all_leaves-requires : goal.add_leaves-add_all_leaves-requires
 add_leaves-add_all_leaves-requires t c =
     let slots = c.args.slots.now.items in
     let s = c.index-slot.result.now in
-    let st : Step slots c.args.here = step slots c.args.here c.requires in
-    let is : held st.n ≡ Element c.in-Element.name c.in-Element.attrs = sym (ap (λ s. s.held) c.index-slot.ensures ∙ st.held-is s) ∙ c.in-Element.is in
-    let first : s.first_child ≡ _ = ap (λ s. s.first_child) c.index-slot.ensures ∙ st.first-is s in
-    let inner : nodes_count (plain_children (row slots s.first_child)) ≡ nodes_count (plain_children (children st.n)) = ap (λ ns. nodes_count (plain_children ns)) (ap (row slots) first ∙ st.inner-is) in
-    let here : nodes_count (plain_children (row slots (Some c.args.here))) ≡ node_count (plain st.n) + nodes_count (plain_children st.ns) = ap (λ ns. nodes_count (plain_children ns)) st.row-is in
-    (omega (arith, c.decreases, inner, here, count-element st.n c.in-Element.name c.in-Element.attrs is), subst (IsRow slots) (sym first) st.inner)
+    (omega (arith, c.decreases, smaller-here slots c.args.here c.requires s c.index-slot.ensures c.in-Element.name c.in-Element.attrs c.in-Element.is), inner-here slots c.args.here c.requires s c.index-slot.ensures)
 
 text-is : (t : ℕ) (c : goal.add_leaves-In_ok-push_leaf-in-Text t) → texts (node_at c.args.slots.now.items c.args.here) ≡ (c.args.here, c.in-Text.text) ∷ []
 text-is t c =
     let slots = c.args.slots.now.items in
     let s = c.index-slot.result.now in
     let st : Step slots c.args.here = step slots c.args.here c.requires in
-    let is : held st.n ≡ Text c.in-Text.text = sym (ap (λ s. s.held) c.index-slot.ensures ∙ st.held-is s) ∙ c.in-Text.is in
+    let is : held st.n ≡ Text c.in-Text.text = held-here slots c.args.here c.requires s c.index-slot.ensures (Text c.in-Text.text) c.in-Text.is in
     ap texts (node_at-is slots c.args.here st) ∙ texts-text st.n c.in-Text.text is ∙ ap (λ r. (r, c.in-Text.text) ∷ []) st.refers
 
 pub add_leaves-returns-in_ok-push_leaf-in-Text-clause-leaves : goal.add_leaves-returns-in_ok-push_leaf-in-Text-clause-leaves
@@ -107,9 +100,8 @@ element-is t c =
     let slots = c.args.slots.now.items in
     let s = c.index-slot.result.now in
     let st : Step slots c.args.here = step slots c.args.here c.requires in
-    let is : held st.n ≡ Element c.in-Element.name c.in-Element.attrs = sym (ap (λ s. s.held) c.index-slot.ensures ∙ st.held-is s) ∙ c.in-Element.is in
-    let first : s.first_child ≡ _ = ap (λ s. s.first_child) c.index-slot.ensures ∙ st.first-is s in
-    ap texts_of (ap (row slots) first ∙ st.inner-is) ∙ sym (texts-element st.n c.in-Element.name c.in-Element.attrs is) ∙ sym (ap texts (node_at-is slots c.args.here st))
+    let is : held st.n ≡ Element c.in-Element.name c.in-Element.attrs = held-here slots c.args.here c.requires s c.index-slot.ensures (Element c.in-Element.name c.in-Element.attrs) c.in-Element.is in
+    ap texts_of (row-here slots c.args.here c.requires s c.index-slot.ensures) ∙ sym (texts-element st.n c.in-Element.name c.in-Element.attrs is) ∙ sym (ap texts (node_at-is slots c.args.here st))
 
 pub add_leaves-returns-in-Element-clause-leaves : goal.add_leaves-returns-in-Element-clause-leaves
 add_leaves-returns-in-Element-clause-leaves t c =

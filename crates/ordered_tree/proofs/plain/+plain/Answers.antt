@@ -1,14 +1,14 @@
-use Rattle.std.proofs.Common.{◌≡◌, ◌+◌, [], ◌∷◌, ◌++◌, Some, map, length, sym, ap, ap₂, ◌∙◌, subst, arith, append_assoc, append-nil}
+use Rattle.std.proofs.Common.{◌≡◌, ◌+◌, [], ◌∷◌, ◌++◌, map, length, sym, ap, ap₂, ◌∙◌, subst, arith, append_assoc, append-nil}
 use Rattle.std.proofs.lemmas.List.{map-append}
-use Rattle.doc_grammar.specs.Limits.{node_count, nodes_count}
+use Rattle.doc_grammar.specs.Limits.{nodes_count}
 use Rattle.plain_tree.specs.Document.{element, text, nodes}
 use Rattle.plain_tree.specs.View.{node}
 use Rattle.plain_tree.proofs.Views.{node_elem, node_text}
 use Rattle.ordered_tree.specs.Numbered.{plain, plain_children, children, no_children, child_then}
 use Rattle.ordered_tree.specs.Slots.{IsRow, held, row}
 use Rattle.ordered_tree.specs.declared.slot.Held.TheVariants.{Element, Text}
-use Rattle.ordered_tree.proofs.SlotsLemmas.{some_node, from_link-none}
-use Rattle.ordered_tree.proofs.RowLemmas.{Step, step, node_at-is, plain_list, nodes-plain_list, plain-element, plain-text, count-element}
+use Rattle.ordered_tree.proofs.SlotsLemmas.{from_link-none}
+use Rattle.ordered_tree.proofs.RowLemmas.{Step, step, step-link, row-link, row-next, left-next, smaller-next, held-here, row-here, inner-here, smaller-here, node_at-is, plain_list, nodes-plain_list, plain-element, plain-text}
 use Rattle.ordered_tree.proofs.plain.+plain.Goals as goal
 
 -- ---- kids_of
@@ -22,27 +22,25 @@ kids_of-index-requires t c =
 pub kids_of-loop-link-smaller : goal.kids_of-loop-link-smaller
 kids_of-loop-link-smaller t c =
     let slots = c.args.slots.now.items in
-    let st : Step slots c.in-Some.here = step slots c.in-Some.here (subst (IsRow slots) c.in-Some.is c.loop-link.invariant.left) in
-    let next : c.index.result.now.around.next ≡ _ = ap (λ s. s.around.next) c.index.ensures ∙ st.next-is c.index.result.now in
-    let less : nodes_count (plain_children (row slots c.index.result.now.around.next)) ≡ nodes_count (plain_children st.ns) = ap (λ ns. nodes_count (plain_children ns)) (ap (row slots) next ∙ st.rest-is) in
-    let here : nodes_count (plain_children (row slots c.loop-link.link)) ≡ node_count (plain st.n) + nodes_count (plain_children st.ns) = ap (λ ns. nodes_count (plain_children ns)) (ap (row slots) c.in-Some.is ∙ st.row-is) in
-    omega (arith, less, here, some_node st.n)
+    smaller-next slots c.loop-link.link c.in-Some.here c.loop-link.invariant.left c.in-Some.is c.index.result.now c.index.ensures
 
 pub kids_of-loop-link-preserved : goal.kids_of-loop-link-preserved
 kids_of-loop-link-preserved t c =
     let slots = c.args.slots.now.items in
-    let st : Step slots c.in-Some.here = step slots c.in-Some.here (subst (IsRow slots) c.in-Some.is c.loop-link.invariant.left) in
-    let next : c.index.result.now.around.next ≡ _ = ap (λ s. s.around.next) c.index.ensures ∙ st.next-is c.index.result.now in
-    let rest : row slots c.index.result.now.around.next ≡ st.ns = ap (row slots) next ∙ st.rest-is in
-    let all : row slots c.loop-link.link ≡ child_then st.n st.ns = ap (row slots) c.in-Some.is ∙ st.row-is in
+    let link = c.loop-link.link in
+    let left = c.loop-link.invariant.left in
+    let s = c.index.result.now in
+    let st = step-link slots link c.in-Some.here left c.in-Some.is s c.index.ensures in
+    let rest : row slots s.around.next ≡ st.ns = row-next slots link c.in-Some.here left c.in-Some.is s c.index.ensures in
+    let all : row slots link ≡ child_then st.n st.ns = row-link slots link c.in-Some.here left c.in-Some.is s c.index.ensures in
     let tree = c.in_ok-tree_of.field-0 in
     let kids = c.loop-link.kids in
     let one : node tree ≡ plain st.n = c.in_ok-tree_of.ensures ∙ ap plain (node_at-is slots c.in-Some.here st) in
     record {
-      left = subst (IsRow slots) (sym next) st.rest;
-      done = ap (λ k. map node k ++ plain_list (row slots c.index.result.now.around.next)) c.in_ok-push.ensures.ok
-          ∙ ap (λ m. m ++ plain_list (row slots c.index.result.now.around.next)) (map-append node kids (tree ∷ []))
-          ∙ append_assoc (map node kids) (node tree ∷ []) (plain_list (row slots c.index.result.now.around.next))
+      left = left-next slots link c.in-Some.here left c.in-Some.is s c.index.ensures;
+      done = ap (λ k. map node k ++ plain_list (row slots s.around.next)) c.in_ok-push.ensures.ok
+          ∙ ap (λ m. m ++ plain_list (row slots s.around.next)) (map-append node kids (tree ∷ []))
+          ∙ append_assoc (map node kids) (node tree ∷ []) (plain_list (row slots s.around.next))
           ∙ ap₂ (λ n ns. map node kids ++ n ∷ plain_list ns) one rest
           ∙ ap (λ ns. map node kids ++ plain_list ns) (sym all)
           ∙ c.loop-link.invariant.done;
@@ -68,19 +66,14 @@ pub tree_of-kids_of-requires : goal.tree_of-kids_of-requires
 tree_of-kids_of-requires t c =
     let slots = c.args.slots.now.items in
     let s = c.index-slot.result.now in
-    let st : Step slots c.args.here = step slots c.args.here c.requires in
-    let is : held st.n ≡ Element c.in-Element.name c.in-Element.attrs = sym (ap (λ s. s.held) c.index-slot.ensures ∙ st.held-is s) ∙ c.in-Element.is in
-    let first : s.first_child ≡ _ = ap (λ s. s.first_child) c.index-slot.ensures ∙ st.first-is s in
-    let inner : nodes_count (plain_children (row slots s.first_child)) ≡ nodes_count (plain_children (children st.n)) = ap (λ ns. nodes_count (plain_children ns)) (ap (row slots) first ∙ st.inner-is) in
-    let here : nodes_count (plain_children (row slots (Some c.args.here))) ≡ node_count (plain st.n) + nodes_count (plain_children st.ns) = ap (λ ns. nodes_count (plain_children ns)) st.row-is in
-    (omega (arith, c.decreases, inner, here, count-element st.n c.in-Element.name c.in-Element.attrs is), subst (IsRow slots) (sym first) st.inner)
+    (omega (arith, c.decreases, smaller-here slots c.args.here c.requires s c.index-slot.ensures c.in-Element.name c.in-Element.attrs c.in-Element.is), inner-here slots c.args.here c.requires s c.index-slot.ensures)
 
 pub tree_of-returns-in_ok-read-in-Text : goal.tree_of-returns-in_ok-read-in-Text
 tree_of-returns-in_ok-read-in-Text t c =
     let slots = c.args.slots.now.items in
     let s = c.index-slot.result.now in
     let st : Step slots c.args.here = step slots c.args.here c.requires in
-    let is : held st.n ≡ Text c.in-Text.text = sym (ap (λ s. s.held) c.index-slot.ensures ∙ st.held-is s) ∙ c.in-Text.is in
+    let is : held st.n ≡ Text c.in-Text.text = held-here slots c.args.here c.requires s c.index-slot.ensures (Text c.in-Text.text) c.in-Text.is in
     node_text c.in_ok-read-in-Text.field-0 ∙ ap text (c.in_ok-read-in-Text.ensures ∙ c.as_str.ensures)
     ∙ sym (plain-text st.n c.in-Text.text is) ∙ sym (ap plain (node_at-is slots c.args.here st))
 
@@ -89,9 +82,8 @@ tree_of-returns-in_ok-kids_of-in-Element t c =
     let slots = c.args.slots.now.items in
     let s = c.index-slot.result.now in
     let st : Step slots c.args.here = step slots c.args.here c.requires in
-    let is : held st.n ≡ Element c.in-Element.name c.in-Element.attrs = sym (ap (λ s. s.held) c.index-slot.ensures ∙ st.held-is s) ∙ c.in-Element.is in
-    let first : s.first_child ≡ _ = ap (λ s. s.first_child) c.index-slot.ensures ∙ st.first-is s in
-    let kids : nodes (map node c.in_ok-kids_of-in-Element.field-0) ≡ plain_children (children st.n) = c.in_ok-kids_of-in-Element.ensures ∙ ap plain_children (ap (row slots) first ∙ st.inner-is) in
+    let is : held st.n ≡ Element c.in-Element.name c.in-Element.attrs = held-here slots c.args.here c.requires s c.index-slot.ensures (Element c.in-Element.name c.in-Element.attrs) c.in-Element.is in
+    let kids : nodes (map node c.in_ok-kids_of-in-Element.field-0) ≡ plain_children (children st.n) = c.in_ok-kids_of-in-Element.ensures ∙ ap plain_children (row-here slots c.args.here c.requires s c.index-slot.ensures) in
     node_elem _ _ _
     ∙ ap (λ n. element n c.in_ok-copy_attrs-in-Element.field-0 (nodes (map node c.in_ok-kids_of-in-Element.field-0))) (c.in_ok-read-in-Element.ensures ∙ c.as_str-in-Element.ensures)
     ∙ ap (λ a. element c.in-Element.name a (nodes (map node c.in_ok-kids_of-in-Element.field-0))) c.in_ok-copy_attrs-in-Element.ensures

@@ -14,7 +14,7 @@ pub loop-next-preserved : goal.loop-next-preserved
 loop-next-preserved c =
     let rest = take_rest c.args.placed.now (c.loop-next.next + 1) in
     record {
-      reads = leads (state_of c.loop-next.reading.state) (map found_form c.loop-next.reading.found) c.args.placed.now c.loop-next.next c.index-placed-next.result c.args.bad c.args.size (led_of (c.in-Ok.there, c.in-Ok.count)) (omega arith) c.index-placed-next.is
+      reads = leads (state_of c.loop-next.reading.state) (map found_form c.loop-next.reading.found) c.args.placed.now c.loop-next.next c.index-placed-next.result c.args.bad c.args.size (omega arith) c.index-placed-next.is (led_of (c.in-Ok.there, c.in-Ok.count))
           (c.in-Ok.ensures.value ∙ ap (λ u. turned (state_of c.loop-next.reading.state) (map found_form c.loop-next.reading.found) c.index-placed-next.result u c.args.bad c.args.size) rest)
           ∙ c.loop-next.invariant.reads;
       within = omega (arith, c.in-Ok.ensures.within, c.loop-next-test.true, ap length rest, length-drop (c.loop-next.next + 1) c.args.placed.now);
