@@ -186,13 +186,13 @@ module _ {S T : Type 0} (root : Numbered) (parent : NodeRef) (x : IsElement root
       past-an-element counts' numbers' name number element called is-number counted puts =
           let e = sym (on-child root parent v.prefix x c child (λ s. true ≡ is_element s.node) element) in
           let e' = sym (on root (element_of root parent) c v.done reading (λ s. true ≡ is_element s.node) element) in
-          let y : IsElement root c = is-child root (element_of root parent) c v.done reading x.apart x.single e' in
+          let y : IsElement root c = is-child root (element_of root parent) c v.done reading x.apart e' in
           let same : name ≡ steps.name_of (plain child.n) = name-plain child.n name (on-child root parent v.prefix x c child (λ s. name_of s.node ≡ Some name) called) in
           let own : number ≡ number_of root c =
           is-number ∙ ap (λ n. count_of counts n + 1) same ∙ ap (λ k. k + 1) (v.counted (steps.name_of (plain child.n))) ∙ sym (child-numbered root parent v.prefix x c child) in
           record {
             done = v.done ++ c ∷ [];
-            reading = past-element root (element_of root parent) c v.done reading x.apart link' (on root (element_of root parent) c v.done reading (λ s. link' ≡ s.around.next) to) x.single e' (v.done ++ c ∷ []) refl;
+            reading = past-element root (element_of root parent) c v.done reading x.apart link' (on root (element_of root parent) c v.done reading (λ s. link' ≡ s.around.next) to) e' (v.done ++ c ∷ []) refl;
             prefix = v.prefix ++ plain child.n ∷ [];
             parted = parted;
             counted = counts-element counts v.prefix v.counted child.n counts' e (λ other. counted other ∙ ap (λ n. count_of counts other + cond (bytes_eq other n) 1 0) same);

@@ -1,5 +1,4 @@
 ghost use Rattle.std.specs.Prelude.{◌≡◌, ◌≢◌, IfOk, Ok, OnOk, length, nat_le};
-ghost use Rattle.doc_grammar.specs.Printed.{IsPrintable};
 ghost use Rattle.doc_profile.specs.Faults.{IsWithin};
 ghost use Rattle.tokenizer.specs.Tokens.{tokens};
 ghost use Rattle.ft_base.specs.Limits.{max_tokens};
@@ -49,8 +48,7 @@ pub(crate) fn read_document(alloc: Global, block: &[u8]) -> Result<Outcome, Memo
 
 /// The document with references, unless it has too many tokens.
 fn load(alloc: Global, document: &PlainDoc) -> Result<Outcome, Memory>
-    requires within { IsWithin document.now }
-    requires printable { IsPrintable document.now }
+    requires { IsWithin document.now }
     ensures { IfOk result (λ read. outcome read ≡ with_few_tokens (Ok document.now)) }
 {
     if !has_few_tokens(alloc, document)? {

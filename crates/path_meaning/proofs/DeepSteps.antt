@@ -10,7 +10,8 @@ use Rattle.path_meaning.specs.Elements.{Element, placed, element_at, element_chi
 use Rattle.path_grammar.specs.Form.{step, steps, holds, predicates, Condition}
 use Rattle.path_meaning.specs.Meaning.{item, children, is_named, stepped, led, filtered, filtered_by, is_true, selected}
 use Rattle.path_meaning.proofs.Traced.{or_else, Placed, elements_placed, root_placed, children_placed, offered, all_offered}
-use Rattle.path_meaning.proofs.Lists.{and_true, and_false, filter-true, filter-filter, filter-alike, list_any-filter, list_any-alike, list_any-and}
+use mathlib.Core.Bool.{and-true, and-false}
+use Rattle.path_meaning.proofs.Lists.{filter-true, filter-filter, filter-alike, list_any-filter, list_any-alike, list_any-and}
 
 -- whether all conditions are true of an element
 abbrev pub meets : (ℕ → Element → Bool) → List Element → List Condition → Element → Bool
@@ -60,7 +61,7 @@ one_place root e x he hx h =
 of_it : (root : Node) (p : Element → Bool) (e x : Element) → Placed root e → Placed root x → (b : Bool) → is_same e x ≡ b → (p x && is_same e x) ≡ (p e && is_same e x)
 of_it root p e x he hx true h = ap (λ y. p y && is_same e x) (sym (one_place root e x he hx h))
 of_it root p e x he hx false h =
-    ap (λ b. p x && b) h ∙ and_false (p x) ∙ sym (and_false (p e)) ∙ ap (λ b. p e && b) (sym h)
+    ap (λ b. p x && b) h ∙ and-false (p x) ∙ sym (and-false (p e)) ∙ ap (λ b. p e && b) (sym h)
 
 children_of_placed : (root : Node) (items : List Element) → All (Placed root) items → All (Placed root) (flat_map element_children items)
 children_of_placed root [] h = All-nil (Placed root)
@@ -80,7 +81,7 @@ wanted_alone root p e he h =
     (λ k d within. let x = slice_index_or (offered root) k d in of_it root p e x he (offered_placed root k d within) (is_same e x) refl)
     ∙ list_any-and (p e) (is_same e) (offered root)
     ∙ ap (λ b. p e && b) h
-    ∙ and_true (p e)
+    ∙ and-true (p e)
 
 pub deep_step : (satisfies : ℕ → Element → Bool) (test : NameTest) (conditions : List Condition) (root : Node)
     → selected satisfies (steps (step true test (predicates (map holds conditions)) ∷ [])) root

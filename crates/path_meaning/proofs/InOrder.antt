@@ -1,5 +1,7 @@
 -- The elements of a document stand in document order.
 use Rattle.std.proofs.Common.{◌≡◌, refl, sym, ap, subst, ◌∙◌, ℕ, zero, suc, ◌+◌, ◌<◌, ◌≤◌, Bool, true, false, ◌&&◌, ◌||◌, ◌==◌, nat_lt, List, [], ◌∷◌, ◌++◌, slice_index_or, All, AllPairs, arith, append_assoc, append-nil}
+use mathlib.Core.Bool.{and-false, or-true}
+use Rattle.std.proofs.lemmas.Bool.{eq-eqb}
 use Rattle.std.proofs.lemmas.Bool.Decides.{nat_tests}
 use Rattle.std.proofs.lemmas.List.Elements.{All-cons, All-append}
 use Rattle.std.proofs.lemmas.List.Kept.{AllPairs-cons, AllPairs-filter}
@@ -9,7 +11,6 @@ use Rattle.path_grammar.specs.Form.{Steps}
 use Rattle.path_meaning.specs.Meaning.{selected}
 use Rattle.path_meaning.specs.Order.{precedes, Before}
 use Rattle.path_meaning.proofs.Selected.{selected-part}
-use Rattle.path_meaning.proofs.Lists.{and_false, or_true}
 
 nat_lt-true : (x y : ℕ) → x < y → nat_lt x y ≡ true
 nat_lt-true x y h = grind (arith, nat_tests)
@@ -17,41 +18,38 @@ nat_lt-true x y h = grind (arith, nat_tests)
 nat_lt-irreflexive : (x : ℕ) → nat_lt x x ≡ false
 nat_lt-irreflexive x = grind (arith, nat_tests)
 
-equal_to_itself : (x : ℕ) → (x == x) ≡ true
-equal_to_itself x = grind (arith, nat_tests)
-
 pub irreflexive : (place : List ℕ) → precedes place place ≡ false
 irreflexive [] = refl
-irreflexive (n ∷ rest) = ap (λ b. b || ((n == n) && precedes rest rest)) (nat_lt-irreflexive n) ∙ ap (λ b. (n == n) && b) (irreflexive rest) ∙ and_false (n == n)
+irreflexive (n ∷ rest) = ap (λ b. b || ((n == n) && precedes rest rest)) (nat_lt-irreflexive n) ∙ ap (λ b. (n == n) && b) (irreflexive rest) ∙ and-false (n == n)
 
 -- a common front doesn't count
 behind : (prefix x y : List ℕ) → precedes x y ≡ true → precedes (prefix ++ x) (prefix ++ y) ≡ true
 behind [] x y h = h
 behind (n ∷ prefix) x y h =
-    ap (λ b. nat_lt n n || (b && precedes (prefix ++ x) (prefix ++ y))) (equal_to_itself n)
+    ap (λ b. nat_lt n n || (b && precedes (prefix ++ x) (prefix ++ y))) (eq-eqb n n refl)
     ∙ ap (λ b. nat_lt n n || b) (behind prefix x y h)
-    ∙ or_true (nat_lt n n)
+    ∙ or-true (nat_lt n n)
 
 -- at or below a place; at or below a child of this number or a later one
-abbrev AtOrBelow : List ℕ → Element → Type 0
-AtOrBelow place e = (r : List ℕ) × (e.place ≡ place ++ r)
+abbrev pub From : List ℕ → Element → Type 0
+From place e = (r : List ℕ) × (e.place ≡ place ++ r)
 
-abbrev Below : List ℕ → ℕ → Element → Type 0
+abbrev pub Below : List ℕ → ℕ → Element → Type 0
 Below above number e = (k : ℕ) × (r : List ℕ) × (number ≤ k) × (e.place ≡ above ++ k ∷ r)
 
 mutual
-  from : (place : List ℕ) (node : Node) → All (AtOrBelow place) (elements_from place node)
+  pub from : (place : List ℕ) (node : Node) → All (From place) (elements_from place node)
   from place (text bytes) = λ k d within. absurd (omega arith)
   from place (element name attributes kids) =
-      All-cons (AtOrBelow place) (placed place (element name attributes kids)) (elements_below place 1 kids) ([], sym (append-nil place))
-      (λ k d within. let b = below place 1 kids k d within in (b.0 ∷ b.1, b.3))
+      All-cons (From place) (placed place (element name attributes kids)) (elements_below place 1 kids) ([], sym (append-nil place))
+      (λ k d within. let b = under place 1 kids k d within in (b.0 ∷ b.1, b.3))
 
-  below : (above : List ℕ) (number : ℕ) (nodes : Nodes) → All (Below above number) (elements_below above number nodes)
-  below above number no_nodes = λ k d within. absurd (omega arith)
-  below above number (node_then node rest) =
+  pub under : (above : List ℕ) (number : ℕ) (nodes : Nodes) → All (Below above number) (elements_below above number nodes)
+  under above number no_nodes = λ k d within. absurd (omega arith)
+  under above number (node_then node rest) =
       All-append (Below above number) (elements_from (above ++ number ∷ []) node) (elements_below above (number + 1) rest)
       (λ k d within. let b = from (above ++ number ∷ []) node k d within in (number, b.0, omega arith, b.1 ∙ append_assoc above (number ∷ []) b.0))
-      (λ k d within. let b = below above (number + 1) rest k d within in (b.0, b.1, (let h : number + 1 ≤ b.0 = b.2 in omega arith), b.3))
+      (λ k d within. let b = under above (number + 1) rest k d within in (b.0, b.1, (let h : number + 1 ≤ b.0 = b.2 in omega arith), b.3))
 
 pairs-append : (xs ys : List Element) → AllPairs Before xs → AllPairs Before ys → All (λ x. All (Before x) ys) xs → AllPairs Before (xs ++ ys)
 pairs-append [] ys p q apart = q
@@ -61,7 +59,7 @@ pairs-append (x ∷ xs) ys p q apart =
     (pairs-append xs ys (λ i j d less within. p (suc i) (suc j) d (omega arith) (omega arith)) q (λ k d within. apart (suc k) d (omega arith)))
 
 -- a child before later ones
-earlier : (above : List ℕ) (number : ℕ) (e f : Element) → AtOrBelow (above ++ number ∷ []) e → Below above (number + 1) f → Before e f
+earlier : (above : List ℕ) (number : ℕ) (e f : Element) → From (above ++ number ∷ []) e → Below above (number + 1) f → Before e f
 earlier above number e f a b =
     let less : nat_lt number b.0 ≡ true = nat_lt-true number b.0 (let h : number + 1 ≤ b.0 = b.2 in omega arith) in
     let first : precedes (number ∷ a.0) (b.0 ∷ b.1) ≡ true = ap (λ c. c || ((number == b.0) && precedes a.0 b.1)) less in
@@ -77,7 +75,7 @@ mutual
   ordered-from place (text bytes) = λ i j d less within. absurd (omega arith)
   ordered-from place (element name attributes kids) =
       AllPairs-cons Before (placed place (element name attributes kids)) (elements_below place 1 kids)
-      (λ k d within. outer place (element name attributes kids) (slice_index_or (elements_below place 1 kids) k d) (below place 1 kids k d within))
+      (λ k d within. outer place (element name attributes kids) (slice_index_or (elements_below place 1 kids) k d) (under place 1 kids k d within))
       (ordered-below place 1 kids)
 
   ordered-below : (above : List ℕ) (number : ℕ) (nodes : Nodes) → AllPairs Before (elements_below above number nodes)
@@ -85,7 +83,7 @@ mutual
   ordered-below above number (node_then node rest) =
       pairs-append (elements_from (above ++ number ∷ []) node) (elements_below above (number + 1) rest)
       (ordered-from (above ++ number ∷ []) node) (ordered-below above (number + 1) rest)
-      (λ k d within i c inside. earlier above number (slice_index_or (elements_from (above ++ number ∷ []) node) k d) (slice_index_or (elements_below above (number + 1) rest) i c) (from (above ++ number ∷ []) node k d within) (below above (number + 1) rest i c inside))
+      (λ k d within i c inside. earlier above number (slice_index_or (elements_from (above ++ number ∷ []) node) k d) (slice_index_or (elements_below above (number + 1) rest) i c) (from (above ++ number ∷ []) node k d within) (under above (number + 1) rest i c inside))
 
 pub selected_in_order : (satisfies : ℕ → Element → Bool) (path : Steps) (root : Node) → AllPairs Before (selected satisfies path root)
 selected_in_order satisfies path root =

@@ -1,23 +1,7 @@
--- Filters and tests of lists of elements, and truth values.
+-- Filters and tests of lists of elements.
 use Rattle.std.proofs.Common.{◌≡◌, refl, ap, ◌∙◌, zero, suc, Bool, true, false, ◌&&◌, ◌||◌, cond, List, [], ◌∷◌, filter, All, arith}
 use Rattle.std.specs.List.{list_any}
 use Rattle.path_meaning.specs.Elements.{Element}
-
-pub and_true : (b : Bool) → (b && true) ≡ b
-and_true true = refl
-and_true false = refl
-
-pub and_false : (b : Bool) → (b && false) ≡ false
-and_false true = refl
-and_false false = refl
-
-pub or_false : (b : Bool) → (b || false) ≡ b
-or_false true = refl
-or_false false = refl
-
-pub or_true : (b : Bool) → (b || true) ≡ true
-or_true true = refl
-or_true false = refl
 
 one_more : (q : Element → Bool) (e : Element) (items : List Element) (b c : Bool) → q e ≡ c
     → filter q (cond b (e ∷ items) items) ≡ cond (b && c) (e ∷ filter q items) (filter q items)

@@ -3,7 +3,8 @@ use Rattle.std.proofs.Common.{◌≡◌, refl, sym, ap, ◌∙◌, ℕ, Bool, tr
 use Rattle.path_meaning.specs.Elements.{Element}
 use Rattle.path_grammar.specs.Form.{Step, steps, Predicate, holds, predicates, Condition, and_of, conditions}
 use Rattle.path_meaning.specs.Meaning.{item, stepped, led, filtered, filtered_by, is_true, each_true}
-use Rattle.path_meaning.proofs.Lists.{and_true, filter-filter, filter-alike}
+use mathlib.Core.Bool.{and-true}
+use Rattle.path_meaning.proofs.Lists.{filter-filter, filter-alike}
 
 pub steps_in_turn : (satisfies : ℕ → Element → Bool) (all : List Element) (first second : List Step) (items : List Element)
     → led satisfies all (steps (first ++ second)) items ≡ led satisfies all (steps second) (led satisfies all (steps first) items)
@@ -24,4 +25,4 @@ unfolding filtered filtered_by is_true each_true
 conditions_as_and satisfies all a b items =
     filter-filter (is_true satisfies all a) (is_true satisfies all b) items
     ∙ filter-alike (λ e. is_true satisfies all a e && is_true satisfies all b e) (λ e. is_true satisfies all a e && (is_true satisfies all b e && true)) items
-    (λ k d within. let e = slice_index_or items k d in ap (λ c. is_true satisfies all a e && c) (sym (and_true (is_true satisfies all b e))))
+    (λ k d within. let e = slice_index_or items k d in ap (λ c. is_true satisfies all a e && c) (sym (and-true (is_true satisfies all b e))))

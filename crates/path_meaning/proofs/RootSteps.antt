@@ -7,7 +7,8 @@ use Rattle.path_meaning.specs.Elements.{Element, placed, element_at, elements, e
 use Rattle.path_grammar.specs.Form.{step, steps, holds, predicates, Condition}
 use Rattle.path_meaning.specs.Meaning.{is_named, is_true, stepped, led, selected}
 use Rattle.path_meaning.proofs.DeepSteps.{wanted, kept, in_one}
-use Rattle.path_meaning.proofs.Lists.{and_true, and_false, or_false, filter-alike, filter-none}
+use mathlib.Core.Bool.{and-true, and-false, or-false}
+use Rattle.path_meaning.proofs.Lists.{filter-alike, filter-none}
 use Rattle.path_meaning.proofs.Traced.{below_root}
 
 -- only the root is the same as the root
@@ -17,9 +18,9 @@ root_alone p root kids =
     let e = placed [] root in
     let others : filter (λ x. p e && is_same x e) (elements_below [] 1 kids) ≡ [] =
     filter-alike (λ x. p e && is_same x e) (λ x. false) (elements_below [] 1 kids)
-    (λ k d within. let b = below_root kids k d within in ap (λ place. p e && bytes_eq place []) b.2 ∙ and_false (p e))
+    (λ k d within. let b = below_root kids k d within in ap (λ place. p e && bytes_eq place []) b.2 ∙ and-false (p e))
     ∙ filter-none (elements_below [] 1 kids) in
-    ap (λ b. cond b (e ∷ filter (λ x. p e && is_same x e) (elements_below [] 1 kids)) (filter (λ x. p e && is_same x e) (elements_below [] 1 kids))) (and_true (p e))
+    ap (λ b. cond b (e ∷ filter (λ x. p e && is_same x e) (elements_below [] 1 kids)) (filter (λ x. p e && is_same x e) (elements_below [] 1 kids))) (and-true (p e))
     ∙ ap (λ rest. cond (p e) (e ∷ rest) rest) others
 
 pub root_step : (satisfies : ℕ → Element → Bool) (test : NameTest) (conditions : List Condition) (root : Node)
@@ -33,7 +34,7 @@ root_step satisfies test conditions (element name attributes kids) =
     let e = placed [] root in
     filter-alike (is_in (kept satisfies (elements root) test conditions (e ∷ []) ∷ [])) (λ x. p e && is_same x e) (elements root)
     (λ k d within. let x = slice_index_or (elements root) k d in
-    or_false (list_any (is_same x) (kept satisfies (elements root) test conditions (e ∷ [])))
+    or-false (list_any (is_same x) (kept satisfies (elements root) test conditions (e ∷ [])))
     ∙ in_one satisfies (elements root) test conditions x (e ∷ [])
-    ∙ or_false (p e && is_same x e))
+    ∙ or-false (p e && is_same x e))
     ∙ root_alone p root kids

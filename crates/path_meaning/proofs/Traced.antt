@@ -4,10 +4,11 @@ use Rattle.std.specs.List.{list_any}
 use Rattle.std.specs.Prelude.{⊤}
 use Rattle.std.proofs.lemmas.List.Elements.{All-nil, All-cons, All-append}
 use Rattle.std.proofs.lemmas.List.Folds.{list_any-append}
+use Rattle.std.proofs.lemmas.Grind.{flat_map-append}
 use Rattle.std.proofs.lemmas.Slice.Eq.{bytes_eq-Decides}
 use Rattle.plain_tree.specs.Document.{Node, element, text, Nodes, no_nodes, node_then}
 use Rattle.path_meaning.specs.Elements.{Element, placed, element_at, elements_among, element_children, kids_of, elements_from, elements_below, elements, is_same, node_at, child_at}
-use Rattle.path_meaning.proofs.Lists.{or_true}
+use mathlib.Core.Bool.{or-true}
 
 -- what a place leads to below a node, and among nodes the first of which has a number
 abbrev Led : List ℕ → Node → Element → Type 0
@@ -113,30 +114,25 @@ children_placed root e h k d within =
 abbrev pub offered : Node → List Element
 offered root = element_at [] root ++ flat_map element_children (elements root)
 
-same_itself : (e : Element) → is_same e e ≡ true
+pub same_itself : (e : Element) → is_same e e ≡ true
 same_itself e = (bytes_eq-Decides e.place e.place).1 refl
 
 first_pair : (a m f b : Bool) → (a || f) ≡ true → ((a || m) || (f || b)) ≡ true
 first_pair true m f b h = refl
-first_pair false m true b h = or_true m
-first_pair false m false b h = ap (λ c. m || (c || b)) h ∙ or_true m
+first_pair false m true b h = or-true m
+first_pair false m false b h = ap (λ c. m || (c || b)) h ∙ or-true m
 
 last_pair : (a m f b : Bool) → (m || b) ≡ true → ((a || m) || (f || b)) ≡ true
 last_pair true m f b h = refl
 last_pair false true f b h = refl
-last_pair false false f b h = ap (λ c. f || c) h ∙ or_true f
-
-flat_map-append : (xs ys : List Element) → flat_map element_children (xs ++ ys) ≡ flat_map element_children xs ++ flat_map element_children ys
-flat_map-append [] ys = refl
-flat_map-append (x ∷ xs) ys =
-    ap (λ l. element_children x ++ l) (flat_map-append xs ys) ∙ sym (append_assoc (element_children x) (flat_map element_children xs) (flat_map element_children ys))
+last_pair false false f b h = ap (λ c. f || c) h ∙ or-true f
 
 spread : (q : Element → Bool) (a m f b : List Element) → list_any q ((a ++ m) ++ flat_map element_children (f ++ b))
     ≡ ((list_any q a || list_any q m) || (list_any q (flat_map element_children f) || list_any q (flat_map element_children b)))
 spread q a m f b =
     list_any-append q (a ++ m) (flat_map element_children (f ++ b))
     ∙ ap (λ c. c || list_any q (flat_map element_children (f ++ b))) (list_any-append q a m)
-    ∙ ap (λ l. (list_any q a || list_any q m) || list_any q l) (flat_map-append f b)
+    ∙ ap (λ l. (list_any q a || list_any q m) || list_any q l) (flat_map-append element_children f b)
     ∙ ap (λ c. (list_any q a || list_any q m) || c) (list_any-append q (flat_map element_children f) (flat_map element_children b))
 
 abbrev Offered : List Element → Element → Type 0
@@ -151,7 +147,7 @@ mutual
       (ap (λ b. b || list_any (is_same (placed place (element name attributes kids))) (elements_among place 1 kids ++ flat_map element_children (elements_below place 1 kids)))
       (same_itself (placed place (element name attributes kids))))
       (λ k d within. ap (λ b. is_same (slice_index_or (elements_below place 1 kids) k d) (placed place (element name attributes kids)) || b) (offers_below place 1 kids k d within)
-      ∙ or_true (is_same (slice_index_or (elements_below place 1 kids) k d) (placed place (element name attributes kids))))
+      ∙ or-true (is_same (slice_index_or (elements_below place 1 kids) k d) (placed place (element name attributes kids))))
 
   offers_below : (above : List ℕ) (number : ℕ) (nodes : Nodes)
       → All (Offered (elements_among above number nodes ++ flat_map element_children (elements_below above number nodes))) (elements_below above number nodes)

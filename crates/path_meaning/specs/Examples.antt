@@ -1,5 +1,5 @@
 -- Documents and paths for examples.
-use Rattle.std.specs.Prelude.{ℕ, ◌==◌, nat_eq, Bool, true, false, ◌&&◌, ◌||◌, List, [], ◌∷◌, ◌++◌, map, codes}
+use Rattle.std.specs.Prelude.{ℕ, ◌==◌, nat_eq, Bool, false, ◌&&◌, ◌||◌, List, [], ◌∷◌, ◌++◌, map, codes}
 use Rattle.std.specs.List.{starts_with}
 use Rattle.plain_tree.specs.Document.{Node, element, text, Nodes, no_nodes, node_then, nodes}
 use Rattle.path_meaning.specs.Elements.{Element}
@@ -58,3 +58,7 @@ three_deep = elem (codes "a") (elem (codes "a") (elem (codes "a") [] ∷ []) ∷
 -- `<a t="1">xy <b/></a>`
 abbrev pub with_attribute : Node
 with_attribute = element (codes "a") (record { name = codes "t"; value = codes "1" } ∷ []) (nodes (text (codes "xy ") ∷ elem (codes "b") [] ∷ []))
+
+-- an element with the attributes `t="1"` and `t="2"`, which no document has that can be read
+abbrev pub with_two_of_one_name : Node
+with_two_of_one_name = element (codes "a") (record { name = codes "t"; value = codes "1" } ∷ record { name = codes "t"; value = codes "2" } ∷ []) (nodes [])

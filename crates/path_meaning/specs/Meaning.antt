@@ -1,8 +1,8 @@
 -- Which elements of a document a path selects (XQuery 3.0, section 3.3.2: steps and predicates). `satisfies` says whether the
 -- element satisfies the selection of a number, `all` has the elements of the document in document order.
-use Rattle.std.specs.Prelude.{ℕ, ◌==◌, Bool, true, false, ◌&&◌, ◌||◌, not, if◌then◌else◌, List, [], ◌∷◌, map, filter, flat_map, Option, Some, None, bytes_eq}
+use Rattle.std.specs.Prelude.{ℕ, ◌==◌, Bool, true, false, ◌&&◌, ◌||◌, not, if◌then◌else◌, List, [], ◌∷◌}
+use Rattle.std.specs.Prelude.{map, filter, flat_map, find, Option, Some, None, option_map, bytes_eq}
 use Rattle.std.specs.List.{list_any, enumerate_from}
-use Rattle.plain_tree.specs.declared.tree.Attr.{Attr}
 use Rattle.plain_tree.specs.Document.{Node, element, text}
 use Rattle.path_grammar.specs.declared.path.NameTest.{NameTest}
 use Rattle.path_grammar.specs.declared.path.NameTest.TheVariants as T
@@ -34,14 +34,16 @@ is_named T.Any node = true
 is_named (T.Name wanted) (element name attributes kids) = bytes_eq wanted name
 is_named (T.Name wanted) (text bytes) = false
 
-abbrev pub attributes_of : Node → List Attr
-attributes_of (element name attributes kids) = attributes
-attributes_of (text bytes) = []
+-- the value of the first attribute of a name, where there is one
+abbrev pub value_of : List ℕ → Node → Option (List ℕ)
+value_of wanted (element name attributes kids) = option_map (λ a. a.value) (find (λ a. bytes_eq a.name wanted) attributes)
+value_of wanted (text bytes) = None
 
--- the test of an attribute's value, where there is one
-abbrev pub has_value : Option (List ℕ) → List ℕ → Bool
-has_value None value = true
-has_value (Some wanted) value = bytes_eq wanted value
+-- whether there is a value and, where one is wanted, it is that one
+abbrev pub has_value : Option (List ℕ) → Option (List ℕ) → Bool
+has_value wanted None = false
+has_value None (Some value) = true
+has_value (Some wanted) (Some value) = bytes_eq wanted value
 
 -- the item of this number, counted from 1
 abbrev pub numbered : ℕ → List Element → List Element
@@ -75,7 +77,7 @@ unfoldable mutual
   is_true satisfies all (or_of conditions) e = some_true satisfies all conditions e
   is_true satisfies all (and_of conditions) e = each_true satisfies all conditions e
   is_true satisfies all (not_of condition) e = not (is_true satisfies all condition e)
-  is_true satisfies all (attribute name value) e = list_any (λ a. bytes_eq name a.name && has_value value a.value) (attributes_of e.node)
+  is_true satisfies all (attribute name wanted) e = has_value wanted (value_of name e.node)
   is_true satisfies all (exists steps) e = some_element (led satisfies all steps (e ∷ []))
   is_true satisfies all (contains steps selection) e = list_any (satisfies selection) (led satisfies all steps (e ∷ []))
 

@@ -11,8 +11,9 @@ use Rattle.path_meaning.specs.Meaning.{Context, document, item, children, with_d
 use Rattle.path_meaning.proofs.Lists.{filter-alike, list_any-alike}
 use Rattle.path_nodes.specs.steps.Regions.{at_or_below}
 use Rattle.path_nodes.specs.steps.Within.{is_front}
-use Rattle.path_nodes.proofs.ChosenLemmas.{Contains-later, by-of}
+use Rattle.path_nodes.proofs.ChosenLemmas.{by-of}
 use Rattle.path_nodes.proofs.FrontLemmas.{region}
+use Rattle.path_nodes.proofs.SpotLemmas.{Contains-cons}
 
 -- ---- the lists of a step have elements of the document alone
 
@@ -35,7 +36,7 @@ among-below above number (node_then (text bytes) ns) = among-below above (number
 
 children-from : (place : List ℕ) (n : Node) → All (Contains (elements_from place n)) (elements_among place 1 (kids_of n))
 children-from place (element name attributes kids) = λ k d within.
-    Contains-later (placed place (element name attributes kids)) (get_or (elements_among place 1 kids) k d) (elements_below place 1 kids) (among-below place 1 kids k d within)
+    Contains-cons (placed place (element name attributes kids)) (elements_below place 1 kids) (get_or (elements_among place 1 kids) k d) (among-below place 1 kids k d within)
 children-from place (text bytes) = All-nil (Contains [])
 
 children-in : (root : Node) (e : Element) → In root e → All (In root) (element_children e)

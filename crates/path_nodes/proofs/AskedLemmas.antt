@@ -1,41 +1,16 @@
 -- What is asked by a part is asked by the whole.
-use Rattle.std.proofs.Common.{◌≡◌, ◌<◌, ℕ, zero, suc, List, [], ◌∷◌, map, length, get_or, Box, Global, ap, ◌∙◌, subst, arith, rules}
+use Rattle.std.proofs.Common.{◌≡◌, ◌<◌, ℕ, zero, suc, List, [], ◌∷◌, map, length, get_or, subst, arith, rules}
 use Rattle.path_grammar.specs.Form as form
 use Rattle.path_grammar.specs.View.{step, predicate, condition}
 use Rattle.path_grammar.specs.declared.path.Step.{Step}
-use Rattle.path_grammar.specs.declared.path.Predicate.{Predicate, Holds}
-use Rattle.path_grammar.specs.declared.path.Condition.{Condition, Or, And, Not, Exists, Contains, the_lemmas}
-use Rattle.path_grammar.proofs.Views.{view_holds, view_or, view_and, view_not, view_exists, view_contains}
+use Rattle.path_grammar.specs.declared.path.Predicate.{Predicate}
+use Rattle.path_grammar.specs.declared.path.Condition.{Condition, the_lemmas}
 use Rattle.path_nodes.specs.Asked.{OfEach, OfStep, OfPredicates, OfPredicate, OfCondition, OfConditions}
 
 pub step-is : (s : Step) → step s ≡ form.step s.deep s.test (form.predicates (map predicate s.predicates))
 step-is s = search (rules, the_lemmas)
 
 module _ (P : ℕ → Type 0) where
-  pub of-or : (c : Condition) (parts : List Condition) → c ≡ Or parts → OfCondition P (condition c) → OfConditions P (form.conditions (map condition parts))
-  unfolding OfCondition
-  of-or c parts is h = subst (OfCondition P) (ap condition is ∙ view_or parts) h
-
-  pub of-and : (c : Condition) (parts : List Condition) → c ≡ And parts → OfCondition P (condition c) → OfConditions P (form.conditions (map condition parts))
-  unfolding OfCondition
-  of-and c parts is h = subst (OfCondition P) (ap condition is ∙ view_and parts) h
-
-  pub of-not : (c : Condition) (operand : Box Condition Global) → c ≡ Not operand → OfCondition P (condition c) → OfCondition P (condition operand.value)
-  unfolding OfCondition
-  of-not c operand is h = subst (OfCondition P) (ap condition is ∙ view_not operand) h
-
-  pub of-exists : (c : Condition) (further : List Step) → c ≡ Exists further → OfCondition P (condition c) → OfEach P (form.steps (map step further))
-  unfolding OfCondition
-  of-exists c further is h = subst (OfCondition P) (ap condition is ∙ view_exists further) h
-
-  pub of-contains : (c : Condition) (further : List Step) (selection : ℕ) → c ≡ Contains further selection → OfCondition P (condition c) → OfEach P (form.steps (map step further)) × P selection
-  unfolding OfCondition
-  of-contains c further selection is h = subst (OfCondition P) (ap condition is ∙ view_contains further selection) h
-
-  pub of-holds : (p : Predicate) (c : Condition) → p ≡ Holds c → OfPredicate P (predicate p) → OfCondition P (condition c)
-  unfolding OfPredicate
-  of-holds p c is h = subst (OfPredicate P) (ap predicate is ∙ view_holds c) h
-
   pub of-step : (s : Step) → OfStep P (step s) → OfPredicates P (form.predicates (map predicate s.predicates))
   unfolding OfStep
   of-step s h = subst (OfStep P) (step-is s) h

@@ -1,5 +1,5 @@
 -- Reading the children of an element one behind the other.
-use Rattle.std.proofs.Common.{◌≡◌, ◌+◌, ◌-◌, ◌<◌, ℕ, suc, true, false, List, [], ◌∷◌, ◌++◌, map, Option, Some, None, refl, sym, ap, ◌∙◌, subst, arith, append_assoc, append-nil}
+use Rattle.std.proofs.Common.{◌≡◌, ◌+◌, ◌-◌, ◌<◌, ℕ, suc, true, false, List, [], ◌∷◌, ◌++◌, map, Option, Some, None, refl, sym, ap, ◌∙◌, subst, arith, append_assoc}
 use Rattle.std.specs.List.{All, AllPairs, Contains}
 use Rattle.std.proofs.Math.Logic.{◌≢◌}
 use Rattle.std.proofs.lemmas.List.{map-append}
@@ -11,7 +11,7 @@ use Rattle.ordered_tree.specs.Numbered.{Numbered, element_at, text_at, Children,
 use Rattle.ordered_tree.specs.Stands.{Stand, OnNode, round_first, round_next, references}
 use Rattle.ordered_tree.specs.declared.around.Around.{Around}
 use Rattle.ft_base.specs.declared.ids.NodeRef.{NodeRef}
-use Rattle.path_nodes.specs.References.{Spot, spots, child_spots, spots_in, spot_element, element_of, IsElement, HasSingleAttributes}
+use Rattle.path_nodes.specs.References.{Spot, spots, child_spots, spots_in, spot_element, element_of, IsElement}
 use Rattle.path_nodes.proofs.SpotLemmas.{spot-stand, spot-there, inside, element_of-is}
 
 abbrev pub size : Nodes → ℕ
@@ -104,8 +104,8 @@ module _ (root : Numbered) (above : Element) (child : NodeRef) (done : List Node
     pub named : element_of root child ≡ spot_element here
     named = ap (element_of root) (sym x.refers) ∙ element_of-is root here among apart
 
-    pub is-child : HasSingleAttributes root → is_element x.n ≡ true → IsElement root child
-    is-child single h = record { spot = here; among = among; refers = x.refers; element = h; apart = apart; single = single }
+    pub is-child : is_element x.n ≡ true → IsElement root child
+    is-child h = record { spot = here; among = among; refers = x.refers; element = h; apart = apart }
 
 -- one child further: a text, or an element
 text-adds : (place : List ℕ) (n : Numbered) → is_element n ≡ false → elements.element_at place (plain n) ≡ []
@@ -135,8 +135,8 @@ module _ (root : Numbered) (above : Element) (child : NodeRef) (done : List Node
     few = few;
   }
 
-  pub past-element : HasSingleAttributes root → is_element x.n ≡ true → (more : List NodeRef) → more ≡ done ++ child ∷ [] → Reading root above link more
-  past-element single h more e = record {
+  pub past-element : is_element x.n ≡ true → (more : List NodeRef) → more ≡ done ++ child ∷ [] → Reading root above link more
+  past-element h more e = record {
     number = x.number + 1;
     around = round_next x.around x.n;
     rest = x.ns;
@@ -148,7 +148,7 @@ module _ (root : Numbered) (above : Element) (child : NodeRef) (done : List Node
         ∙ ap (λ c. map (element_of root) done ++ c ∷ elements_among above.place (x.number + 1) (plain_children x.ns)) (named root above child done x apart)
         ∙ ap (λ l. map (element_of root) done ++ (l ++ elements_among above.place (x.number + 1) (plain_children x.ns))) (sym (element-adds (above.place ++ x.number ∷ []) x.n h))
         ∙ all-is;
-    elements = subst (All (IsElement root)) (sym e) (All-push (IsElement root) done child x.elements (is-child root above child done x apart single h));
+    elements = subst (All (IsElement root)) (sym e) (All-push (IsElement root) done child x.elements (is-child root above child done x apart h));
     few = few;
   }
 
@@ -173,11 +173,6 @@ smaller root node child done x apart link next is to =
     let e : last_number (element_of root child).place ≡ x.number = ap (λ y. last_number y.place) (named root (element_of root node) child done x apart) ∙ last_number-is (element_of root node).place x.number in
     let less = smaller-from root node apart x.ns x.number (round_next x.around x.n) (behind root (element_of root node) child done x) x.few in
     omega (arith, less, e, ap (left root node) is, ap (left root node) to)
-
-pub ended : (root : Numbered) (above : Element) (done : List NodeRef) (rest : Children) (number : ℕ) → None ≡ first_of rest
-    → map (element_of root) done ++ elements_among above.place number (plain_children rest) ≡ element_children above → map (element_of root) done ≡ element_children above
-ended root above done no_children number is all = sym (append-nil (map (element_of root) done)) ∙ all
-ended root above done (child_then n ns) number is all = cc
 
 -- ---- the first child
 

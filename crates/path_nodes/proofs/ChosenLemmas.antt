@@ -17,21 +17,20 @@ use Rattle.ordered_tree.specs.Numbered.{Numbered, element_at, text_at, Children,
 use Rattle.ordered_tree.specs.Stands.{round_root, round_first, round_next}
 use Rattle.ordered_tree.specs.declared.around.Around.{Around}
 use Rattle.ft_base.specs.declared.ids.NodeRef.{NodeRef}
-use Rattle.path_nodes.specs.steps.Kept.{parents, kept, kept_children, named_children}
+use Rattle.path_nodes.specs.steps.Kept.{parents, kept, kept_children}
 use Rattle.path_nodes.specs.References.{Spot, spots, child_spots, spots_in, spot_element, element_of, IsElement}
 use Rattle.path_nodes.specs.steps.Regions.{at_or_below, below}
 use Rattle.path_nodes.specs.Says.{Meaning, satisfied}
 use Rattle.path_nodes.specs.steps.Within.{is_front, AtOrBelow, IsBelow}
-use Rattle.path_nodes.proofs.FrontLemmas.{From, from, under, front-of, region}
+use Rattle.path_meaning.proofs.InOrder.{From, from, under}
+use Rattle.path_nodes.proofs.FrontLemmas.{front-of, region}
 use Rattle.path_nodes.proofs.MeaningLemmas.{lists-are}
 use Rattle.path_nodes.proofs.NumberLemmas.{numbered_from, at, past, before}
 use Rattle.path_nodes.proofs.PlaceLemmas.{element-is}
 use Rattle.path_nodes.proofs.RegionLemmas.{opened}
+use Rattle.path_nodes.proofs.SpotLemmas.{Contains-cons}
 
 -- ---- an element that a reference names is one of the document
-
-pub Contains-later : (x e : Element) (xs : List Element) → Contains xs e → Contains (x ∷ xs) e
-Contains-later x e xs (k, more, is) = (suc k, (omega (arith, more)), is)
 
 abbrev Is : List Element → Spot → Type 0
 Is xs s = is_element s.stand.node ≡ true → Contains xs (spot_element s)
@@ -54,7 +53,7 @@ mutual
       All-cons (Is all) (record { place = place; stand = record { node = element_at r name attrs kids; around = a } }) (child_spots place 1 (round_first a.before r) kids)
       (λ e. (0, omega arith, refl))
       (wider (elements_below place 1 (plain_children kids)) all (child_spots place 1 (round_first a.before r) kids)
-      (λ e there. Contains-later (placed place (plain (element_at r name attrs kids))) e (elements_below place 1 (plain_children kids)) there) (in-below place 1 (round_first a.before r) kids))
+      (Contains-cons (placed place (plain (element_at r name attrs kids))) (elements_below place 1 (plain_children kids))) (in-below place 1 (round_first a.before r) kids))
 
   in-below : (above : List ℕ) (number : ℕ) (a : Around) (ns : Children) → All (Is (elements_below above number (plain_children ns))) (child_spots above number a ns)
   in-below above number a no_children = All-nil (Is [])
@@ -173,8 +172,14 @@ within-base root m s r x qs h =
     ∙ ap (λ b. cond b (base ∷ filter g (below base)) (filter g (below base))) (not-in root m s base base qs (not-itself root m s base) h)
     )
 
-pub below-base : (base : Element) → All (AtOrBelow base) (below base)
+below-base : (base : Element) → All (AtOrBelow base) (below base)
 below-base base k d within = let b = under base.place 1 (kids_of base.node) k d within in ap (is_front base.place) b.3 ∙ front-of base.place (b.0 ∷ b.1)
+
+pub chosen-inside : (root : Numbered) (m : Meaning) (s : Step) (r : NodeRef) (x : IsElement root r) (qs : List Element) → All (AtOrBelow (element_of root r)) qs
+    → All (AtOrBelow (element_of root r)) (filter (is_in (map (kept_children root m s) qs)) (elements (plain root)))
+chosen-inside root m s r x qs h =
+    let base = element_of root r in
+    subst (All (AtOrBelow base)) (within-base root m s r x qs h) (All-filter (is_in (map (kept_children root m s) qs)) (AtOrBelow base) (below base) (below-base base))
 
 front-further : (base c : Element) (y : Element) → AtOrBelow base c → From c.place y → AtOrBelow base y
 front-further base c y h (r, is) =
@@ -207,9 +212,3 @@ stepped-is root m s deep test ps cs is =
     ∙ ap (λ ls. filter (is_in ls) (elements (plain root))) (sym (map-map root m deep test ps (parents deep cs)))
     ∙ ap (λ ls. filter (is_in (map (λ items. filtered (satisfied root m) (elements (plain root)) ps (filter (λ e. is_named test e.node) items)) ls)) (elements (plain root))) (sym (lists-are deep cs))
     ∙ ap (λ t. stepped (satisfied root m) (elements (plain root)) t (map item cs)) (sym is)
-
--- without predicates those of the name are kept
-pub named-kept : (root : Numbered) (m : Meaning) (deep : Bool) (test : _) (xs : List Element) → map (named_children test) xs ≡ map (kept_children root m (step deep test no_predicates)) xs
-unfolding filtered
-named-kept root m deep test [] = refl
-named-kept root m deep test (x ∷ xs) = ap (λ l. named_children test x ∷ l) (named-kept root m deep test xs)

@@ -1,54 +1,24 @@
 -- The elements at or below one of a document are those of the document's that have its place for a front.
 use Rattle.std.proofs.Common.{◌≡◌, ◌+◌, ◌<◌, ◌≤◌, ◌==◌, ◌⊎◌, inl, inr, ℕ, zero, suc, Bool, true, false, ◌&&◌, List, [], ◌∷◌, ◌++◌, filter, get_or, cond, refl, sym, ap, ◌∙◌, arith, append_assoc, append-nil}
 use Rattle.std.specs.List.{All, Contains}
-use Rattle.std.proofs.lemmas.Bool.Decides.{nat_tests}
-use Rattle.std.proofs.lemmas.List.Elements.{All-nil, All-cons, All-append, All-tail, All-head, Contains-append_cases, filter-append}
+use Rattle.std.proofs.lemmas.Bool.{eq-eqb, ne_eqb}
+use Rattle.std.proofs.lemmas.List.Elements.{All-tail, All-head, Contains-append_cases, filter-append}
 use Rattle.plain_tree.specs.Document.{Node, element, text, Nodes, no_nodes, node_then}
 use Rattle.path_meaning.specs.Elements.{Element, placed, elements_from, elements_below}
+use Rattle.path_meaning.proofs.InOrder.{from, under}
 use Rattle.path_nodes.specs.steps.Regions.{at_or_below}
 use Rattle.path_nodes.specs.steps.Within.{is_front}
-
-itself : (n : ℕ) → (n == n) ≡ true
-itself n = grind (arith, nat_tests)
-
-differ : (n m : ℕ) → n < m → (n == m) ≡ false
-differ n m h = let e : (n ≡ m) → ⊥ = (λ e. omega (arith, e, h)) in grind (arith, nat_tests, e)
-
-differ-back : (n m : ℕ) → m < n → (n == m) ≡ false
-differ-back n m h = let e : (n ≡ m) → ⊥ = (λ e. omega (arith, e, h)) in grind (arith, nat_tests, e)
 
 -- a common front doesn't count
 pub behind : (front p q : List ℕ) → is_front (front ++ p) (front ++ q) ≡ is_front p q
 behind [] p q = refl
-behind (n ∷ front) p q = ap (λ b. b && is_front (front ++ p) (front ++ q)) (itself n) ∙ behind front p q
+behind (n ∷ front) p q = ap (λ b. b && is_front (front ++ p) (front ++ q)) (eq-eqb n n refl) ∙ behind front p q
 
 pub front-of : (p r : List ℕ) → is_front p (p ++ r) ≡ true
 front-of p r = ap (λ l. is_front l (p ++ r)) (sym (append-nil p)) ∙ behind p [] r
 
 pub front-itself : (p : List ℕ) → is_front p p ≡ true
 front-itself p = ap (is_front p) (sym (append-nil p)) ∙ front-of p []
-
--- ---- the places of what is at or below
-
-abbrev pub From : List ℕ → Element → Type 0
-From place e = (r : List ℕ) × (e.place ≡ place ++ r)
-
-abbrev pub Below : List ℕ → ℕ → Element → Type 0
-Below above number e = (k : ℕ) × (r : List ℕ) × (number ≤ k) × (e.place ≡ above ++ k ∷ r)
-
-mutual
-  pub from : (place : List ℕ) (node : Node) → All (From place) (elements_from place node)
-  from place (text bytes) = All-nil (From place)
-  from place (element name attributes kids) =
-      All-cons (From place) (placed place (element name attributes kids)) (elements_below place 1 kids) ([], sym (append-nil place))
-      (λ k d within. let b = under place 1 kids k d within in (b.0 ∷ b.1, b.3))
-
-  pub under : (above : List ℕ) (number : ℕ) (nodes : Nodes) → All (Below above number) (elements_below above number nodes)
-  under above number no_nodes = All-nil (Below above number)
-  under above number (node_then node rest) =
-      All-append (Below above number) (elements_from (above ++ number ∷ []) node) (elements_below above (number + 1) rest)
-      (λ k d within. let b = from (above ++ number ∷ []) node k d within in (number, b.0, omega arith, b.1 ∙ append_assoc above (number ∷ []) b.0))
-      (λ k d within. let b = under above (number + 1) rest k d within in (b.0, b.1, (let h : number + 1 ≤ b.0 = b.2 in omega arith), b.3))
 
 -- ---- filters of lists of which all or none pass
 
@@ -91,7 +61,7 @@ region-cases above number node rest e first further (inl there) =
     (filter-none (in-region e) (elements_below above (number + 1) rest)
     (λ k d within. let o = under above (number + 1) rest k d within in
     let less : number < o.0 = (let h : number + 1 ≤ o.0 = o.2 in omega (arith, h)) in
-    ap (λ p. is_front p (get_or (elements_below above (number + 1) rest) k d).place) at ∙ ap (is_front (above ++ number ∷ b.0)) o.3 ∙ other-child above number o.0 b.0 o.1 (differ number o.0 less)))
+    ap (λ p. is_front p (get_or (elements_below above (number + 1) rest) k d).place) at ∙ ap (is_front (above ++ number ∷ b.0)) o.3 ∙ other-child above number o.0 b.0 o.1 (ne_eqb number o.0 (λ e. omega (arith, e, less)))))
     ∙ append-nil (filter (in-region e) (elements_from (above ++ number ∷ []) node))
     ∙ first there
 region-cases above number node rest e first further (inr there) =
@@ -103,7 +73,7 @@ region-cases above number node rest e first further (inr there) =
     (λ k d within. let o = from (above ++ number ∷ []) node k d within in
     ap (λ p. is_front p (get_or (elements_from (above ++ number ∷ []) node) k d).place) at
     ∙ ap (is_front (above ++ b.0 ∷ b.1)) (o.1 ∙ append_assoc above (number ∷ []) o.0)
-    ∙ other-child above b.0 number b.1 o.0 (differ-back b.0 number less)))
+    ∙ other-child above b.0 number b.1 o.0 (ne_eqb b.0 number (λ e. omega (arith, e, less)))))
     ∙ further there
 
 mutual

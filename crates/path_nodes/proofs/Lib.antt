@@ -10,7 +10,6 @@ pub mod AskedLemmas
 pub mod MeaningLemmas
 pub mod ChosenLemmas
 pub mod SelectedLemmas
-pub mod PrintableLemmas
 pub mod ListedLemmas
 pub mod AboveLemmas
 pub mod WayLemmas

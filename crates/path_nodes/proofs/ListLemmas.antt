@@ -1,5 +1,5 @@
 -- Lists of elements that grow by one.
-use Rattle.std.proofs.Common.{◌≡◌, ◌+◌, ◌<◌, ℕ, Bool, true, false, ◌||◌, List, [], ◌∷◌, ◌++◌, map, take, drop, filter, flat_map, length, get_or, cond, refl, sym, ap, ◌∙◌, subst, append_assoc, append-nil}
+use Rattle.std.proofs.Common.{◌≡◌, ◌+◌, ◌<◌, ℕ, Bool, true, false, ◌||◌, List, [], ◌∷◌, ◌++◌, map, take, drop, filter, flat_map, length, get_or, cond, refl, sym, ap, ◌∙◌, subst, append-nil}
 use Rattle.std.specs.List.{All, list_any}
 use Rattle.std.proofs.lemmas.List.{map-append, take_more, drop_more}
 use Rattle.std.proofs.lemmas.List.Elements.{All-nil, All-cons, All-append, All-filter, filter-append}
@@ -38,9 +38,6 @@ flat-more f xs x = flat_map-append f xs (x ∷ []) ∙ ap (λ l. flat_map f xs +
 pub flat-map-more : {A B C : Type 0} (f : A → B) (g : B → List C) (xs : List A) (i : ℕ) (d : A) → i < length xs
     → flat_map g (map f (take (i + 1) xs)) ≡ flat_map g (map f (take i xs)) ++ g (f (get_or xs i d))
 flat-map-more f g xs i d lt = ap (flat_map g) (map-more f xs i d lt) ∙ flat-more g (map f (take i xs)) (f (get_or xs i d))
-
-pub append-further : {A : Type 0} (old a b new next : List A) → next ≡ old ++ a → new ≡ next ++ b → new ≡ old ++ (a ++ b)
-append-further old a b new next e f = f ∙ ap (λ l. l ++ b) e ∙ append_assoc old a b
 
 -- one item that is put to the end where it passes a test
 kept-map : {A B : Type 0} (f : A → B) (b c : Bool) (x : A) → b ≡ c → map f (cond b (x ∷ []) []) ≡ cond c (f x ∷ []) []

@@ -2,6 +2,7 @@
 use Rattle.std.proofs.Common.{◌≡◌, ℕ, Bool, true, false, not, ◌||◌, List, [], ◌∷◌, ◌++◌, map, filter, get_or, cond, refl, sym, ap, ◌∙◌, subst, arith}
 use Rattle.std.specs.HashSet.{HashSet}
 use Rattle.std.specs.List.{All, Contains, list_any}
+use Rattle.std.proofs.lemmas.Bool.{or_left, or_right, true_from_ne_false}
 use Rattle.std.proofs.lemmas.List.Elements.{All-head, All-tail}
 use Rattle.std.proofs.lemmas.List.Folds.{list_any-append, list_any_none, list_any_at}
 use Rattle.std.proofs.lemmas.Slice.Eq.{bytes_eq-Decides}
@@ -14,9 +15,9 @@ use Rattle.path_nodes.specs.steps.Marks.{is_marked}
 use Rattle.path_nodes.specs.References.{IsElement, element_of}
 use Rattle.path_nodes.specs.steps.Regions.{at_or_below}
 use Rattle.path_nodes.specs.steps.Within.{is_front, AtOrBelow}
-use Rattle.path_nodes.proofs.ChosenLemmas.{Contains-later}
 use Rattle.path_nodes.proofs.FrontLemmas.{region}
 use Rattle.path_nodes.proofs.PlaceLemmas.{one-reference}
+use Rattle.path_nodes.proofs.SpotLemmas.{Contains-cons}
 
 any-map : (p : List Element → Bool) (f : Element → List Element) (xs : List Element) → list_any p (map f xs) ≡ list_any (λ x. p (f x)) xs
 any-map p f [] = refl
@@ -28,16 +29,12 @@ same-offered f xs ys all same =
     filter-alike (is_in (map f xs)) (is_in (map f ys)) all
     (λ k d within. let e = get_or all k d in any-map (list_any (is_same e)) f xs ∙ same (λ x. list_any (is_same e) (f x)) ∙ sym (any-map (list_any (is_same e)) f ys))
 
-not-false : (b : Bool) → (not b ≡ true → ⊥) → b ≡ true
-not-false true never = refl
-not-false false never = absurd (never refl)
-
 pub same-inside : (base : Element) (xs ys : List Element) → HaveSame xs ys → All (AtOrBelow base) ys → All (AtOrBelow base) xs
 same-inside base xs ys same h k d within =
     let p : Element → Bool = λ e. not (is_front base.place e.place) in
     let none : list_any p ys ≡ false = list_any_none p ys (λ i o more. ap not (h i o more)) in
-    not-false (is_front base.place (get_or xs k d).place)
-    (λ t. let some : list_any p xs ≡ true = list_any_at p xs k d within t in let e : true ≡ false = sym some ∙ same p ∙ none in cc)
+    true_from_ne_false (is_front base.place (get_or xs k d).place)
+    (λ f. let some : list_any p xs ≡ true = list_any_at p xs k d within (ap not f) in let e : true ≡ false = sym some ∙ same p ∙ none in cc)
 
 -- ---- regions in regions
 
@@ -59,7 +56,7 @@ module _ (root : Numbered) (r : NodeRef) (x : IsElement root r) where
       → (b || list_any (is_same (element_of root r)) (map (element_of root) items)) ≡ true → Contains (map (element_of root) (q ∷ items)) (element_of root r)
   same-first q items true y e further h =
       (0, omega arith, ap (element_of root) (sym (one-reference root r q x y ((bytes_eq-Decides (element_of root r).place (element_of root q).place).0 e))))
-  same-first q items false y e further h = Contains-later (element_of root q) (element_of root r) (map (element_of root) items) (further h)
+  same-first q items false y e further h = Contains-cons (element_of root q) (map (element_of root) items) (element_of root r) (further h)
 
   same-there : (items : List NodeRef) → All (IsElement root) items → list_any (is_same (element_of root r)) (map (element_of root) items) ≡ true → Contains (map (element_of root) items) (element_of root r)
   same-there [] all h = cc
@@ -69,13 +66,6 @@ module _ (root : Numbered) (r : NodeRef) (x : IsElement root r) where
 pub or-cases : (a b c : Bool) → (a || b) ≡ true → (a ≡ true → c ≡ true) → (b ≡ true → c ≡ true) → c ≡ true
 or-cases true b c h f g = f refl
 or-cases false b c h f g = g h
-
-or-left : (a b : Bool) → a ≡ true → (a || b) ≡ true
-or-left a b h = ap (λ c. c || b) h
-
-pub or-right : (a b : Bool) → b ≡ true → (a || b) ≡ true
-or-right true b h = refl
-or-right false b h = h
 
 -- a region that is put behind what is listed
 module _ (root : Numbered) (here : NodeRef) (items : List NodeRef) (all : All (IsElement root) items) (is : map (element_of root) items ≡ at_or_below (element_of root here)) (old : List Element) where
@@ -87,6 +77,6 @@ module _ (root : Numbered) (here : NodeRef) (items : List NodeRef) (all : All (I
   region-listed before after marked listed r x m p some =
       region-more p
       ∙ or-cases (list_any (is_same (element_of root r)) (map (element_of root) items)) (is_marked before r) (list_any p old || list_any p (at_or_below (element_of root here))) (sym (marked r x) ∙ m)
-      (λ new. or-right (list_any p old) (list_any p (at_or_below (element_of root here)))
+      (λ new. or_right (list_any p old) (list_any p (at_or_below (element_of root here)))
       (region-has (element_of root here) (element_of root r) (subst (λ l. Contains l (element_of root r)) is (same-there root r x items all new)) p some))
-      (λ already. or-left (list_any p old) (list_any p (at_or_below (element_of root here))) (listed r x already p some))
+      (λ already. or_left (list_any p old) (list_any p (at_or_below (element_of root here))) (listed r x already p some))

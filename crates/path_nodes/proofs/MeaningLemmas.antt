@@ -1,19 +1,23 @@
 -- What steps, predicates and conditions say, one item further.
-use Rattle.std.proofs.Common.{◌≡◌, ◌+◌, ◌<◌, ℕ, Bool, true, false, not, ◌||◌, ◌&&◌, List, [], ◌∷◌, ◌++◌, map, filter, flat_map, drop, length, get_or, Option, Box, Global, refl, sym, ap, ◌∙◌}
-use Rattle.std.specs.List.{list_any}
-use Rattle.std.specs.Prelude.{bytes_eq}
+use mathlib.Core.Bool.{beq}
+use Rattle.std.proofs.Common.{◌≡◌, ◌+◌, ◌<◌, ℕ, Bool, true, false, not, ◌||◌, ◌&&◌, List, [], ◌∷◌, ◌++◌, map, flat_map, drop, length, get_or, cond, refl, sym, ap, ◌∙◌}
 use Rattle.std.proofs.lemmas.List.{drop_more, map-append}
 use Rattle.path_meaning.specs.Elements.{Element, element_children}
 use Rattle.path_grammar.specs.Form as form
-use Rattle.path_meaning.specs.Meaning as meaning
-use Rattle.path_meaning.specs.Meaning.{Context, item, children, lists, is_named, led, stepped, filtered, filtered_by, is_true, some_true, each_true, some_element, attributes_of, has_value}
+use Rattle.path_meaning.specs.Meaning.{item, children, lists, led, stepped, filtered, filtered_by, is_true, some_true, each_true, some_element}
 use Rattle.path_grammar.specs.View.{step, predicate, condition}
 use Rattle.path_grammar.specs.declared.path.Step.{Step}
-use Rattle.path_grammar.specs.declared.path.Predicate.{Predicate, Number, Holds}
-use Rattle.path_grammar.specs.declared.path.Condition.{Condition, Or, And, Not, Attribute, Exists, Contains}
-use Rattle.path_grammar.proofs.Views.{view_number, view_holds, view_or, view_and, view_not, view_attribute, view_exists, view_contains}
-use Rattle.path_nodes.specs.steps.Kept.{parents}
+use Rattle.path_grammar.specs.declared.path.Predicate.{Predicate}
+use Rattle.path_grammar.specs.declared.path.Condition.{Condition}
+use Rattle.path_nodes.specs.steps.Kept.{parents, joined}
 use Rattle.path_nodes.specs.steps.Regions.{at_or_below}
+
+-- a truth that was compared with another is that one, or it isn't
+compared : (truth b equal : Bool) → beq truth b ≡ equal → truth ≡ cond equal b (not b)
+compared true true equal h = ap (λ t. cond t true false) h
+compared true false equal h = ap (λ t. cond t false true) h
+compared false true equal h = ap (λ t. cond t true false) h
+compared false false equal h = ap (λ t. cond t false true) h
 
 module _ (sat : ℕ → Element → Bool) (all : List Element) where
   pub led-next : (xs : List Step) (i : ℕ) (d : Step) → i < length xs → (items new : List Element) → new ≡ stepped sat all (step (get_or xs i d)) (map item items)
@@ -22,72 +26,37 @@ module _ (sat : ℕ → Element → Bool) (all : List Element) where
   led-next xs i d lt items new e =
       ap (led sat all (form.steps (map step (drop (i + 1) xs)))) e ∙ sym (ap (λ l. led sat all (form.steps (map step l)) items) (drop_more xs i d lt))
 
-  pub led-none : (items : List Element) → led sat all form.no_steps items ≡ items
-  unfolding led
-  led-none items = refl
-
   pub filtered-next : (xs : List Predicate) (i : ℕ) (d : Predicate) → i < length xs → (items new : List Element) → new ≡ filtered_by sat all (predicate (get_or xs i d)) items
       → filtered sat all (form.predicates (map predicate (drop (i + 1) xs))) new ≡ filtered sat all (form.predicates (map predicate (drop i xs))) items
   unfolding filtered
   filtered-next xs i d lt items new e =
       ap (filtered sat all (form.predicates (map predicate (drop (i + 1) xs)))) e ∙ sym (ap (λ l. filtered sat all (form.predicates (map predicate l)) items) (drop_more xs i d lt))
 
-  pub filtered-none : (items : List Element) → filtered sat all form.no_predicates items ≡ items
-  unfolding filtered
-  filtered-none items = refl
+  -- ---- conditions that one of them decides: the first one, or one of the rest
 
-  pub some-next : (xs : List Condition) (i : ℕ) (d : Condition) → i < length xs → (e : Element)
-      → some_true sat all (form.conditions (map condition (drop i xs))) e ≡ (is_true sat all (condition (get_or xs i d)) e || some_true sat all (form.conditions (map condition (drop (i + 1) xs))) e)
-  unfolding some_true
-  some-next xs i d lt e = ap (λ l. some_true sat all (form.conditions (map condition l)) e) (drop_more xs i d lt)
+  module _ (e : Element) where
+    first-decides : (b : Bool) (c : form.Condition) (cs : form.Conditions) → is_true sat all c e ≡ b → b ≡ joined b sat all (form.condition_then c cs) e
+    unfolding some_true each_true
+    first-decides true c cs is = sym (ap (λ t. t || some_true sat all cs e) is)
+    first-decides false c cs is = sym (ap (λ t. t && each_true sat all cs e) is)
 
-  pub some-none : (e : Element) → some_true sat all form.no_conditions e ≡ false
-  unfolding some_true
-  some-none e = refl
+    rest-decides : (b : Bool) (c : form.Condition) (cs : form.Conditions) → is_true sat all c e ≡ not b → joined b sat all cs e ≡ joined b sat all (form.condition_then c cs) e
+    unfolding some_true each_true
+    rest-decides true c cs is = sym (ap (λ t. t || some_true sat all cs e) is)
+    rest-decides false c cs is = sym (ap (λ t. t && each_true sat all cs e) is)
 
-  pub each-next : (xs : List Condition) (i : ℕ) (d : Condition) → i < length xs → (e : Element)
-      → each_true sat all (form.conditions (map condition (drop i xs))) e ≡ (is_true sat all (condition (get_or xs i d)) e && each_true sat all (form.conditions (map condition (drop (i + 1) xs))) e)
-  unfolding each_true
-  each-next xs i d lt e = ap (λ l. each_true sat all (form.conditions (map condition l)) e) (drop_more xs i d lt)
+    pub joined-none : (b : Bool) → not b ≡ joined b sat all form.no_conditions e
+    unfolding some_true each_true
+    joined-none true = refl
+    joined-none false = refl
 
-  pub each-none : (e : Element) → each_true sat all form.no_conditions e ≡ true
-  unfolding each_true
-  each-none e = refl
+    -- the next one's truth, as a loop compares it with the deciding one
+    module _ (b : Bool) (xs : List Condition) (i : ℕ) (d : Condition) (lt : i < length xs) (truth : Bool) (is : truth ≡ is_true sat all (condition (get_or xs i d)) e) where
+      pub decided : beq truth b ≡ true → b ≡ joined b sat all (form.conditions (map condition (drop i xs))) e
+      decided equal = rw (drop_more xs i d lt) (first-decides b (condition (get_or xs i d)) (form.conditions (map condition (drop (i + 1) xs))) (sym is ∙ compared truth b true equal))
 
-  pub by-number : (p : Predicate) (k : ℕ) (items : List Element) → p ≡ Number k → meaning.numbered k items ≡ filtered_by sat all (predicate p) items
-  unfolding filtered_by
-  by-number p k items is = sym (ap (λ q. filtered_by sat all q items) (ap predicate is ∙ view_number k))
-
-  pub by-condition : (p : Predicate) (c : Condition) (items : List Element) → p ≡ Holds c → filter (is_true sat all (condition c)) items ≡ filtered_by sat all (predicate p) items
-  unfolding filtered_by
-  by-condition p c items is = sym (ap (λ q. filtered_by sat all q items) (ap predicate is ∙ view_holds c))
-
-  module _ (c : Condition) (e : Element) where
-    pub true-or : (parts : List Condition) → c ≡ Or parts → some_true sat all (form.conditions (map condition parts)) e ≡ is_true sat all (condition c) e
-    unfolding is_true
-    true-or parts is = sym (ap (λ x. is_true sat all x e) (ap condition is ∙ view_or parts))
-
-    pub true-and : (parts : List Condition) → c ≡ And parts → each_true sat all (form.conditions (map condition parts)) e ≡ is_true sat all (condition c) e
-    unfolding is_true
-    true-and parts is = sym (ap (λ x. is_true sat all x e) (ap condition is ∙ view_and parts))
-
-    pub true-not : (operand : Box Condition Global) → c ≡ Not operand → not (is_true sat all (condition operand.value) e) ≡ is_true sat all (condition c) e
-    unfolding is_true
-    true-not operand is = sym (ap (λ x. is_true sat all x e) (ap condition is ∙ view_not operand))
-
-    pub true-attribute : (name : List ℕ) (value : Option (List ℕ)) → c ≡ Attribute name value
-        → list_any (λ a. bytes_eq name a.name && has_value value a.value) (attributes_of e.node) ≡ is_true sat all (condition c) e
-    unfolding is_true
-    true-attribute name value is = sym (ap (λ x. is_true sat all x e) (ap condition is ∙ view_attribute name value))
-
-    pub true-exists : (further : List Step) → c ≡ Exists further → some_element (led sat all (form.steps (map step further)) (e ∷ [])) ≡ is_true sat all (condition c) e
-    unfolding is_true
-    true-exists further is = sym (ap (λ x. is_true sat all x e) (ap condition is ∙ view_exists further))
-
-    pub true-contains : (further : List Step) (selection : ℕ) → c ≡ Contains further selection
-        → list_any (sat selection) (led sat all (form.steps (map step further)) (e ∷ [])) ≡ is_true sat all (condition c) e
-    unfolding is_true
-    true-contains further selection is = sym (ap (λ x. is_true sat all x e) (ap condition is ∙ view_contains further selection))
+      pub undecided : beq truth b ≡ false → joined b sat all (form.conditions (map condition (drop (i + 1) xs))) e ≡ joined b sat all (form.conditions (map condition (drop i xs))) e
+      undecided other = rw (drop_more xs i d lt) (rest-decides b (condition (get_or xs i d)) (form.conditions (map condition (drop (i + 1) xs))) (sym is ∙ compared truth b false other))
 
 -- ---- the lists that a step makes
 

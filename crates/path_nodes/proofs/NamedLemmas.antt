@@ -7,7 +7,7 @@ use Rattle.ordered_tree.specs.Numbered.{Numbered, element_at, text_at, Children,
 use Rattle.ordered_tree.specs.Stands.{round_root, round_first, round_next, references}
 use Rattle.ordered_tree.specs.declared.around.Around.{Around}
 use Rattle.ft_base.specs.declared.ids.NodeRef.{NodeRef}
-use Rattle.path_nodes.specs.References.{Spot, spots, child_spots, spots_in, spot_reference, spot_element, element_of, IsElement, HasSingleAttributes}
+use Rattle.path_nodes.specs.References.{Spot, spots, child_spots, spots_in, spot_reference, spot_element, element_of, IsElement}
 use Rattle.path_nodes.specs.Says.{Meaning, Agrees, reference_of, satisfied}
 use Rattle.path_nodes.proofs.AboveLemmas.{top}
 use Rattle.path_nodes.proofs.PlaceLemmas.{reference-back}
@@ -44,11 +44,11 @@ mutual
       (λ k d within. has-more first (first ++ rest) (get_or one k d) (Contains-append_left first rest) (has-from (above ++ number ∷ []) b n k d within))
       (λ k d within. has-more rest (first ++ rest) (get_or others k d) (Contains-append_right first rest) (has-below above (number + 1) (round_next a n) ns k d within))
 
-module _ (root : Numbered) (apart : AllPairs (λ a b. a ≢ b) (references root)) (single : HasSingleAttributes root) where
+module _ (root : Numbered) (apart : AllPairs (λ a b. a ≢ b) (references root)) where
   pub element-there : (e : Element) → Contains (elements (plain root)) e → (r : NodeRef) × IsElement root r × (element_of root r ≡ e)
   element-there e there =
       let h = All-contains (Has (spots_in root)) (elements (plain root)) e (has-from [] round_root root) there in
-      (spot_reference h.0, record { spot = h.0; among = h.1; refers = refl; element = h.2; apart = apart; single = single }, element_of-is root h.0 h.1 apart ∙ h.3)
+      (spot_reference h.0, record { spot = h.0; among = h.1; refers = refl; element = h.2; apart = apart }, element_of-is root h.0 h.1 apart ∙ h.3)
 
   -- what a test says of each reference it says of each element
   pub agrees-there : (m : Meaning) (sat : ℕ → Element → Bool) → Agrees root m sat → All (λ e. (k : ℕ) → satisfied root m k e ≡ sat k e) (elements (plain root))

@@ -1,17 +1,16 @@
 -- What tests cost, one item further.
-use Rattle.std.proofs.Common.{◌≡◌, ◌+◌, ◌<◌, ◌≤◌, ℕ, Bool, true, false, List, [], ◌∷◌, ◌++◌, map, filter, flat_map, take, drop, length, get_or, Box, Global, refl, sym, ap, ◌∙◌, arith, append-nil}
+use Rattle.std.proofs.Common.{◌≡◌, ◌+◌, ◌<◌, ◌≤◌, ℕ, Bool, true, false, List, [], ◌∷◌, ◌++◌, map, filter, flat_map, drop, length, get_or, refl, sym, ap, ◌∙◌, arith, append-nil}
 use Rattle.std.specs.Prelude.{sum_by}
-use Rattle.std.proofs.lemmas.List.{drop_more, map-append, take-append-drop}
+use Rattle.std.proofs.lemmas.List.{drop_more}
 use Rattle.std.proofs.lemmas.List.Sums.{sum_by-cons, sum_by-append}
 use Rattle.path_meaning.specs.Elements as el
 use Rattle.path_meaning.specs.Elements.{Element, elements, element_children}
 use Rattle.path_grammar.specs.Form as form
-use Rattle.path_meaning.specs.Meaning.{document, item, children, lists, is_named, led, stepped, filtered_by}
+use Rattle.path_meaning.specs.Meaning.{document, item, children, lists, is_named, stepped, filtered_by}
 use Rattle.path_grammar.specs.View.{step, predicate, condition}
 use Rattle.path_grammar.specs.declared.path.Step.{Step}
-use Rattle.path_grammar.specs.declared.path.Predicate.{Predicate, Holds}
-use Rattle.path_grammar.specs.declared.path.Condition.{Condition, Or, And, Not, Exists, Contains as Contains'}
-use Rattle.path_grammar.proofs.Views.{view_holds, view_or, view_and, view_not, view_exists, view_contains}
+use Rattle.path_grammar.specs.declared.path.Predicate.{Predicate}
+use Rattle.path_grammar.specs.declared.path.Condition.{Condition}
 use Rattle.ordered_tree.specs.Numbered.{Numbered, plain}
 use Rattle.ft_base.specs.declared.ids.NodeRef.{NodeRef}
 use Rattle.path_nodes.specs.steps.Kept.{parents}
@@ -19,7 +18,6 @@ use Rattle.path_nodes.specs.Prices.{price_of, steps_price, step_price, predicate
 use Rattle.path_nodes.specs.References.{IsElement, element_of}
 use Rattle.path_nodes.specs.Says.{Meaning, reference_of, satisfied}
 use Rattle.path_meaning.specs.Tests.{Test, each_tested, step_tests, steps_tests, predicates_tests, predicate_tests, condition_tests, conditions_tests, selected_tests}
-use Rattle.path_nodes.proofs.ListLemmas.{map-more}
 use Rattle.path_nodes.proofs.MeaningLemmas.{lists-are, items-children}
 use Rattle.path_nodes.proofs.PlaceLemmas.{reference-back}
 
@@ -29,19 +27,9 @@ pub sum-map : {A B : Type 0} (f : B → ℕ) (g : A → B) (xs : List A) → sum
 sum-map f g [] = refl
 sum-map f g (x ∷ xs) = sum_by-cons f (g x) (map g xs) ∙ ap (λ n. f (g x) + n) (sum-map f g xs) ∙ sym (sum_by-cons (λ x. f (g x)) x xs)
 
--- the first ones, then one more
-pub sum-more : {A B : Type 0} (f : B → ℕ) (g : A → B) (xs : List A) (i : ℕ) (d : A) → i < length xs → sum_by f (map g (take (i + 1) xs)) ≡ sum_by f (map g (take i xs)) + f (g (get_or xs i d))
-sum-more f g xs i d lt =
-    ap (sum_by f) (map-more g xs i d lt)
-    ∙ sum_by-append f (map g (take i xs)) (g (get_or xs i d) ∷ [])
-    ∙ ap (λ n. sum_by f (map g (take i xs)) + n) (sum_by-cons f (g (get_or xs i d)) [] ∙ omega arith)
-
--- those of the first ones are no more than those of all
-pub sum-take : {A B : Type 0} (f : B → ℕ) (g : A → B) (xs : List A) (i : ℕ) → sum_by f (map g (take i xs)) ≤ sum_by f (map g xs)
-sum-take f g xs i =
-    let h : sum_by f (map g xs) ≡ sum_by f (map g (take i xs)) + sum_by f (map g (drop i xs)) =
-    ap (λ l. sum_by f (map g l)) (sym (take-append-drop i xs)) ∙ ap (sum_by f) (map-append g (take i xs) (drop i xs)) ∙ sum_by-append f (map g (take i xs)) (map g (drop i xs)) in
-    omega (arith, h)
+-- one item, then the rest
+pub sum-next : {A B : Type 0} (f : B → ℕ) (g : A → B) (xs : List A) (i : ℕ) (d : A) → i < length xs → sum_by f (map g (drop i xs)) ≡ f (g (get_or xs i d)) + sum_by f (map g (drop (i + 1) xs))
+sum-next f g xs i d lt = ap (λ l. sum_by f (map g l)) (drop_more xs i d lt) ∙ sum_by-cons f (g (get_or xs i d)) (map g (drop (i + 1) xs))
 
 -- ---- the price of a part and of the rest
 
@@ -100,39 +88,10 @@ module _ (root : Numbered) (m : Meaning) where
       ∙ price-cons (record { selection = k; element = element_of root q }) rest
       ∙ ap (λ r. m.price k r + price_of root m rest) (reference-back root q x)
 
-  -- ---- each kind of predicate and condition
-
-  pub price-holds : (p : Predicate) (c : Condition) (items : List Element) → p ≡ Holds c → sum_by (condition_price root m (condition c)) items ≡ predicate_price root m (predicate p) items
+  -- a condition of each item
+  pub price-holds : (c : form.Condition) (items : List Element) → sum_by (condition_price root m c) items ≡ predicate_price root m (form.holds c) items
   unfolding predicate_tests
-  price-holds p c items is =
-      sym (ap (λ q. predicate_price root m q items) (ap predicate is ∙ view_holds c) ∙ price-flat (condition_tests (satisfied root m) (elements (plain root)) (condition c)) items)
-
-  module _ (c : Condition) (e : Element) where
-    pub price-or : (parts : List Condition) → c ≡ Or parts → conditions_price root m (form.conditions (map condition parts)) e ≡ condition_price root m (condition c) e
-    unfolding condition_tests
-    price-or parts is = sym (ap (λ x. condition_price root m x e) (ap condition is ∙ view_or parts))
-
-    pub price-and : (parts : List Condition) → c ≡ And parts → conditions_price root m (form.conditions (map condition parts)) e ≡ condition_price root m (condition c) e
-    unfolding condition_tests
-    price-and parts is = sym (ap (λ x. condition_price root m x e) (ap condition is ∙ view_and parts))
-
-    pub price-not : (operand : Box Condition Global) → c ≡ Not operand → condition_price root m (condition operand.value) e ≡ condition_price root m (condition c) e
-    unfolding condition_tests
-    price-not operand is = sym (ap (λ x. condition_price root m x e) (ap condition is ∙ view_not operand))
-
-    pub price-exists : (further : List Step) → c ≡ Exists further → steps_price root m (form.steps (map step further)) (e ∷ []) ≡ condition_price root m (condition c) e
-    unfolding condition_tests
-    price-exists further is = sym (ap (λ x. condition_price root m x e) (ap condition is ∙ view_exists further))
-
-    pub price-contains : (further : List Step) (selection : ℕ) → c ≡ Contains' further selection → (found : List Element) → found ≡ led (satisfied root m) (elements (plain root)) (form.steps (map step further)) (e ∷ [])
-        → steps_price root m (form.steps (map step further)) (e ∷ []) + price_of root m (each_tested selection found) ≡ condition_price root m (condition c) e
-    unfolding condition_tests
-    price-contains further selection is found same =
-        let steps = form.steps (map step further) in
-        let nodes = led (satisfied root m) (elements (plain root)) steps (e ∷ []) in
-        ap (λ l. steps_price root m steps (e ∷ []) + price_of root m (each_tested selection l)) same
-        ∙ sym (ap (λ x. condition_price root m x e) (ap condition is ∙ view_contains further selection)
-        ∙ price-append (steps_tests (satisfied root m) (elements (plain root)) steps (e ∷ [])) (each_tested selection nodes))
+  price-holds c items = sym (price-flat (condition_tests (satisfied root m) (elements (plain root)) c) items)
 
   -- ---- a step, by its parents
 

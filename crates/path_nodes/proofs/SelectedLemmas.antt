@@ -1,6 +1,8 @@
 -- A step from a document: its root, and what a deep step finds below it.
-use Rattle.std.proofs.Common.{◌≡◌, ◌≢◌, ◌<◌, ◌==◌, ◌⊎◌, inl, inr, ℕ, Bool, true, false, ◌||◌, List, [], ◌∷◌, ◌++◌, map, filter, flat_map, drop, length, get_or, cond, refl, sym, ap, ◌∙◌, subst, arith, append-nil}
+use Rattle.std.proofs.Common.{◌≡◌, ◌≢◌, ◌<◌, ◌≤◌, ◌+◌, ◌==◌, ◌⊎◌, inl, inr, ℕ, Bool, true, false, ◌||◌, List, [], ◌∷◌, ◌++◌, map, filter, flat_map, drop, length, get_or, cond, refl, sym, ap, ◌∙◌, subst, arith, append-nil}
 use Rattle.std.specs.List.{All, AllPairs, Contains, list_any}
+use Rattle.std.specs.Prelude.{sum_by}
+use Rattle.std.proofs.lemmas.Bool.{false_from_ne_true}
 use Rattle.std.proofs.lemmas.List.{length-append}
 use Rattle.std.proofs.lemmas.Slice.Eq.{bytes_eq-Decides}
 use Rattle.plain_tree.specs.Document.{Node, element, text}
@@ -12,20 +14,23 @@ use Rattle.path_meaning.specs.Meaning.{document, item, children, is_named, filte
 use Rattle.path_grammar.specs.View as view
 use Rattle.path_grammar.specs.declared.path.Step as steps
 use Rattle.path_meaning.proofs.Lists.{filter-alike}
+use Rattle.path_meaning.proofs.Traced.{same_itself}
 use Rattle.ordered_tree.specs.Numbered.{Numbered, element_at, text_at, plain, reference, is_element}
 use Rattle.ordered_tree.specs.Stands.{round_root, references}
 use Rattle.ft_base.specs.declared.ids.NodeRef.{NodeRef}
 use Rattle.path_nodes.specs.Asked.{OfEach}
 use Rattle.path_nodes.specs.steps.Kept.{kept, kept_children}
-use Rattle.path_nodes.specs.steps.Listed.{HaveSame}
-use Rattle.path_nodes.specs.References.{Spot, spots, spots_in, element_of, IsElement, HasSingleAttributes}
+use Rattle.path_nodes.specs.Prices.{list_price, children_price, step_price}
+use Rattle.path_nodes.specs.References.{Spot, spots, spots_in, element_of, IsElement}
 use Rattle.path_nodes.specs.steps.Regions.{at_or_below, below}
 use Rattle.path_nodes.specs.Says.{Meaning, satisfied}
 use Rattle.path_nodes.specs.steps.Within.{is_front, AtOrBelow}
-use Rattle.path_nodes.proofs.ChosenLemmas.{map-map, not-in, not-itself}
-use Rattle.path_nodes.proofs.FrontLemmas.{under, filter-none}
-use Rattle.path_nodes.proofs.ListedLemmas.{same-offered}
+use Rattle.path_nodes.proofs.AskedLemmas.{step-is}
+use Rattle.path_nodes.proofs.ChosenLemmas.{map-map, not-in, not-itself, stepped-is}
+use Rattle.path_meaning.proofs.InOrder.{under}
+use Rattle.path_nodes.proofs.FrontLemmas.{filter-none}
 use Rattle.path_nodes.proofs.MeaningLemmas.{items-children}
+use Rattle.path_nodes.proofs.PriceLemmas.{step-price, own-price, deep-document-price}
 use Rattle.path_nodes.proofs.RegionLemmas.{opened}
 use Rattle.path_nodes.proofs.SpotLemmas.{element_of-is}
 
@@ -66,24 +71,14 @@ module _ (sat : ℕ → Element → Bool) (all : List Element) (e : Element) whe
 kept-short : (root : Numbered) (m : Meaning) (s : Step) (e : Element) → Short e (kept root m s (e ∷ []))
 kept-short root m (step deep test ps) e = filtered-short (satisfied root m) (elements (plain root)) e ps (filter (λ x. is_named test x.node) (e ∷ [])) (one-or-none e (is_named test e.node))
 
-untrue : (b : Bool) → (b ≡ true → ⊥) → b ≡ false
-untrue true never = absurd (never refl)
-untrue false never = refl
-
 -- an element below another isn't the same
 below-other : (base x : Element) (k : ℕ) (r : List ℕ) → x.place ≡ base.place ++ k ∷ r → is_same x base ≡ false
 below-other base x k r is =
-    untrue (is_same x base) (λ h. let same : x.place ≡ base.place = (bytes_eq-Decides x.place base.place).0 h in
+    false_from_ne_true (is_same x base) (λ h. let same : x.place ≡ base.place = (bytes_eq-Decides x.place base.place).0 h in
     let l = length-append base.place (k ∷ r) in omega (arith, l, ap length (sym same ∙ is)))
-
-same-itself : (e : Element) → is_same e e ≡ true
-same-itself e = (bytes_eq-Decides e.place e.place).1 refl
 
 -- the root's own list, and what is found below it
 module _ (e : Element) (h : Element → Bool) (apart : h e ≡ false) where
-  tested : List Element → Element → Bool
-  tested ks x = list_any (is_same x) ks || h x
-
   below-none : filter h (e ∷ below e) ≡ filter h (below e)
   below-none = ap (λ b. cond b (e ∷ filter h (below e)) (filter h (below e))) apart
 
@@ -91,7 +86,7 @@ module _ (e : Element) (h : Element → Bool) (apart : h e ≡ false) where
   root-then-below ks (inl is) = ap (λ l. filter (λ x. list_any (is_same x) l || h x) (e ∷ below e)) is ∙ below-none ∙ ap (λ l. l ++ filter h (below e)) (sym is)
   root-then-below ks (inr is) =
       ap (λ l. filter (λ x. list_any (is_same x) l || h x) (e ∷ below e)) is
-      ∙ ap (λ b. cond ((b || false) || h e) (e ∷ filter (λ x. (is_same x e || false) || h x) (below e)) (filter (λ x. (is_same x e || false) || h x) (below e))) (same-itself e)
+      ∙ ap (λ b. cond ((b || false) || h e) (e ∷ filter (λ x. (is_same x e || false) || h x) (below e)) (filter (λ x. (is_same x e || false) || h x) (below e))) (same_itself e)
       ∙ ap (λ l. e ∷ l) (filter-alike (λ x. (is_same x e || false) || h x) h (below e)
       (λ k d within. let b = under e.place 1 (kids_of e.node) k d within in
       ap (λ c. (c || false) || h (get_or (below e) k d)) (below-other e (get_or (below e) k d) b.0 b.1 b.3)))
@@ -143,8 +138,8 @@ root-among (element_at r name attrs kids) = (0, omega arith, refl)
 root-among (text_at r bytes) = (0, omega arith, refl)
 
 module _ (root : Numbered) (r : NodeRef) (refers : r ≡ reference root) (apart : AllPairs (λ a b. a ≢ b) (references root)) where
-  pub root-there : is_element root ≡ true → HasSingleAttributes root → IsElement root r
-  root-there is single = record { spot = root-spot root; among = root-among root; refers = sym refers; element = is; apart = apart; single = single }
+  pub root-there : is_element root ≡ true → IsElement root r
+  root-there is = record { spot = root-spot root; among = root-among root; refers = sym refers; element = is; apart = apart }
 
   pub root-placed : element_of root r ≡ placed [] (plain root)
   root-placed = ap (element_of root) refers ∙ element_of-is root (root-spot root) (root-among root) apart
@@ -159,32 +154,51 @@ alone-is (text bytes) e rest is h = cc
 
 -- ---- a step from the document by the root's reference
 
-module _ (root : Numbered) (m : Meaning) (s : Step) (deep : Bool) (test : _) (ps : Predicates) (is : s ≡ step deep test ps) (r : NodeRef) (x : IsElement root r) (first : element_of root r ≡ placed [] (plain root)) where
-  pub all-of : elements (plain root) ≡ element_of root r ∷ below (element_of root r)
+module _ (root : Numbered) (m : Meaning) (d : steps.Step) (r : NodeRef) (x : IsElement root r) (first : element_of root r ≡ placed [] (plain root)) where
+  abbrev e : Element
+  e = element_of root r
+
+  abbrev every : List Element
+  every = elements (plain root)
+
+  abbrev ps : Predicates
+  ps = form.predicates (map view.predicate d.predicates)
+
+  all-of : every ≡ e ∷ below e
   all-of = ap at_or_below (sym first) ∙ opened root r x
 
-  pub alone-of : el.element_at [] (plain root) ≡ element_of root r ∷ []
-  alone-of = alone-is (plain root) (element_of root r) (below (element_of root r)) first all-of
+  alone : el.element_at [] (plain root) ≡ e ∷ []
+  alone = alone-is (plain root) e (below e) first all-of
 
-  pub one-step : deep ≡ false → kept root m s (element_of root r ∷ []) ≡ stepped (satisfied root m) (elements (plain root)) s (document (plain root) ∷ [])
+  below-it : flat_map at_or_below (e ∷ []) ≡ every
+  below-it = append-nil (at_or_below e) ∙ ap at_or_below first
+
+  at-depth : (deep : Bool) → d.deep ≡ deep → view.step d ≡ step deep d.test ps
+  at-depth deep is = step-is d ∙ ap (λ b. step b d.test ps) is
+
+  pub one-step : d.deep ≡ false → kept root m (view.step d) (e ∷ []) ≡ stepped (satisfied root m) every (view.step d) (document (plain root) ∷ [])
   one-step flat =
-      let same : s ≡ step false test ps = is ∙ ap (λ b. step b test ps) flat in
-      subst (λ t. kept root m t (element_of root r ∷ []) ≡ stepped (satisfied root m) (elements (plain root)) t (document (plain root) ∷ [])) (sym same)
-      (from-document root m test ps (element_of root r) alone-of all-of)
+      subst (λ t. kept root m t (e ∷ []) ≡ stepped (satisfied root m) every t (document (plain root) ∷ [])) (sym (at-depth false flat))
+      (from-document root m d.test ps e alone all-of)
 
-  -- the root's own and what is found below it
-  pub deep-step : deep ≡ true → (parents : List Element) → HaveSame parents (flat_map at_or_below (element_of root r ∷ []))
-      → kept root m s (element_of root r ∷ []) ++ filter (is_in (map (kept_children root m s) parents)) (elements (plain root))
-      ≡ stepped (satisfied root m) (elements (plain root)) s (document (plain root) ∷ [])
-  deep-step down parents from =
-      let e = element_of root r in
-      let every = elements (plain root) in
-      let same : s ≡ step true test ps = is ∙ ap (λ b. step b test ps) down in
-      let each : flat_map at_or_below (e ∷ []) ≡ every = append-nil (at_or_below e) ∙ ap at_or_below first in
-      ap (λ l. kept root m s (e ∷ []) ++ l)
-      (same-offered (kept_children root m s) parents (flat_map at_or_below (e ∷ [])) every from ∙ ap (λ l. filter (is_in (map (kept_children root m s) l)) every) each)
-      ∙ subst (λ t. kept root m t (e ∷ []) ++ filter (is_in (map (kept_children root m t) every)) every ≡ stepped (satisfied root m) every t (document (plain root) ∷ [])) (sym same)
-      (deep-from-document root m test ps e alone-of all-of (not-in root m (step true test ps) e e every (not-itself root m (step true test ps) e) (below-root root e first every)))
+  -- the root's own, and what a deep step leads to from the root
+  pub deep-step : d.deep ≡ true → kept root m (view.step d) (e ∷ []) ++ stepped (satisfied root m) every (view.step d) (item e ∷ []) ≡ stepped (satisfied root m) every (view.step d) (document (plain root) ∷ [])
+  deep-step down =
+      let apart = not-in root m (step true d.test ps) e e every (not-itself root m (step true d.test ps) e) (below-root root e first every) in
+      subst (λ t. kept root m t (e ∷ []) ++ stepped (satisfied root m) every t (item e ∷ []) ≡ stepped (satisfied root m) every t (document (plain root) ∷ [])) (sym (at-depth true down))
+      (ap (λ l. kept root m (step true d.test ps) (e ∷ []) ++ l)
+      (sym (stepped-is root m (step true d.test ps) true d.test ps (e ∷ []) refl) ∙ ap (λ l. filter (is_in (map (kept_children root m (step true d.test ps)) l)) every) below-it)
+      ∙ deep-from-document root m d.test ps e alone all-of apart)
+
+  -- and what they cost
+  pub deep-cost : d.deep ≡ true → list_price root m (view.step d) (e ∷ []) + step_price root m (view.step d) (item e ∷ []) ≡ step_price root m (view.step d) (document (plain root) ∷ [])
+  deep-cost down =
+      ap (λ n. list_price root m (view.step d) (e ∷ []) + n)
+      (sym (step-price root m (view.step d) true d.test ps (e ∷ []) (at-depth true down)) ∙ ap (sum_by (children_price root m (view.step d))) below-it)
+      ∙ deep-document-price root m (view.step d) d.test ps e (at-depth true down) alone
+
+  pub own-cost : list_price root m (view.step d) (e ∷ []) ≤ step_price root m (view.step d) (document (plain root) ∷ [])
+  own-cost = own-price root m (view.step d) d.deep d.test ps e (step-is d) alone
 
 -- ---- the first step, then the others
 

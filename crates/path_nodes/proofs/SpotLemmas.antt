@@ -1,8 +1,8 @@
 -- What the nodes of a document and their places are to one another.
-use Rattle.std.proofs.Common.{◌≡◌, ◌+◌, ◌<◌, ◌==◌, ℕ, zero, suc, true, false, List, [], ◌∷◌, ◌++◌, map, length, get_or, refl, sym, ap, ◌∙◌, cond, subst, arith}
+use Rattle.std.proofs.Common.{◌≡◌, ◌+◌, ◌<◌, ℕ, zero, suc, List, [], ◌∷◌, ◌++◌, map, length, get_or, refl, sym, ap, ◌∙◌, cond, subst, arith}
 use Rattle.std.specs.List.{All, AllPairs, Contains}
 use Rattle.std.proofs.Math.Logic.{◌≢◌}
-use Rattle.std.proofs.lemmas.Bool.Decides.{nat_tests}
+use Rattle.std.proofs.lemmas.Bool.{eq-eqb, ne_eqb}
 use Rattle.std.proofs.lemmas.List.{get_or-map, length-map, map-append}
 use Rattle.std.proofs.lemmas.List.Elements.{All-nil, All-cons, All-append, All-weaker, All-contains, All-contains_itself, Contains-append_left, Contains-append_right}
 use Rattle.path_meaning.specs.Elements.{Element, placed}
@@ -42,7 +42,7 @@ spot-there root s h = Contains-map (λ x. reference x.node) (stands_in root) s.s
 
 -- ---- what is below a node is in the document
 
-pub Contains-cons : (x : Spot) (xs : List Spot) (t : Spot) → Contains xs t → Contains (x ∷ xs) t
+pub Contains-cons : {X : Type 0} (x : X) (xs : List X) (t : X) → Contains xs t → Contains (x ∷ xs) t
 Contains-cons x xs t (k, more, is) = (suc k, (omega (arith, more)), is)
 
 abbrev Closed : List Spot → List Spot → Type 0
@@ -85,25 +85,17 @@ inside root s h = All-contains (λ t. All (Contains (spots_in root)) (spots t.pl
 abbrev pub of_number : ℕ → NodeRef
 of_number n = record { 0 = n }
 
-differ : (r q : NodeRef) → (r ≢ q) → (r.0 == q.0) ≡ false
-differ r q apart =
-    let h : (r.0 ≡ q.0) → ⊥ = (λ e. let same : r ≡ q = ap of_number e in apart same) in
-    grind (arith, nat_tests, h)
-
-itself : (n : ℕ) → (n == n) ≡ true
-itself n = grind (arith, nat_tests)
-
 found-is : (xs : List Spot) (k : ℕ) (s : Spot) (other : Element) → k < length xs → get_or xs k s ≡ s → AllPairs (λ a b. a ≢ b) (map spot_reference xs)
     → found_in (spot_reference s) other xs ≡ spot_element s
 found-is [] k s other more is apart = absurd (omega (arith, more))
 found-is (x ∷ xs) zero s other more is apart =
-    ap (λ b. cond b (spot_element x) (found_in (spot_reference s) other xs)) (ap (λ y. (spot_reference x).0 == (spot_reference y).0) (sym is) ∙ itself (spot_reference x).0) ∙ ap spot_element is
+    ap (λ b. cond b (spot_element x) (found_in (spot_reference s) other xs)) (eq-eqb (spot_reference x).0 (spot_reference s).0 (ap (λ y. (spot_reference y).0) is)) ∙ ap spot_element is
 found-is (x ∷ xs) (suc k) s other more is apart =
     let long = length-map xs spot_reference in
     let there : k < length xs = omega (arith, more) in
     let ne : spot_reference x ≢ spot_reference s =
     (λ e. apart zero (suc k) (spot_reference s) (omega arith) (omega (arith, long, there)) (e ∙ sym (get_or-map spot_reference xs k s (spot_reference s) there ∙ ap spot_reference is))) in
-    ap (λ b. cond b (spot_element x) (found_in (spot_reference s) other xs)) (differ (spot_reference x) (spot_reference s) ne)
+    ap (λ b. cond b (spot_element x) (found_in (spot_reference s) other xs)) (ne_eqb (spot_reference x).0 (spot_reference s).0 (λ e. ne (ap of_number e)))
     ∙ found-is xs k s other there is (λ i j d less within. apart (suc i) (suc j) d (omega (arith, less)) (omega (arith, within)))
 
 map-map : (xs : List Spot) → map spot_reference xs ≡ map (λ s. reference s.node) (map stand_of xs)

@@ -2,7 +2,7 @@
 use Rattle.std.proofs.Common.{◌≡◌, ◌≢◌, ◌<◌, ◌==◌, ◌⊎◌, inl, inr, ℕ, Bool, true, false, ◌&&◌, ◌||◌, List, [], ◌∷◌, ◌++◌, map, length, get_or, filter, append-nil, Some, None, refl, sym, ap, ◌∙◌, subst, arith}
 use Rattle.std.specs.HashSet.{HashSet}
 use Rattle.std.specs.List.{All, list_any}
-use Rattle.std.proofs.lemmas.Bool.Decides.{nat_tests}
+use Rattle.std.proofs.lemmas.Bool.{or_right, eq-eqb, eqb-true}
 use Rattle.std.proofs.lemmas.List.{length-append}
 use Rattle.std.proofs.lemmas.List.Elements.{All-head, All-tail}
 use Rattle.std.proofs.lemmas.Slice.Eq.{bytes_eq-Decides}
@@ -21,8 +21,9 @@ use Rattle.path_nodes.specs.steps.Within.{is_front, AtOrBelow, IsBelow}
 use Rattle.path_nodes.proofs.AboveLemmas.{HasParent, top, parent-there}
 use Rattle.path_nodes.proofs.ChildrenLemmas.{on_element}
 use Rattle.path_nodes.proofs.ChosenLemmas.{tail-of, kept-places}
-use Rattle.path_nodes.proofs.FrontLemmas.{under, filter-none}
-use Rattle.path_nodes.proofs.ListedLemmas.{or-cases, or-right}
+use Rattle.path_meaning.proofs.InOrder.{under}
+use Rattle.path_nodes.proofs.FrontLemmas.{filter-none}
+use Rattle.path_nodes.proofs.ListedLemmas.{or-cases}
 use Rattle.path_nodes.proofs.PlaceLemmas.{element-is, one-reference}
 use Rattle.path_nodes.proofs.SpotLemmas.{of_number}
 
@@ -44,7 +45,7 @@ module _ (root : Numbered) (node : NodeRef) (x : IsElement root node) where
   parent-cases parent is (inl first) = absurd (not-some parent (sym (is ∙ ap (λ s. s.stand.around.parent) first)))
   parent-cases parent is (inr h) =
       let same : spot_reference h.spot ≡ parent = same-some (spot_reference h.spot) parent (sym (is ∙ h.parent)) in
-      let y : IsElement root parent = record { spot = h.spot; among = h.among; refers = same; element = h.element; apart = x.apart; single = x.single } in
+      let y : IsElement root parent = record { spot = h.spot; among = h.among; refers = same; element = h.element; apart = x.apart } in
       record {
         there = y;
         number = h.number;
@@ -79,8 +80,7 @@ front-above [] q n k r h = refl
 front-above (b ∷ p) [] n k r h = let long = length-append p (k ∷ r) in absurd (omega (arith, long, ap length h))
 front-above (b ∷ p) (c ∷ q) n k r h =
     let same : b ≡ c = sym (first-same c b (q ++ n ∷ []) (p ++ k ∷ r) h) in
-    let equal : (b == c) ≡ true = grind (arith, nat_tests, same) in
-    ap (λ d. d && is_front p q) equal ∙ front-above p q n k r (rest-same c b (q ++ n ∷ []) (p ++ k ∷ r) h)
+    ap (λ d. d && is_front p q) (eq-eqb b c same) ∙ front-above p q n k r (rest-same c b (q ++ n ∷ []) (p ++ k ∷ r) h)
 
 -- the element itself, or one that is marked
 abbrev pub Reached : {S : Type 0} → NodeRef → HashSet ℕ S → NodeRef → Type 0
@@ -108,18 +108,12 @@ module _ {S : Type 0} (root : Numbered) (node : NodeRef) (x : IsElement root nod
 
 -- ---- one more is marked
 
-same-number : (r q : NodeRef) → (r.0 == q.0) ≡ true → r ≡ q
-same-number r q h = let e : r.0 ≡ q.0 = grind (arith, nat_tests, h) in ap of_number e
-
-number-same : (r q : NodeRef) → r ≡ q → (r.0 == q.0) ≡ true
-number-same r q h = let e : r.0 ≡ q.0 = ap (λ n. n.0) h in grind (arith, nat_tests, e)
-
 module _ {S : Type 0} (node : NodeRef) (before after : HashSet ℕ S) (marked : (r : NodeRef) → is_marked after r ≡ ((r.0 == node.0) || is_marked before r)) where
   pub still : (r : NodeRef) → is_marked before r ≡ true → is_marked after r ≡ true
-  still r h = marked r ∙ or-right (r.0 == node.0) (is_marked before r) h
+  still r h = marked r ∙ or_right (r.0 == node.0) (is_marked before r) h
 
   pub itself : is_marked after node ≡ true
-  itself = marked node ∙ ap (λ b. b || is_marked before node) (number-same node node refl)
+  itself = marked node ∙ ap (λ b. b || is_marked before node) (eq-eqb node.0 node.0 refl)
 
   reached-marked : (r : NodeRef) → Reached node before r → is_marked after r ≡ true
   reached-marked r (inl same) = ap (is_marked after) same ∙ itself
@@ -128,7 +122,7 @@ module _ {S : Type 0} (node : NodeRef) (before after : HashSet ℕ S) (marked : 
   pub ways-more : (root : Numbered) → AreWays root before → ((r : NodeRef) → IsElement root r → AtOrBelow (element_of root r) (element_of root node) → Reached node before r) → AreWays root after
   ways-more root closed above r q y z h m =
       or-cases (q.0 == node.0) (is_marked before q) (is_marked after r) (sym (marked q) ∙ m)
-      (λ e. reached-marked r (above r y (subst (λ n. AtOrBelow (element_of root r) (element_of root n)) (same-number q node e) h)))
+      (λ e. reached-marked r (above r y (subst (λ n. AtOrBelow (element_of root r) (element_of root n)) (ap of_number (eqb-true q.0 node.0 e)) h)))
       (λ b. still r (closed r q y z h b))
 
 -- ---- what is above an element of whose children some are kept leads to them

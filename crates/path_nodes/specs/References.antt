@@ -1,10 +1,8 @@
 -- The elements of a document by the references of its nodes.
-use Rattle.std.specs.Prelude.{◌≡◌, ◌≢◌, ℕ, ◌+◌, ◌==◌, Bool, true, not, ◌&&◌, List, [], ◌∷◌, ◌++◌, if◌then◌else◌, All, AllPairs, Contains, bytes_eq}
-use Rattle.std.specs.List.{list_any}
-use Rattle.plain_tree.specs.declared.tree.Attr.{Attr}
+use Rattle.std.specs.Prelude.{◌≡◌, ◌≢◌, ℕ, ◌+◌, ◌==◌, true, List, [], ◌∷◌, ◌++◌, if◌then◌else◌, AllPairs, Contains}
 use Rattle.path_meaning.specs.Elements.{Element, placed}
-use Rattle.ordered_tree.specs.Numbered.{Numbered, element_at, text_at, Children, no_children, child_then, plain, reference, first_of, is_element, attrs_of}
-use Rattle.ordered_tree.specs.Stands.{Stand, round_root, round_first, round_next, stands_in, references}
+use Rattle.ordered_tree.specs.Numbered.{Numbered, element_at, text_at, Children, no_children, child_then, plain, reference, first_of, is_element}
+use Rattle.ordered_tree.specs.Stands.{Stand, round_root, round_first, round_next, references}
 use Rattle.ordered_tree.specs.declared.around.Around.{Around}
 use Rattle.ft_base.specs.declared.ids.NodeRef.{NodeRef}
 
@@ -43,15 +41,6 @@ found_in r other (s ∷ rest) = if (spot_reference s).0 == r.0 then spot_element
 unfoldable pub element_of : Numbered → NodeRef → Element
 element_of root r = found_in r (placed [] (plain root)) (spots_in root)
 
--- whether no two attributes have the same name
-abbrev pub names_differ : List Attr → Bool
-names_differ [] = true
-names_differ (a ∷ attrs) = not (list_any (λ b. bytes_eq a.name b.name) attrs) && names_differ attrs
-
--- No element of the document has two attributes of one name.
-abbrev pub HasSingleAttributes : Numbered → Type 0
-HasSingleAttributes root = All (λ s. names_differ (attrs_of s.node) ≡ true) (stands_in root)
-
 -- The reference names an element of a document, in which no two nodes have the same.
 pub record IsElement (root : Numbered) (r : NodeRef) : Type 0 where
   pub spot : Spot
@@ -59,4 +48,3 @@ pub record IsElement (root : Numbered) (r : NodeRef) : Type 0 where
   pub refers : spot_reference spot ≡ r
   pub element : is_element spot.stand.node ≡ true
   pub apart : AllPairs (λ a b. a ≢ b) (references root)
-  pub single : HasSingleAttributes root

@@ -20,7 +20,7 @@ ghost use Rattle.path_nodes.specs.steps.Within.{AtOrBelow};
 use crate::attributes::has_attribute;
 use crate::children::element_children;
 use crate::kept::push_if;
-use crate::marks::{Marks, mark_all, mark_way_to};
+use crate::marks::{Marks, mark_kept};
 use crate::names::named;
 use crate::numbers::numbered;
 use crate::walks::{add_marked, with_descendants};
@@ -61,7 +61,7 @@ pub(crate) fn led<T: TextTest>(
 
 /// The elements to which a step leads from elements at or below an element.
 #[cycle(evaluate)]
-fn stepped<T: TextTest>(
+pub(crate) fn stepped<T: TextTest>(
     alloc: Global,
     tree: &DocTree,
     step: &Step,
@@ -88,12 +88,7 @@ fn stepped<T: TextTest>(
 }
 
 /// The elements to whose children a step leads: the contexts or, where it is deep, they and all elements below them.
-pub(crate) fn parents_of(
-    alloc: Global,
-    tree: &DocTree,
-    deep: bool,
-    contexts: Nodes,
-) -> Result<Nodes, Memory>
+fn parents_of(alloc: Global, tree: &DocTree, deep: bool, contexts: Nodes) -> Result<Nodes, Memory>
     requires { All (IsElement tree.now.root) contexts }
     ensures members { IfOk result (λ found. HaveSame (map (element_of tree.now.root) found) (spec.parents deep (map (element_of tree.now.root) contexts))) }
     ensures once { IfOk result (λ found. AreAmong (map (element_of tree.now.root) found) (spec.parents deep (map (element_of tree.now.root) contexts))) }
@@ -108,7 +103,7 @@ pub(crate) fn parents_of(
 
 /// The elements that a step keeps of the children of each parent, in document order.
 #[cycle(evaluate)]
-pub(crate) fn chosen<T: TextTest>(
+fn chosen<T: TextTest>(
     alloc: Global,
     tree: &DocTree,
     step: &Step,
@@ -133,14 +128,34 @@ pub(crate) fn chosen<T: TextTest>(
     let mut marks = Marks::new(alloc);
     let mut ways = Marks::new(alloc);
     for parent in parents.as_slice() {
-        let children = element_children(alloc, tree, *parent)?;
-        let kept = kept(alloc, tree, step, &children, test)?;
-        mark_all(tree, &mut marks, &kept)?;
-        mark_way_to(tree, &mut ways, *parent, &kept)?;
+        let kept = kept_children(alloc, tree, step, *parent, test)?;
+        mark_kept(tree, *parent, &kept, &mut marks, &mut ways)?;
     }
     let mut found = Nodes::new(alloc);
     add_marked(alloc, tree, base, &marks, &ways, &mut found)?;
     Ok(found)
+}
+
+/// The elements that a step keeps of the children of an element.
+#[cycle(evaluate)]
+fn kept_children<T: TextTest>(
+    alloc: Global,
+    tree: &DocTree,
+    step: &Step,
+    parent: NodeRef,
+    test: &mut T,
+) -> Result<Nodes, Memory>
+    requires parent { IsElement tree.now.root parent }
+    requires asked { OfStep (MayAsk tree.now.root (T.meaning test.old)) (view.step step.now) }
+    ensures elements { IfOk result (λ kept. map (element_of tree.now.root) kept
+        ≡ spec.kept_children tree.now.root (T.meaning test.old) (view.step step.now) (element_of tree.now.root parent)) }
+    ensures there { IfOk result (All (IsElement tree.now.root)) }
+    ensures meaning { T.meaning test.new ≡ T.meaning test.old }
+    ensures cost { T.cost test.new
+        ≤ T.cost test.old + price.children_price tree.now.root (T.meaning test.old) (view.step step.now) (element_of tree.now.root parent) }
+{
+    let children = element_children(alloc, tree, parent)?;
+    kept(alloc, tree, step, &children, test)
 }
 
 /// The elements of a list that pass the step's test of names and then its predicates.
@@ -241,17 +256,13 @@ fn is_true<T: TextTest>(
         ≤ T.cost test.old + price.condition_price tree.now.root (T.meaning test.old) (view.condition condition.now) (element_of tree.now.root item) }
 {
     match condition {
-        Condition::Or(parts) => some_true(alloc, tree, parts, item, test),
-        Condition::And(parts) => each_true(alloc, tree, parts, item, test),
+        Condition::Or(parts) => joined(alloc, tree, parts, true, item, test),
+        Condition::And(parts) => joined(alloc, tree, parts, false, item, test),
         Condition::Not(operand) => Ok(!is_true(alloc, tree, operand, item, test)?),
         Condition::Attribute { name, value } => Ok(has_attribute(tree, item, name, value)),
-        Condition::Exists(steps) => {
-            let nodes = led_from(alloc, tree, steps, item, test)?;
-            Ok(!nodes.is_empty())
-        }
+        Condition::Exists(steps) => exists(alloc, tree, steps, item, test),
         Condition::Contains { steps, selection } => {
-            let nodes = led_from(alloc, tree, steps, item, test)?;
-            some_contains(tree, *selection, &nodes, test)
+            contains_text(alloc, tree, steps, *selection, item, test)
         }
     }
 }
@@ -285,19 +296,21 @@ pub fn led_from<T: TextTest>(
     led(alloc, tree, steps.as_slice(), item, from, test)
 }
 
-/// Whether one of the conditions is true of an element; those behind it aren't looked at.
+/// The truth of conditions that are joined: by `or` where a true one decides it, by `and` where a false one does. Those behind
+/// the first one that decides aren't looked at.
 #[cycle(evaluate)]
-fn some_true<T: TextTest>(
+fn joined<T: TextTest>(
     alloc: Global,
     tree: &DocTree,
     conditions: &Items<Condition>,
+    deciding: bool,
     item: NodeRef,
     test: &mut T,
 ) -> Result<bool, Memory>
     requires item { IsElement tree.now.root item }
     requires asked { OfConditions (MayAsk tree.now.root (T.meaning test.old)) (form.conditions (map view.condition conditions.now)) }
     ensures truth { IfOk result (λ truth. truth
-        ≡ meaning.some_true (satisfied tree.now.root (T.meaning test.old)) (elements (plain tree.now.root))
+        ≡ spec.joined deciding (satisfied tree.now.root (T.meaning test.old)) (elements (plain tree.now.root))
         (form.conditions (map view.condition conditions.now)) (element_of tree.now.root item)) }
     ensures meaning { T.meaning test.new ≡ T.meaning test.old }
     ensures cost { T.cost test.new
@@ -305,38 +318,61 @@ fn some_true<T: TextTest>(
         + price.conditions_price tree.now.root (T.meaning test.old) (form.conditions (map view.condition conditions.now)) (element_of tree.now.root item) }
 {
     for condition in conditions.as_slice() {
-        if is_true(alloc, tree, condition, item, test)? {
-            return Ok(true);
+        if is_true(alloc, tree, condition, item, test)? == deciding {
+            return Ok(deciding);
         }
     }
-    Ok(false)
+    Ok(!deciding)
 }
 
-/// Whether each of the conditions is true of an element; those behind a false one aren't looked at.
+/// Whether steps lead from an element to some.
 #[cycle(evaluate)]
-fn each_true<T: TextTest>(
+fn exists<T: TextTest>(
     alloc: Global,
     tree: &DocTree,
-    conditions: &Items<Condition>,
+    steps: &Items<Step>,
     item: NodeRef,
     test: &mut T,
 ) -> Result<bool, Memory>
     requires item { IsElement tree.now.root item }
-    requires asked { OfConditions (MayAsk tree.now.root (T.meaning test.old)) (form.conditions (map view.condition conditions.now)) }
+    requires asked { OfEach (MayAsk tree.now.root (T.meaning test.old)) (form.steps (map view.step steps.now)) }
     ensures truth { IfOk result (λ truth. truth
-        ≡ meaning.each_true (satisfied tree.now.root (T.meaning test.old)) (elements (plain tree.now.root))
-        (form.conditions (map view.condition conditions.now)) (element_of tree.now.root item)) }
+        ≡ meaning.some_element (meaning.led (satisfied tree.now.root (T.meaning test.old)) (elements (plain tree.now.root))
+        (form.steps (map view.step steps.now)) (element_of tree.now.root item ∷ []))) }
+    ensures meaning { T.meaning test.new ≡ T.meaning test.old }
+    ensures cost { T.cost test.new
+        ≤ T.cost test.old + price.steps_price tree.now.root (T.meaning test.old) (form.steps (map view.step steps.now)) (element_of tree.now.root item ∷ []) }
+{
+    let nodes = led_from(alloc, tree, steps, item, test)?;
+    Ok(!nodes.is_empty())
+}
+
+/// Whether one of the elements to which steps lead from an element satisfies a selection.
+#[cycle(evaluate)]
+fn contains_text<T: TextTest>(
+    alloc: Global,
+    tree: &DocTree,
+    steps: &Items<Step>,
+    selection: usize,
+    item: NodeRef,
+    test: &mut T,
+) -> Result<bool, Memory>
+    requires item { IsElement tree.now.root item }
+    requires asked { OfEach (MayAsk tree.now.root (T.meaning test.old)) (form.steps (map view.step steps.now)) }
+    requires text { MayAsk tree.now.root (T.meaning test.old) selection }
+    ensures truth { IfOk result (λ truth. truth
+        ≡ list_any (satisfied tree.now.root (T.meaning test.old) selection) (meaning.led (satisfied tree.now.root (T.meaning test.old))
+        (elements (plain tree.now.root)) (form.steps (map view.step steps.now)) (element_of tree.now.root item ∷ []))) }
     ensures meaning { T.meaning test.new ≡ T.meaning test.old }
     ensures cost { T.cost test.new
         ≤ T.cost test.old
-        + price.conditions_price tree.now.root (T.meaning test.old) (form.conditions (map view.condition conditions.now)) (element_of tree.now.root item) }
+        + (price.steps_price tree.now.root (T.meaning test.old) (form.steps (map view.step steps.now)) (element_of tree.now.root item ∷ [])
+        + price.price_of tree.now.root (T.meaning test.old) (each_tested selection (meaning.led
+        (satisfied tree.now.root (T.meaning test.old)) (elements (plain tree.now.root)) (form.steps (map view.step steps.now))
+        (element_of tree.now.root item ∷ [])))) }
 {
-    for condition in conditions.as_slice() {
-        if !is_true(alloc, tree, condition, item, test)? {
-            return Ok(false);
-        }
-    }
-    Ok(true)
+    let nodes = led_from(alloc, tree, steps, item, test)?;
+    some_contains(tree, selection, &nodes, test)
 }
 
 /// Whether one of the elements satisfies a selection; those behind it aren't asked for.

@@ -6,7 +6,6 @@ mod children;
 mod contains_text;
 mod evaluating;
 mod kept;
-pub mod laws;
 mod marks;
 mod names;
 mod numbers;

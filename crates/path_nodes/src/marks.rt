@@ -41,8 +41,29 @@ pub(crate) fn mark_all(tree: &DocTree, marks: &mut Marks, nodes: &Nodes) -> Resu
     Ok(())
 }
 
+/// Marks the elements that were kept of the children of an element, and the way to them.
+pub(crate) fn mark_kept(
+    tree: &DocTree,
+    parent: NodeRef,
+    kept: &Nodes,
+    marks: &mut Marks,
+    ways: &mut Marks,
+) -> Result<(), Memory>
+    requires parent { IsElement tree.now.root parent }
+    requires kept { All (IsElement tree.now.root) kept.now }
+    requires ways { AreWays tree.now.root ways.old }
+    ensures marks { OnOk result ((r : NodeRef) → IsElement tree.now.root r
+        → is_marked marks.new r ≡ (list_any (is_same (element_of tree.now.root r)) (map (element_of tree.now.root) kept.now) || is_marked marks.old r)) }
+    ensures ways { OnOk result (AreWays tree.now.root ways.new) }
+    ensures more { OnOk result ((r : NodeRef) → is_marked ways.old r ≡ true → is_marked ways.new r ≡ true) }
+    ensures there { OnOk result ((kept.now ≢ []) → is_marked ways.new parent ≡ true) }
+{
+    mark_all(tree, marks, kept)?;
+    mark_way_to(tree, ways, parent, kept)
+}
+
 /// Marks an element, of whose children some were kept, and all elements above it.
-pub(crate) fn mark_way_to(
+fn mark_way_to(
     tree: &DocTree,
     ways: &mut Marks,
     parent: NodeRef,

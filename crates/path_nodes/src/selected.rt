@@ -6,11 +6,11 @@ ghost use Rattle.path_meaning.specs.Meaning as meaning;
 ghost use Rattle.path_grammar.specs.View as view;
 ghost use Rattle.path_nodes.specs.Asked.{OfEach, OfStep, MayAsk};
 ghost use Rattle.path_nodes.specs.Prices.{price_of, step_price};
-ghost use Rattle.path_nodes.specs.References.{HasSingleAttributes, IsElement, element_of};
+ghost use Rattle.path_nodes.specs.References.{IsElement, element_of};
 ghost use Rattle.path_nodes.specs.Says.{Agrees, satisfied};
 ghost use Rattle.path_meaning.specs.Tests.{selected_tests};
 
-use crate::evaluating::{chosen, kept, led, parents_of};
+use crate::evaluating::{kept, led, stepped};
 use crate::kept::append;
 use crate::{Nodes, TextTest};
 use ft_base::Memory;
@@ -29,7 +29,6 @@ pub fn nodes<T: TextTest>(
     test: &mut T,
 ) -> Result<Vec<NodeRef>, Memory>
     requires root { is_element tree.now.root ≡ true }
-    requires attributes { HasSingleAttributes tree.now.root }
     requires asked { OfEach (MayAsk tree.now.root (T.meaning test.old)) (form.steps (map view.step steps.now)) }
     ensures elements { IfOk result (λ found. map (element_of tree.now.root) found.items
         ≡ meaning.selected (satisfied tree.now.root (T.meaning test.old)) (form.steps (map view.step steps.now)) (plain tree.now.root)) }
@@ -76,8 +75,7 @@ fn from_document<T: TextTest>(
     if !step.deep {
         return Ok(found);
     }
-    let parents = parents_of(alloc, tree, true, only)?;
-    let below = chosen(alloc, tree, step, root, &parents, test)?;
+    let below = stepped(alloc, tree, step, root, only, test)?;
     append(&mut found, &below)?;
     Ok(found)
 }

@@ -1,7 +1,7 @@
 // The elements to which the steps of a path lead, how often a test of text is asked on the way, and the lines that name elements.
 ghost use Rattle.std.specs.Prelude.{◌≡◌, All, IfOk, true};
 ghost use Rattle.ordered_tree.specs.Numbered.{is_element};
-ghost use Rattle.path_nodes.specs.References.{HasSingleAttributes, IsElement};
+ghost use Rattle.path_nodes.specs.References.{IsElement};
 
 use crate::rows::{expect_output, joined};
 use doc_profile::read_doc;
@@ -216,8 +216,7 @@ impl TextTest for Judge {
 
 /// The tree of the document that the text spells.
 fn tree_of(alloc: Global, text: &str) -> Result<DocTree, Fail>
-    ensures root { IfOk result (λ tree. is_element tree.root ≡ true) }
-    ensures attributes { IfOk result (λ tree. HasSingleAttributes tree.root) }
+    ensures { IfOk result (λ tree. is_element tree.root ≡ true) }
 {
     let Ok(doc) = read_doc(alloc, text.as_bytes()) else {
         return Err(Fail::from("no document"));
@@ -231,8 +230,7 @@ fn tree_of(alloc: Global, text: &str) -> Result<DocTree, Fail>
 
 /// The elements to which the steps of a path lead, whatever it begins with.
 fn led(alloc: Global, tree: &DocTree, path: &str, test: &mut Judge) -> Result<Vec<NodeRef>, Fail>
-    requires root { is_element tree.now.root ≡ true }
-    requires attributes { HasSingleAttributes tree.now.root }
+    requires { is_element tree.now.root ≡ true }
     ensures { IfOk result (λ found. All (IsElement tree.now.root) found.items) }
 {
     match read_path(alloc, path) {

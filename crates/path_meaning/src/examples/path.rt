@@ -10,7 +10,7 @@ ghost use Rattle.path_grammar.specs.declared.path.NameTest.TheVariants as T;
 ghost use Rattle.path_grammar.specs.declared.path.PathRoot.TheVariants as R;
 ghost use Rattle.path_meaning.specs.Collection.{nodes, found_in};
 ghost use Rattle.path_meaning.specs.Elements.{placed};
-ghost use Rattle.path_meaning.specs.Examples.{places, has_text, nothing, letters, nested, three_deep, with_attribute};
+ghost use Rattle.path_meaning.specs.Examples.{places, has_text, nothing, letters, nested, three_deep, with_attribute, with_two_of_one_name};
 ghost use Rattle.path_grammar.specs.Spellings.{child, below};
 ghost use Rattle.path_grammar.specs.Form.{step, steps, no_steps, predicates, number, holds, and_of, or_of, not_of, attribute, exists, contains, conditions};
 
@@ -53,6 +53,9 @@ pub fn selected_by_condition()
     ensures other_selection { places (has_text (codes "y")) (below (codes "a") (holds (contains no_steps 1) ∷ []) ∷ []) nested ≡ [] }
     ensures value { places nothing (child (codes "a") (holds (attribute (codes "t") (Some (codes "1"))) ∷ []) ∷ []) with_attribute ≡ [] ∷ [] }
     ensures other_value { places nothing (child (codes "a") (holds (attribute (codes "t") (Some (codes "2"))) ∷ []) ∷ []) with_attribute ≡ [] }
+    ensures first_of_a_name { places nothing (child (codes "a") (holds (attribute (codes "t") (Some (codes "1"))) ∷ []) ∷ []) with_two_of_one_name ≡ [] ∷ [] }
+    ensures not_the_second_of_a_name { places nothing (child (codes "a") (holds (attribute (codes "t") (Some (codes "2"))) ∷ []) ∷ [])
+        with_two_of_one_name ≡ [] }
     ensures present { places nothing (child (codes "a") (holds (attribute (codes "t") None) ∷ []) ∷ []) with_attribute ≡ [] ∷ [] }
     ensures absent { places nothing (child (codes "a") (holds (not_of (attribute (codes "t") None)) ∷ []) ∷ []) with_attribute ≡ [] }
     ensures either { places nothing

@@ -1,10 +1,9 @@
 -- What steps, predicates and conditions say of elements, by what a test says.
-use Rattle.std.specs.Prelude.{Bool, List, filter, flat_map, if◌then◌else◌}
+use Rattle.std.specs.Prelude.{ℕ, Bool, true, false, List, filter, flat_map, if◌then◌else◌}
 use Rattle.ordered_tree.specs.Numbered.{Numbered, plain}
 use Rattle.path_meaning.specs.Elements.{Element, elements, element_children}
-use Rattle.path_grammar.specs.declared.path.NameTest.{NameTest}
-use Rattle.path_grammar.specs.Form.{Step, step}
-use Rattle.path_meaning.specs.Meaning.{is_named, filtered}
+use Rattle.path_grammar.specs.Form.{Step, step, Conditions}
+use Rattle.path_meaning.specs.Meaning.{is_named, filtered, some_true, each_true}
 use Rattle.path_nodes.specs.steps.Regions.{at_or_below}
 use Rattle.path_nodes.specs.Says.{Meaning, satisfied}
 
@@ -20,6 +19,7 @@ kept root m (step deep test predicates) items = filtered (satisfied root m) (ele
 abbrev pub kept_children : Numbered → Meaning → Step → Element → List Element
 kept_children root m s e = kept root m s (element_children e)
 
--- the children of an element that pass a test of names
-abbrev pub named_children : NameTest → Element → List Element
-named_children test e = filter (λ x. is_named test x.node) (element_children e)
+-- the truth of conditions that one of them decides: a true one where `or` joins them, a false one where `and` does
+abbrev pub joined : Bool → (ℕ → Element → Bool) → List Element → Conditions → Element → Bool
+joined true = some_true
+joined false = each_true

@@ -1,8 +1,5 @@
 -- The count of the tokens, and the document with references.
 use Rattle.std.proofs.Common.{◌∙◌, sym, ap, subst, ◌≤◌, length, Ok}
-use Rattle.ordered_tree.specs.Stored.{Stored}
-use Rattle.path_nodes.specs.References.{HasSingleAttributes}
-use Rattle.path_nodes.proofs.PrintableLemmas.{printable-single}
 use Rattle.tokenizer.specs.Tokens.{tokens}
 use Rattle.ft_base.specs.Limits.{max_tokens}
 use Rattle.ft_session.proofs.SessionLemmas.{at-most, greater, tree-is, with_few_tokens-few, with_few_tokens-many}
@@ -13,14 +10,10 @@ returns-then-not-branch c =
     let many = greater c.in_ok-has_few_tokens.field-0 c.in_ok-has_few_tokens.ensures c.if-not-branch.true in
     sym (with_few_tokens-many c.args.document.now many)
 
-pub invariant_of-result-clause-few : goal.invariant_of-result-clause-few
-invariant_of-result-clause-few c =
+pub invariant_of-result : goal.invariant_of-result
+invariant_of-result c =
     let few = at-most c.in_ok-has_few_tokens.field-0 c.in_ok-has_few_tokens.ensures c.if-not-branch.false in
-    subst (λ n. length (tokens n) ≤ max_tokens) (sym (tree-is c.in_ok-tree.tree c.args.document.now c.in_ok-tree.ensures)) few
-
-pub invariant_of-result-clause-single : goal.invariant_of-result-clause-single
-invariant_of-result-clause-single c =
-    subst (λ (t : Stored). HasSingleAttributes t.root) (sym c.in_ok-tree.ensures) (printable-single c.args.document.now c.requires.printable)
+    record { few = subst (λ n. length (tokens n) ≤ max_tokens) (sym (tree-is c.in_ok-tree.tree c.args.document.now c.in_ok-tree.ensures)) few }
 
 pub returns : goal.returns
 returns c =

@@ -44,7 +44,7 @@ loop-link-preserved c =
     let tells = on root above c.in-Some.child c.loop-link.children x (λ s. c.is_element.result ≡ is_element s.node) c.is_element.ensures in
     elim c.if-is_element.branch [
       | then-is_element+in_ok-push w ↦
-          past-element root above c.in-Some.child c.loop-link.children x c.requires.apart c.next-link.result to c.requires.single (sym tells ∙ w.if-is_element.true) c.if-is_element.children
+          past-element root above c.in-Some.child c.loop-link.children x c.requires.apart c.next-link.result to (sym tells ∙ w.if-is_element.true) c.if-is_element.children
           (w.children-is ∙ w.in_ok-push.ensures.ok)
       | else-is_element w ↦
           subst (Reading root above c.next-link.result) (sym w.children-is)

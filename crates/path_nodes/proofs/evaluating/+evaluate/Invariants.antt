@@ -8,7 +8,7 @@ use Rattle.path_meaning.specs.Elements.{elements, is_in}
 use Rattle.path_grammar.specs.Form as form
 use Rattle.path_meaning.specs.Meaning as meaning
 use Rattle.path_grammar.specs.View as view
-use Rattle.path_nodes.specs.steps.Kept.{kept, kept_children}
+use Rattle.path_nodes.specs.steps.Kept.{kept, kept_children, joined}
 use Rattle.path_nodes.specs.steps.Marks.{is_marked}
 use Rattle.path_nodes.specs.Prices as price
 use Rattle.path_nodes.specs.References.{IsElement, element_of}
@@ -24,7 +24,8 @@ invariant-chosen-loop-parent g l = record {
   ways : AreWays l.tree.root l.ways;
   lead : LeadTo l.tree.root l.ways (is_in (map (kept_children l.tree.root (g.T.TextTest.meaning l.fn.test) (view.step l.fn.step)) (map (element_of l.tree.root) (take l.parent-index l.parent-items))));
   meaning : g.T.TextTest.meaning l.test ≡ g.T.TextTest.meaning l.fn.test;
-  cost : g.T.TextTest.cost l.test ≤ g.T.TextTest.cost l.fn.test + sum_by (price.children_price l.tree.root (g.T.TextTest.meaning l.fn.test) (view.step l.fn.step)) (map (element_of l.tree.root) (take l.parent-index l.parent-items));
+  cost : g.T.TextTest.cost l.test + sum_by (price.children_price l.tree.root (g.T.TextTest.meaning l.fn.test) (view.step l.fn.step)) (map (element_of l.tree.root) (drop l.parent-index l.parent-items))
+      ≤ g.T.TextTest.cost l.fn.test + sum_by (price.children_price l.tree.root (g.T.TextTest.meaning l.fn.test) (view.step l.fn.step)) (map (element_of l.tree.root) l.fn.parents);
 }
 
 abbrev pub invariant-kept-loop-predicate : goal.invariant-kept-loop-predicate
@@ -53,22 +54,14 @@ invariant-satisfying-loop-item g l = record {
   done : map (element_of l.tree.root) l.kept ≡ filter (meaning.is_true (satisfied l.tree.root (g.T.TextTest.meaning l.fn.test)) (elements (plain l.tree.root)) (view.condition l.fn.condition)) (map (element_of l.tree.root) (take l.item-index l.item-items));
   there : All (IsElement l.tree.root) l.kept;
   meaning : g.T.TextTest.meaning l.test ≡ g.T.TextTest.meaning l.fn.test;
-  cost : g.T.TextTest.cost l.test ≤ g.T.TextTest.cost l.fn.test + sum_by (price.condition_price l.tree.root (g.T.TextTest.meaning l.fn.test) (view.condition l.fn.condition)) (map (element_of l.tree.root) (take l.item-index l.item-items));
+  cost : g.T.TextTest.cost l.test + sum_by (price.condition_price l.tree.root (g.T.TextTest.meaning l.fn.test) (view.condition l.fn.condition)) (map (element_of l.tree.root) (drop l.item-index l.item-items))
+      ≤ g.T.TextTest.cost l.fn.test + sum_by (price.condition_price l.tree.root (g.T.TextTest.meaning l.fn.test) (view.condition l.fn.condition)) (map (element_of l.tree.root) l.fn.items);
 }
 
-abbrev pub invariant-some_true-loop-condition : goal.invariant-some_true-loop-condition
-invariant-some_true-loop-condition g l = record {
-  left : meaning.some_true (satisfied l.tree.root (g.T.TextTest.meaning l.fn.test)) (elements (plain l.tree.root)) (form.conditions (map view.condition (drop l.condition-index l.condition-items))) (element_of l.tree.root l.item)
-      ≡ meaning.some_true (satisfied l.tree.root (g.T.TextTest.meaning l.fn.test)) (elements (plain l.tree.root)) (form.conditions (map view.condition l.fn.conditions)) (element_of l.tree.root l.item);
-  meaning : g.T.TextTest.meaning l.test ≡ g.T.TextTest.meaning l.fn.test;
-  cost : g.T.TextTest.cost l.test + price.conditions_price l.tree.root (g.T.TextTest.meaning l.fn.test) (form.conditions (map view.condition (drop l.condition-index l.condition-items))) (element_of l.tree.root l.item)
-      ≤ g.T.TextTest.cost l.fn.test + price.conditions_price l.tree.root (g.T.TextTest.meaning l.fn.test) (form.conditions (map view.condition l.fn.conditions)) (element_of l.tree.root l.item);
-}
-
-abbrev pub invariant-each_true-loop-condition : goal.invariant-each_true-loop-condition
-invariant-each_true-loop-condition g l = record {
-  left : meaning.each_true (satisfied l.tree.root (g.T.TextTest.meaning l.fn.test)) (elements (plain l.tree.root)) (form.conditions (map view.condition (drop l.condition-index l.condition-items))) (element_of l.tree.root l.item)
-      ≡ meaning.each_true (satisfied l.tree.root (g.T.TextTest.meaning l.fn.test)) (elements (plain l.tree.root)) (form.conditions (map view.condition l.fn.conditions)) (element_of l.tree.root l.item);
+abbrev pub invariant-joined-loop-condition : goal.invariant-joined-loop-condition
+invariant-joined-loop-condition g l = record {
+  left : joined l.deciding (satisfied l.tree.root (g.T.TextTest.meaning l.fn.test)) (elements (plain l.tree.root)) (form.conditions (map view.condition (drop l.condition-index l.condition-items))) (element_of l.tree.root l.item)
+      ≡ joined l.deciding (satisfied l.tree.root (g.T.TextTest.meaning l.fn.test)) (elements (plain l.tree.root)) (form.conditions (map view.condition l.fn.conditions)) (element_of l.tree.root l.item);
   meaning : g.T.TextTest.meaning l.test ≡ g.T.TextTest.meaning l.fn.test;
   cost : g.T.TextTest.cost l.test + price.conditions_price l.tree.root (g.T.TextTest.meaning l.fn.test) (form.conditions (map view.condition (drop l.condition-index l.condition-items))) (element_of l.tree.root l.item)
       ≤ g.T.TextTest.cost l.fn.test + price.conditions_price l.tree.root (g.T.TextTest.meaning l.fn.test) (form.conditions (map view.condition l.fn.conditions)) (element_of l.tree.root l.item);

@@ -1,13 +1,10 @@
 -- The first step leads from the document, the others from what it leads to.
-use Rattle.std.proofs.Common.{◌≤◌, ◌+◌, ◌-◌, [], ◌∷◌, map, take, drop, length, get_or, refl, sym, ap, ◌∙◌, subst}
+use Rattle.std.proofs.Common.{◌-◌, map, take, drop, length, refl, sym, ap, ◌∙◌, subst}
 use Rattle.std.proofs.lemmas.List.{take_rest}
 use Rattle.ordered_tree.specs.Numbered.{plain}
-use Rattle.path_meaning.specs.Elements.{elements}
 use Rattle.path_grammar.specs.Form as form
-use Rattle.path_meaning.specs.Meaning as meaning
 use Rattle.path_grammar.specs.View as view
 use Rattle.path_nodes.specs.Asked.{OfEach, OfStep, MayAsk}
-use Rattle.path_nodes.specs.Prices.{steps_price, step_price}
 use Rattle.path_nodes.specs.References.{element_of}
 use Rattle.path_nodes.specs.Says.{satisfied}
 use Rattle.path_nodes.specs.steps.Within.{AtOrBelow}
@@ -17,7 +14,7 @@ use Rattle.path_nodes.proofs.ChosenLemmas.{all-refs}
 use Rattle.path_nodes.proofs.NamedLemmas.{agrees-there}
 use Rattle.path_nodes.proofs.PriceLemmas.{selected-price}
 use Rattle.path_nodes.proofs.SelectedLemmas.{root-there, root-placed, below-root, selected-none, selected-next, later-steps, not-empty}
-use Rattle.path_nodes.proofs.CostLemmas.{at-first, at-price, both-cost, first-part-cost}
+use Rattle.path_nodes.proofs.CostLemmas.{both-cost, first-part-cost}
 use Rattle.path_nodes.proofs.selected.nodes.Goals as goal
 
 pub returns-then-is_empty-clause-elements : goal.returns-then-is_empty-clause-elements
@@ -31,11 +28,11 @@ returns-then-is_empty-clause-agrees g c = λ satisfies agree.
     let root = c.args.tree.now.root in
     returns-then-is_empty-clause-elements g c
     ∙ selected-alike (satisfied root (g.T.TextTest.meaning c.args.test.now)) satisfies (plain root)
-    (agrees-there root c.root-root.ensures.apart c.requires.attributes (g.T.TextTest.meaning c.args.test.now) satisfies agree) (form.steps (map view.step c.args.steps.now))
+    (agrees-there root c.root-root.ensures.apart (g.T.TextTest.meaning c.args.test.now) satisfies agree) (form.steps (map view.step c.args.steps.now))
 
 pub from_document-requires-clause-root : goal.from_document-requires-clause-root
 from_document-requires-clause-root g c =
-    root-there c.args.tree.now.root c.root-root.result c.root-root.ensures.root c.root-root.ensures.apart c.requires.root c.requires.attributes
+    root-there c.args.tree.now.root c.root-root.result c.root-root.ensures.root c.root-root.ensures.apart c.requires.root
 
 pub from_document-requires-clause-first : goal.from_document-requires-clause-first
 from_document-requires-clause-first g c = root-placed c.args.tree.now.root c.root-root.result c.root-root.ensures.root c.root-root.ensures.apart
@@ -48,7 +45,7 @@ from_document-requires-clause-asked g c =
 
 pub led-requires-clause-base : goal.led-requires-clause-base
 led-requires-clause-base g c =
-    root-there c.args.tree.now.root c.root-root.result c.root-root.ensures.root c.root-root.ensures.apart c.requires.root c.requires.attributes
+    root-there c.args.tree.now.root c.root-root.result c.root-root.ensures.root c.root-root.ensures.apart c.requires.root
 
 pub led-requires-clause-inside : goal.led-requires-clause-inside
 led-requires-clause-inside g c =
@@ -69,69 +66,34 @@ led-requires-clause-asked g c =
 pub returns-clause-elements : goal.returns-clause-elements
 returns-clause-elements g c =
     let root = c.args.tree.now.root in
-    let steps = c.as_slice.result.now in
-    let m = g.T.TextTest.meaning c.args.test.now in
-    let sat = satisfied root m in
-    let all = elements (plain root) in
-    let first = map (element_of root) c.in_ok-first.first in
     let some = not-empty c.args.steps.now c.is_empty.result c.is_empty.ensures.1 c.if-is_empty.false in
     ap (map (element_of root)) c.into_vec.ensures
-    ∙ c.in_ok-found.ensures.elements
-    ∙ ap (λ n. meaning.led (satisfied root n) all (form.steps (map view.step (take (length steps - 1) (drop 1 steps)))) first) c.in_ok-first.ensures.meaning
-    ∙ ap (λ l. meaning.led sat all (form.steps (map view.step l)) first) (take_rest steps 1 ∙ ap (drop 1) c.as_slice.ensures)
-    ∙ ap (meaning.led sat all (form.steps (map view.step (drop 1 c.args.steps.now)))) c.in_ok-first.ensures.elements
-    ∙ ap (λ s. meaning.led sat all (form.steps (map view.step (drop 1 c.args.steps.now))) (meaning.stepped sat all (view.step s) (meaning.document (plain root) ∷ []))) c.get.ensures
-    ∙ selected-next sat (plain root) c.args.steps.now c.get.result.now some
+    ∙ (rw (c.in_ok-first.ensures.meaning, take_rest c.as_slice.result.now 1, c.as_slice.ensures, c.in_ok-first.ensures.elements, c.get.ensures) at c.in_ok-found.ensures.elements)
+    ∙ selected-next (satisfied root (g.T.TextTest.meaning c.args.test.now)) (plain root) c.args.steps.now c.get.result.now some
 
 pub returns-clause-agrees : goal.returns-clause-agrees
 returns-clause-agrees g c = λ satisfies agree.
     let root = c.args.tree.now.root in
     returns-clause-elements g c
     ∙ selected-alike (satisfied root (g.T.TextTest.meaning c.args.test.now)) satisfies (plain root)
-    (agrees-there root c.root-root.ensures.apart c.requires.attributes (g.T.TextTest.meaning c.args.test.now) satisfies agree) (form.steps (map view.step c.args.steps.now))
+    (agrees-there root c.root-root.ensures.apart (g.T.TextTest.meaning c.args.test.now) satisfies agree) (form.steps (map view.step c.args.steps.now))
 
 pub returns-in_err-first-clause-cost : goal.returns-in_err-first-clause-cost
 returns-in_err-first-clause-cost g c =
-    let root = c.args.tree.now.root in
-    let m = g.T.TextTest.meaning c.args.test.now in
-    let items = c.args.steps.now in
-    let d = c.get.result.now in
-    let some = not-empty items c.is_empty.result c.is_empty.ensures.1 c.if-is_empty.false in
-    let first-one : g.T.TextTest.cost c.from_document.new.test ≤ g.T.TextTest.cost c.args.test.now + step_price root m (view.step (get_or items 0 d)) (meaning.document (plain root) ∷ []) =
-    at-price _ _ _ _ c.from_document.ensures.cost (ap (λ s. step_price root m (view.step s) (meaning.document (plain root) ∷ [])) c.get.ensures) in
-    first-part-cost _ _ _ _ _ first-one
-    (selected-price root m items d some (meaning.stepped (satisfied root m) (elements (plain root)) (view.step (get_or items 0 d)) (meaning.document (plain root) ∷ [])) refl)
+    let some = not-empty c.args.steps.now c.is_empty.result c.is_empty.ensures.1 c.if-is_empty.false in
+    first-part-cost _ _ _ _ _ (rw c.get.ensures at c.from_document.ensures.cost)
+    (selected-price c.args.tree.now.root (g.T.TextTest.meaning c.args.test.now) c.args.steps.now c.get.result.now some _ refl)
 
 pub returns-in_err-found-clause-cost : goal.returns-in_err-found-clause-cost
 returns-in_err-found-clause-cost g c =
-    let root = c.args.tree.now.root in
-    let m = g.T.TextTest.meaning c.args.test.now in
-    let items = c.args.steps.now in
-    let d = c.get.result.now in
-    let some = not-empty items c.is_empty.result c.is_empty.ensures.1 c.if-is_empty.false in
-    let first-one : g.T.TextTest.cost c.from_document.new.test ≤ g.T.TextTest.cost c.args.test.now + step_price root m (view.step (get_or items 0 d)) (meaning.document (plain root) ∷ []) =
-    at-price _ _ _ _ c.from_document.ensures.cost (ap (λ s. step_price root m (view.step s) (meaning.document (plain root) ∷ [])) c.get.ensures) in
-    let steps = c.as_slice.result.now in
-    let first = map (element_of root) c.in_ok-first.first in
-    both-cost _ _ _ _ _ _ first-one
-    (at-price _ _ _ _ (at-first (λ n. steps_price root n (form.steps (map view.step (take (length steps - 1) (drop 1 steps)))) first) m _ _ _ c.in_ok-first.ensures.meaning c.led.ensures.cost)
-    (ap (λ l. steps_price root m (form.steps (map view.step l)) first) (take_rest steps 1 ∙ ap (drop 1) c.as_slice.ensures)))
-    (selected-price root m items d some first
-    (c.in_ok-first.ensures.elements ∙ ap (λ s. meaning.stepped (satisfied root m) (elements (plain root)) (view.step s) (meaning.document (plain root) ∷ [])) c.get.ensures))
+    let some = not-empty c.args.steps.now c.is_empty.result c.is_empty.ensures.1 c.if-is_empty.false in
+    both-cost _ _ _ _ _ _ (rw c.get.ensures at c.from_document.ensures.cost)
+    (rw (c.in_ok-first.ensures.meaning, take_rest c.as_slice.result.now 1, c.as_slice.ensures) at c.led.ensures.cost)
+    (selected-price c.args.tree.now.root (g.T.TextTest.meaning c.args.test.now) c.args.steps.now c.get.result.now some _ (rw c.get.ensures at c.in_ok-first.ensures.elements))
 
 pub returns-clause-cost : goal.returns-clause-cost
 returns-clause-cost g c =
-    let root = c.args.tree.now.root in
-    let m = g.T.TextTest.meaning c.args.test.now in
-    let items = c.args.steps.now in
-    let d = c.get.result.now in
-    let some = not-empty items c.is_empty.result c.is_empty.ensures.1 c.if-is_empty.false in
-    let first-one : g.T.TextTest.cost c.from_document.new.test ≤ g.T.TextTest.cost c.args.test.now + step_price root m (view.step (get_or items 0 d)) (meaning.document (plain root) ∷ []) =
-    at-price _ _ _ _ c.from_document.ensures.cost (ap (λ s. step_price root m (view.step s) (meaning.document (plain root) ∷ [])) c.get.ensures) in
-    let steps = c.as_slice.result.now in
-    let first = map (element_of root) c.in_ok-first.first in
-    both-cost _ _ _ _ _ _ first-one
-    (at-price _ _ _ _ (at-first (λ n. steps_price root n (form.steps (map view.step (take (length steps - 1) (drop 1 steps)))) first) m _ _ _ c.in_ok-first.ensures.meaning c.led.ensures.cost)
-    (ap (λ l. steps_price root m (form.steps (map view.step l)) first) (take_rest steps 1 ∙ ap (drop 1) c.as_slice.ensures)))
-    (selected-price root m items d some first
-    (c.in_ok-first.ensures.elements ∙ ap (λ s. meaning.stepped (satisfied root m) (elements (plain root)) (view.step s) (meaning.document (plain root) ∷ [])) c.get.ensures))
+    let some = not-empty c.args.steps.now c.is_empty.result c.is_empty.ensures.1 c.if-is_empty.false in
+    both-cost _ _ _ _ _ _ (rw c.get.ensures at c.from_document.ensures.cost)
+    (rw (c.in_ok-first.ensures.meaning, take_rest c.as_slice.result.now 1, c.as_slice.ensures) at c.led.ensures.cost)
+    (selected-price c.args.tree.now.root (g.T.TextTest.meaning c.args.test.now) c.args.steps.now c.get.result.now some _ (rw c.get.ensures at c.in_ok-first.ensures.elements))

@@ -1,14 +1,11 @@
 -- Each child is lighter; the marked ones of it stand behind those before.
-use Rattle.std.proofs.Common.{◌≡◌, ◌<◌, ◌≤◌, ◌∷◌, [], ◌++◌, filter, flat_map, map, take, length, get_or, sym, ap, ◌∙◌, subst, arith, append_assoc, append-nil}
-use Rattle.std.specs.List.{All}
-use Rattle.std.proofs.lemmas.List.{take_all}
-use Rattle.std.proofs.lemmas.List.Elements.{All-get_or, filter-append}
-use Rattle.path_meaning.specs.Elements.{element_children}
+use Rattle.std.proofs.Common.{◌≡◌, ◌≤◌, ◌∷◌, [], ◌++◌, filter, flat_map, map, take, length, get_or, sym, ap, ◌∙◌, arith, append_assoc, append-nil}
+use Rattle.std.proofs.lemmas.List.Elements.{filter-append}
 use Rattle.path_nodes.specs.steps.Marks.{is_marked}
 use Rattle.path_nodes.specs.References.{IsElement, element_of}
 use Rattle.path_nodes.specs.steps.Regions.{at_or_below, below}
 use Rattle.path_nodes.proofs.ListLemmas.{flat-map-more, one-kept, kept-there}
-use Rattle.path_nodes.proofs.RegionLemmas.{weight, children-light, child-has, opened, below-children}
+use Rattle.path_nodes.proofs.RegionLemmas.{child-there, child-light, all-children, opened, below-children}
 use Rattle.path_nodes.proofs.SpotLemmas.{of_number}
 use Rattle.path_nodes.proofs.WayLemmas.{none-below}
 use Rattle.path_nodes.proofs.walks.+add_marked.Goals as goal
@@ -18,11 +15,10 @@ add_marked-requires t c =
     let root = c.args.tree.now.root in
     let here = element_of root c.args.here in
     let items = c.as_slice-child-items.result.now in
+    let children = c.in_ok-children.children in
     let i = c.loop-child.child-index in
-    let kids : map (element_of root) items ≡ element_children here = ap (map (element_of root)) c.as_slice-child-items.ensures ∙ c.in_ok-children.ensures.elements in
-    let all : All (IsElement root) items = subst (All (IsElement root)) (sym c.as_slice-child-items.ensures) c.in_ok-children.ensures.there in
-    let less = child-has root items (element_children here) (λ e. weight e.node < weight here.node) i (of_number 0) kids (children-light here) c.loop-child-test.true in
-    let x = All-get_or (IsElement root) items i (of_number 0) c.loop-child-test.true all in
+    let less = child-light root here items children c.as_slice-child-items.ensures c.in_ok-children.ensures.elements i c.loop-child-test.true in
+    let x = child-there root here items children c.as_slice-child-items.ensures c.in_ok-children.ensures.elements i c.loop-child-test.true c.in_ok-children.ensures.there in
     (omega (arith, c.decreases, less), (x, kept-there (IsElement root) (is_marked c.args.marks.now) c.loop-child.found (get_or items i (of_number 0)) c.push_marked.new.found c.in_ok-push_marked.ensures x c.loop-child.invariant.there))
 
 pub loop-child-preserved : goal.loop-child-preserved
@@ -32,8 +28,7 @@ loop-child-preserved t c =
     let items = c.as_slice-child-items.result.now in
     let i = c.loop-child.child-index in
     let q = get_or items i (of_number 0) in
-    let all : All (IsElement root) items = subst (All (IsElement root)) (sym c.as_slice-child-items.ensures) c.in_ok-children.ensures.there in
-    let x : IsElement root q = All-get_or (IsElement root) items i (of_number 0) c.loop-child-test.true all in
+    let x = child-there root here items c.in_ok-children.children c.as_slice-child-items.ensures c.in_ok-children.ensures.elements i c.loop-child-test.true c.in_ok-children.ensures.there in
     record {
       done = λ test agree lead.
           let old = map (element_of root) c.args.found.now in
@@ -65,9 +60,8 @@ returns-clause-elements t c = λ test agree lead.
     let here = element_of root c.args.here in
     let items = c.as_slice-child-items.result.now in
     let i = c.loop-child.child-index in
-    let kids : map (element_of root) items ≡ element_children here = ap (map (element_of root)) c.as_slice-child-items.ensures ∙ c.in_ok-children.ensures.elements in
     let past : length items ≤ i = omega (arith, c.loop-child-test.false) in
+    let kids = all-children root here items c.in_ok-children.children c.as_slice-child-items.ensures c.in_ok-children.ensures.elements i past in
     c.loop-child.invariant.done test agree lead
-    ∙ ap (λ l. map (element_of root) c.args.found.now ++ filter test (flat_map at_or_below (map (element_of root) l))) (take_all i items past)
     ∙ ap (λ l. map (element_of root) c.args.found.now ++ filter test (flat_map at_or_below l)) kids
     ∙ ap (λ l. map (element_of root) c.args.found.now ++ filter test l) (below-children here)
