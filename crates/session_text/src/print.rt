@@ -154,7 +154,10 @@ fn print_full(alloc: Global, what: FullOf) -> Result<Line, Memory>
 fn print_most(alloc: Global, count: usize, words: &str) -> Result<Line, Memory>
     ensures { IfOk result (λ text. text ≡ ended_line (codes "! 5 full at " ++ decimal count ++ words.now)) }
 {
-    let text = format!(in alloc; "! 5 full at {count}{words}\n")?;
+    let mut text = String::new(alloc);
+    push_counted(&mut text, "! 5 full at ", count as u64)?;
+    text.push_str(words)?;
+    text.push('\n')?;
     Ok(Line::from_string(text))
 }
 
