@@ -5,11 +5,12 @@ use Rattle.std.specs.List.{list_any, list_all}
 use Rattle.std.proofs.lemmas.Bool.{and_parts}
 use Rattle.std.proofs.lemmas.List.Folds.{list_all-append}
 use Rattle.std.proofs.lemmas.List.{map-append}
+use Rattle.ft_base.specs.Lists.{is_not_empty}
 use Rattle.ft_base.specs.declared.hit.Hit.{Hit}
 use Rattle.ft_base.specs.declared.filter.Filter.{Filter}
 use Rattle.all_matches.specs.Hits.{match_of_hit}
 use Rattle.all_matches.specs.Boolean.{both, ft_and, is_clean}
-use Rattle.all_matches.specs.MildNot.{is_not_empty, stands_out, ft_mild_not}
+use Rattle.all_matches.specs.MildNot.{stands_out, ft_mild_not}
 use Rattle.all_matches.specs.Filters.{passes, choices, through, ft_filtered}
 use Rattle.all_matches.specs.Ways.{is_plain, Operator, phrase, either, together, apart, negated, through_filter, matches_of, Way, one_hit, two_ways, turned_about, by_filter, way_includes, made, standing_out, filtered_ways, ways_of, without_negation, bare_match, is_bare, is_good, behind_filter}
 use Rattle.all_matches.proofs.ListTests.{list_any-map}

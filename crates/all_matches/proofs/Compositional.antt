@@ -6,6 +6,7 @@ use Rattle.std.proofs.lemmas.Bool.{and_parts}
 use Rattle.std.proofs.lemmas.Bool.Decides.{nat_tests}
 use Rattle.std.proofs.lemmas.List.Folds.{list_all-append}
 use Rattle.std.proofs.Math.Bool.{or-false, or_assoc, and-true, and_assoc}
+use Rattle.ft_base.specs.Lists.{is_empty}
 use Rattle.ft_base.specs.declared.token.Token.{Token}
 use Rattle.ft_base.specs.declared.hit.Hit.{Hit}
 use Rattle.ft_base.specs.declared.hit.Match.{Match}
@@ -19,7 +20,7 @@ use Rattle.all_matches.specs.Variants.{Item, Lexicon}
 use Rattle.all_matches.specs.Hits.{match_of_hit, hits}
 use Rattle.all_matches.specs.Boolean.{empty_match, both, ft_or, ft_and, ft_or_of, ft_and_of, is_clean, satisfied}
 use Rattle.all_matches.specs.Times.{occurring, number_in_range}
-use Rattle.all_matches.specs.Meaning.{inside, is_empty, phrases_by, strings_of, each_phrase, joined_by, value_matches, phrase_count, all_matches, each_form, sat_under}
+use Rattle.all_matches.specs.Meaning.{inside, phrases_by, strings_of, each_phrase, joined_by, value_matches, phrase_count, all_matches, each_form, sat_under}
 use Rattle.all_matches.specs.Compositional.{some_form, each_form_passes, enough, occurrences}
 use Rattle.all_matches.proofs.BooleanLaws.{satisfied-or, satisfied-and, satisfied-not, satisfied-times, is_clean-both}
 use Rattle.all_matches.proofs.Numbering.{satisfied_by-any_number}

@@ -6,6 +6,7 @@ use Rattle.std.proofs.Math.Nat.{suc-mul, mul_assoc, one-mul}
 use Rattle.std.proofs.lemmas.List.Sums.{length-filter, sum_by-cons, sum_by-append}
 use Rattle.std.proofs.lemmas.List.{length-map}
 use Rattle.std.proofs.Math.Numerals.{one-add}
+use Rattle.ft_base.specs.Lists.{is_empty}
 use Rattle.ft_base.specs.declared.token.Token.{Token}
 use Rattle.ft_base.specs.declared.hit.Match.{Match}
 use Rattle.ft_base.specs.declared.options.Options.{Options}
@@ -15,7 +16,7 @@ use Rattle.ft_base.specs.declared.words.Mode.TheVariants.{Any, AnyWord, All, All
 use Rattle.all_matches.specs.Variants.{Item, Lexicon, variants}
 use Rattle.all_matches.specs.Hits.{stands_as, Interval, intervals, tokens_in, intervals_of, hits, hit_on, match_of_hit}
 use Rattle.all_matches.specs.Boolean.{empty_match, both, ft_or, ft_and}
-use Rattle.all_matches.specs.Meaning.{is_empty, phrases_by, strings_of, each_phrase, joined_by}
+use Rattle.all_matches.specs.Meaning.{phrases_by, strings_of, each_phrase, joined_by}
 use Rattle.all_matches.specs.Compositional.{occurrences}
 use Rattle.all_matches.specs.Counting.{product, joined_count, hit_count, value_count}
 

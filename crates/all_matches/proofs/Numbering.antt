@@ -2,6 +2,7 @@
 use Rattle.std.proofs.Common.{◌≡◌, refl, ap, sym, ◌∙◌, ℕ, ◌+◌, List, [], ◌∷◌, add_assoc, length}
 use Rattle.std.specs.Prelude.{map, cond}
 use Rattle.std.specs.List.{list_all}
+use Rattle.ft_base.specs.Lists.{is_empty}
 use Rattle.ft_base.specs.declared.token.Token.{Token}
 use Rattle.ft_base.specs.declared.hit.Match.{Match}
 use Rattle.ft_base.specs.declared.options.Options.{Options}
@@ -15,7 +16,7 @@ use Rattle.all_matches.specs.Boolean.{empty_match, ft_not, ft_or_of, ft_and_of, 
 use Rattle.all_matches.specs.Filters.{ft_filtered}
 use Rattle.all_matches.specs.MildNot.{ft_mild_not}
 use Rattle.all_matches.specs.Times.{occurring}
-use Rattle.all_matches.specs.Meaning.{inside, is_empty, phrases_by, strings_of, each_phrase, joined_by, value_matches, phrase_count, all_matches, each_form}
+use Rattle.all_matches.specs.Meaning.{inside, phrases_by, strings_of, each_phrase, joined_by, value_matches, phrase_count, all_matches, each_form}
 use Rattle.all_matches.specs.Numbering.{shifted_match, shifted}
 use Rattle.all_matches.proofs.Shifted.{map-cond, or_of-shifted, and_of-shifted, not-shifted, occurring-shifted, mild_not-shifted, satisfied-shifted}
 use Rattle.all_matches.proofs.ShiftedFilters.{filtered-shifted}

@@ -3,6 +3,7 @@ use Rattle.std.proofs.Common.{◌≡◌, refl, ap, sym, ◌∙◌, ℕ, ◌+◌,
 use Rattle.std.specs.Prelude.{map, fold, cond, Option, Some, None}
 use Rattle.std.specs.List.{list_all}
 use Rattle.std.proofs.lemmas.Bool.{and_parts}
+use Rattle.ft_base.specs.Lists.{is_empty}
 use Rattle.ft_base.specs.declared.token.Token.{Token}
 use Rattle.ft_base.specs.declared.hit.Match.{Match}
 use Rattle.ft_base.specs.declared.options.Options.{Options}
@@ -17,7 +18,7 @@ use Rattle.all_matches.specs.Boolean.{empty_match, ft_or, ft_and, ft_not, ft_or_
 use Rattle.all_matches.specs.MildNot.{ft_mild_not}
 use Rattle.all_matches.specs.Filters.{ft_filtered}
 use Rattle.all_matches.specs.Times.{occurring}
-use Rattle.all_matches.specs.Meaning.{inside, is_empty, phrases_by, strings_of, each_phrase, joined_by, value_matches, phrase_count, all_matches, each_form}
+use Rattle.all_matches.specs.Meaning.{inside, phrases_by, strings_of, each_phrase, joined_by, value_matches, phrase_count, all_matches, each_form}
 use Rattle.all_matches.specs.Ways.{Operator, phrase, either, together, matches_of}
 use Rattle.all_matches.specs.Operators.{either_of, together_of, operator_by, phrase_operators, value_operator, operator_of, operators_of}
 use Rattle.all_matches.specs.Allowed.{has_no_range, without_times, each_without_times}

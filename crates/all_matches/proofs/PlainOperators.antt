@@ -3,6 +3,7 @@ use Rattle.std.proofs.Common.{◌≡◌, refl, ap, sym, ◌∙◌, ℕ, ◌+◌,
 use Rattle.std.specs.Prelude.{fold, cond, flat_map}
 use Rattle.std.specs.List.{list_all, list_any}
 use Rattle.std.proofs.lemmas.Bool.{and_parts, and_from}
+use Rattle.ft_base.specs.Lists.{is_empty}
 use Rattle.ft_base.specs.declared.token.Token.{Token}
 use Rattle.ft_base.specs.declared.hit.Hit.{Hit}
 use Rattle.ft_base.specs.declared.hit.Match.{Match}
@@ -14,7 +15,7 @@ use Rattle.ft_base.specs.Selection.{Form, Forms, words, or_of, and_of, mild_not,
 use Rattle.all_matches.specs.Variants.{Item, Lexicon}
 use Rattle.all_matches.specs.Hits.{hits}
 use Rattle.all_matches.specs.Boolean.{is_clean, satisfied, survives}
-use Rattle.all_matches.specs.Meaning.{inside, is_empty, singly, phrases_by, strings_of, phrase_count, all_matches}
+use Rattle.all_matches.specs.Meaning.{inside, singly, phrases_by, strings_of, phrase_count, all_matches}
 use Rattle.all_matches.specs.Ways.{Operator, phrase, either, together, apart, negated, through_filter, without_negation, is_plain, matches_of, ways_of, clean_under}
 use Rattle.all_matches.specs.Operators.{either_of, together_of, operator_by, phrase_operators, value_operator, operator_of, operators_of}
 use Rattle.all_matches.specs.Allowed.{has_operands, without_times, without_not, each_without_not, has_plain_nots, each_has_plain_nots, may_be_filtered}

@@ -3,12 +3,13 @@ use Rattle.std.proofs.Common.{◌≡◌, refl, ap, sym, ◌∙◌, ℕ, zero, su
 use Rattle.std.specs.Prelude.{map, filter, flat_map, fold, cond, Option, Some, None, nat_lt, if◌then◌else◌}
 use Rattle.std.specs.List.{list_any, list_all}
 use Rattle.std.proofs.lemmas.List.{map-append}
+use Rattle.ft_base.specs.Lists.{is_not_empty}
 use Rattle.ft_base.specs.declared.hit.Hit.{Hit}
 use Rattle.ft_base.specs.declared.hit.Match.{Match}
 use Rattle.ft_base.specs.declared.range.Range.{Range}
 use Rattle.ft_base.specs.declared.range.Range.TheVariants.{Exactly, AtLeast, AtMost, FromTo}
 use Rattle.all_matches.specs.Boolean.{both, with_include, with_exclude, ft_or, ft_and, ft_not, is_clean, satisfied}
-use Rattle.all_matches.specs.MildNot.{is_not_empty, stands_out, ft_mild_not}
+use Rattle.all_matches.specs.MildNot.{stands_out, ft_mild_not}
 use Rattle.all_matches.specs.Positions.{covers, places_from_to}
 use Rattle.all_matches.specs.Times.{at_least, between, ft_times, occurring}
 use Rattle.all_matches.specs.Numbering.{shifted_hit, shifted_match, shifted}

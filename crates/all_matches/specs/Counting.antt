@@ -1,6 +1,7 @@
 -- How often the words of a value occur in a text, as numbers of places.
 use Rattle.std.specs.Prelude.{ℕ, ◌+◌, ◌*◌, ◌==◌, Bool, true, false, ◌&&◌, if◌then◌else◌, List, [], ◌∷◌, ◌++◌, map, fold, length, sum}
 use Rattle.std.specs.List.{list_all, list_any}
+use Rattle.ft_base.specs.Lists.{is_empty}
 use Rattle.ft_base.specs.declared.token.Token.{Token}
 use Rattle.ft_base.specs.declared.options.Options.{Options}
 use Rattle.ft_base.specs.declared.words.Words.{Words}
@@ -8,7 +9,7 @@ use Rattle.ft_base.specs.declared.words.Mode.{Mode}
 use Rattle.ft_base.specs.declared.words.Mode.TheVariants.{Any, AnyWord, All, AllWords, Phrase}
 use Rattle.all_matches.specs.Variants.{Item, Lexicon}
 use Rattle.all_matches.specs.Hits.{intervals_of}
-use Rattle.all_matches.specs.Meaning.{is_empty, phrases_by, strings_of}
+use Rattle.all_matches.specs.Meaning.{phrases_by, strings_of}
 
 -- whether the first tokens pass the items, each its own
 abbrev pub begins_as : {X Y : Type 0} → (X → Y → Bool) → List X → List Y → Bool

@@ -2,6 +2,7 @@
 use Rattle.std.specs.Prelude.{ℕ, ◌+◌, Bool, true, false, if◌then◌else◌, List, [], ◌∷◌, map, flat_map, length}
 use Rattle.std.specs.List.{list_all}
 use Rattle.std.specs.Option.{option_or}
+use Rattle.ft_base.specs.Lists.{is_empty}
 use Rattle.ft_base.specs.declared.token.Token.{Token}
 use Rattle.ft_base.specs.declared.hit.Match.{Match}
 use Rattle.ft_base.specs.declared.options.Options.{Options}
@@ -27,10 +28,6 @@ inside inner outer = record {
   language = option_or inner.language outer.language;
   wildcards = option_or inner.wildcards outer.wildcards;
 }
-
-abbrev pub is_empty : List Item → Bool
-is_empty [] = true
-is_empty (item ∷ rest) = false
 
 -- each word and pattern by itself
 abbrev pub singly : List Item → List (List Item)

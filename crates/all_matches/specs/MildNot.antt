@@ -1,13 +1,10 @@
 -- Mild not of AllMatches (XQuery and XPath Full Text 3.0, section 4.2.6.4: ApplyFTMildNot).
 use Rattle.std.specs.Prelude.{Bool, true, false, not, if◌then◌else◌, List, [], ◌∷◌, filter}
 use Rattle.std.specs.List.{list_any, list_all}
+use Rattle.ft_base.specs.Lists.{is_not_empty}
 use Rattle.ft_base.specs.declared.hit.Hit.{Hit}
 use Rattle.ft_base.specs.declared.hit.Match.{Match}
 use Rattle.all_matches.specs.Positions.{covers, places_from_to}
-
-abbrev pub is_not_empty : List Hit → Bool
-is_not_empty [] = false
-is_not_empty (hit ∷ rest) = true
 
 -- whether some place covered by the hits on the left is covered by no hit on the right
 abbrev pub stands_out : List Hit → List Hit → Bool

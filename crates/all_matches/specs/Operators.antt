@@ -1,6 +1,7 @@
 -- The operator of a selection without `occurs`: its words are the hits of their phrases, joined as the mode says.
 use Rattle.std.specs.Prelude.{ℕ, ◌+◌, if◌then◌else◌, List, [], ◌∷◌, fold}
 use Rattle.std.specs.List.{list_all}
+use Rattle.ft_base.specs.Lists.{is_empty}
 use Rattle.ft_base.specs.declared.token.Token.{Token}
 use Rattle.ft_base.specs.declared.options.Options.{Options}
 use Rattle.ft_base.specs.declared.words.Words.{Words}
@@ -9,7 +10,7 @@ use Rattle.ft_base.specs.declared.words.Mode.TheVariants.{Any, AnyWord, All, All
 use Rattle.ft_base.specs.Selection.{Form, Forms, words, or_of, and_of, mild_not, not_of, filtered, with_options, none, more}
 use Rattle.all_matches.specs.Variants.{Item, Lexicon}
 use Rattle.all_matches.specs.Hits.{hits}
-use Rattle.all_matches.specs.Meaning.{inside, is_empty, phrases_by, strings_of, phrase_count}
+use Rattle.all_matches.specs.Meaning.{inside, phrases_by, strings_of, phrase_count}
 use Rattle.all_matches.specs.Ways.{Operator, phrase, either, together, apart, negated, through_filter}
 
 -- one of some operands

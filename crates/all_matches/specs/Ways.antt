@@ -3,12 +3,13 @@
 -- negated selections inside, and a way is clean where they can be chosen so that no exclude stays.
 use Rattle.std.specs.Prelude.{ℕ, Bool, true, false, not, ◌&&◌, if◌then◌else◌, List, [], ◌∷◌, ◌++◌, map, filter, flat_map, Option}
 use Rattle.std.specs.List.{list_any, list_all}
+use Rattle.ft_base.specs.Lists.{is_not_empty}
 use Rattle.ft_base.specs.declared.hit.Hit.{Hit}
 use Rattle.ft_base.specs.declared.hit.Match.{Match}
 use Rattle.ft_base.specs.declared.filter.Filter.{Filter}
 use Rattle.all_matches.specs.Hits.{match_of_hit}
 use Rattle.all_matches.specs.Boolean.{ft_or, ft_and, ft_not, is_clean}
-use Rattle.all_matches.specs.MildNot.{is_not_empty, stands_out, ft_mild_not}
+use Rattle.all_matches.specs.MildNot.{stands_out, ft_mild_not}
 use Rattle.all_matches.specs.Filters.{passes, choices, keeps, after, ft_filtered}
 
 -- a selection over a text, with the hits of its phrases

@@ -6,7 +6,8 @@ use Rattle.std.proofs.lemmas.Bool.{eqb-true, and_right, and_left, and_from}
 use Rattle.std.specs.Prelude.{◌==◌, nat_eq, encode_utf8}
 use Rattle.std.specs.List.{starts_with}
 use Rattle.std.proofs.Math.Bool.{and-false}
-use Rattle.plain_tree.specs.Document.{Node, element, nodes, no_nodes, is_empty}
+use Rattle.ft_base.specs.Lists.{is_empty}
+use Rattle.plain_tree.specs.Document.{Node, element, nodes, no_nodes}
 use Rattle.plain_tree.specs.declared.tree.Attr.{Attr}
 use Rattle.ft_base.specs.Characters.{is_char, is_space, is_name_start, is_name_char}
 use Rattle.doc_grammar.specs.Grammar.{text_node, is_quote, has_name}

@@ -4,7 +4,7 @@ use Rattle.std.proofs.lemmas.List.{length-append}
 use Rattle.std.proofs.lemmas.Bool.{eqb-true, and_parts, or_cases, and_right, and_left}
 use Rattle.std.proofs.Math.Bool.{or-false, and-false}
 use Rattle.std.specs.Prelude.{◌==◌}
-use Rattle.plain_tree.specs.Document.{is_empty}
+use Rattle.ft_base.specs.Lists.{is_empty}
 use Rattle.ft_base.specs.Characters.{is_char, is_name_start}
 use Rattle.doc_grammar.specs.Grammar.{lines_from, with_line_ends}
 use Rattle.doc_grammar.specs.Texts.{Kind}

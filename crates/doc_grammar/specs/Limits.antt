@@ -1,6 +1,7 @@
 -- Where a text passes the limits: its elements stand too deep, or it has too many elements and texts.
 use Rattle.std.specs.Prelude.{◌≡◌, ℕ, ◌+◌, ◌≤◌, max, Bool, true, false, ◌&&◌, ◌||◌, not, if◌then◌else◌, ◌==◌, List, [], ◌∷◌, ◌++◌, length, IsTrue}
-use Rattle.plain_tree.specs.Document.{Node, element, text, Nodes, no_nodes, node_then, is_empty}
+use Rattle.ft_base.specs.Lists.{is_empty}
+use Rattle.plain_tree.specs.Document.{Node, element, text, Nodes, no_nodes, node_then}
 use Rattle.ft_base.specs.Characters.{is_char, is_name_start}
 use Rattle.doc_grammar.specs.Grammar.{with_line_ends}
 use Rattle.doc_grammar.specs.steps.Machine as m

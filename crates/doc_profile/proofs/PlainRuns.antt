@@ -7,7 +7,7 @@ use Rattle.std.specs.Prelude.{Result, ◌==◌, ◌&&◌, not, nat_le, nat_lt, e
 use Rattle.std.specs.List.{list_all}
 use Rattle.std.proofs.lemmas.Bool.{and_parts, and_from, not-true}
 use Rattle.std.proofs.Math.Bool.{and-false}
-use Rattle.plain_tree.specs.Document.{is_empty}
+use Rattle.ft_base.specs.Lists.{is_empty}
 use Rattle.ft_base.specs.Characters.{is_char}
 use Rattle.doc_grammar.specs.Grammar.{lines_from}
 use Rattle.doc_grammar.specs.steps.Machine as m

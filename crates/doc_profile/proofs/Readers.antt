@@ -17,10 +17,10 @@ use Rattle.plain_tree.specs.View.{node}
 use Rattle.plain_tree.specs.declared.tree.Tree.TheVariants.{Text}
 use Rattle.plain_tree.proofs.Views.{node_text}
 use Rattle.std.proofs.lemmas.List.{map-append}
+use Rattle.ft_base.specs.Lists.{is_empty}
 use Rattle.doc_grammar.specs.Grammar.{text_node}
 use Rattle.plain_tree.specs.declared.tree.Tree.{Tree}
 use Rattle.plain_tree.specs.declared.tree.Attr.{Attr}
-use Rattle.plain_tree.specs.Document.{is_empty}
 use Rattle.doc_grammar.specs.Limits.{depth}
 use Rattle.doc_grammar.specs.steps.Machine as m
 use Rattle.doc_grammar.specs.steps.Machine.{Outer, Place, is_content}

@@ -1,5 +1,5 @@
 -- The classes of characters (XML 1.0, sections 2.2 and 2.3; a colon is a character of a name).
-use Rattle.std.specs.Prelude.{ℕ, Bool, ◌&&◌, ◌||◌, nat_le, List, [], ◌∷◌}
+use Rattle.std.specs.Prelude.{ℕ, Bool, ◌&&◌, ◌||◌, ◌==◌, nat_le, List, [], ◌∷◌}
 use Rattle.std.specs.List.{list_any}
 
 -- whether a character is in a range, both ends included
@@ -32,3 +32,10 @@ is_only_inside = is_in ((0x2D, 0x2E) ∷ (0x30, 0x39) ∷ (0xB7, 0xB7) ∷ (0x30
 -- production 4a, NameChar
 unfoldable pub is_name_char : ℕ → Bool
 is_name_char c = is_name_start c || is_only_inside c
+
+-- a space or a tab
+abbrev pub is_blank : ℕ → Bool
+is_blank c = c == 32 || c == 9
+
+abbrev pub is_line_feed : ℕ → Bool
+is_line_feed c = c == 10

@@ -1,5 +1,6 @@
 -- Which selections under way are filters round others: those in parentheses alone, and those that end with a filter.
 use Rattle.std.proofs.Common.{◌≡◌, ℕ, Bool, true, false, ◌&&◌, List, [], ◌∷◌, ◌++◌, Option, Some, None, refl, ◌∙◌, ap}
+use Rattle.ft_base.specs.Lists.{is_empty}
 use Rattle.ft_base.specs.declared.words.Mode.{Mode}
 use Rattle.ft_base.specs.declared.words.Mode.TheVariants as M
 use Rattle.selection_grammar.specs.declared.parsed.PlacedString.{PlacedString}
@@ -8,7 +9,7 @@ use Rattle.selection_grammar.specs.declared.parsed.Parsed.{Parsed}
 use Rattle.selection_grammar.specs.steps.Machine.{Left, selection_with, operand_of, selection_at, stop_option, thesaurus_option, thesaurus_use}
 use Rattle.selection_grammar.specs.Tree.{Tree, Primary, phrases, inner}
 use Rattle.ft_parser.specs.Limits.{has_all_filters}
-use Rattle.ft_parser.specs.steps.Scan.{is_empty, stands_first}
+use Rattle.ft_parser.specs.steps.Scan.{stands_first}
 use Rattle.ft_parser.specs.steps.State.{primary_of, stage_of}
 use Rattle.ft_parser.specs.steps.Turns.{is_none}
 use Rattle.ft_parser.specs.declared.state.Operand.{Operand}

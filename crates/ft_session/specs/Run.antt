@@ -2,9 +2,9 @@
 use Rattle.std.specs.Prelude.{◌≡◌, ◌⊎◌, ℕ, Bool, ◌&&◌, not, nat_eq, if◌then◌else◌, List, [], ◌∷◌}
 use Rattle.std.specs.Prelude.{◌++◌, length, take, codes, Option, Some, None, IfSome, option_map}
 use Rattle.std.specs.List.{starts_with}
+use Rattle.ft_base.specs.Lists.{is_empty}
 use Rattle.ft_session.specs.declared.status.Status.{Status}
 use Rattle.ft_session.specs.declared.status.Status.TheVariants.{Done, SomeRefused}
-use Rattle.session_text.specs.Words.{is_empty}
 use Rattle.ft_session.specs.Output.{output, has_refusal}
 
 -- a word that can be a session's file: it isn't empty and doesn't begin with a hyphen

@@ -4,7 +4,8 @@ use Rattle.std.specs.List.{slice_split, onto_first}
 use Rattle.std.specs.Char.{is_whitespace}
 use Rattle.std.proofs.lemmas.Bool.{cond-true, cond-false, cases_Bool}
 use Rattle.std.proofs.lemmas.List.Splits.{slice_split-cons_yes, slice_split-cons_no, length-slice_split}
-use Rattle.match_options.specs.Patterns.{is_not_empty, parts}
+use Rattle.ft_base.specs.Lists.{is_not_empty}
+use Rattle.match_options.specs.Patterns.{parts}
 use Rattle.match_options.specs.steps.PartsLeft.{ended, parts_left}
 
 -- ---- text of characters

@@ -5,17 +5,13 @@ use Rattle.std.specs.Prelude.{[], ◌∷◌, map, filter, take, drop, Option, So
 use Rattle.std.specs.List.{list_any, prefix_len, slice_split}
 use Rattle.std.specs.Option.{is_none}
 use Rattle.std.specs.Char.{is_whitespace}
+use Rattle.ft_base.specs.Lists.{is_not_empty}
 use Rattle.ft_base.specs.Letters.{is_digit, number_of, begins_with}
 use Rattle.ft_base.specs.Limits.{max_number}
 use Rattle.match_options.specs.declared.atom.Atom.{Atom}
 use Rattle.match_options.specs.declared.atom.Atom.TheVariants.{Letter, Gap}
 use Rattle.match_options.specs.declared.atom.SizedAtom.{SizedAtom}
 use Rattle.match_options.specs.declared.atom.Number.{Number}
-
--- the parts of a text between its characters of Unicode's White_Space: `a  b.` has `a` and `b.`
-abbrev pub is_not_empty : List ℕ → Bool
-is_not_empty [] = false
-is_not_empty (c ∷ rest) = true
 
 abbrev pub parts : List ℕ → List (List ℕ)
 parts text = map encode_utf8_all (filter is_not_empty (slice_split is_whitespace (chars text)))

@@ -1,5 +1,6 @@
 -- What a document is (the data model's tree of elements, attributes and texts).
 use Rattle.std.specs.Prelude.{ℕ, Bool, true, false, ◌&&◌, not, List, [], ◌∷◌}
+use Rattle.ft_base.specs.Lists.{is_empty}
 use Rattle.plain_tree.specs.declared.tree.Attr.{Attr}
 
 -- An element has a name, attributes and children in order. Names, values and texts are bytes of UTF-8.
@@ -24,10 +25,6 @@ is_text (text bytes) = true
 abbrev pub begins_with_text : Nodes → Bool
 begins_with_text no_nodes = false
 begins_with_text (node_then n ns) = is_text n
-
-abbrev pub is_empty : List ℕ → Bool
-is_empty [] = true
-is_empty (b ∷ bs) = false
 
 -- no text is empty, and no two texts are neighbours in a list of children
 abbrev mutual

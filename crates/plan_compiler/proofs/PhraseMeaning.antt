@@ -5,6 +5,7 @@ use Rattle.std.specs.List.{list_all, list_any}
 use Rattle.std.proofs.Math.Nat.{zero-mul}
 use Rattle.std.proofs.lemmas.Bool.{cond-true, cond-false, and_parts}
 use Rattle.std.proofs.lemmas.List.Sums.{sum_by-cons}
+use Rattle.ft_base.specs.Lists.{is_not_empty, is_empty}
 use Rattle.ft_base.specs.declared.options.Options.{Options}
 use Rattle.ft_base.specs.declared.token.Token.{Token}
 use Rattle.ft_base.specs.declared.words.Words.{Words}
@@ -13,7 +14,7 @@ use Rattle.ft_base.specs.declared.words.Mode.TheVariants.{Any, AnyWord, All, All
 use Rattle.text_forms.specs.Forms.{key_of}
 use Rattle.all_matches.specs.Variants.{Item, any_word, word, pattern, without_stop_word, reached_phrases}
 use Rattle.all_matches.specs.Hits.{passes_item, Interval, intervals}
-use Rattle.all_matches.specs.Meaning.{is_empty, singly, phrases_by}
+use Rattle.all_matches.specs.Meaning.{singly, phrases_by}
 use Rattle.all_matches.specs.Counting.{begins_as, places, product, by_length, joined_count, hit_count, value_count}
 use Rattle.all_matches.proofs.VariantPlaces.{hits_by_places}
 use Rattle.match_options.specs.Items.{items_of}
@@ -29,7 +30,7 @@ use Rattle.plan_compiler.specs.ReadingMeaning.{Reads}
 use Rattle.plan_compiler.specs.Served.{are_served}
 use Rattle.plan_compiler.specs.Stops.{is_stop_key}
 use Rattle.plan_compiler.specs.TextWords.{stem_as, word_as, words_of_tokens}
-use Rattle.plan_compiler.specs.WordsMeaning.{phrase_count, joined, words_count, read_item, stem_test, bare_test, item_test, phrases_for, grouped_tests, tests_of, plan_tests, asks_all, is_not_empty}
+use Rattle.plan_compiler.specs.WordsMeaning.{phrase_count, joined, words_count, read_item, stem_test, bare_test, item_test, phrases_for, grouped_tests, tests_of, plan_tests, asks_all}
 use Rattle.plan_compiler.specs.declared.item_matching.ItemTest.{ItemTest}
 use Rattle.plan_compiler.specs.declared.looks.Looks.{Looks}
 use Rattle.plan_compiler.specs.declared.phrase_plan.PhrasePlan.{PhrasePlan}

@@ -1,12 +1,13 @@
 -- Words compiled with the lists, and under the options that hold for them.
 use Rattle.std.specs.Prelude.{◌≡◌, ◌&&◌, map}
+use Rattle.ft_base.specs.Lists.{is_not_empty}
 use Rattle.ft_base.specs.declared.options.Options.{Options}
 use Rattle.ft_base.specs.declared.words.Words.{Words}
 use Rattle.all_matches.specs.Meaning.{phrases_by}
 use Rattle.match_options.specs.Items.{items_of}
 use Rattle.plan_compiler.specs.NamedLists.{NamedLists}
 use Rattle.plan_compiler.specs.ReadingMeaning.{Reads}
-use Rattle.plan_compiler.specs.WordsMeaning.{asks_all, grouped_tests, is_not_empty, plan_tests}
+use Rattle.plan_compiler.specs.WordsMeaning.{asks_all, grouped_tests, plan_tests}
 use Rattle.plan_compiler.specs.declared.reading.Reading.{Reading}
 use Rattle.plan_compiler.specs.declared.words_plan.WordsPlan.{WordsPlan}
 

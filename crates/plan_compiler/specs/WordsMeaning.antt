@@ -83,7 +83,3 @@ asks_all AnyWord = false
 asks_all All = true
 asks_all AllWords = true
 asks_all Phrase = false
-
-abbrev pub is_not_empty : {X : Type 0} → List X → Bool
-is_not_empty [] = false
-is_not_empty (x ∷ xs) = true

@@ -3,7 +3,7 @@ use Rattle.std.proofs.Common.{◌≡◌, ℕ, zero, suc, ◌+◌, ◌≤◌, Lis
 use Rattle.std.specs.Prelude.{IfSome, option_map}
 use Rattle.std.specs.List.{prefix_len}
 use Rattle.std.proofs.lemmas.Bool.{cond_both}
-use Rattle.ft_base.specs.Characters.{is_name_start, is_name_char}
+use Rattle.ft_base.specs.Characters.{is_name_start, is_name_char, is_blank}
 use Rattle.query_symbols.specs.declared.lexeme.Lexeme.{Lexeme}
 use Rattle.query_symbols.specs.declared.lexeme.Quoted.{Quoted}
 use Rattle.selection_grammar.specs.declared.symbol.Symbol.{Symbol}
@@ -11,7 +11,7 @@ use Rattle.selection_grammar.specs.declared.symbol.Symbol.TheVariants.{Text}
 use Rattle.selection_grammar.specs.declared.symbol.Symbols.{Symbols}
 use Rattle.ft_base.specs.Letters.{is_digit, begins_with}
 use Rattle.ft_base.proofs.CharacterLemmas.{start_is_inside}
-use Rattle.query_symbols.specs.Symbols.{run_of, is_quote, is_slash, is_blank, goes_on_as_name, number_at, name_at, quoted_at, string_at, slash_at, mark_of, mark_at, first_mark, first_string, first_number, first_lexeme, before, bytes_of_first, with_further, symbols_within}
+use Rattle.query_symbols.specs.Symbols.{run_of, is_quote, is_slash, goes_on_as_name, number_at, name_at, quoted_at, string_at, slash_at, mark_of, mark_at, first_mark, first_string, first_number, first_lexeme, before, bytes_of_first, with_further, symbols_within}
 
 abbrev HasLetter : Option Lexeme → Type 0
 HasLetter found = IfSome found (λ lexeme. 1 ≤ lexeme.size)

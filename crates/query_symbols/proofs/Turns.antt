@@ -1,10 +1,11 @@
 -- One step of the reader: over a blank, over a symbol, or to a character that begins none.
 use Rattle.std.proofs.Common.{◌≡◌, ℕ, suc, ◌+◌, ◌<◌, List, [], ◌∷◌, ◌++◌, length, get_or, drop, refl, ap, sym, ◌∙◌, true, false, cond, Option, Some, None, append-nil, append_assoc, drop-drop}
 use Rattle.std.proofs.lemmas.List.{drop_more}
+use Rattle.ft_base.specs.Characters.{is_blank}
 use Rattle.query_symbols.specs.declared.lexeme.Lexeme.{Lexeme}
 use Rattle.query_symbols.specs.declared.lexeme.Turn.TheVariants.{Passed, Bad}
 use Rattle.selection_grammar.specs.declared.symbol.Placed.{Placed}
-use Rattle.query_symbols.specs.Symbols.{is_blank, first_lexeme, nothing_left, before, behind_placed, bytes_of_first, with_further, symbols_within, Steps_to}
+use Rattle.query_symbols.specs.Symbols.{first_lexeme, nothing_left, before, behind_placed, bytes_of_first, with_further, symbols_within, Steps_to}
 
 -- nothing is read without a step
 pub no_step : (place : ℕ) (letters : List ℕ) → symbols_within 0 place letters ≡ nothing_left

@@ -2,7 +2,7 @@
 use Rattle.std.specs.Prelude.{◌≡◌, ◌≤◌, ℕ, zero, suc, ◌+◌, Bool, false, ◌||◌, ◌==◌, if◌then◌else◌, List, [], ◌∷◌, ◌++◌}
 use Rattle.std.specs.Prelude.{length, take, drop, Option, Some, None, option_map, encode_utf8, encode_utf8_all, chars}
 use Rattle.std.specs.List.{prefix_len}
-use Rattle.ft_base.specs.Characters.{is_name_start, is_name_char}
+use Rattle.ft_base.specs.Characters.{is_name_start, is_name_char, is_blank}
 use Rattle.ft_base.specs.Letters.{is_digit, number_of, begins_with}
 use Rattle.query_symbols.specs.declared.lexeme.Turn.{Turn}
 use Rattle.query_symbols.specs.declared.lexeme.Turn.TheVariants.{Passed, Bad}
@@ -80,9 +80,6 @@ first_number c rest = if is_digit c then number_at (c ∷ rest) else first_strin
 unfoldable pub first_lexeme : List ℕ → Option Lexeme
 first_lexeme [] = None
 first_lexeme (c ∷ rest) = if is_name_start c then name_at (c ∷ rest) else first_number c rest
-
-abbrev pub is_blank : ℕ → Bool
-is_blank c = (c == 32) || (c == 9)
 
 abbrev pub nothing_left : Symbols
 nothing_left = record { placed = []; bad = None }

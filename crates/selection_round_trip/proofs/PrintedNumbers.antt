@@ -10,12 +10,12 @@ use Rattle.std.specs.Fmt.{decimal}
 use Rattle.std.specs.List.{list_all, prefix_len}
 use Rattle.std.specs.Prelude.{encode_utf8_all, fold, nat_le, nat_lt}
 use Rattle.std.specs.Str.Parse.{AllDigits, IsNumeral, digits_value, digits_value_after}
-use Rattle.ft_base.specs.Characters.{is_within, is_in, is_ascii_name_start, is_name_start, is_name_char, is_only_inside}
+use Rattle.ft_base.specs.Characters.{is_within, is_in, is_ascii_name_start, is_name_start, is_name_char, is_only_inside, is_blank}
 use Rattle.ft_base.specs.Letters.{is_digit, number_of}
 use Rattle.ft_base.specs.Limits.{max_number}
 use Rattle.selection_grammar.specs.declared.symbol.Symbol.TheVariants.{Number}
 use Rattle.selection_grammar.specs.declared.symbol.Symbols.{Symbols}
-use Rattle.query_symbols.specs.Symbols.{first_lexeme, first_number, first_string, name_at, number_at, goes_on_as_name, is_blank, run_of, with_further, symbols_within}
+use Rattle.query_symbols.specs.Symbols.{first_lexeme, first_number, first_string, name_at, number_at, goes_on_as_name, run_of, with_further, symbols_within}
 use Rattle.selection_round_trip.specs.Strings.{with_symbol}
 use Rattle.selection_round_trip.proofs.PrintedNames.{run_all}
 use Rattle.selection_round_trip.proofs.PrintedStrings.{take_prefix}

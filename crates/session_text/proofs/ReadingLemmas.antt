@@ -6,10 +6,11 @@ use Rattle.std.specs.List.{starts_with, onto_first}
 use Rattle.std.proofs.lemmas.List.{append-nil}
 use Rattle.std.proofs.lemmas.Bool.Decides.{nat_tests}
 use Rattle.std.proofs.lemmas.Bool.{and_parts, and_from, not-true}
+use Rattle.ft_base.specs.Characters.{is_line_feed}
 use Rattle.session_text.specs.declared.command.Command.{Command}
 use Rattle.session_text.specs.steps.Blocks.{block_behind, without_last}
 use Rattle.session_text.specs.Commands.{commands_of_lines, opened, opens_block, closes_block, unquoted, command_of_line, command_of_block, block_of}
-use Rattle.text_lines.specs.Lines.{is_line_feed, is_skipped, lines}
+use Rattle.text_lines.specs.Lines.{is_skipped, lines}
 use Rattle.session_text.specs.Lines.{ended_lines, lines_of, without_mark, onto_ended}
 use Rattle.session_text.specs.steps.Reading.{Opened, Place, behind_lines, commands_on, commands_from, line_ended, ended_at, place_behind, is_unended}
 use Rattle.session_text.proofs.BlockLemmas.{block_of-lines}

@@ -6,8 +6,9 @@ use Rattle.std.proofs.lemmas.Str.{IsUtf8-from_is_utf8, is_utf8-from_IsUtf8, IsUt
 use Rattle.std.proofs.lemmas.Bool.Decides.{nat_tests}
 use Rattle.std.proofs.lemmas.List.Sums.{prefix_len_stops}
 use Rattle.std.proofs.lemmas.Bool.{not-false, and_from, and_right}
+use Rattle.ft_base.specs.Characters.{is_blank}
 use Rattle.ft_base.specs.Limits.{max_line_bytes}
-use Rattle.text_lines.specs.Lines.{is_blank, trimmed_start, trimmed_line, without_return}
+use Rattle.text_lines.specs.Lines.{trimmed_start, trimmed_line, without_return}
 use Rattle.session_text.specs.Words.{is_command_line}
 
 -- a blank is ASCII

@@ -1,13 +1,14 @@
 -- The commands of a session's bytes.
 use Rattle.std.specs.Prelude.{ℕ, ◌+◌, Bool, true, false, not, if◌then◌else◌, nat_eq, List, [], ◌∷◌, ◌++◌, drop, map, codes, Option, Some, None, Result, Ok, Err}
 use Rattle.std.specs.List.{starts_with, take_while, list_any, join_with_byte}
+use Rattle.ft_base.specs.Lists.{is_empty}
 use Rattle.session_text.specs.declared.command.Command.{Command}
 use Rattle.session_text.specs.declared.command.Command.TheVariants as command
 use Rattle.session_text.specs.declared.how.How.{How}
 use Rattle.session_text.specs.declared.how.How.TheVariants as how
 use Rattle.text_lines.specs.Lines.{behind_first_word, first_word, is_skipped, lines, trimmed_line, without_return}
 use Rattle.session_text.specs.Lines.{lines_of, without_mark}
-use Rattle.session_text.specs.Words.{is_text, is_empty, is_name, is_command_line, is_one_word}
+use Rattle.session_text.specs.Words.{is_text, is_name, is_command_line, is_one_word}
 
 -- a line whose command is followed by a block, whatever else it holds
 abbrev pub opens_block : List ℕ → Bool

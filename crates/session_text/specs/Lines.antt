@@ -1,7 +1,8 @@
 -- The lines of a session whose bytes have not all come.
 use Rattle.std.specs.Prelude.{ℕ, Bool, true, false, if◌then◌else◌, List, [], ◌∷◌, drop, nat_eq}
 use Rattle.std.specs.List.{starts_with}
-use Rattle.text_lines.specs.Lines.{is_line_feed, lines}
+use Rattle.ft_base.specs.Characters.{is_line_feed}
+use Rattle.text_lines.specs.Lines.{lines}
 
 -- a session's bytes behind the byte order mark, where one stands at its front
 abbrev pub without_mark : List ℕ → List ℕ

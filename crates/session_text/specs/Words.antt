@@ -4,15 +4,13 @@ use Rattle.std.specs.List.{list_all}
 use Rattle.std.specs.Cmp.Lexicographic.{pointwise}
 use Rattle.std.specs.Char.{is_ascii_alphanumeric}
 use Rattle.std.specs.Str.{is_utf8}
+use Rattle.ft_base.specs.Lists.{is_empty}
 use Rattle.ft_base.specs.Limits.{max_line_bytes, max_name_bytes}
 use Rattle.text_lines.specs.Lines.{without_return, trimmed_line, behind_first_word}
 
 -- whether two texts have the same bytes
 abbrev pub is_text : List ℕ → List ℕ → Bool
 is_text a b = pointwise nat_eq a b
-
-abbrev pub is_empty : List ℕ → Bool
-is_empty text = length text == 0
 
 -- a name: letters, digits, periods, low lines and hyphens, at least one and no more than a name may have
 abbrev pub is_name_byte : ℕ → Bool

@@ -2,7 +2,7 @@ ghost use Rattle.std.specs.Prelude.{◌≡◌, ◌+◌, ◌++◌, ◌≤◌, ◌
 ghost use Rattle.std.specs.List.{list_all, position_or_len};
 ghost use Rattle.session_text.specs.Given.{block_lengths, is_readable};
 ghost use Rattle.std.specs.Option.{option_map, option_to_list};
-ghost use Rattle.text_lines.specs.Lines.{is_line_feed};
+ghost use Rattle.ft_base.specs.Characters.{is_line_feed};
 ghost use Rattle.session_text.specs.steps.Blocks.{without_last};
 ghost use Rattle.session_text.specs.Commands.{closes_block, unquoted};
 ghost use Rattle.session_text.specs.steps.Reading.{at_start, behind_lines, between_lines, commands_from, ended_at, held_length};

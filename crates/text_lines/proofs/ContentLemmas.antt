@@ -1,7 +1,8 @@
 -- The lines that aren't skipped, from the first line on.
 use Rattle.std.proofs.Common.{◌≡◌, ◌∙◌, sym, ap, ℕ, ◌+◌, ◌<◌, Bool, true, false, cond, List, [], ◌∷◌, length, take, drop, refl, arith}
 use Rattle.std.specs.List.{position_or_len}
-use Rattle.text_lines.specs.Lines.{is_line_feed, is_skipped, lines, content_lines, trimmed_line}
+use Rattle.ft_base.specs.Characters.{is_line_feed}
+use Rattle.text_lines.specs.Lines.{is_skipped, lines, content_lines, trimmed_line}
 use Rattle.text_lines.proofs.LineLemmas.{lines_first}
 
 by_first : (number : ℕ) (line : List ℕ) (others : List (List ℕ)) → content_lines number (line ∷ others) ≡ cond (is_skipped line) (content_lines (number + 1) others) (record { number = number; text = trimmed_line line } ∷ content_lines (number + 1) others)

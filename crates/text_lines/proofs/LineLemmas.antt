@@ -1,7 +1,8 @@
 -- Lines and blanks, a byte at a time: what the loops that look for a line's end and for blanks have found so far.
 use Rattle.std.proofs.Common.{◌≡◌, ◌∙◌, sym, ap, refl, ℕ, ◌+◌, ◌<◌, suc, true, false, not, cond, List, [], ◌∷◌, ◌++◌, length, take, drop, arith}
 use Rattle.std.specs.List.{before_first, after_first, position_or_len, onto_first}
-use Rattle.text_lines.specs.Lines.{is_line_feed, is_blank, lines, trimmed_end, before_trimmed}
+use Rattle.ft_base.specs.Characters.{is_blank, is_line_feed}
+use Rattle.text_lines.specs.Lines.{lines, trimmed_end, before_trimmed}
 
 -- a byte in front of what stands before and behind a place
 split_later : (b : ℕ) (bytes : List ℕ) (n : ℕ) → take (1 + n) (b ∷ bytes) ∷ lines (drop (1 + n + 1) (b ∷ bytes)) ≡ onto_first b (take n bytes ∷ lines (drop (n + 1) bytes))

@@ -1,13 +1,7 @@
 -- The lines of a text, what a line says, and its first word.
 use Rattle.std.specs.Prelude.{ℕ, Bool, ◌==◌, ◌||◌, ◌-◌, ◌+◌, not, if◌then◌else◌, List, [], ◌∷◌, length, take, drop, nat_eq, codes}
 use Rattle.std.specs.List.{starts_with, ends_with, onto_first, take_while}
-
-abbrev pub is_line_feed : ℕ → Bool
-is_line_feed byte = byte == 10
-
--- a space or a tab
-abbrev pub is_blank : ℕ → Bool
-is_blank byte = byte == 32 || byte == 9
+use Rattle.ft_base.specs.Characters.{is_blank, is_line_feed}
 
 -- The lines without the line feeds that end them. What stands behind the last line feed is a line where it isn't empty.
 abbrev pub lines : List ℕ → List (List ℕ)

@@ -6,7 +6,8 @@ use Rattle.std.specs.Cmp.Lexicographic.{bytes_decides}
 use Rattle.std.proofs.lemmas.List.{take-append-drop}
 use Rattle.std.proofs.lemmas.List.Sums.{fails_before_first}
 use Rattle.std.proofs.lemmas.List.Splits.{slice_split_first, slice_split_none, length-slice_split}
-use Rattle.text_lines.specs.Lines.{is_blank, trimmed_start, trimmed_end, trimmed_line}
+use Rattle.ft_base.specs.Characters.{is_blank}
+use Rattle.text_lines.specs.Lines.{trimmed_start, trimmed_end, trimmed_line}
 use Rattle.text_lines.proofs.LineLemmas.{trimmed_end_other}
 use Rattle.thesaurus_file.specs.Lines.{is_bar, three, trimmed}
 

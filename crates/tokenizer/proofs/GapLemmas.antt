@@ -7,7 +7,8 @@ use Rattle.std.specs.Str.{chars}
 use Rattle.std.proofs.Math.Bool.{or_assoc, or-false}
 use Rattle.std.proofs.lemmas.Bool.Decides.{nat_tests}
 use Rattle.std.specs.List.{list_any}
-use Rattle.tokenizer.specs.Gaps.{is_line_feed, is_blank, is_sentence_end, begins_with_line_end, has_blank_line, is_block_element, characters_of, tags_of, ends_paragraph}
+use Rattle.ft_base.specs.Characters.{is_blank, is_line_feed}
+use Rattle.tokenizer.specs.Gaps.{is_sentence_end, begins_with_line_end, has_blank_line, is_block_element, characters_of, tags_of, ends_paragraph}
 use Rattle.tokenizer.specs.steps.GapSteps.{after_character, after_characters, after_tag, paragraph_ends_in, sentence_ends_in}
 use Rattle.tokenizer.specs.Parts.{Part, gap_characters, gap_tag}
 use Rattle.tokenizer.specs.declared.gap.Gap.{Gap}

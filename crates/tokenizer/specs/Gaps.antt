@@ -3,6 +3,7 @@
 use Rattle.std.specs.Prelude.{ℕ, Bool, false, ◌&&◌, ◌||◌, ◌==◌, List, [], ◌∷◌, flat_map, bytes_eq, codes}
 use Rattle.std.specs.List.{list_any}
 use Rattle.std.specs.Str.{chars}
+use Rattle.ft_base.specs.Characters.{is_blank, is_line_feed}
 use Rattle.tokenizer.specs.Parts.{Part, word, gap_characters, gap_tag}
 
 -- the parts up to the next word
@@ -29,13 +30,6 @@ tags_of_part (gap_tag name) = name ∷ []
 -- the names in the tags of a gap
 abbrev pub tags_of : List Part → List (List ℕ)
 tags_of = flat_map tags_of_part
-
-abbrev pub is_line_feed : ℕ → Bool
-is_line_feed c = c == 10
-
--- space or tab
-abbrev pub is_blank : ℕ → Bool
-is_blank c = c == 32 || c == 9
 
 -- `.`, `!` or `?`
 abbrev pub is_sentence_end : ℕ → Bool

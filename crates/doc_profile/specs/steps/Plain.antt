@@ -1,7 +1,7 @@
 -- Characters that stand in content for themselves, several at once.
 use Rattle.std.specs.Prelude.{◌≡◌, ℕ, Bool, true, false, ◌&&◌, not, nat_le, nat_lt, ◌==◌, List, ◌++◌}
 use Rattle.std.specs.List.{list_all}
-use Rattle.plain_tree.specs.Document.{is_empty}
+use Rattle.ft_base.specs.Lists.{is_empty}
 use Rattle.doc_grammar.specs.steps.Machine.{State, is_content, is_ready}
 
 -- ASCII, no markup and no control character

@@ -1,5 +1,6 @@
 -- What going through symbols comes to, as data.
 use Rattle.std.specs.Prelude.{Bool, true, false, ◌&&◌, List, [], ◌∷◌, Option, None, option_map, Result, Ok, Err}
+use Rattle.ft_base.specs.Lists.{is_empty}
 use Rattle.ft_base.specs.declared.fault.QueryFault.{QueryFault}
 use Rattle.ft_base.specs.declared.fault.QueryFault.TheVariants as Q
 use Rattle.selection_grammar.specs.declared.symbol.Placed.{Placed}
@@ -20,10 +21,6 @@ scan_of (Refused fault) = Err fault
 abbrev pub stopped_before : List Placed → Result (Option Tree) QueryFault
 stopped_before [] = Ok None
 stopped_before (p ∷ rest) = Err (Q.Syntax p.from)
-
-abbrev pub is_empty : {A : Type 0} → List A → Bool
-is_empty [] = true
-is_empty (a ∷ rest) = false
 
 -- whether nothing stands to the left of an operand
 abbrev pub stands_first : Left → Bool

@@ -1,7 +1,7 @@
 -- The parts of what is left of a text, behind the first characters of a part.
 use Rattle.std.specs.Prelude.{ℕ, List, [], ◌∷◌, ◌++◌, map, filter, if◌then◌else◌, encode_utf8_all}
 use Rattle.std.specs.Char.{is_whitespace}
-use Rattle.match_options.specs.Patterns.{is_not_empty}
+use Rattle.ft_base.specs.Lists.{is_not_empty}
 
 -- the part that ends, unless it is empty
 abbrev pub ended : List ℕ → List (List ℕ)

@@ -2,11 +2,12 @@
 use Rattle.std.specs.Prelude.{◌≡◌, ◌≤◌, ℕ, ◌+◌, ◌-◌, Bool, true, false, ◌==◌, if◌then◌else◌, List, []}
 use Rattle.std.specs.Prelude.{◌∷◌, ◌++◌, length, take, drop, not, Option, Some, None, option_map}
 use Rattle.std.specs.List.{list_all}
+use Rattle.ft_base.specs.Characters.{is_line_feed}
 use Rattle.session_text.specs.declared.command.Command.{Command}
 use Rattle.session_text.specs.declared.command.Command.TheVariants as command
 use Rattle.session_text.specs.steps.Blocks.{block_behind, without_last}
 use Rattle.session_text.specs.Commands.{opened, commands_of_lines, opens_block, closes_block, unquoted, command_of_line, command_of_block}
-use Rattle.text_lines.specs.Lines.{is_line_feed, is_skipped}
+use Rattle.text_lines.specs.Lines.{is_skipped}
 use Rattle.session_text.specs.Lines.{lines_of, without_mark}
 
 -- a command whose block is open: its line, that line's number, and the lines of the block so far, each with a line feed behind it

@@ -1,7 +1,8 @@
 -- What is known of a gap, step by step, and what it says of the gap while the rest is still to come.
 use Rattle.std.specs.Prelude.{ℕ, Bool, true, false, ◌&&◌, ◌||◌, List, [], ◌∷◌, if◌then◌else◌}
 use Rattle.std.specs.List.{list_any}
-use Rattle.tokenizer.specs.Gaps.{is_line_feed, is_blank, is_sentence_end, begins_with_line_end, is_block_element, characters_of, ends_paragraph}
+use Rattle.ft_base.specs.Characters.{is_blank, is_line_feed}
+use Rattle.tokenizer.specs.Gaps.{is_sentence_end, begins_with_line_end, is_block_element, characters_of, ends_paragraph}
 use Rattle.tokenizer.specs.Parts.{Part}
 use Rattle.tokenizer.specs.declared.gap.Gap.{Gap}
 

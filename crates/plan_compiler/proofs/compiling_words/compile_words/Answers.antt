@@ -1,7 +1,8 @@
 -- The parts of the compiled words.
 use Rattle.std.proofs.Common.{◌≡◌, ◌∙◌, refl, sym, ap, Bool, true, false, not, ◌&&◌, List, [], ◌∷◌}
 use Rattle.std.specs.Prelude.{◌↔◌, IsTrue}
-use Rattle.plan_compiler.specs.WordsMeaning.{asks_all, is_not_empty}
+use Rattle.ft_base.specs.Lists.{is_not_empty}
+use Rattle.plan_compiler.specs.WordsMeaning.{asks_all}
 use Rattle.plan_compiler.proofs.compiling_words.compile_words.Goals.{then-asks_all, else-asks_all}
 use Rattle.plan_compiler.proofs.compiling_words.compile_words.Goals as goal
 

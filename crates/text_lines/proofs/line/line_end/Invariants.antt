@@ -1,7 +1,7 @@
 -- No line feed stands before the place.
 use Rattle.std.proofs.Common.{◌≡◌, ◌+◌, ◌-◌, ◌≤◌, length, drop}
 use Rattle.std.specs.List.{position_or_len}
-use Rattle.text_lines.specs.Lines.{is_line_feed}
+use Rattle.ft_base.specs.Characters.{is_line_feed}
 use Rattle.text_lines.proofs.line.line_end.Given as goal
 
 abbrev pub invariant-loop-at : goal.invariant-loop-at

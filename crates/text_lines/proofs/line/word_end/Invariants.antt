@@ -1,7 +1,7 @@
 -- No blank stands before the place.
 use Rattle.std.proofs.Common.{◌≡◌, ◌+◌, ◌-◌, ◌≤◌, length, drop, not}
 use Rattle.std.specs.List.{prefix_len}
-use Rattle.text_lines.specs.Lines.{is_blank}
+use Rattle.ft_base.specs.Characters.{is_blank}
 use Rattle.text_lines.proofs.line.word_end.Given as goal
 
 abbrev pub invariant-loop-at : goal.invariant-loop-at
