@@ -1,6 +1,7 @@
 -- What the limit of filters tells of the selection that symbols spell, and of where they stand.
 use Rattle.std.proofs.Common.{◌≡◌, Bool, true, false, ◌&&◌, List, [], ◌∷◌, ◌++◌, Option, Some, None, refl, sym, ◌∙◌, ap, subst, append_assoc}
 use Rattle.std.specs.Prelude.{not}
+use Rattle.std.proofs.lemmas.Bool.{and_parts}
 use Rattle.ft_base.specs.declared.words.Mode.TheVariants as M
 use Rattle.selection_grammar.specs.declared.symbol.Symbol.{Symbol}
 use Rattle.selection_grammar.specs.declared.symbol.Symbol.TheVariants as S
@@ -131,11 +132,6 @@ outer_opened : {u : List Placed} {outer : List Frame} → Outer u outer → Open
 outer_opened Outer.none = Opened.nothing
 outer_opened (Outer.open_one {u = u} {v = v} {w = w} o l n p) = subst Opened (regrouped u v w (at p S.OpenParenthesis ∷ [])) (Opened.behind ((u ++ v) ++ w) p)
 
-both : (a b : Bool) → (a && b) ≡ true → (a ≡ true) × (b ≡ true)
-both true true h = (refl, refl)
-both true false h = cc
-both false b h = cc
-
 stands_deep : {u : List Placed} {s : State} → Stands u s → has_all_filters (selection_at s.left s.stage) ≡ true → HasAllFilters u
 stands_deep {u = u} {s = s} x f = go (selection_at s.left s.stage) refl f
   where
@@ -144,7 +140,7 @@ stands_deep {u = u} {s = s} x f = go (selection_at s.left s.stage) refl f
     go (Some y) e f = record { outside = x.outside; inside = x.inside; tree = y; split = x.spelled; opened = outer_opened x.outer; spells = within_selection x.within e; full = f }
 
 deep_at : (before : List Placed) (t : Shape State) (symbol : Symbol) → read before ≡ Some t → is_deep_filter t symbol ≡ true → (is_filter_word symbol ≡ true) × HasAllFilters before
-deep_at before (whole s) symbol r d = let parts = both (is_filter_word symbol) (has_all_filters (selection_at s.left s.stage)) d in (parts.0, stands_deep (stood before (whole s) r) parts.1)
+deep_at before (whole s) symbol r d = let parts = and_parts (is_filter_word symbol) (has_all_filters (selection_at s.left s.stage)) d in (parts.0, stands_deep (stood before (whole s) r) parts.1)
 deep_at before nothing symbol r d = cc
 deep_at before (word key to rest) symbol r d = cc
 deep_at before (number to rest) symbol r d = cc

@@ -1,6 +1,7 @@
 -- Whether filters are within their limit in all that the machine has read, wherever it stands.
 use Rattle.std.proofs.Common.{◌≡◌, ℕ, Bool, true, false, ◌&&◌, List, [], ◌∷◌, ◌++◌, Option, Some, None, refl, sym, ◌∙◌, ap}
 use Rattle.std.specs.Prelude.{not, nat_le}
+use Rattle.std.proofs.Math.Bool.{and-true, and_assoc}
 use Rattle.ft_base.specs.Limits.{max_filters}
 use Rattle.ft_base.specs.declared.filter.Filter.{Filter}
 use Rattle.selection_grammar.specs.declared.parsed.PlacedOption.{PlacedOption}
@@ -10,21 +11,6 @@ use Rattle.selection_grammar.specs.Tree.{Tree, trees_of, joined, Primary, phrase
 use Rattle.ft_parser.specs.FilterLimit.{are_filters_within, are_all_within}
 use Rattle.ft_parser.specs.Limits.{filters_round}
 use Rattle.ft_parser.proofs.FilterShapes.{First, first_or_else}
-
--- truth values
-pub and_true : (a : Bool) → (a && true) ≡ a
-and_true true = refl
-and_true false = refl
-
-pub and_assoc : (a b c : Bool) → ((a && b) && c) ≡ (a && (b && c))
-and_assoc true b c = refl
-and_assoc false b c = refl
-
-and_swap : (a b : Bool) → (a && b) ≡ (b && a)
-and_swap true true = refl
-and_swap true false = refl
-and_swap false true = refl
-and_swap false false = refl
 
 -- lists of selections
 abbrev pub all_within : List Tree → Bool
@@ -37,19 +23,19 @@ trees_within [] = refl
 trees_within (x ∷ rest) = ap (λ b. are_filters_within x && b) (trees_within rest)
 
 all_append : (xs : List Tree) (y : Tree) → all_within (xs ++ y ∷ []) ≡ (all_within xs && are_filters_within y)
-all_append [] y = and_true (are_filters_within y)
+all_append [] y = and-true (are_filters_within y)
 all_append (x ∷ xs) y = ap (λ b. are_filters_within x && b) (all_append xs y) ∙ sym (and_assoc (are_filters_within x) (all_within xs) (are_filters_within y))
 
 or_within : (xs : List Tree) → are_filters_within (joined or_of xs) ≡ all_within xs
 unfolding are_filters_within
 or_within [] = refl
-or_within (x ∷ []) = sym (and_true (are_filters_within x))
+or_within (x ∷ []) = sym (and-true (are_filters_within x))
 or_within (x ∷ y ∷ rest) = trees_within (x ∷ y ∷ rest)
 
 and_within : (xs : List Tree) → are_filters_within (joined and_of xs) ≡ all_within xs
 unfolding are_filters_within
 and_within [] = refl
-and_within (x ∷ []) = sym (and_true (are_filters_within x))
+and_within (x ∷ []) = sym (and-true (are_filters_within x))
 and_within (x ∷ y ∷ rest) = trees_within (x ∷ y ∷ rest)
 
 -- what stands to the left, and an operand
@@ -120,7 +106,7 @@ abbrev pub Old : Bool → Bool → Type 0
 Old old new = new ≡ (old && true)
 
 pub old : (a : Bool) → a ≡ (a && true)
-old a = sym (and_true a)
+old a = sym (and-true a)
 
 -- a selection under way
 pub whole_within : (left : Left) (n : Option ℕ) (x : Primary) (os : List PlacedOption) → are_filters_within (selection_with left (operand_of n x os)) ≡ (left_within left && primary_within x)

@@ -9,7 +9,7 @@ pub mod FilterStates
 pub mod FilterStages
 pub mod FilterRuns
 pub mod Steps
-pub mod Extents
+pub mod Endings
 pub mod Runs
 pub mod Prefixes
 pub mod PrefixLaws

@@ -15,3 +15,15 @@ fault_kept view view' e e' (Q.BadWildcard at) kept h = kept (Q.BadWildcard at) h
 fault_kept view view' e e' (Q.MildNotExclude at) kept h = kept (Q.MildNotExclude at) h
 fault_kept view view' e e' (Q.InsideFilter at) kept h = kept (Q.InsideFilter at) h
 fault_kept view view' e e' Q.Memory kept h = tt
+
+-- and of what is that fault
+pub answered : {A B : Type 0} (view : A → B) (e : Result B QueryFault) (fault : QueryFault) → Err fault ≡ e → Answered view e (Err fault)
+answered view e (Q.Syntax at) h = h
+answered view e (Q.Deep at) h = h
+answered view e (Q.Number at) h = h
+answered view e (Q.Phrases at) h = h
+answered view e (Q.OptionTwice at) h = h
+answered view e (Q.BadWildcard at) h = h
+answered view e (Q.MildNotExclude at) h = h
+answered view e (Q.InsideFilter at) h = h
+answered view e Q.Memory h = tt

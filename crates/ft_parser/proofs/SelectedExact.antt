@@ -1,5 +1,6 @@
 -- What is right by the grammar is what symbols are read as.
-use Rattle.std.proofs.Common.{◌≡◌, ℕ, Bool, true, false, ◌||◌, ◌&&◌, cond, List, [], ◌∷◌, ◌++◌, Option, Some, None, Ok, Err, refl, sym, ◌∙◌, ap, subst, append_assoc}
+use Rattle.std.proofs.Common.{◌≡◌, ℕ, true, false, ◌||◌, ◌&&◌, cond, List, [], ◌∷◌, ◌++◌, Option, Some, None, Ok, Err, refl, sym, ◌∙◌, ap, subst, append_assoc}
+use Rattle.std.proofs.lemmas.Bool.{and_from, or_parts, or_right}
 use Rattle.std.proofs.lemmas.List.{append-nil}
 use Rattle.std.specs.Prelude.{nat_le}
 use Rattle.ft_base.specs.Limits.{max_open}
@@ -17,7 +18,7 @@ use Rattle.ft_parser.specs.Answer.{scanned_on, scanned_from, faultless, ended, r
 use Rattle.ft_parser.specs.Limits.{is_great, open_behind, passes, before_limit, from_limit, limit_fault, is_deep_filter}
 use Rattle.ft_parser.specs.Selected.{open_in, is_deep_there, is_deep_behind, passes_limit, MayStand, IsWhole, Selects, Refuses}
 use Rattle.ft_parser.proofs.FilterRuns.{led, within_none_deep}
-use Rattle.ft_parser.proofs.SelectedLaws.{neither, number_no_mark, deep_passes_none, open_on, rest_read}
+use Rattle.ft_parser.proofs.SelectedLaws.{number_no_mark, deep_passes_none, open_on, rest_read}
 
 -- what begins a selection is read
 begun : (u : List Placed) → Begins u → (C : Type 0) → ((shape : Shape State) → read u ≡ Some shape → C) → C
@@ -45,7 +46,7 @@ along bad size [] u0 v s0 s r0 r h =
     let same : s0 ≡ s = cc in
     ap (λ z. rest_read (open_in u0) z v bad size) same ∙ ap (λ z. rest_read (open_in z) s v bad size) (sym (append-nil u0))
 along bad size (p ∷ u) u0 v s0 s r0 r h =
-    let limits = neither (passes (open_in u0) p.symbol) (is_deep_behind u0 p.symbol) (h u0 p u refl) in
+    let limits = or_parts (passes (open_in u0) p.symbol) (is_deep_behind u0 p.symbol) (h u0 p u refl) in
     let runs : run_on (advance s0 p) u ≡ Some s = sym (read-append u0 (p ∷ u) ∙ ap (λ o. run_on o (p ∷ u)) r0) ∙ r in
     led (advance s0 p) u s _ runs (λ next a.
     let there : read (u0 ++ p ∷ []) ≡ Some next = read-append u0 (p ∷ []) ∙ ap (λ o. run_on o (p ∷ [])) r0 ∙ ap (λ o. run_on o []) a in
@@ -68,7 +69,7 @@ at_filter bad size depth p v shape f =
     ap (λ b. read_as (scanned_from shape (cond b [] (p ∷ before_limit (open_behind depth p.symbol) v))) (cond b (p ∷ v) (from_limit (open_behind depth p.symbol) v)) bad size) (deep_passes_none shape p.symbol depth f)
     ∙ ap (λ b. read_as (cond b (Err (Q.Deep p.from)) (scanned_on p (advance shape p) (λ s. scanned_from s (before_limit (open_behind depth p.symbol) v)))) (from_limit (open_behind depth p.symbol) v) bad size) f
 
-at_symbol : (bad : Option ℕ) (size depth : ℕ) (p : Placed) (v : List Placed) (shape : Shape State) → passes depth p.symbol ≡ false → is_deep_filter shape p.symbol ≡ false → advance shape p ≡ None → rest_read depth shape (p ∷ v) bad size ≡ Err (Q.Syntax p.from)
+pub at_symbol : (bad : Option ℕ) (size depth : ℕ) (p : Placed) (v : List Placed) (shape : Shape State) → passes depth p.symbol ≡ false → is_deep_filter shape p.symbol ≡ false → advance shape p ≡ None → rest_read depth shape (p ∷ v) bad size ≡ Err (Q.Syntax p.from)
 unfolding scanned_from
 at_symbol bad size depth p v shape l f a =
     ap (λ b. read_as (scanned_from shape (cond b [] (p ∷ before_limit (open_behind depth p.symbol) v))) (cond b (p ∷ v) (from_limit (open_behind depth p.symbol) v)) bad size) l
@@ -117,18 +118,12 @@ refuses_read symbols bad size fault (Refuses.number u p rest e h great) = begun 
     to_there symbols bad size u (p ∷ rest) s e r h ∙ at_limit bad size (open_in u) p rest s (ap (λ b. b || (nat_le max_open (open_in u) && is_mark open_parenthesis p.symbol)) great)
     ∙ ap (λ b. Err (cond b (Q.Deep p.from) (Q.Number p.from))) (number_no_mark p.symbol great))
 refuses_read symbols bad size fault (Refuses.parenthesis u p rest e h opens full) = begun u h.begins _ (λ s r.
-    to_there symbols bad size u (p ∷ rest) s e r h ∙ at_limit bad size (open_in u) p rest s (both (is_great (number_of p.symbol)) (nat_le max_open (open_in u)) (is_mark open_parenthesis p.symbol) full opens)
+    to_there symbols bad size u (p ∷ rest) s e r h ∙ at_limit bad size (open_in u) p rest s (or_right (is_great (number_of p.symbol)) (nat_le max_open (open_in u) && is_mark open_parenthesis p.symbol) (and_from (nat_le max_open (open_in u)) (is_mark open_parenthesis p.symbol) full opens))
     ∙ ap (λ b. Err (cond b (Q.Deep p.from) (Q.Number p.from))) opens)
-  where
-    both : (a b c : Bool) → b ≡ true → c ≡ true → (a || (b && c)) ≡ true
-    both true b c h k = refl
-    both false true true h k = refl
-    both false false c h k = cc
-    both false true false h k = cc
 refuses_read symbols bad size fault (Refuses.filter u p rest e h deep) = begun u h.begins _ (λ s r.
     to_there symbols bad size u (p ∷ rest) s e r h ∙ at_filter bad size (open_in u) p rest s (sym (ap (λ o. is_deep_there o p.symbol) r) ∙ deep))
 refuses_read symbols bad size fault (Refuses.symbol u p rest e h l refused) = begun u h.begins _ (λ s r.
-    let limits = neither (passes (open_in u) p.symbol) (is_deep_behind u p.symbol) l in
+    let limits = or_parts (passes (open_in u) p.symbol) (is_deep_behind u p.symbol) l in
     to_there symbols bad size u (p ∷ rest) s e r h ∙ at_symbol bad size (open_in u) p rest s limits.0 (sym (ap (λ o. is_deep_there o p.symbol) r) ∙ limits.1) (refused_there u p s r refused))
 refuses_read symbols bad size fault (Refuses.character at e h) = begun symbols h.begins _ (λ s r. to_end symbols bad size s r h ∙ ap (λ b. ended b size (finished_at s)) e)
 refuses_read symbols bad size fault (Refuses.end e h refused) = begun symbols h.begins _ (λ s r. to_end symbols bad size s r h ∙ ap (λ b. ended b size (finished_at s)) e ∙ ap (ended None size) (unfinish symbols s refused r))

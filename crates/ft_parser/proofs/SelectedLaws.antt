@@ -1,5 +1,6 @@
 -- What symbols are read as is right by the grammar, and what is right by the grammar is read.
 use Rattle.std.proofs.Common.{◌≡◌, ℕ, Bool, true, false, ◌||◌, ◌&&◌, cond, List, [], ◌∷◌, ◌++◌, Option, Some, None, Result, Ok, Err, refl, sym, ◌∙◌, ap, subst, append_assoc}
+use Rattle.std.proofs.lemmas.Bool.{or_parts}
 use Rattle.std.proofs.lemmas.List.{append-nil}
 use Rattle.std.specs.Prelude.{nat_le}
 use Rattle.ft_base.specs.Limits.{max_open}
@@ -31,11 +32,6 @@ last_or_inner (a ∷ u) p (b ∷ before) q rest C e last inner =
     let head : a ≡ b = cc in
     let tail : u ++ p ∷ [] ≡ before ++ q ∷ rest = cc in
     last_or_inner u p before q rest C tail (λ h k. last (λ i. sym head i ∷ h i) k) (λ r h. inner r (λ i. head i ∷ h i))
-
-pub neither : (a b : Bool) → (a || b) ≡ false → (a ≡ false) × (b ≡ false)
-neither false false h = (refl, refl)
-neither true b h = cc
-neither false true h = cc
 
 pub open_on : (u v : List Placed) (depth : ℕ) → open_after depth (u ++ v) ≡ open_after (open_after depth u) v
 open_on [] v depth = refl
@@ -74,8 +70,8 @@ Outcome symbols bad size (Err fault) = Refuses symbols bad size fault
 whole_of : {u : List Placed} {tree : Tree} → MayStand u → Selection u tree → IsWhole u tree
 whole_of {u = u} {tree = tree} h a = record {
   spells = a;
-  limits = λ before p rest e. (neither (passes (open_in before) p.symbol) (is_deep_behind before p.symbol) (h.limits before p rest e)).0;
-  filters = none_deep_within u tree a (λ before p rest e. (neither (passes (open_in before) p.symbol) (is_deep_behind before p.symbol) (h.limits before p rest e)).1);
+  limits = λ before p rest e. (or_parts (passes (open_in before) p.symbol) (is_deep_behind before p.symbol) (h.limits before p rest e)).0;
+  filters = none_deep_within u tree a (λ before p rest e. (or_parts (passes (open_in before) p.symbol) (is_deep_behind before p.symbol) (h.limits before p rest e)).1);
 }
 
 judged : (u : List Placed) (size : ℕ) (tree : Tree) (o : Option QueryFault) → MayStand u → Selection u tree → fault_of tree ≡ o → Outcome u None size (faultless tree o)

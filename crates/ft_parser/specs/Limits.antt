@@ -1,5 +1,6 @@
 -- The limits of a query: how great numbers are, how many parentheses are open at once, and how many filters stand directly round one another.
-use Rattle.std.specs.Prelude.{ℕ, zero, suc, ◌+◌, ◌-◌, Bool, false, ◌||◌, ◌&&◌, nat_lt, nat_le, if◌then◌else◌, List, [], ◌∷◌, codes, Option, Some, None}
+use Rattle.std.specs.Prelude.{ℕ, zero, suc, ◌+◌, ◌-◌, Bool, false, ◌||◌, ◌&&◌, nat_lt, nat_le, if◌then◌else◌}
+use Rattle.std.specs.Prelude.{List, [], ◌∷◌, codes, Option, Some, None, Result, Ok, Err}
 use Rattle.ft_base.specs.Limits.{max_filters, max_number, max_open}
 use Rattle.ft_base.specs.declared.fault.QueryFault.{QueryFault}
 use Rattle.ft_base.specs.declared.fault.QueryFault.TheVariants as Q
@@ -34,6 +35,15 @@ from_limit depth (p ∷ rest) = if passes depth p.symbol then p ∷ rest else fr
 
 abbrev pub limit_fault : Placed → QueryFault
 limit_fault p = if is_mark open_parenthesis p.symbol then Q.Deep p.from else Q.Number p.from
+
+-- how many parentheses are open behind symbols where so many are open before them, or the fault of the first of them that passes a limit
+abbrev pub open_within : ℕ → List Placed → Result ℕ QueryFault
+open_within depth [] = Ok depth
+open_within depth (p ∷ rest) = if passes depth p.symbol then Err (limit_fault p) else open_within (open_behind depth p.symbol) rest
+
+-- the fault of a symbol that can't stand where so many parentheses are open: a limit that it passes counts first
+abbrev pub symbol_fault : ℕ → Placed → QueryFault
+symbol_fault depth p = if passes depth p.symbol then limit_fault p else Q.Syntax p.from
 
 -- how many filters stand directly round one another
 abbrev pub filters_round : Tree → ℕ

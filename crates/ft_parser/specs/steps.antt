@@ -1,5 +1,5 @@
 pub mod State
-pub mod Extent
+pub mod Ending
 pub mod Parts
 pub mod Scan
 pub mod Turns

@@ -2,8 +2,8 @@
 #![tactic(auto)]
 
 mod building;
+mod ending;
 pub mod examples;
-mod extent;
 mod filter_depth;
 mod finishing;
 mod heads;

@@ -1,7 +1,6 @@
 //! The limits of numbers and of open parentheses.
 
-ghost use Rattle.std.specs.Prelude.{◌≡◌, ◌<◌, ◌+◌, ◌^◌, [], IfSome, IfNone, drop, length, take};
-ghost use Rattle.ft_parser.specs.steps.Extent as extent;
+ghost use Rattle.std.specs.Prelude.{◌≡◌, ◌<◌, ◌+◌, ◌^◌, length};
 ghost use Rattle.ft_parser.specs.Limits as spec;
 
 use ft_base::{MAX_NUMBER, MAX_OPEN, QueryFault};
@@ -28,43 +27,33 @@ fn open_behind(depth: usize, symbol: &Symbol) -> usize
     }
 }
 
-/// The number of the first symbol that passes a limit. It reads the symbols once.
-pub(crate) fn limit_at(symbols: &[Placed]) -> Option<usize>
-    ensures within { IfSome result (λ n. n < length symbols.now) }
-    ensures before { IfSome result (λ n. spec.before_limit 0 symbols.now ≡ take n symbols.now) }
-    ensures from { IfSome result (λ n. spec.from_limit 0 symbols.now ≡ drop n symbols.now) }
-    ensures all { IfNone result (spec.before_limit 0 symbols.now ≡ symbols.now) }
-    ensures none { IfNone result (spec.from_limit 0 symbols.now ≡ []) }
-{
-    let mut depth = 0;
-    let mut number = 0;
-    for placed in symbols {
-        if passes(depth, &placed.symbol) {
-            return Some(number);
-        }
-        depth = open_behind(depth, &placed.symbol);
-        number += 1;
-    }
-    None
-}
-
-/// How many parentheses are open behind symbols, where so many are open before them and none of them passes a limit.
-pub(crate) fn open_within(depth: usize, symbols: &[Placed]) -> Option<usize>
+/// How many parentheses are open behind symbols where so many are open before them, or the fault of the first of them that passes a limit.
+pub(crate) fn open_within(depth: usize, symbols: &[Placed]) -> Result<usize, QueryFault>
     requires { depth + length symbols.now < 2 ^ 63 }
-    ensures { result ≡ extent.open_within depth symbols.now }
+    ensures { result ≡ spec.open_within depth symbols.now }
 {
     let mut count = depth;
     for placed in symbols {
         if passes(count, &placed.symbol) {
-            return None;
+            return Err(limit_fault(placed));
         }
         count = open_behind(count, &placed.symbol);
     }
-    Some(count)
+    Ok(count)
+}
+
+/// The fault of a symbol that can't stand where so many parentheses are open: a limit that it passes counts first.
+pub(crate) fn symbol_fault(depth: usize, placed: &Placed) -> QueryFault
+    ensures { result ≡ spec.symbol_fault depth placed.now }
+{
+    if passes(depth, &placed.symbol) {
+        return limit_fault(placed);
+    }
+    QueryFault::Syntax { at: placed.from }
 }
 
 /// The fault of a symbol that passes a limit.
-pub(crate) fn limit_fault(placed: &Placed) -> QueryFault
+fn limit_fault(placed: &Placed) -> QueryFault
     ensures { result ≡ spec.limit_fault placed.now }
 {
     match &placed.symbol {

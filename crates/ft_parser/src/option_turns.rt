@@ -12,7 +12,8 @@ use crate::building::{filtered, operand_tree, selection_with};
 use crate::heads::{is_word, place_at};
 use crate::operand_turns::{close, joint, nothing_left_of};
 use crate::parts::{
-    begins_filter, begins_other_filter, bound, filter, other_filter, range_without_at, side,
+    begins_filter, begins_other_filter, begins_range_without_at, bound, filter, other_filter,
+    range_without_at, side,
 };
 use crate::plain_option::plain_option;
 use crate::state::{Frame, Halt, Left, Operand, Stage, State, Stops, Uses};
@@ -328,7 +329,7 @@ fn behind_name(
 {
     if is_word(symbols, next, "at") {
         behind_at(alloc, symbols, next + 1, outer, left, last)
-    } else if is_word(symbols, next, "exactly") || is_word(symbols, next, "from") {
+    } else if begins_range_without_at(symbols, next) {
         levels(
             alloc,
             symbols,

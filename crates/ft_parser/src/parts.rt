@@ -3,6 +3,7 @@
 ghost use Rattle.std.specs.Prelude.{◌≡◌, ◌≤◌, ◌<◌, ◌+◌, drop, length, IfOk, codes};
 ghost use Rattle.ft_base.specs.declared.filter.Filter.TheVariants as F;
 ghost use Rattle.ft_parser.specs.steps.Parts as spec;
+ghost use Rattle.ft_parser.specs.steps.Turns as turns;
 ghost use Rattle.selection_grammar.specs.Keywords as keywords;
 ghost use Rattle.selection_grammar.specs.steps.Reading.{reading};
 
@@ -60,6 +61,13 @@ fn two_bounds(symbols: &[Placed], next: usize) -> Result<(Range, usize), usize>
         Some(high) => Ok((Range::FromTo(low, high), next + 3)),
         None => Err(next + 2),
     }
+}
+
+/// Whether a range begins there, but for one with `at`.
+pub(crate) fn begins_range_without_at(symbols: &[Placed], next: usize) -> bool
+    ensures { result ≡ turns.begins_range_without_at (drop next symbols.now) }
+{
+    is_word(symbols, next, "exactly") || is_word(symbols, next, "from")
 }
 
 /// A range that doesn't begin with `at`.

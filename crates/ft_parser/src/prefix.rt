@@ -1,17 +1,19 @@
 //! Reading the selection with which a text or symbols begin.
 
-ghost use Rattle.std.specs.Prelude.{◌≡◌, ◌≤◌, IfOk, IsCharBoundary, length, take};
+ghost use Rattle.std.specs.Prelude.{◌≡◌, ◌≤◌, IfOk, IsCharBoundary, length, option_map};
 ghost use Rattle.ft_parser.specs.Answer.{Answered};
 ghost use Rattle.ft_parser.specs.Prefix as spec;
 ghost use Rattle.ft_parser.specs.Prefix.{numbered_form};
+ghost use Rattle.ft_parser.specs.steps.Scan.{read_alone};
 ghost use Rattle.ft_syntax.specs.View.{form};
+ghost use Rattle.selection_grammar.specs.View.{tree};
 
-use crate::extent::{Extent, extent_of};
-use crate::read::read_placed;
+use crate::read::{faultless, read_to_end, rest};
+use crate::scan::{Scan, scan_symbols};
 use ft_base::QueryFault;
 use ft_syntax::Selection;
 use query_symbols::symbols_from;
-use selection_grammar::Placed;
+use selection_grammar::{Parsed, Placed};
 use std::alloc::Global;
 
 /// Reads the selection with which a text begins at a byte place, at which a character starts or the text ends. It takes the longest run of symbols that
@@ -47,38 +49,37 @@ pub fn read_run(
     ensures value { Answered numbered_form (spec.run_read symbols.now bad size) result }
     ensures within { IfOk result (λ read. read.1 ≤ length symbols.now) }
 {
-    match extent_of(alloc, symbols) {
-        Ok(extent) => match read_extent(alloc, symbols, bad, size, extent) {
-            Ok(selection) => Ok((selection, extent.count)),
-            Err(fault) => Err(fault),
-        },
-        Err(_) => Err(QueryFault::Memory),
+    match scan_symbols(alloc, symbols) {
+        Ok(scan) => {
+            let Scan {
+                count,
+                depth,
+                whole,
+            } = scan;
+            match read_alone(alloc, depth, rest(symbols, count), bad, size, whole) {
+                Ok(selection) => Ok((selection, count)),
+                Err(fault) => Err(fault),
+            }
+        }
+        Err(fault) => Err(fault),
     }
 }
 
-/// Reads so many symbols alone, or with what stands behind them.
-fn read_extent(
+/// The run by itself, before these symbols: they are its end only where it is no whole selection.
+fn read_alone(
     alloc: Global,
-    symbols: &[Placed],
+    depth: usize,
+    left: &[Placed],
     bad: Option<usize>,
     size: usize,
-    extent: Extent,
+    whole: Option<Parsed>,
 ) -> Result<Selection, QueryFault>
-    requires { extent.count ≤ length symbols.now }
-    ensures { Answered form (spec.read_with_end extent.is_all extent.count symbols.now bad size) result }
+    ensures { Answered form (read_alone depth left.now bad size (option_map tree whole)) result }
 {
-    if extent.is_all {
-        return read_placed(alloc, &symbols[..extent.count], None, size);
+    match whole {
+        Some(parsed) => faultless(alloc, parsed),
+        None => read_to_end(alloc, depth, left, bad, size, None),
     }
-    read_placed(alloc, first(symbols, extent.count + 1), bad, size)
-}
-
-/// The first so many symbols, or all.
-#[tactic(auto, using(std::proofs::lemmas::List::take_min))]
-fn first(symbols: &[Placed], count: usize) -> &[Placed]
-    ensures { result.now ≡ take count symbols.now }
-{
-    &symbols[..count.min(symbols.len())]
 }
 
 /// The place behind symbols that stand from a place on.

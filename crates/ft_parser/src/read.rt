@@ -1,13 +1,14 @@
 //! Reading whole selections.
 
-ghost use Rattle.std.specs.Prelude.{option_map};
+ghost use Rattle.std.specs.Prelude.{◌≡◌, ◌≤◌, drop, length, option_map};
 ghost use Rattle.ft_parser.specs.Answer as spec;
-ghost use Rattle.ft_parser.specs.Answer.{Answered, scanned, selection_read, symbols_read, symbols_with};
+ghost use Rattle.ft_parser.specs.Answer.{Answered, selection_read, symbols_read, symbols_with};
+ghost use Rattle.ft_parser.specs.steps.Scan.{read_to_end};
 ghost use Rattle.ft_syntax.specs.View.{form};
 ghost use Rattle.selection_grammar.specs.View.{tree};
 ghost use Rattle.selection_faults.specs.Faults.{fault_of};
 
-use crate::limits::{limit_at, limit_fault};
+use crate::limits::symbol_fault;
 use crate::scan::{Scan, scan_symbols};
 use ft_base::QueryFault;
 use ft_syntax::Selection;
@@ -28,7 +29,7 @@ pub fn read_selection(alloc: Global, text: &str) -> Result<Selection, QueryFault
 }
 
 /// Reads symbols in a text of so many bytes, which has a character behind them that begins no symbol, or none.
-pub(crate) fn read_placed(
+fn read_placed(
     alloc: Global,
     placed: &[Placed],
     bad: Option<usize>,
@@ -36,24 +37,44 @@ pub(crate) fn read_placed(
 ) -> Result<Selection, QueryFault>
     ensures { Answered form (symbols_read (symbols_with placed.now bad) size) result }
 {
-    match limit_at(placed) {
-        None => ended(alloc, bad, size, parsed(alloc, placed)?),
-        Some(number) => {
-            let read = parsed(alloc, &placed[..number])?;
-            drop(read);
-            Err(limit_fault(&placed[number]))
+    match scan_symbols(alloc, placed) {
+        Ok(scan) => {
+            let Scan {
+                count,
+                depth,
+                whole,
+            } = scan;
+            read_to_end(alloc, depth, rest(placed, count), bad, size, whole)
         }
+        Err(fault) => Err(fault),
     }
 }
 
-/// The selection that symbols are, if they are a whole one.
-fn parsed(alloc: Global, symbols: &[Placed]) -> Result<Option<Parsed>, QueryFault>
-    ensures { Answered (option_map tree) (scanned symbols.now) result }
+/// The symbols from that number on.
+pub(crate) fn rest(symbols: &[Placed], count: usize) -> &[Placed]
+    requires { count ≤ length symbols.now }
+    ensures { result.now ≡ drop count symbols.now }
 {
-    match scan_symbols(alloc, symbols) {
-        Ok(Scan::Whole(parsed)) => Ok(parsed),
-        Ok(Scan::Refused(fault)) => Err(fault),
-        Err(_) => Err(QueryFault::Memory),
+    &symbols[count..]
+}
+
+/// Behind the run, before these symbols: none of them may be left.
+pub(crate) fn read_to_end(
+    alloc: Global,
+    depth: usize,
+    left: &[Placed],
+    bad: Option<usize>,
+    size: usize,
+    whole: Option<Parsed>,
+) -> Result<Selection, QueryFault>
+    ensures { Answered form (read_to_end depth left.now bad size (option_map tree whole)) result }
+{
+    match left.first() {
+        None => ended(alloc, bad, size, whole),
+        Some(placed) => {
+            drop(whole);
+            Err(symbol_fault(depth, placed))
+        }
     }
 }
 
@@ -77,7 +98,7 @@ fn ended(
 }
 
 /// The selection, unless something is wrong with it.
-fn faultless(alloc: Global, parsed: Parsed) -> Result<Selection, QueryFault>
+pub(crate) fn faultless(alloc: Global, parsed: Parsed) -> Result<Selection, QueryFault>
     ensures { Answered form (spec.faultless (tree parsed) (fault_of (tree parsed))) result }
 {
     match first_fault(alloc, &parsed) {

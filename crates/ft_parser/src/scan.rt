@@ -1,65 +1,108 @@
-//! Going through symbols, one construct after the other.
+//! Going through symbols once, one construct after the other.
 
-ghost use Rattle.std.specs.Prelude.{◌≡◌, IfOk, drop};
-ghost use Rattle.ft_parser.specs.Answer.{scanned};
-ghost use Rattle.ft_parser.specs.steps.Scan.{scan_of, stopped_before};
+ghost use Rattle.std.specs.Prelude.{◌≡◌, ◌≤◌, ◌-◌, drop, length, take};
+ghost use Rattle.ft_parser.specs.Limits as limits;
+ghost use Rattle.ft_parser.specs.steps.Scan as spec;
 ghost use Rattle.ft_parser.specs.steps.State.{state_of};
 ghost use Rattle.selection_grammar.specs.steps.Machine as m;
 
+use crate::ending::ends_before;
 use crate::filter_depth::begins_deep_filter;
 use crate::finishing::finish;
+use crate::heads::place_at;
+use crate::limits::open_within;
 use crate::operand_turns::nothing_left_of;
 use crate::state::{Halt, Stage, State};
 use crate::turn::turn;
-use ft_base::{Memory, QueryFault};
+use ft_base::QueryFault;
 use selection_grammar::{Parsed, Placed};
 use std::alloc::Global;
 
-/// What symbols are, limits of numbers and parentheses aside.
+/// How far symbols begin a selection.
 #[derive(Drop)]
-pub(crate) enum Scan {
-    /// A selection, or the beginning of one.
-    Whole(Option<Parsed>),
-    /// None, for this fault.
-    Refused(QueryFault),
+pub(crate) struct Scan {
+    /// How many of them do.
+    pub(crate) count: usize,
+    /// How many parentheses are open behind those.
+    pub(crate) depth: usize,
+    /// The selection that those are, if they are a whole one.
+    pub(crate) whole: Option<Parsed>,
 }
 
-/// Reads symbols as a selection, up to the first one that can't stand there or begins a filter too many. It reads them once.
-pub(crate) fn scan_symbols(alloc: Global, symbols: &[Placed]) -> Result<Scan, Memory>
-    ensures { IfOk result (λ scan. scan_of scan ≡ scanned symbols.now) }
+/// Reads symbols up to the first one that can't stand there, or gives the fault of the first one that passes a limit. It reads them once, and of
+/// those behind them the next one at most.
+pub(crate) fn scan_symbols(alloc: Global, symbols: &[Placed]) -> Result<Scan, QueryFault>
+    ensures { spec.Scans symbols.now result }
 {
     let mut state = start(alloc);
     let mut next = 0;
-    while next < symbols.len() {
+    let mut depth = 0;
+    while !ends_before(symbols, next, &state) {
         if begins_deep_filter(symbols, next, &state) {
-            let at = symbols[next].from;
             drop(state);
-            return Ok(Scan::Refused(QueryFault::Deep { at }));
+            let at = place_at(symbols, next);
+            return Err(QueryFault::Deep { at });
         }
         match turn(alloc, symbols, next, state) {
-            Ok((there, end)) => {
-                state = there;
-                next = end;
-            }
-            Err(Halt::Stuck(end)) => return Ok(stopped(symbols, end)),
-            Err(Halt::Memory) => return Err(Memory),
+            Ok((there, end)) => match open_behind(symbols, next, end, depth) {
+                Ok(count) => {
+                    state = there;
+                    next = end;
+                    depth = count;
+                }
+                Err(fault) => {
+                    drop(there);
+                    return Err(fault);
+                }
+            },
+            Err(Halt::Stuck(end)) => return stopped(symbols, next, end, depth),
+            Err(Halt::Memory) => return Err(QueryFault::Memory),
         }
     }
-    Ok(Scan::Whole(finish(alloc, state)?))
+    match finish(alloc, state) {
+        Ok(whole) => Ok(Scan {
+            count: next,
+            depth,
+            whole,
+        }),
+        Err(_) => Err(QueryFault::Memory),
+    }
 }
 
-/// Where the symbol of that number can't stand, or symbols end within a construct.
-fn stopped(symbols: &[Placed], end: usize) -> Scan
-    ensures { scan_of result ≡ stopped_before (drop end symbols.now) }
+/// How many parentheses are open behind the symbols from one number to another, or the fault of the first of them that passes a limit.
+fn open_behind(
+    symbols: &[Placed],
+    next: usize,
+    end: usize,
+    depth: usize,
+) -> Result<usize, QueryFault>
+    requires further { next ≤ end }
+    requires within { end ≤ length symbols.now }
+    requires small { depth ≤ next }
+    ensures { result ≡ limits.open_within depth (take (end - next) (drop next symbols.now)) }
 {
-    match symbols.get(end) {
-        Some(placed) => Scan::Refused(QueryFault::Syntax { at: placed.from }),
-        None => Scan::Whole(None),
+    open_within(depth, &symbols[next..end])
+}
+
+/// The symbols before the one that can't stand there, which is inside a construct that begins with the symbol of the other number.
+fn stopped(symbols: &[Placed], next: usize, end: usize, depth: usize) -> Result<Scan, QueryFault>
+    requires further { next ≤ end }
+    requires within { end ≤ length symbols.now }
+    requires small { depth ≤ next }
+    ensures { result ≡ spec.stopped end (limits.open_within depth (take (end - next) (drop next symbols.now))) }
+{
+    match open_behind(symbols, next, end, depth) {
+        Ok(depth) => Ok(Scan {
+            count: end,
+            depth,
+            whole: None,
+        }),
+        Err(fault) => Err(fault),
     }
 }
 
 /// Before the first symbol.
-pub(crate) fn start(alloc: Global) -> State
+fn start(alloc: Global) -> State
     ensures { state_of result ≡ m.start }
 {
     State {

@@ -10,7 +10,7 @@ ghost use Rattle.selection_grammar.specs.steps.Machine as m;
 ghost use Rattle.selection_grammar.specs.steps.Reading.{reading};
 
 use crate::heads::{closes_parenthesis, is_comma, is_word, opens_parenthesis, text_at};
-use crate::parts::range;
+use crate::parts::{begins_range_without_at, range};
 use crate::state::{Frame, Halt, Left, Operand, Stage, State, Uses};
 use ft_base::{Items, Memory, Range, ThesaurusChoice, ThesaurusUse, ThesaurusUses};
 use selection_grammar::{MatchOption, Placed, PlacedOption};
@@ -285,9 +285,7 @@ fn without_levels(
 fn begins_range(symbols: &[Placed], next: usize) -> bool
     ensures { result ≡ turns.begins_range (drop next symbols.now) }
 {
-    is_word(symbols, next, "exactly")
-        || is_word(symbols, next, "from")
-        || is_word(symbols, next, "at")
+    begins_range_without_at(symbols, next) || is_word(symbols, next, "at")
 }
 
 /// The whole thesauri, with the last one.

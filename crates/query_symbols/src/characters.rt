@@ -1,11 +1,12 @@
 //! The classes of characters.
 
 ghost use Rattle.std.specs.Prelude.{◌≡◌};
+ghost use Rattle.ft_base.specs.Characters as base;
 ghost use Rattle.query_symbols.specs.Symbols as spec;
 
 /// Whether the character may stand between symbols.
 pub(crate) fn is_blank(c: char) -> bool
-    ensures { result ≡ spec.is_blank c }
+    ensures { result ≡ base.is_blank c }
 {
     c == ' ' || c == '\t'
 }

@@ -1,7 +1,7 @@
 ghost use Rattle.std.specs.Prelude.{◌≡◌, ◌≤◌, length, drop, not};
 ghost use Rattle.std.specs.List.{position_or_len, prefix_len};
-ghost use Rattle.ft_base.specs.Characters.{is_line_feed};
-ghost use Rattle.text_lines.specs.Lines.{is_blank as blank, is_skipped as skipped, without_return, trimmed_start, trimmed_end, trimmed_line};
+ghost use Rattle.ft_base.specs.Characters.{is_blank as blank, is_line_feed};
+ghost use Rattle.text_lines.specs.Lines.{is_skipped as skipped, without_return, trimmed_start, trimmed_end, trimmed_line};
 
 /// Where the first line feed stands, or the length.
 pub fn line_end(bytes: &[u8]) -> usize

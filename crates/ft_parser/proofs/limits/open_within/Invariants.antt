@@ -1,6 +1,6 @@
 -- What is left leaves as many parentheses open as all symbols do.
 use Rattle.std.proofs.Common.{◌≡◌, ◌+◌, ◌≤◌, drop}
-use Rattle.ft_parser.specs.steps.Extent.{open_within}
+use Rattle.ft_parser.specs.Limits.{open_within}
 use Rattle.ft_parser.proofs.limits.open_within.Given as goal
 
 abbrev pub invariant-loop-placed : goal.invariant-loop-placed

@@ -1,5 +1,5 @@
 -- As the symbols from the place on are read.
-use Rattle.std.proofs.Common.{◌≡◌, List, length, Ok, sym, ◌∙◌, ap}
+use Rattle.std.proofs.Common.{List, length, Ok, sym, ◌∙◌, ap}
 use Rattle.std.proofs.lemmas.List.{length-take-le}
 use Rattle.selection_grammar.specs.declared.symbol.Placed.{Placed}
 use Rattle.selection_grammar.specs.declared.symbol.Symbols.{Symbols}
