@@ -7,3 +7,4 @@ pub mod BytesRead
 pub mod Answered
 pub mod Printing
 pub mod ReadBack
+pub mod LaterLemmas

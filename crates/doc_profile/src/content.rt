@@ -73,7 +73,6 @@ impl Reader {
     {
         if is_name_start(c) && self.takes_element() {
             self.name.clear();
-            self.attrs = Vec::new(self.alloc);
             self.name.push(c)?;
             self.phase = Phase::StartName;
             Ok(true)

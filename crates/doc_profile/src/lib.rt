@@ -1,6 +1,7 @@
 //! Documents as bytes: reading a document or a fragment, and printing on one line.
 #![tactic(auto)]
 
+mod attributes;
 mod content;
 mod end_tags;
 mod fault;

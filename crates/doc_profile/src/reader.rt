@@ -2,6 +2,7 @@ ghost use Rattle.std.specs.Prelude.{◌≡◌, [], string_bytes};
 ghost use Rattle.doc_grammar.specs.steps.Machine as m;
 ghost use Rattle.doc_profile.specs.steps.View.{Goes, Stepped, outer_of, phase_in, place_of, state_of};
 
+use crate::attributes::TagAttributes;
 use crate::phase::Phase;
 use ft_base::Memory;
 use plain_tree::{Attr, Attrs, Kids, Tree};
@@ -31,7 +32,7 @@ pub struct Reader {
     pub phase: Phase,
     /// The name of the tag under way, its attributes, and the name and value of the one under way.
     pub name: String,
-    pub attrs: Vec<Attr>,
+    pub attrs: TagAttributes,
     pub attr: String,
     pub value: String,
 }
@@ -49,7 +50,7 @@ impl Reader {
             text: String::new(alloc),
             phase: Phase::Ready,
             name: String::new(alloc),
-            attrs: Vec::new(alloc),
+            attrs: TagAttributes::new(alloc),
             attr: String::new(alloc),
             value: String::new(alloc),
         }
@@ -94,7 +95,7 @@ impl Reader {
     pub fn only(&mut self, wanted: char, c: char, phase: Phase) -> bool
         ensures { Stepped result
             (m.only wanted c (place_of self.old)
-            (phase_in phase (string_bytes self.old.name) self.old.attrs.items (string_bytes self.old.attr) (string_bytes self.old.value)))
+            (phase_in phase (string_bytes self.old.name) self.old.attrs (string_bytes self.old.attr) (string_bytes self.old.value)))
             (state_of self.new) }
     {
         if c == wanted {

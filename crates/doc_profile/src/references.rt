@@ -215,7 +215,7 @@ impl Reader {
         c: char,
     ) -> Result<bool, Memory>
         ensures { Goes result
-            (m.judged_quoted (place_of self.old) (name_of self.old) self.old.attrs.items (attr_of self.old) quote (value_of self.old)
+            (m.judged_quoted (place_of self.old) (name_of self.old) self.old.attrs (attr_of self.old) quote (value_of self.old)
             (m.refer (refer_of refer) c)) (state_of self.new) }
     {
         match judge(refer, c) {

@@ -1,20 +1,14 @@
 ghost use Rattle.std.specs.Prelude.{◌≡◌, OnOk};
-ghost use Rattle.doc_grammar.specs.Grammar as grammar;
 ghost use Rattle.doc_grammar.specs.steps.Machine as m;
 ghost use Rattle.doc_profile.specs.steps.View.{Goes, Stepped, attr_of, name_of, place_of, state_of};
 
+use crate::attributes::TagAttributes;
 use crate::end_tags::with_node;
 use crate::phase::Phase;
 use crate::reader::{Level, Reader};
 use ft_base::{Items, Line, Memory, is_name_char, is_name_start, is_space};
-use plain_tree::{Attr, Tree};
+use plain_tree::Tree;
 use std::mem;
-
-fn has_name(attrs: &[Attr], name: &str) -> bool
-    ensures { result ≡ grammar.has_name name.now attrs.now }
-{
-    attrs.iter().any(|attr| attr.name.as_str() == name)
-}
 
 impl Reader {
     #[tactic(auto, using(std::proofs::lemmas::Bool::Decides::nat_tests), unfolding(doc_grammar::specs::steps::Machine::from_start_name))]
@@ -26,7 +20,7 @@ impl Reader {
             self.phase = Phase::StartName;
             Ok(true)
         } else {
-            self.attrs.clear();
+            self.attrs = TagAttributes::new(self.alloc);
             self.from_tag(c)
         }
     }
@@ -34,7 +28,7 @@ impl Reader {
     /// Behind a tag's name or one of its attributes, and perhaps white space.
     #[tactic(auto, using(std::proofs::lemmas::Bool::Decides::nat_tests), unfolding(doc_grammar::specs::steps::Machine::from_tag))]
     pub fn from_tag(&mut self, c: char) -> Result<bool, Memory>
-        ensures { Goes result (m.from_tag (place_of self.old) (name_of self.old) self.old.attrs.items c) (state_of self.new) }
+        ensures { Goes result (m.from_tag (place_of self.old) (name_of self.old) self.old.attrs c) (state_of self.new) }
     {
         if c == '>' {
             self.enter()?;
@@ -51,11 +45,11 @@ impl Reader {
     /// Enters the element whose start tag ends.
     #[tactic(auto, using(std::proofs::lemmas::Bool::Decides::nat_tests, crate::proofs::Readers::outer_push))]
     fn enter(&mut self) -> Result<(), Memory>
-        ensures { OnOk result (m.at (m.entered (place_of self.old) (name_of self.old) self.old.attrs.items) m.ready ≡ Some (state_of self.new)) }
+        ensures { OnOk result (m.at (m.entered (place_of self.old) (name_of self.old) self.old.attrs) m.ready ≡ Some (state_of self.new)) }
     {
         let level = Level {
             name: mem::replace(&mut self.name, String::new(self.alloc)),
-            attrs: mem::replace(&mut self.attrs, Vec::new(self.alloc)),
+            attrs: mem::replace(&mut self.attrs, TagAttributes::new(self.alloc)).into_vec(),
             kids: mem::replace(&mut self.kids, Vec::new(self.alloc)),
             text: mem::replace(&mut self.text, String::new(self.alloc)),
         };
@@ -66,7 +60,7 @@ impl Reader {
 
     #[tactic(auto, using(std::proofs::lemmas::Bool::Decides::nat_tests), unfolding(doc_grammar::specs::steps::Machine::from_spaced))]
     pub fn from_spaced(&mut self, c: char) -> Result<bool, Memory>
-        ensures { Goes result (m.from_spaced (place_of self.old) (name_of self.old) self.old.attrs.items c) (state_of self.new) }
+        ensures { Goes result (m.from_spaced (place_of self.old) (name_of self.old) self.old.attrs c) (state_of self.new) }
     {
         if is_name_start(c) {
             self.attr.clear();
@@ -82,14 +76,14 @@ impl Reader {
     // a tag that a slash ends
     doc_grammar::specs::steps::Machine::from_slashed))]
     pub fn from_slashed(&mut self, c: char) -> Result<bool, Memory>
-        ensures { Goes result (m.from_slashed (place_of self.old) (name_of self.old) self.old.attrs.items c) (state_of self.new) }
+        ensures { Goes result (m.from_slashed (place_of self.old) (name_of self.old) self.old.attrs c) (state_of self.new) }
     {
         if c != '>' {
             return Ok(false);
         }
         let element = Tree::Elem {
             name: Line::from_string(mem::replace(&mut self.name, String::new(self.alloc))),
-            attrs: Items::from_vec(mem::replace(&mut self.attrs, Vec::new(self.alloc))),
+            attrs: Items::from_vec(mem::replace(&mut self.attrs, TagAttributes::new(self.alloc)).into_vec()),
             kids: Items::new(self.alloc),
         };
         let kids = mem::replace(&mut self.kids, Vec::new(self.alloc));
@@ -101,13 +95,13 @@ impl Reader {
 
     #[tactic(auto, using(std::proofs::lemmas::Bool::Decides::nat_tests), unfolding(doc_grammar::specs::steps::Machine::from_attr_name))]
     pub fn from_attr_name(&mut self, c: char) -> Result<bool, Memory>
-        ensures { Goes result (m.from_attr_name (place_of self.old) (name_of self.old) self.old.attrs.items (attr_of self.old) c) (state_of self.new) }
+        ensures { Goes result (m.from_attr_name (place_of self.old) (name_of self.old) self.old.attrs (attr_of self.old) c) (state_of self.new) }
     {
         if is_name_char(c) {
             self.attr.push(c)?;
             self.phase = Phase::AttrName;
             Ok(true)
-        } else if has_name(self.attrs.as_slice(), self.attr.as_str()) {
+        } else if self.attrs.has_name(self.attr.as_str()) {
             Ok(false)
         } else {
             Ok(self.from_attr_named(c))
@@ -116,7 +110,7 @@ impl Reader {
 
     #[tactic(auto, using(std::proofs::lemmas::Bool::Decides::nat_tests), unfolding(doc_grammar::specs::steps::Machine::from_attr_named))]
     pub fn from_attr_named(&mut self, c: char) -> bool
-        ensures { Stepped result (m.from_attr_named (place_of self.old) (name_of self.old) self.old.attrs.items (attr_of self.old) c) (state_of self.new) }
+        ensures { Stepped result (m.from_attr_named (place_of self.old) (name_of self.old) self.old.attrs (attr_of self.old) c) (state_of self.new) }
     {
         if c == '=' {
             self.phase = Phase::Equals;

@@ -87,7 +87,7 @@ phase_in phases.Valued name attrs attr value = m.valued name attrs
 phase_in phases.Slashed name attrs attr value = m.slashed name attrs
 
 abbrev pub phase_of : Reader → m.Phase
-phase_of r = phase_in r.phase (string_bytes r.name) r.attrs.items (string_bytes r.attr) (string_bytes r.value)
+phase_of r = phase_in r.phase (string_bytes r.name) r.attrs (string_bytes r.attr) (string_bytes r.value)
 
 abbrev pub state_of : Reader → State
 state_of r = record { place = place_of r; phase = phase_of r }
