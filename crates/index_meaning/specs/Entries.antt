@@ -1,9 +1,10 @@
 -- The entries of a dictionary: words, each with the key under which it is found.
 use Rattle.std.specs.Prelude.{◌≡◌, ℕ, ◌+◌, Bool, true, false, cond, not, ◌&&◌, ◌==◌, List, [], ◌∷◌, length, filter, map, Option, Some, None}
+use Rattle.std.specs.Option.{option_map}
 use Rattle.std.specs.Ordering.{is_lt, is_eq, nat_cmp, ordering_then}
 use Rattle.std.specs.declared.cmp.Ordering.{Ordering}
 use Rattle.std.specs.Cmp.Lexicographic.{slice_cmp}
-use Rattle.std.specs.List.{list_all}
+use Rattle.std.specs.List.{list_all, list_any}
 use Rattle.std.specs.declared.cmp.Ordering.TheVariants.{Less, Equal, Greater}
 use Rattle.ft_base.specs.declared.span.Span.{Span}
 
@@ -32,8 +33,8 @@ abbrev pub is_sorted : List Entry → Bool
 is_sorted [] = true
 is_sorted (e ∷ rest) = is_below e rest && is_sorted rest
 
--- the first list where the order is Less, the second where it is Equal, the third where it is Greater
-abbrev pub by_order : Ordering → List Entry → List Entry → List Entry → List Entry
+-- the first of three where the order is Less, the second where it is Equal, the third where it is Greater
+abbrev pub by_order : {T : Type 0} → Ordering → T → T → T → T
 by_order Less less equal greater = less
 by_order Equal less equal greater = equal
 by_order Greater less equal greater = greater
@@ -51,6 +52,15 @@ with_entries (e ∷ new) entries = with_entries new (with_entry e entries)
 -- the entries without this one
 abbrev pub without_entry : Entry → List Entry → List Entry
 without_entry e entries = filter (λ f. not (is_eq (entry_cmp e f))) entries
+
+-- whether the entry is one of these
+abbrev pub has_entry : Entry → List Entry → Bool
+has_entry e entries = list_any (λ f. is_eq (entry_cmp e f)) entries
+
+-- the number of the entry, counted from 0, if it is one of these
+abbrev pub number_of : Entry → List Entry → Option ℕ
+number_of e [] = None
+number_of e (f ∷ rest) = cond (is_eq (entry_cmp e f)) (Some 0) (option_map (λ n. n + 1) (number_of e rest))
 
 -- whether the entry's key is smaller than this one, and whether it is this one
 abbrev pub is_smaller : List ℕ → Entry → Bool

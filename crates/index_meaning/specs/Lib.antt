@@ -1,3 +1,4 @@
+pub mod Dictionaries
 pub mod Documents
 pub mod Entries
 pub mod EntryExamples

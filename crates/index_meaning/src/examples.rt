@@ -1,8 +1,10 @@
 //! The definitions on small lists and small documents.
 
+mod dictionary;
 mod documents;
 mod entries;
 
+pub use dictionary::{apart_examples, id_examples, place_examples};
 pub use documents::{
     counted_documents, postings_of_words, rows_in_order, terms_once, words_of_documents,
 };

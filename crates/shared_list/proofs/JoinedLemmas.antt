@@ -5,7 +5,7 @@ use Rattle.std.proofs.lemmas.Bool.{cases_lt}
 use Rattle.std.proofs.lemmas.List.{take_all, take_more}
 use Rattle.std.proofs.lemmas.List.Concat.{flat_map-append, get_or-flat_map}
 use Rattle.std.proofs.lemmas.List.Edits.{insert-append_left, insert-append_right, remove-append_left, remove-append_right}
-use Rattle.shared_list.specs.Blocks.{joined, start_of, IsBlockOf}
+use Rattle.shared_list.specs.Blocks.{joined, start_of, IsBlockOf, IsRun}
 
 -- all items are those in front of a block, its own, and those behind it
 pub joined-cut : {T : Type 0} (blocks : List (List T)) (k : ℕ) → k < length blocks →
@@ -137,3 +137,17 @@ joined-split blocks k front back there halves =
     ap (λ i. joined (set (insert blocks i back) k front)) next
     ∙ ap (λ bs. joined bs) (set-insert blocks k front back there)
     ∙ joined-halved blocks k front back there halves
+
+-- a block's items stand in the list from its start on
+start-upto : {T : Type 0} (blocks : List (List T)) (k : ℕ) → start_of blocks k ≤ length (joined blocks)
+start-upto [] zero = omega arith
+start-upto [] (suc k) = omega arith
+start-upto (b ∷ rest) zero = omega arith
+start-upto (b ∷ rest) (suc k) = omega (arith, start-upto rest k, length-append b (joined (take k rest)), length-append b (joined rest))
+
+pub block-run : {T : Type 0} (blocks : List (List T)) (k : ℕ) → k < length blocks → IsRun (joined blocks) (start_of blocks k) (get_or blocks k [])
+block-run blocks k there =
+    record {
+      within = omega (arith, start-next blocks k there, start-upto blocks (k + 1));
+      same = λ at d within. sym (joined-item blocks k at d there within);
+    }

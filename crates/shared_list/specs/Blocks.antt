@@ -1,5 +1,5 @@
 -- A list that is cut into blocks.
-use Rattle.std.specs.Prelude.{◌≡◌, ℕ, ◌+◌, ◌<◌, ◌≤◌, List, [], ◌∷◌, length, take, slice_index}
+use Rattle.std.specs.Prelude.{◌≡◌, ℕ, ◌+◌, ◌<◌, ◌≤◌, List, [], ◌∷◌, length, take, slice_index, slice_index_or}
 use Rattle.std.specs.List.{flat_map}
 
 -- the items of the blocks, one block behind the other
@@ -26,3 +26,8 @@ pub record IsRaised (from : ℕ) (low high : List ℕ) : Type 0 where
   pub same_length : length high ≡ length low
   pub in_front : (k : ℕ) → k < from → slice_index high k ≡ slice_index low k
   pub behind : (k : ℕ) → from ≤ k → k < length low → slice_index high k ≡ slice_index low k + 1
+
+-- the items stand in the list, one behind the other, from that place on
+pub record IsRun {T : Type 0} (list : List T) (start : ℕ) (items : List T) : Type 0 where
+  pub within : start + length items ≤ length list
+  pub same : (k : ℕ) (d : T) → k < length items → slice_index_or items k d ≡ slice_index_or list (start + k) d

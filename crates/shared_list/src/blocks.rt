@@ -140,7 +140,8 @@ impl<T: Share> Blocks<T> {
     /// Takes the block of that number out where it has no items.
     pub fn forget_if_empty(&mut self, number: usize)
         requires { number < length self.old }
-        ensures { joined self.new ≡ joined self.old }
+        ensures same { joined self.new ≡ joined self.old }
+        ensures gone { slice_index_or self.old number [] ≡ [] → self.new ≡ remove self.old number }
     {
         if self.blocks[number].len() > 0 {
             return;
@@ -154,6 +155,7 @@ impl<T: Share> Blocks<T> {
         requires { number < length self.old }
         ensures same { joined self.new ≡ joined self.old }
         ensures some { 0 < length self.new }
+        ensures more { OnOk result (length self.new ≡ length self.old + 1) }
     {
         let half = self.blocks[number].len() / 2;
         let (front, back) = self.blocks[number].halves(half)?;

@@ -1,5 +1,6 @@
-ghost use Rattle.std.specs.Prelude.{◌≡◌, ◌≤◌, ◌<◌, ◌+◌, ◌-◌, ◌^◌, ◌↔◌, ◌++◌, ◌∷◌, [], insert, remove, length, slice_index_or, IfOk, IsTrue, OnErr, OnOk};
-ghost use Rattle.shared_list.specs.Blocks.{joined};
+ghost use Rattle.std.specs.Prelude.{◌≡◌, ◌≤◌, ◌<◌, ◌+◌, ◌-◌, ◌^◌, ◌↔◌, ◌++◌, ◌∷◌, [], insert, remove};
+ghost use Rattle.std.specs.Prelude.{length, slice_index_or, IfOk, IfSome, IsTrue, OnErr, OnOk};
+ghost use Rattle.shared_list.specs.Blocks.{joined, IsRun};
 
 use crate::Share;
 use crate::blocks::Blocks;
@@ -72,6 +73,22 @@ impl<T: Drop, const BLOCK: usize> SharedList<T, BLOCK> {
     {
         let number = self.blocks.block_of(at);
         &self.blocks.items(number)[at - self.blocks.start(number)]
+    }
+
+    /// How many blocks the items are in.
+    pub fn block_count(&self) -> usize {
+        self.blocks.count()
+    }
+
+    /// The items of the block of that number, counted from 0, and the place of the first of them; `None` where there
+    /// is no such block. Who searches the list looks at a block of it at once; no contract says where blocks begin.
+    pub fn block(&self, number: usize) -> Option<(usize, &[T])>
+        ensures { IfSome result (λ block. IsRun self.now block.0 block.1.now) }
+    {
+        if number >= self.blocks.count() {
+            return None;
+        }
+        Some((self.blocks.start(number), self.blocks.items(number)))
     }
 }
 

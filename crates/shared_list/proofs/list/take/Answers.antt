@@ -17,7 +17,7 @@ pub returns-clause-ok : goal.returns-clause-ok
 returns-clause-ok g c =
     let blocks = c.args.blocks.now in
     let number = c.block_of-number.result in
-    c.forget_if_empty.ensures
+    c.forget_if_empty.ensures.same
     ∙ ap (λ new. joined new) c.in_ok-item.ensures.ok
     ∙ ap (λ start. joined (set blocks number (remove (get_or blocks number []) (c.args.at - start)))) c.start.ensures
     ∙ take-at blocks c.args.at number c.block_of-number.ensures c.requires

@@ -21,8 +21,8 @@ invariant_of-self g c =
     ∙ forget-starts inside.blocks.items inside.starts.items number c.self.invariant there empty
     ∙ ap (λ blocks. starts_from 0 blocks) (sym c.remove.ensures.items)
 
-pub returns : goal.returns
-returns g c =
+pub returns-clause-same : goal.returns-clause-same
+returns-clause-same g c =
     let inside = c.self.inside in
     let number = c.args.number in
     let there : number < length inside.blocks.items = omega (arith, c.requires, ap length c.self.view_is) in

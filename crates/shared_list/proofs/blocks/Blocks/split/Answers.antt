@@ -1,6 +1,7 @@
 use Rattle.std.proofs.Common.{◌≡◌, ◌+◌, ◌<◌, [], length, set, ap, sym, ◌∙◌, arith}
-use Rattle.std.specs.Prelude.{remove}
-use Rattle.std.proofs.lemmas.List.{get_or_read}
+use Rattle.std.specs.Prelude.{insert, remove}
+use Rattle.std.proofs.lemmas.List.{get_or_read, length-set}
+use Rattle.std.proofs.lemmas.List.Edits.{length-insert}
 use Rattle.shared_list.specs.Blocks.{joined, start_of, starts_from}
 use Rattle.shared_list.proofs.JoinedLemmas.{joined-split}
 use Rattle.shared_list.proofs.StartLemmas.{same-length, split-starts, remove-insert}
@@ -50,3 +51,17 @@ returns-in-Ok-clause-same g c =
     ap (λ blocks. joined (set blocks number front)) c.in-Ok.ensures.items
     ∙ joined-split inside.blocks.items number front c.in_ok-front.back there halves
     ∙ ap (λ blocks. joined blocks) c.self.view_is
+
+pub returns-in-Ok-clause-more : goal.returns-in-Ok-clause-more
+returns-in-Ok-clause-more g c =
+    let inside = c.self.inside in
+    let number = c.args.number in
+    let front = c.in_ok-front.front in
+    let back = c.in_ok-front.back in
+    omega (
+      arith,
+      ap (λ blocks. length (set blocks number front)) c.in-Ok.ensures.items,
+      length-set (insert inside.blocks.items (number + 1) back) number front,
+      length-insert inside.blocks.items (number + 1) back (omega (arith, c.requires, ap length c.self.view_is)),
+      ap length c.self.view_is,
+    )

@@ -1,0 +1,161 @@
+-- What holds of a dictionary where a term comes in or goes out.
+use Rattle.std.proofs.Common.{◌≡◌, ℕ, ◌+◌, ◌-◌, ◌<◌, ◌≤◌, ◌^◌, suc, zero, Bool, true, false, cond, List, [], ◌∷◌, length, get_or, Some, None, refl, ap, sym, subst, ◌∙◌, arith, true≢false, inl, inr}
+use Rattle.std.specs.Prelude.{insert, remove}
+use Rattle.std.specs.Cmp.{Equal-is}
+use Rattle.std.proofs.lemmas.Bool.{cases_Bool}
+use Rattle.std.proofs.lemmas.List.{length-map}
+use Rattle.std.proofs.lemmas.List.Edits.{length-insert, length-remove}
+use Rattle.index_meaning.specs.Entries.{Entry, entry_cmp, is_sorted, has_entry, number_of, with_entry, with_entries, key_count}
+use Rattle.index_meaning.specs.Dictionaries.{Term, term, entries, Dictionary, dictionary, with_term, with_new, with_all_new, without_term, are_apart, ids_below}
+use Rattle.term_dict.specs.Places.{count_before, stands_at, brings_key}
+use Rattle.term_dict.specs.Sound.{IsSound}
+use Rattle.term_dict.specs.declared.places.Place.TheVariants.{AtEntry}
+use Rattle.term_dict.proofs.OrderLemmas.{same_entry}
+use Rattle.term_dict.proofs.RankLemmas.{rank_within, found_at, number_at}
+use Rattle.term_dict.proofs.TermLemmas.{put_at, take_at, none_taken, entries_with, entries_without, nothing_new, sorted_with, sorted_without, apart_with, below_with_next, apart_without, below_without}
+use Rattle.term_dict.proofs.KeyLemmas.{keys_with, keys_fewer, insert_removed, entries_insert, entries_remove}
+
+pub place_within : (e : Entry) (ts : List Term) → count_before AtEntry e (entries ts) ≤ length ts
+place_within e ts = omega (arith, rank_within AtEntry e (entries ts), length-map ts (λ (t : Term). t.entry))
+
+-- the entry that stands at its place
+pub at_place : (e : Entry) (n : ℕ) (ts : List Term) → stands_at e n (entries ts) ≡ true → (n < length ts) × (get_or (entries ts) n e ≡ e)
+at_place e n [] h = absurd (true≢false (sym h))
+at_place e zero (t ∷ ts) h = (omega arith, sym (same_entry e t.entry ((Equal-is (entry_cmp e t.entry)).0 h)))
+at_place e (suc n) (t ∷ ts) h = let rest = at_place e n ts h in (omega (arith, rest.0), rest.1)
+
+-- what a test at its place says of an entry
+pub told : (e : Entry) (ts : List Term) (n : ℕ) (b : Bool) → is_sorted (entries ts) ≡ true → n ≡ count_before AtEntry e (entries ts) → b ≡ stands_at e n (entries ts) → has_entry e (entries ts) ≡ b
+told e ts n b sorted is shown = sym (found_at e (entries ts) sorted) ∙ ap (λ k. stands_at e k (entries ts)) (sym is) ∙ sym shown
+
+pub told_number : (e : Entry) (es : List Entry) (n : ℕ) (b : Bool) → is_sorted es ≡ true → n ≡ count_before AtEntry e es → b ≡ stands_at e n es → cond b (Some n) None ≡ number_of e es
+told_number e es n b sorted is shown =
+    ap (λ c. cond c (Some n) None) shown ∙ ap (λ k. cond (stands_at e k es) (Some k) None) is ∙ sym (number_at e es sorted)
+
+one_at_most : (b : Bool) → cond b 1 0 ≤ 1
+one_at_most true = omega arith
+one_at_most false = omega arith
+
+pub keys_bounded : (ts : List Term) (keys next brought : ℕ) (b : Bool) → IsSound ts keys next → brought ≡ cond b 1 0 → keys + brought ≤ next + 1
+keys_bounded ts keys next brought b s is = omega (arith, s.counted, s.fewer, keys_fewer (entries ts), length-map ts (λ (t : Term). t.entry), is, one_at_most b)
+
+-- ---- a term comes in
+
+pub put_is : (ts : List Term) (next : ℕ) (e : Entry) → is_sorted (entries ts) ≡ true → has_entry e (entries ts) ≡ false →
+    dictionary (insert ts (count_before AtEntry e (entries ts)) (term e next)) (next + 1) ≡ with_new e (dictionary ts next)
+put_is ts next e sorted new =
+    ap (λ us. dictionary us (next + 1)) (sym (put_at (term e next) ts sorted new))
+    ∙ sym (ap (λ b. cond b (dictionary ts next) (dictionary (with_term (term e next) ts) (next + 1))) new)
+
+pub kept_is : (d : Dictionary) (e : Entry) → has_entry e (entries d.terms) ≡ true → d ≡ with_new e d
+kept_is d e there = sym (ap (λ b. cond b d (dictionary (with_term (term e d.next) d.terms) (d.next + 1))) there)
+
+pub sound_put : (ts : List Term) (keys next : ℕ) (e : Entry) → IsSound ts keys next → has_entry e (entries ts) ≡ false → next + 1 < 2 ^ 32 →
+    IsSound (insert ts (count_before AtEntry e (entries ts)) (term e next)) (keys + cond (brings_key e.key (count_before AtEntry e (entries ts)) (entries ts)) 1 0) (next + 1)
+sound_put ts keys next e s new fits =
+    let n = count_before AtEntry e (entries ts) in
+    let t = term e next in
+    let put = put_at t ts s.sorted new in
+    let within = rank_within AtEntry e (entries ts) in
+    let sorted : is_sorted (entries (insert ts n t)) ≡ true =
+    ap (λ us. is_sorted (entries us)) (sym put) ∙ ap is_sorted (entries_with t ts) ∙ sorted_with e (entries ts) s.sorted in
+    record {
+      sorted = sorted;
+      apart = ap are_apart (sym put) ∙ apart_with e next ts s.below s.apart;
+      below = ap (ids_below (next + 1)) (sym put) ∙ below_with_next e next ts s.below;
+      counted = ap (λ k. k + cond (brings_key e.key n (entries ts)) 1 0) s.counted
+          ∙ sym (ap key_count (entries_insert ts n t) ∙ keys_with (entries ts) n e within (ap is_sorted (sym (entries_insert ts n t)) ∙ sorted));
+      fewer = omega (arith, s.fewer, length-insert ts n t (place_within e ts));
+      fits = fits;
+    }
+
+module _ (ts us : List Term) (keys next number brought after : ℕ) (e : Entry) (kept : Term) (is_number : number ≡ count_before AtEntry e (entries ts)) where
+  put_list : kept ≡ term e next → us ≡ insert ts number kept → us ≡ insert ts (count_before AtEntry e (entries ts)) (term e next)
+  put_list is_kept is_us = is_us ∙ (λ i. insert ts (is_number i) (is_kept i))
+
+  pub put_whole : is_sorted (entries ts) ≡ true → has_entry e (entries ts) ≡ false → kept ≡ term e next → us ≡ insert ts number kept → after ≡ next + 1 →
+      dictionary us after ≡ with_new e (dictionary ts next)
+  put_whole sorted new is_kept is_us is_after = (λ i. dictionary (put_list is_kept is_us i) (is_after i)) ∙ put_is ts next e sorted new
+
+  pub put_sound : IsSound ts keys next → has_entry e (entries ts) ≡ false → kept ≡ term e next → us ≡ insert ts number kept → after ≡ next + 1 → next + 1 < 2 ^ 32 →
+      brought ≡ cond (brings_key e.key number (entries ts)) 1 0 → IsSound us (keys + brought) after
+  put_sound s new is_kept is_us is_after fits is_brought =
+      let n = count_before AtEntry e (entries ts) in
+      let more : brought ≡ cond (brings_key e.key n (entries ts)) 1 0 = is_brought ∙ ap (λ k. cond (brings_key e.key k (entries ts)) 1 0) is_number in
+      subst (λ (xs : List Term). IsSound xs (keys + brought) after) (sym (put_list is_kept is_us))
+      (subst (λ (k : ℕ). IsSound (insert ts n (term e next)) (keys + k) after) (sym more)
+      (subst (λ (m : ℕ). IsSound (insert ts n (term e next)) (keys + cond (brings_key e.key n (entries ts)) 1 0) m) (sym is_after) (sound_put ts keys next e s new fits)))
+
+-- the entries of the dictionary with one more
+pub new_entries : (e : Entry) (d : Dictionary) → is_sorted (entries d.terms) ≡ true → entries (with_new e d).terms ≡ with_entry e (entries d.terms)
+new_entries e d sorted = elim (cases_Bool (has_entry e (entries d.terms))) [
+  | inl there ↦ ap (λ (f : Dictionary). entries f.terms) (sym (kept_is d e there)) ∙ sym (nothing_new e (entries d.terms) sorted there)
+  | inr none ↦ ap (λ b. entries (cond b d (dictionary (with_term (term e d.next) d.terms) (d.next + 1))).terms) none ∙ entries_with (term e d.next) d.terms
+]
+
+pub all_entries : (new : List Entry) (d : Dictionary) → is_sorted (entries d.terms) ≡ true → entries (with_all_new new d).terms ≡ with_entries new (entries d.terms)
+all_entries [] d sorted = refl
+all_entries (e ∷ new) d sorted =
+    let one = new_entries e d sorted in
+    all_entries new (with_new e d) (ap is_sorted one ∙ sorted_with e (entries d.terms) sorted) ∙ ap (with_entries new) one
+
+-- ---- a term goes out
+
+pub take_is : (ts : List Term) (next : ℕ) (e : Entry) → is_sorted (entries ts) ≡ true → has_entry e (entries ts) ≡ true →
+    dictionary (remove ts (count_before AtEntry e (entries ts))) next ≡ without_term e (dictionary ts next)
+take_is ts next e sorted there = ap (λ us. dictionary us next) (sym (take_at e ts sorted there))
+
+pub left_is : (d : Dictionary) (e : Entry) → has_entry e (entries d.terms) ≡ false → d ≡ without_term e d
+left_is d e none = ap (λ us. dictionary us d.next) (sym (none_taken e d.terms none))
+
+-- the keys before a term goes out are those behind it, and its own where no other term has that
+pub keys_taken : (ts : List Term) (keys next : ℕ) (e : Entry) → IsSound ts keys next → has_entry e (entries ts) ≡ true →
+    keys ≡ key_count (entries (remove ts (count_before AtEntry e (entries ts)))) + cond (brings_key e.key (count_before AtEntry e (entries ts)) (entries (remove ts (count_before AtEntry e (entries ts))))) 1 0
+keys_taken ts keys next e s there =
+    let n = count_before AtEntry e (entries ts) in
+    let rest = entries (remove ts n) in
+    let stands = at_place e n ts (found_at e (entries ts) s.sorted ∙ there) in
+    let size = length-map ts (λ (t : Term). t.entry) in
+    let back : insert rest n e ≡ entries ts =
+    ap (λ es. insert es n e) (entries_remove ts n)
+    ∙ ap (λ x. insert (remove (entries ts) n) n x) (sym stands.1)
+    ∙ insert_removed (entries ts) n e (omega (arith, stands.0)) in
+    let shorter = length-remove ts n stands.0 in
+    let within : n ≤ length rest = omega (arith, stands.0, length-map (remove ts n) (λ (t : Term). t.entry)) in
+    s.counted ∙ ap key_count (sym back) ∙ keys_with rest n e within (ap is_sorted back ∙ s.sorted)
+
+pub sound_take : (ts : List Term) (keys next : ℕ) (e : Entry) → IsSound ts keys next → has_entry e (entries ts) ≡ true →
+    IsSound (remove ts (count_before AtEntry e (entries ts)))
+    (keys - cond (brings_key e.key (count_before AtEntry e (entries ts)) (entries (remove ts (count_before AtEntry e (entries ts))))) 1 0) next
+sound_take ts keys next e s there =
+    let n = count_before AtEntry e (entries ts) in
+    let take = take_at e ts s.sorted there in
+    let stands = at_place e n ts (found_at e (entries ts) s.sorted ∙ there) in
+    record {
+      sorted = ap (λ us. is_sorted (entries us)) (sym take) ∙ ap is_sorted (entries_without e ts) ∙ sorted_without e (entries ts) s.sorted;
+      apart = ap are_apart (sym take) ∙ apart_without e ts s.apart;
+      below = ap (ids_below next) (sym take) ∙ below_without e next ts s.below;
+      counted = omega (arith, keys_taken ts keys next e s there);
+      fewer = omega (arith, s.fewer, length-remove ts n stands.0);
+      fits = s.fits;
+    }
+
+module _ (ts us : List Term) (keys next number brought : ℕ) (e : Entry) (is_number : number ≡ count_before AtEntry e (entries ts)) (is_us : us ≡ remove ts number) where
+  take_list : us ≡ remove ts (count_before AtEntry e (entries ts))
+  take_list = is_us ∙ ap (λ n. remove ts n) is_number
+
+  take_keys : brought ≡ cond (brings_key e.key number (entries us)) 1 0 →
+      brought ≡ cond (brings_key e.key (count_before AtEntry e (entries ts)) (entries (remove ts (count_before AtEntry e (entries ts))))) 1 0
+  take_keys is_brought = is_brought ∙ (λ i. cond (brings_key e.key (is_number i) (entries (take_list i))) 1 0)
+
+  pub take_whole : is_sorted (entries ts) ≡ true → has_entry e (entries ts) ≡ true → dictionary us next ≡ without_term e (dictionary ts next)
+  take_whole sorted there = ap (λ xs. dictionary xs next) take_list ∙ take_is ts next e sorted there
+
+  pub take_bounded : IsSound ts keys next → has_entry e (entries ts) ≡ true → brought ≡ cond (brings_key e.key number (entries us)) 1 0 → brought ≤ keys
+  take_bounded s there is_brought = omega (arith, keys_taken ts keys next e s there, take_keys is_brought)
+
+  pub take_sound : IsSound ts keys next → has_entry e (entries ts) ≡ true → brought ≡ cond (brings_key e.key number (entries us)) 1 0 → IsSound us (keys - brought) next
+  take_sound s there is_brought =
+      let n = count_before AtEntry e (entries ts) in
+      subst (λ (xs : List Term). IsSound xs (keys - brought) next) (sym take_list)
+      (subst (λ (k : ℕ). IsSound (remove ts n) (keys - k) next) (sym (take_keys is_brought)) (sound_take ts keys next e s there))

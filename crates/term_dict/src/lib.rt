@@ -1,0 +1,22 @@
+//! The dictionary of an index: its terms in order, in blocks that the dictionary's copies share, each with an id that
+//! stays while the term is there.
+//!
+//! `term` is a term as it is read, `owned` one in memory of its own, `kept` one with its id, `sought` one that is looked for; `places` finds where an
+//! entry stands, and `dictionary` is the dictionary itself.
+#![tactic(auto)]
+
+mod dictionary;
+mod kept;
+mod owned;
+mod places;
+mod sought;
+mod term;
+#[cfg(test)]
+mod tests;
+
+pub use dictionary::TermDict;
+pub use owned::OwnedTerm;
+pub use term::Term;
+
+/// A list of terms that are to come into a dictionary.
+pub type Entries = ft_base::Items<OwnedTerm>;
