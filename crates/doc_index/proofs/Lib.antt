@@ -1,0 +1,12 @@
+pub mod DirectoryLemmas
+pub mod EntryLemmas
+pub mod FrontLemmas
+pub mod GroupLemmas
+pub mod LeafLemmas
+pub mod PlaceLemmas
+pub mod PutLemmas
+pub mod RunLemmas
+pub mod SoundLemmas
+pub mod StepLemmas
+pub mod TermLemmas
+pub mod WideningLemmas

@@ -1,0 +1,18 @@
+use Rattle.std.proofs.Common.{◌≡◌, ◌≤◌, ℕ, List, Result, Ok, Err, OnOk, ap, sym, subst, ◌∙◌, arith}
+use Rattle.doc_index.specs.Rows.{IsIndexed}
+use Rattle.doc_index.specs.Groups.{entries_without}
+use Rattle.doc_index.proofs.SoundLemmas.{old-grouped}
+use Rattle.doc_index.proofs.changes.take_entries.Goals as goal
+
+both : {T E P Q R : Type 0} (r : Result T E) → (P → Q → R) → OnOk r P → OnOk r Q → OnOk r R
+both (Ok x) f p q = f p q
+both (Err e) f p q = tt
+
+pub take_rows-requires-clause-grouped : goal.take_rows-requires-clause-grouped
+take_rows-requires-clause-grouped g c = old-grouped c.args.parts.now.leaves c.args.at c.args.entries.now.items c.args.parts.now.ids.items c.requires.sound.terms c.requires.sorted
+
+pub returns-clause-indexed : goal.returns-clause-indexed
+returns-clause-indexed g c =
+    let parts = c.take_rows.new.parts in
+    both c.take_rows.result (λ ids indexed. subst (λ (is : List ℕ). IsIndexed (entries_without c.args.parts.now.leaves c.args.at) is parts.starts.items parts.rows) (sym ids) indexed)
+    c.take_rows.ensures.ids c.take_rows.ensures.indexed

@@ -1,0 +1,7 @@
+use Rattle.std.proofs.Common.{◌≡◌, ◌++◌, drop}
+use Rattle.doc_index.specs.Rows.{entries_from}
+use Rattle.doc_index.proofs.entry.add_entries.Given as goal
+
+abbrev pub invariant-loop-term : goal.invariant-loop-term
+invariant-loop-term l =
+    l.made.items ++ entries_from l.doc.0 l.number.0 l.offset (drop l.term-index l.leaf.words) ≡ l.fn.made.items ++ entries_from l.doc.0 l.number.0 0 l.leaf.words

@@ -1,0 +1,6 @@
+use Rattle.std.proofs.Common.{◌≡◌, take}
+use Rattle.doc_index.specs.Rows.{entries}
+use Rattle.doc_index.proofs.entry.entries_of_leaves.Given as goal
+
+abbrev pub invariant-loop-leaf : goal.invariant-loop-leaf
+invariant-loop-leaf l = l.made.items ≡ entries l.doc.0 (take l.leaf-index l.leaves.items)

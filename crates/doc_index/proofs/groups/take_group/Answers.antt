@@ -1,0 +1,26 @@
+use Rattle.std.proofs.Common.{◌≡◌, ◌+◌, length, drop, ap, sym, ◌∙◌, arith}
+use Rattle.doc_index.specs.Rows.{entry_at}
+use Rattle.doc_index.specs.Groups.{group, without_rows}
+use Rattle.doc_index.proofs.groups.take_group.Goals as goal
+
+pub returns-in_err-take_row-clause-at_most : goal.returns-in_err-take_row-clause-at_most
+returns-in_err-take_row-clause-at_most g c =
+    let step = ap length (c.is_next.ensures.yes c.loop-rows-test.true (entry_at 0 0 0 0)) in
+    omega (arith, c.take_row.ensures.counted, c.loop-rows.invariant.counted, step)
+
+pub loop-rows-smaller : goal.loop-rows-smaller
+loop-rows-smaller g c =
+    let step = ap length (c.is_next.ensures.yes c.loop-rows-test.true (entry_at 0 0 0 0)) in
+    omega (arith, step)
+
+pub loop-rows-preserved : goal.loop-rows-preserved
+loop-rows-preserved g c =
+    let step = ap length (c.is_next.ensures.yes c.loop-rows-test.true (entry_at 0 0 0 0)) in
+    let inv = c.loop-rows.invariant in
+    let left = length (group c.args.term (drop (c.loop-rows.end + 1) c.args.entries.now.items)) in
+    record {
+      next = omega (arith, inv.next, step);
+      rows = ap (λ rows. without_rows rows c.args.place left) c.in_ok-take_row.ensures.ok
+          ∙ ap (λ count. without_rows c.loop-rows.rows c.args.place count) (sym step) ∙ inv.rows;
+      counted = omega (arith, inv.counted, step, c.take_row.ensures.counted);
+    }

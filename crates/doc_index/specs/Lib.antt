@@ -1,0 +1,5 @@
+pub mod Directory
+pub mod Groups
+pub mod Rows
+pub mod Terms
+pub mod steps

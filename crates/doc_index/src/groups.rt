@@ -1,0 +1,178 @@
+ghost use Rattle.std.specs.Prelude.{◌≡◌, ◌≤◌, ◌<◌, ◌+◌, ◌++◌, ◌∷◌, [], List, drop, length, map, slice_index_or, IfOk, IsFalse, IsTrue, OnOk};
+ghost use Rattle.postings.specs.declared.row.Row.{Row};
+ghost use Rattle.shared_list.specs.Blocks.{joined, start_of, starts_from};
+ghost use Rattle.doc_index.specs.Terms.{leaf_ids};
+ghost use Rattle.doc_index.specs.Rows.{row_of};
+ghost use Rattle.doc_index.specs.Groups.{group, with_rows, without_rows};
+ghost use Rattle.doc_index.specs.Directory.{IsAround};
+ghost use Rattle.doc_index.specs.declared.entry.Entry.{Entry};
+
+use crate::entry::Entry;
+use crate::leaves::Leaves;
+use ft_base::{Memory, Steps};
+use postings::PostingList;
+use std::sync::ledger::Ledger;
+
+/// The rows of one term among all rows: from one place up to another.
+#[derive(Clone, Copy, PartialEq, Eq)]
+pub struct Run {
+    pub first: usize,
+    pub end: usize,
+}
+
+/// The place of the first row of the term of that number, or that behind the last row.
+pub(crate) fn start_at(starts: &Vec<usize>, total: usize, number: usize) -> usize
+    ensures { (runs : List (List Row)) → starts.now.items ≡ starts_from 0 runs → total ≡ length (joined runs) → result ≡ start_of runs number }
+{
+    if number < starts.len() {
+        return starts[number];
+    }
+    total
+}
+
+/// Whether the next entry is of the term.
+fn is_next(entries: &Vec<Entry>, next: usize, term: u32) -> bool
+    ensures there { IsTrue result → next < length entries.now.items }
+    ensures yes { IsTrue result → (d : Entry)
+        → group term (drop next entries.now.items) ≡ slice_index_or entries.now.items next d ∷ group term (drop (next + 1) entries.now.items) }
+    ensures no { IsFalse result → group term (drop next entries.now.items) ≡ [] }
+{
+    if next >= entries.len() {
+        return false;
+    }
+    entries[next].term == term
+}
+
+/// The place behind those rows of a run that are of leaves in front of that place.
+fn front_end(leaves: &Leaves, rows: &PostingList, at: usize, run: Run) -> usize
+    ensures within { result ≤ length rows.now }
+    ensures place { (before front back behind : List Row)
+        → IsAround (leaf_ids leaves.now.leaves) at run.first run.end rows.now before front back behind → result ≡ length before + length front }
+{
+    let mut high = run.end.min(rows.len());
+    let mut low = run.first.min(high);
+    while low < high {
+        let middle = low + (high - low) / 2;
+        if leaves.is_front(rows.get(middle).leaf, at) {
+            low = middle + 1;
+        } else {
+            high = middle;
+        }
+    }
+    low
+}
+
+/// Puts the rows of the next entries, as many as are of the term, one behind the other, the first of them at the
+/// place. Answers which entry comes next.
+fn put_group<L: Ledger>(
+    rows: &mut PostingList,
+    entries: &Vec<Entry>,
+    next: usize,
+    term: u32,
+    place: usize,
+    steps: &mut Steps<L>,
+) -> Result<usize, Memory>
+    requires { place ≤ length rows.old }
+    ensures next { IfOk result (λ end. end ≡ next + length (group term (drop next entries.now.items))) }
+    ensures rows { OnOk result (rows.new ≡ with_rows rows.old place (map row_of (group term (drop next entries.now.items)))) }
+    ensures counted { OnOk result (steps.new ≡ steps.old + length (group term (drop next entries.now.items))) }
+    ensures at_most { steps.new ≤ steps.old + length (group term (drop next entries.now.items)) }
+{
+    let mut end = next;
+    let mut at = place;
+    while is_next(entries, end, term) {
+        rows.put_row(entries[end].row, at, steps)?;
+        end += 1;
+        at = next_place(at)?;
+    }
+    Ok(end)
+}
+
+/// The next place.
+fn next_place(at: usize) -> Result<usize, Memory>
+    ensures { IfOk result (λ next. next ≡ at + 1) }
+{
+    match at.checked_add(1) {
+        Some(next) => Ok(next),
+        None => Err(Memory),
+    }
+}
+
+/// Takes out as many rows as the next entries are of the term, each at the place. Answers which entry comes next.
+fn take_group<L: Ledger>(
+    rows: &mut PostingList,
+    entries: &Vec<Entry>,
+    next: usize,
+    term: u32,
+    place: usize,
+    steps: &mut Steps<L>,
+) -> Result<usize, Memory>
+    ensures next { IfOk result (λ end. end ≡ next + length (group term (drop next entries.now.items))) }
+    ensures rows { OnOk result (rows.new ≡ without_rows rows.old place (length (group term (drop next entries.now.items)))) }
+    ensures counted { OnOk result (steps.new ≡ steps.old + length (group term (drop next entries.now.items))) }
+    ensures at_most { steps.new ≤ steps.old + length (group term (drop next entries.now.items)) }
+{
+    let mut end = next;
+    while is_next(entries, end, term) {
+        // There is a row for each entry.
+        if place >= rows.len() {
+            return Err(Memory);
+        }
+        rows.take_row(place, steps)?;
+        end += 1;
+    }
+    Ok(end)
+}
+
+/// Puts the rows of the next entries, as many as are of the term, among those of its run: behind the rows of leaves in
+/// front of that place. Answers which entry comes next.
+pub(crate) fn put_term<L: Ledger>(
+    leaves: &Leaves,
+    rows: &mut PostingList,
+    at: usize,
+    run: Run,
+    entries: &Vec<Entry>,
+    next: usize,
+    term: u32,
+    steps: &mut Steps<L>,
+) -> Result<usize, Memory>
+    ensures next { IfOk result (λ end. end ≡ next + length (group term (drop next entries.now.items))) }
+    ensures rows { OnOk result ((before front back behind : List Row)
+        → IsAround (leaf_ids leaves.now.leaves) at run.first run.end rows.old before front back behind →
+        rows.new ≡ before ++ (front ++ (map row_of (group term (drop next entries.now.items)) ++ (back ++ behind)))) }
+    ensures counted { OnOk result (steps.new ≡ steps.old + length (group term (drop next entries.now.items))) }
+    ensures at_most { steps.new ≤ steps.old + length (group term (drop next entries.now.items)) }
+{
+    if !is_next(entries, next, term) {
+        return Ok(next);
+    }
+    let place = front_end(leaves, rows, at, run);
+    put_group(rows, entries, next, term, place, steps)
+}
+
+/// Takes the rows of the next entries, as many as are of the term, out of its run, behind the rows of leaves in front
+/// of that place. Answers which entry comes next.
+pub(crate) fn take_term<L: Ledger>(
+    leaves: &Leaves,
+    rows: &mut PostingList,
+    at: usize,
+    run: Run,
+    entries: &Vec<Entry>,
+    next: usize,
+    term: u32,
+    steps: &mut Steps<L>,
+) -> Result<usize, Memory>
+    ensures next { IfOk result (λ end. end ≡ next + length (group term (drop next entries.now.items))) }
+    ensures rows { OnOk result ((before front back behind : List Row) →
+        IsAround (leaf_ids leaves.now.leaves) at run.first run.end rows.old before front
+        (map row_of (group term (drop next entries.now.items)) ++ back) behind →
+        rows.new ≡ before ++ (front ++ (back ++ behind))) }
+    ensures counted { OnOk result (steps.new ≡ steps.old + length (group term (drop next entries.now.items))) }
+    ensures at_most { steps.new ≤ steps.old + length (group term (drop next entries.now.items)) }
+{
+    if !is_next(entries, next, term) {
+        return Ok(next);
+    }
+    let place = front_end(leaves, rows, at, run);
+    take_group(rows, entries, next, term, place, steps)
+}

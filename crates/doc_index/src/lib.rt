@@ -1,0 +1,25 @@
+//! The index of one document, over the numbers of its terms: which terms it has, and at which places each of them
+//! stands. Leaves come into it and go out of it one by one or all at once, and each row that comes or goes is counted.
+//!
+//! `term_leaf` is one leaf, `doc_index` the index, `term_places` the places of one term.
+#![tactic(auto)]
+
+mod changes;
+mod doc_index;
+mod entry;
+pub mod examples;
+mod groups;
+mod leaves;
+mod parts;
+mod put_rows;
+mod slots;
+mod take_rows;
+mod term_leaf;
+mod term_places;
+mod terms;
+#[cfg(test)]
+mod tests;
+
+pub use doc_index::DocIndex;
+pub use term_leaf::TermLeaf;
+pub use term_places::TermPlaces;

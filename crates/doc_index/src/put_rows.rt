@@ -1,0 +1,68 @@
+ghost use Rattle.std.specs.Prelude.{◌≡◌, ◌≤◌, ◌+◌, true, length, IfOk, OnOk};
+ghost use Rattle.ft_base.specs.Places.{is_ascending};
+ghost use Rattle.doc_index.specs.Terms.{are_distinct, leaf_ids};
+ghost use Rattle.doc_index.specs.Rows.{IsIndexed, entries_of};
+ghost use Rattle.doc_index.specs.Groups.{entries_with, grouped};
+
+use crate::entry::Entry;
+use crate::groups::{Run, put_term, start_at};
+use crate::parts::Parts;
+use ft_base::{Memory, Steps};
+use std::sync::ledger::Ledger;
+
+/// Puts the rows of the entries among those of their terms, as words of leaves that are to come to that place. Each
+/// term is there, and the entries are in the order of the terms.
+pub(crate) fn put_rows<L: Ledger>(
+    parts: &mut Parts,
+    at: usize,
+    entries: &Vec<Entry>,
+    steps: &mut Steps<L>,
+) -> Result<(), Memory>
+    requires place { at ≤ length parts.old.leaves.leaves }
+    requires distinct { are_distinct (leaf_ids parts.old.leaves.leaves) ≡ true }
+    requires indexed { IsIndexed (entries_of parts.old.leaves) parts.old.ids.items parts.old.starts.items parts.old.rows }
+    requires rising { is_ascending parts.old.ids.items ≡ true }
+    requires grouped { entries.now.items ≡ grouped parts.old.ids.items entries.now.items }
+    ensures leaves { OnOk result (parts.new.leaves ≡ parts.old.leaves) }
+    ensures ids { OnOk result (parts.new.ids.items ≡ parts.old.ids.items) }
+    ensures indexed { OnOk result (IsIndexed (entries_with parts.old.leaves at entries.now.items) parts.old.ids.items parts.new.starts.items parts.new.rows) }
+    ensures counted { OnOk result (steps.new ≡ steps.old + length entries.now.items) }
+    ensures at_most { steps.new ≤ steps.old + length entries.now.items }
+{
+    let total = parts.rows.len();
+    let mut starts = Vec::with_capacity(*parts.ids.allocator(), parts.ids.len())?;
+    let mut next = 0;
+    for number in 0..parts.ids.len() {
+        let run = moved_back(
+            parts.starts[number],
+            start_at(&parts.starts, total, number + 1),
+            next,
+        )?;
+        starts.push(run.first)?;
+        next = put_term(
+            &parts.leaves,
+            &mut parts.rows,
+            at,
+            run,
+            entries,
+            next,
+            parts.ids[number],
+            steps,
+        )?;
+    }
+    parts.starts = starts;
+    Ok(())
+}
+
+/// A run from one place to another, behind so many more rows.
+fn moved_back(first: usize, end: usize, by: usize) -> Result<Run, Memory>
+    ensures { IfOk result (λ run. (run.first ≡ first + by) × (run.end ≡ end + by)) }
+{
+    let Some(first) = first.checked_add(by) else {
+        return Err(Memory);
+    };
+    match end.checked_add(by) {
+        Some(end) => Ok(Run { first, end }),
+        None => Err(Memory),
+    }
+}
