@@ -83,7 +83,10 @@ impl Reader {
         }
         let element = Tree::Elem {
             name: Line::from_string(mem::replace(&mut self.name, String::new(self.alloc))),
-            attrs: Items::from_vec(mem::replace(&mut self.attrs, TagAttributes::new(self.alloc)).into_vec()),
+            attrs: Items::from_vec(mem::replace(
+                &mut self.attrs,
+                TagAttributes::new(self.alloc),
+            ).into_vec()),
             kids: Items::new(self.alloc),
         };
         let kids = mem::replace(&mut self.kids, Vec::new(self.alloc));

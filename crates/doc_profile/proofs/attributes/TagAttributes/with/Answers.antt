@@ -14,4 +14,4 @@ invariant_of-self-2 c = λ name.
     let text = c.in_ok-name.name in
     hash_set_updates_text (string_bytes text) c.self.inside.later c.insert.new.self true c.in_ok-insert.ensures.updates name
     ∙ one_later name c.self.inside.later text c.self.inside.attrs.items c.push-2.new.self.items c.args.attr (omega arith) c.in_ok-push-2.ensures.items
-        (c.in_ok-name.ensures.ok ∙ c.as_str.ensures) (c.self.invariant name)
+    (c.in_ok-name.ensures.ok ∙ c.as_str.ensures) (c.self.invariant name)

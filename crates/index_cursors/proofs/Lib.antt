@@ -1,0 +1,4 @@
+pub mod AscendingLemmas
+pub mod SpanLemmas
+pub mod CursorLemmas
+pub mod RangeLemmas

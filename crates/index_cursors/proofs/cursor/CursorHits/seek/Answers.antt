@@ -1,0 +1,26 @@
+use Rattle.std.proofs.Common.{◌≡◌, ap, ◌∙◌, arith}
+use Rattle.ft_base.specs.Hits.{hits_passed, sought}
+use Rattle.index_cursors.specs.SpanHits.{cursor_place}
+use Rattle.index_cursors.proofs.CursorLemmas.{passed-is, sought-within, sought-is}
+use Rattle.index_cursors.proofs.cursor.CursorHits.seek.Goals as goal
+
+pub invariant_of-self : goal.invariant_of-self
+invariant_of-self g c =
+    let i = c.self.inside in
+    let walked = c.walk-self-inside.ensures.walked in (
+      omega (arith, walked, c.self.invariant.0),
+      sought-within i.breaks.breaks.now c.args.from i.to i.first i.at i.places c.self.invariant.0 c.self.invariant.1 c.walk-self-inside.result walked,
+    )
+
+pub returns-clause-moved : goal.returns-clause-moved
+returns-clause-moved g c =
+    let i = c.self.inside in
+    sought-is i.breaks.breaks.now c.args.from i.to i.first i.at i.places c.self.invariant.0 c.self.invariant.1 c.walk-self-inside.result c.walk-self-inside.ensures.walked
+    ∙ ap (sought c.args.from) c.self.view_is
+
+pub returns-clause-counted : goal.returns-clause-counted
+returns-clause-counted g c = λ plain.
+    let i = c.self.inside in
+    let passed = passed-is i.breaks.breaks.now c.args.from i.to i.first i.at i.places c.self.invariant.0 c.self.invariant.1 in
+    let same : hits_passed c.args.from (cursor_place i.breaks.breaks.now i.to i.first i.at i.places) ≡ hits_passed c.args.from c.args.self.now = ap (hits_passed c.args.from) c.self.view_is in
+    omega (arith, c.walk-self-inside.ensures.counted, passed, same)

@@ -1,0 +1,16 @@
+use Rattle.std.proofs.Common.{◌<◌, ◌≤◌, ◌-◌, length, get_or, subst, arith}
+use Rattle.index_cursors.proofs.AscendingLemmas.{below-holds, below-fails}
+use Rattle.index_cursors.proofs.search.first_from.Goals as goal
+
+pub forward-requires-then-get-from : goal.forward-requires-then-get-from
+forward-requires-then-get-from c =
+    let there : c.args.near - 1 < length c.args.places.now = omega (arith, c.if-near-len.false, c.if-near-eq0.false, c.len-len.ensures.len) in
+    let test : get_or c.args.places.now (c.args.near - 1) 0 < c.args.from = subst (λ n. n < c.args.from) c.get.ensures c.if-get-from.true in
+    let more = below-holds c.args.from c.args.places.now (c.args.near - 1) c.len-len.ensures.ascending there test in
+    omega (arith, more)
+
+pub between-requires-2-clause-to : goal.between-requires-2-clause-to
+between-requires-2-clause-to c =
+    let there : c.args.near - 1 < length c.args.places.now = omega (arith, c.if-near-len.false, c.if-near-eq0.false, c.len-len.ensures.len) in
+    let test : c.args.from ≤ get_or c.args.places.now (c.args.near - 1) 0 = omega (arith, c.get.ensures, c.if-get-from.false) in
+    below-fails c.args.from c.args.places.now (c.args.near - 1) c.len-len.ensures.ascending there test

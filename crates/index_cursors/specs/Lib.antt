@@ -1,0 +1,2 @@
+pub mod SpanHits
+pub mod Examples

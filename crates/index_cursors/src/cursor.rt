@@ -1,0 +1,140 @@
+ghost use Rattle.std.specs.Prelude.{◌≡◌, ◌≤◌, ◌+◌, true, drop};
+ghost use Rattle.std.specs.List.{prefix_len};
+ghost use Rattle.ft_base.specs.Hits.{hit_place};
+ghost use Rattle.index_cursors.specs.SpanHits.{hits_in, is_before_both};
+
+use crate::BreakView;
+use crate::search::first_from;
+use doc_index::TermPlaces;
+use ft_base::{Hit, Hits, Span, Steps};
+use std::marker::Model;
+use std::sync::ledger::Ledger;
+
+/// The places of a term in a span of a document, each as the hit of a single word, and a place in this list.
+#[derive(Drop)]
+pub struct Cursor<'v> {
+    places: TermPlaces<'v>,
+    breaks: BreakView<'v>,
+    to: u32,
+    first: usize,
+    at: usize,
+}
+
+impl<'v> Model for Cursor<'v> {
+    ghost use Rattle.std.specs.Prelude.{◌≤◌, ◌-◌, length};
+    ghost use Rattle.ft_base.specs.Hits.{HitPlace};
+    ghost use Rattle.index_cursors.specs.SpanHits.{cursor_place, places_up_to};
+
+    ghost Value = { HitPlace };
+
+    ghost view = { λ inside. cursor_place inside.breaks.breaks.now inside.to inside.first inside.at inside.places };
+
+    ghost invariant = { λ inside. (inside.first ≤ inside.at) × (inside.at - inside.first ≤ length (places_up_to inside.to inside.first inside.places)) };
+}
+
+impl<'v> Cursor<'v> {
+    /// A cursor over the places of the span, at the first of them. Counts one step.
+    pub fn new<L: Ledger>(
+        places: TermPlaces<'v>,
+        breaks: BreakView<'v>,
+        span: Span,
+        steps: &mut Steps<L>,
+    ) -> Cursor<'v>
+        ensures cursor { result ≡ hit_place (hits_in breaks.entry.breaks.now span places.entry) 0 }
+        ensures counted { steps.new ≡ steps.old + 1 }
+    {
+        steps.tick();
+        let first = first_from(&places, 0, span.from);
+        Cursor {
+            places,
+            breaks,
+            to: span.to,
+            first,
+            at: first,
+        }
+    }
+
+    /// Makes it the cursor that `new` makes, and counts one step. Where all places in front of the one at which it
+    /// stands are in front of the new span, as in a later span of the same document, it searches on from there.
+    pub fn aim<L: Ledger>(
+        &mut self,
+        places: TermPlaces<'v>,
+        breaks: BreakView<'v>,
+        span: Span,
+        steps: &mut Steps<L>,
+    )
+        ensures cursor { self.new ≡ hit_place (hits_in breaks.entry.breaks.now span places.entry) 0 }
+        ensures counted { steps.new ≡ steps.old + 1 }
+    {
+        steps.tick();
+        let first = first_from(&places, self.at, span.from);
+        *self = Cursor {
+            places,
+            breaks,
+            to: span.to,
+            first,
+            at: first,
+        };
+    }
+}
+
+impl<'v> Hits for Cursor<'v> {
+    ghost stand = { λ cursor. cursor };
+
+    ghost plain = { λ cursor. true };
+
+    fn here(&self) -> Option<Hit> {
+        if self.at >= self.places.len() {
+            return None;
+        }
+        let place = self.places.get(self.at);
+        if place >= self.to {
+            return None;
+        }
+        Some(self.breaks.hit(place))
+    }
+
+    fn next<L: Ledger>(&mut self, steps: &mut Steps<L>) {
+        steps.tick();
+        if self.at < self.places.len() {
+            self.at += 1;
+        }
+    }
+
+    fn seek<L: Ledger>(&mut self, from: u32, steps: &mut Steps<L>) {
+        self.at = walk(&self.places, self.at, from, self.to, steps);
+    }
+
+    fn rewind(&mut self) {
+        self.at = self.first;
+    }
+}
+
+/// The number of the first place, from that number on, that isn't in front of both positions. Counts a step for each
+/// place that it compares.
+fn walk<L: Ledger>(
+    places: &TermPlaces<'_>,
+    start: usize,
+    from: u32,
+    to: u32,
+    steps: &mut Steps<L>,
+) -> usize
+    ensures walked { result ≡ start + prefix_len (is_before_both from to) (drop start places.now) }
+    ensures counted { steps.new ≤ steps.old + prefix_len (is_before_both from to) (drop start places.now) + 1 }
+    ensures grown { steps.old ≤ steps.new }
+{
+    let len = places.len();
+    let mut at = start;
+    while at < len {
+        steps.tick();
+        let place = places.get(at);
+        if place >= from {
+            return at;
+        }
+        if place >= to {
+            return at;
+        }
+        at += 1;
+    }
+    at
+}
