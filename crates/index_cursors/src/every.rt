@@ -24,7 +24,8 @@ impl<'v> Model for Every<'v> {
 
     ghost Value = { HitPlace };
 
-    ghost view = { λ inside. hit_place (map (word_hit inside.breaks.breaks.now) (range_with_len inside.from (inside.to - inside.from))) (inside.at - inside.from) };
+    ghost view = { λ inside.
+        hit_place (map (word_hit inside.breaks.breaks.now) (range_with_len inside.from (inside.to - inside.from))) (inside.at - inside.from) };
 
     ghost invariant = { λ inside. (inside.from ≤ inside.at) × (inside.at - inside.from ≤ inside.to - inside.from) };
 }

@@ -1,6 +1,7 @@
 //! The definitions on a small document, by computation.
 ghost use Rattle.std.specs.Prelude.{◌≡◌, ◌∷◌, [], true, false};
-ghost use Rattle.index_cursors.specs.SpanHits.{started, is_inside, hits_in, words_in, word_hit};
+ghost use Rattle.index_cursors.specs.SpanHits.{started, is_inside, hits_in, words_in, word_hit, below, is_before_both, cursor_place};
+ghost use Rattle.ft_base.specs.Hits.{hit_place};
 ghost use Rattle.index_cursors.specs.Examples.{breaks, span, hit};
 
 /// A word is in the last sentence that starts at it or in front of it; in front of the first one there is none.
@@ -31,4 +32,13 @@ pub fn hits_of_spans()
     ensures every { words_in breaks (span 4 6) ≡ hit 4 2 1 ∷ hit 5 3 2 ∷ [] }
     ensures empty { words_in breaks (span 4 4) ≡ [] }
     ensures reversed { words_in breaks (span 4 2) ≡ [] }
+{}
+
+/// What a cursor goes by: how many places are in front of its span, and where its list ends.
+pub fn cursors()
+    ensures below { below 5 (1 ∷ 4 ∷ 5 ∷ []) ≡ 2 }
+    ensures both { is_before_both 5 4 3 ≡ true }
+    ensures at_one { is_before_both 5 4 4 ≡ false }
+    ensures at_the_other { is_before_both 4 5 4 ≡ false }
+    ensures place { cursor_place breaks 6 1 2 (1 ∷ 2 ∷ 5 ∷ 6 ∷ []) ≡ hit_place (hit 2 1 1 ∷ hit 5 3 2 ∷ []) 1 }
 {}
