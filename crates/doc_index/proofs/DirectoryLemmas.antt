@@ -6,7 +6,7 @@ use Rattle.std.proofs.lemmas.Bool.{and_parts, and_from, or_cases, or_right, or_l
 use Rattle.std.proofs.lemmas.List.{length-map, map-append, take-map, drop-map, get_or_past}
 use Rattle.std.proofs.lemmas.Bool.Decides.{nat_tests}
 use Rattle.doc_index.specs.Terms.{Leaf, leaf_ids, words_of, has, are_distinct}
-use Rattle.doc_index.specs.Directory.{slot_of, next_slot, words_before, IsDirectory, IsOpened, IsClosed, IsChanged}
+use Rattle.doc_index.specs.steps.Directory.{slot_of, next_slot, words_before, IsDirectory, IsOpened, IsClosed, IsChanged}
 use Rattle.doc_index.proofs.TermLemmas.{has-at, has-head, has-other}
 
 -- a number as an opened or a closed gap moves it

@@ -11,7 +11,7 @@ use Rattle.postings.specs.declared.row.Row.{Row}
 use Rattle.doc_index.specs.declared.entry.Entry.{Entry}
 use Rattle.doc_index.specs.Terms.{Leaf, TermDocument, has, words_of}
 use Rattle.doc_index.specs.Rows.{entries, entries_from, leaf_entries, entries_of, has_rows, of_term, row_of, rows_of}
-use Rattle.doc_index.specs.Groups.{term_of, group, grouped, front_entries, back_entries}
+use Rattle.doc_index.specs.steps.Groups.{term_of, group, grouped, front_entries, back_entries}
 use Rattle.doc_index.proofs.TermLemmas.{has-append, has-head, has-other, first-below, rest-ascending, not-in-rest}
 
 pub of_term-append : (t : ℕ) (a b : List Entry) → of_term t (a ++ b) ≡ of_term t a ++ of_term t b

@@ -1,14 +1,14 @@
 -- Which rows are of leaves in front of a place.
 use Rattle.std.proofs.Common.{◌≡◌, ℕ, ◌+◌, ◌<◌, ◌≤◌, suc, zero, Bool, true, false, not, cond, nat_le, ◌&&◌, ◌||◌, ◌==◌, List, [], ◌∷◌, ◌++◌, length, take, drop, map, refl, ap, sym, ◌∙◌, arith, inl, inr, true≢false}
 use Rattle.std.specs.List.{list_all, list_any, flat_map}
-use Rattle.std.proofs.lemmas.Bool.{and_parts, and_from, or_from, or_left, or_right, eq-eqb, cases_eq, le-leb, lt-leb, not-true}
+use Rattle.std.proofs.lemmas.Bool.{and_parts, and_from, or_from, or_left, or_right, eq-eqb, cases_eq, le-leb, lt-leb, not-true, or_parts}
 use Rattle.std.proofs.lemmas.List.{take-append-drop, take-map, drop-map, length-map, length-take-le}
 use Rattle.std.proofs.lemmas.List.Folds.{list_all-append, list_any-append}
 use Rattle.postings.specs.declared.row.Row.{Row}
 use Rattle.doc_index.specs.declared.entry.Entry.{Entry}
 use Rattle.doc_index.specs.Terms.{Leaf, has, are_distinct, leaf_ids}
 use Rattle.doc_index.specs.Rows.{entries, entries_from, leaf_entries, of_term, row_of, rows_of}
-use Rattle.doc_index.specs.Directory.{slot_of, next_slot, is_front}
+use Rattle.doc_index.specs.steps.Directory.{slot_of, next_slot, is_front}
 use Rattle.doc_index.proofs.TermLemmas.{has-append, has-head, has-other}
 use Rattle.doc_index.proofs.EntryLemmas.{of_term-here, of_term-other}
 use Rattle.doc_index.proofs.DirectoryLemmas.{slot-head, slot-other, slot-some, next-some}
@@ -23,14 +23,10 @@ all-rows p t (e ∷ es) all =
       | inr other ↦ ap (λ xs. list_all p (map row_of xs)) (of_term-other t e es other) ∙ all-rows p t es parts.1
     ]
 
-none-parts : (a b : Bool) → (a || b) ≡ false → (a ≡ false) × (b ≡ false)
-none-parts true b none = absurd (true≢false none)
-none-parts false b none = (refl, none)
-
 any-rows : (p : Row → Bool) (t : ℕ) (es : List Entry) → list_any (λ (e : Entry). p e.row) es ≡ false → list_any p (rows_of t es) ≡ false
 any-rows p t [] none = refl
 any-rows p t (e ∷ es) none =
-    let parts = none-parts (p e.row) (list_any (λ (e : Entry). p e.row) es) none in
+    let parts = or_parts (p e.row) (list_any (λ (e : Entry). p e.row) es) none in
     elim (cases_eq e.term t) [
       | inl same ↦ ap (λ xs. list_any p (map row_of xs)) (of_term-here t e es same) ∙ or_from (p e.row) (list_any p (rows_of t es)) parts.0 (any-rows p t es parts.1)
       | inr other ↦ ap (λ xs. list_any p (map row_of xs)) (of_term-other t e es other) ∙ any-rows p t es parts.1
@@ -76,7 +72,7 @@ slot-front (x ∷ a) b id there = elim (cases_eq x id) [
 slot-back : (a b : List ℕ) (id : ℕ) → has id a ≡ false → has id b ≡ true → length a < slot_of (a ++ b) id
 slot-back [] b id apart there = slot-some b id there
 slot-back (x ∷ a) b id apart there =
-    let parts = none-parts (x == id) (has id a) apart in
+    let parts = or_parts (x == id) (has id a) apart in
     let other : (x ≡ id) → ⊥ = λ same. true≢false (sym (eq-eqb x id same) ∙ parts.0) in
     let far = slot-back a b id parts.1 there in
     omega (arith, slot-other x id (a ++ b) other, next-some (slot_of (a ++ b) id) (omega (arith, far)), far)

@@ -8,8 +8,8 @@ use Rattle.std.proofs.lemmas.List.Folds.{list_any_at, list_all_at}
 use Rattle.std.proofs.lemmas.Bool.{true_from_ne_false, false_from_ne_true, cases_lt}
 use Rattle.doc_index.specs.declared.entry.Entry.{Entry}
 use Rattle.doc_index.specs.Rows.{row_of}
-use Rattle.doc_index.specs.Groups.{with_rows, without_rows}
-use Rattle.doc_index.specs.Directory.{IsAround, is_front}
+use Rattle.doc_index.specs.steps.Groups.{with_rows, without_rows}
+use Rattle.doc_index.specs.steps.Directory.{IsAround, is_front}
 
 -- an item put between two lists
 pub insert-between : {T : Type 0} (a b : List T) (x : T) → insert (a ++ b) (length a) x ≡ a ++ (x ∷ b)

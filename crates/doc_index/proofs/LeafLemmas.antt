@@ -6,7 +6,7 @@ use Rattle.std.proofs.lemmas.Bool.{and_parts, cases_Bool, cases_eq, cases_lt, no
 use Rattle.std.proofs.lemmas.List.{length-map, get_or-map, take_more, take-append-drop, take-map}
 use Rattle.std.proofs.lemmas.List.Edits.{insert_end}
 use Rattle.doc_index.specs.Terms.{Leaf, TermDocument, document_of, leaf_ids, has, are_distinct}
-use Rattle.doc_index.specs.Directory.{slot_of}
+use Rattle.doc_index.specs.steps.Directory.{slot_of}
 use Rattle.doc_index.proofs.TermLemmas.{has-at, has-head, has-other}
 use Rattle.doc_index.proofs.DirectoryLemmas.{slot-found, slot-there, slot-none, slot-zero, slot-some, slot-head, slot-other, next-some, words_at}
 use Rattle.doc_index.proofs.FrontLemmas.{apart-from, ids-split}

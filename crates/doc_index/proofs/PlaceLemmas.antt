@@ -13,8 +13,8 @@ use Rattle.postings.specs.declared.row.Row.{Row}
 use Rattle.doc_index.specs.declared.entry.Entry.{Entry}
 use Rattle.doc_index.specs.Terms.{Leaf, TermDocument, has, are_distinct, leaf_ids, places_from, places_of, words_of}
 use Rattle.doc_index.specs.Rows.{HasTerms, IsIndexed, IsRunOf, runs_of, entries, entries_from, entries_of, leaf_entries, of_term, row_at, entry_at, row_of, rows_of}
-use Rattle.doc_index.specs.Directory.{place_of, words_before}
-use Rattle.doc_index.proofs.TermLemmas.{has-head, has-other, has-append, first-below, ascending-cons}
+use Rattle.doc_index.specs.steps.Directory.{place_of, words_before}
+use Rattle.doc_index.proofs.TermLemmas.{has-head, has-other, has-append, first-below, ascending-cons, has-at}
 use Rattle.doc_index.proofs.EntryLemmas.{drop-front, no-rows, of_term-here, of_term-other, rows_of-append}
 use Rattle.doc_index.proofs.FrontLemmas.{apart-from}
 
@@ -102,13 +102,8 @@ places-ascending t place (w ∷ ws) = elim (cases_eq w t) [
   | inr other ↦ ap is_ascending (places-other t place w ws other) ∙ places-ascending t (place + 1) ws
 ]
 
-has-place : (ps : List ℕ) (k : ℕ) → k < length ps → has (get_or ps k 0) ps ≡ true
-has-place [] k there = absurd (omega arith)
-has-place (p ∷ ps) zero there = has-head p p ps refl
-has-place (p ∷ ps) (suc k) there = or_right (p == get_or ps k 0) (has (get_or ps k 0) ps) (has-place ps k (omega (arith, there)))
-
 pub place-within : (t : ℕ) (leaves : List Leaf) (k : ℕ) → k < length (places_of t leaves) → get_or (places_of t leaves) k 0 ≤ length (words_of leaves)
-place-within t leaves k there = omega (arith, (above t 1 (words_of leaves) (get_or (places_of t leaves) k 0) (has-place (places_of t leaves) k there)).1)
+place-within t leaves k there = omega (arith, (above t 1 (words_of leaves) (get_or (places_of t leaves) k 0) (has-at (places_of t leaves) k there)).1)
 
 first-row : (doc id offset : ℕ) (rest : List Row) (k : ℕ) (d : Row) → ((j : ℕ) → j < length rest → (get_or rest j d).leaf.0 ≡ id) → (rows : List Row) → rows ≡ row_at doc id offset ∷ rest →
     k < length rows → (get_or rows k d).leaf.0 ≡ id

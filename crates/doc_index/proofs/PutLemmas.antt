@@ -8,17 +8,12 @@ use Rattle.shared_list.specs.Blocks.{joined, start_of, starts_from}
 use Rattle.doc_index.specs.declared.entry.Entry.{Entry}
 use Rattle.doc_index.specs.Terms.{Leaf, TermDocument, has, are_distinct, leaf_ids}
 use Rattle.doc_index.specs.Rows.{entries, entries_of, of_term, row_of, rows_of, runs_of}
-use Rattle.doc_index.specs.Groups.{term_of, group, grouped, front_entries, back_entries, entries_at, entries_with, entries_without}
-use Rattle.doc_index.specs.Directory.{IsAround, is_front}
-use Rattle.doc_index.proofs.TermLemmas.{rest-ascending}
+use Rattle.doc_index.specs.steps.Groups.{term_of, group, grouped, front_entries, back_entries, entries_at, entries_with, entries_without}
+use Rattle.doc_index.specs.steps.Directory.{IsAround, is_front}
+use Rattle.doc_index.proofs.TermLemmas.{ascending-drop}
 use Rattle.doc_index.proofs.EntryLemmas.{rows_of-append, split-entries, group-first, drop-front}
 use Rattle.doc_index.proofs.RunLemmas.{half_done, joined-push, rest-is, next-run, done-run, run-done}
 use Rattle.doc_index.proofs.FrontLemmas.{front-rows, back-rows}
-
-pub ascending-drop : (k : ℕ) (ids : List ℕ) → is_ascending ids ≡ true → is_ascending (drop k ids) ≡ true
-ascending-drop zero ids up = up
-ascending-drop (suc k) [] up = refl
-ascending-drop (suc k) (x ∷ ids) up = ascending-drop k ids (rest-ascending x ids up)
 
 abbrev pub all_rows : List Entry → ℕ → List Row
 all_rows all term = rows_of term all

@@ -6,7 +6,7 @@ use Rattle.std.proofs.lemmas.List.Concat.{flat_map-append}
 use Rattle.postings.specs.declared.row.Row.{Row}
 use Rattle.shared_list.specs.Blocks.{joined, start_of, starts_from, IsBlockOf}
 use Rattle.shared_list.proofs.StartLemmas.{push-starts}
-use Rattle.doc_index.specs.Directory.{IsAround, is_front}
+use Rattle.doc_index.specs.steps.Directory.{IsAround, is_front}
 
 pub joined-push : {T : Type 0} (blocks : List (List T)) (new : List T) → joined (blocks ++ new ∷ []) ≡ joined blocks ++ new
 joined-push {T = T} blocks new = flat_map-append (λ (b : List T). b) blocks (new ∷ []) ∙ ap (λ xs. joined blocks ++ xs) (append-nil new)

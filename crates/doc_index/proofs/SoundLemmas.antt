@@ -12,7 +12,7 @@ use Rattle.doc_index.specs.declared.entry.Entry.{Entry}
 use Rattle.doc_index.specs.Terms.{Leaf, TermDocument, document_of, with_leaf, without_leaf, has, terms_of, words_of}
 use Rattle.doc_index.specs.declared.parts.Parts.{Parts}
 use Rattle.doc_index.specs.Rows.{HasTerms, IsIndexed, IsSound, entries, entries_from, entries_of, has_rows, leaf_entries, of_term, row_of, rows_of, runs_of}
-use Rattle.doc_index.specs.Groups.{IsSortedFrom, back_entries, entries_at, entries_with, entries_without, front_entries, grouped, term_of}
+use Rattle.doc_index.specs.steps.Groups.{IsSortedFrom, back_entries, entries_at, entries_with, entries_without, front_entries, grouped, term_of}
 use Rattle.doc_index.proofs.TermLemmas.{has-append, are-terms}
 use Rattle.doc_index.proofs.EntryLemmas.{grouped-sorted, has-rows, of_term-append, split-entries, words-are, words-from}
 use Rattle.doc_index.proofs.WideningLemmas.{ascending-filter, has-filter}

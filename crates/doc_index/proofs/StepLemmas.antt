@@ -8,8 +8,8 @@ use Rattle.shared_list.proofs.StartLemmas.{same-length, start-read}
 use Rattle.doc_index.specs.declared.entry.Entry.{Entry}
 use Rattle.doc_index.specs.Terms.{TermDocument, are_distinct, leaf_ids}
 use Rattle.doc_index.specs.Rows.{IsIndexed, entries_of, of_term, row_of, rows_of, runs_of}
-use Rattle.doc_index.specs.Groups.{group, grouped, front_entries, back_entries, entries_at, entries_with, entries_without}
-use Rattle.doc_index.specs.Directory.{IsAround}
+use Rattle.doc_index.specs.steps.Groups.{group, grouped, front_entries, back_entries, entries_at, entries_with, entries_without}
+use Rattle.doc_index.specs.steps.Directory.{IsAround}
 use Rattle.doc_index.proofs.RunLemmas.{half_done, done-run, starts-more, start-is}
 use Rattle.doc_index.proofs.PutLemmas.{rest_entries, all_rows, group-is, left-more, group-within, old-rows, new-rows, put-run, put-done, all-split, rest-split, take-run, take-done}
 

@@ -1,5 +1,5 @@
 -- Ascending terms, and whether a term is one of them.
-use Rattle.std.proofs.Common.{◌≡◌, ◌≢◌, ℕ, ◌<◌, ◌≤◌, suc, zero, Bool, true, false, cond, nat_lt, ◌&&◌, ◌||◌, ◌==◌, List, [], ◌∷◌, ◌++◌, length, get_or, Some, filter, refl, ap, sym, ◌∙◌, arith, inl, inr, true≢false}
+use Rattle.std.proofs.Common.{◌≡◌, ◌≢◌, ℕ, ◌<◌, ◌≤◌, suc, zero, Bool, true, false, cond, nat_lt, ◌&&◌, ◌||◌, ◌==◌, List, [], ◌∷◌, ◌++◌, length, drop, get_or, Some, filter, refl, ap, sym, ◌∙◌, arith, inl, inr, true≢false}
 use Rattle.std.proofs.lemmas.Bool.{and_parts, and_from, or_cases, or_right, or_left, ltb-true, lt-ltb, eqb-true, eq-eqb, ne_eqb, cases_eq, cases_Bool, cond_both, false_from_ne_true, eqb-false, ltb-false}
 use Rattle.std.proofs.lemmas.List.Folds.{list_any-append}
 use Rattle.ft_base.specs.Places.{is_ascending, last_place}
@@ -11,10 +11,6 @@ has-append t xs ys = list_any-append (λ other. other == t) xs ys
 pub or-skip : (a b : Bool) → a ≡ false → (a || b) ≡ b
 or-skip a b fails = ap (λ x. x || b) fails
 
-pub or-end : (a : Bool) → (a || false) ≡ a
-or-end true = refl
-or-end false = refl
-
 pub has-head : (x t : ℕ) (xs : List ℕ) → x ≡ t → has t (x ∷ xs) ≡ true
 has-head x t xs same = or_left (x == t) (has t xs) (eq-eqb x t same)
 
@@ -24,6 +20,11 @@ has-other x t xs other = or-skip (x == t) (has t xs) (ne_eqb x t other)
 pub rest-ascending : (x : ℕ) (xs : List ℕ) → is_ascending (x ∷ xs) ≡ true → is_ascending xs ≡ true
 rest-ascending x [] up = refl
 rest-ascending x (y ∷ xs) up = (and_parts (nat_lt x y) (is_ascending (y ∷ xs)) up).1
+
+pub ascending-drop : (k : ℕ) (xs : List ℕ) → is_ascending xs ≡ true → is_ascending (drop k xs) ≡ true
+ascending-drop zero xs up = up
+ascending-drop (suc k) [] up = refl
+ascending-drop (suc k) (x ∷ xs) up = ascending-drop k xs (rest-ascending x xs up)
 
 -- the first is less than each of the others
 pub first-below : (x : ℕ) (xs : List ℕ) → is_ascending (x ∷ xs) ≡ true → (t : ℕ) → has t xs ≡ true → x < t

@@ -2,6 +2,7 @@
 use Rattle.std.proofs.Common.{◌≡◌, ◌≢◌, ℕ, ◌+◌, ◌-◌, ◌<◌, ◌≤◌, suc, zero, Bool, true, false, cond, nat_lt, ◌&&◌, ◌||◌, ◌==◌, List, [], ◌∷◌, ◌++◌, length, get_or, take, drop, map, filter, Some, refl, ap, sym, subst, ◌∙◌, arith, append-nil, append_assoc, length-append, inl, inr, true≢false}
 use Rattle.std.specs.Option.{ForSome}
 use Rattle.std.specs.List.Sorted.{IsNonDecreasingBy}
+use Rattle.std.proofs.Math.Bool.{and-false, or-false}
 use Rattle.std.proofs.lemmas.Bool.{and_parts, or_cases, or_left, or_right, or_parts, eqb-true, eq-eqb, ne_eqb, cases_eq, cases_lt, cond-true, cond-false, lt-ltb, le-ltb, false_from_ne_true}
 use Rattle.std.proofs.lemmas.List.{take_more, take_all, map_more, map_push, take-append-drop, length-map}
 use Rattle.ft_base.specs.Places.{is_ascending, last_place}
@@ -12,15 +13,15 @@ use Rattle.shared_list.proofs.StartLemmas.{push-starts, start-read, same-length}
 use Rattle.doc_index.specs.declared.entry.Entry.{Entry}
 use Rattle.doc_index.specs.Terms.{has}
 use Rattle.doc_index.specs.Rows.{HasTerms, IsIndexed, has_rows, of_term, row_of, rows_of, runs_of}
-use Rattle.doc_index.specs.Groups.{term_of}
+use Rattle.doc_index.specs.steps.Groups.{term_of}
 use Rattle.doc_index.specs.steps.Widening.{AreUpTo, IsWidening}
-use Rattle.doc_index.proofs.TermLemmas.{has-append, has-head, has-other, has-at, find-at, ascending-at, ascending-cons, first-below, rest-ascending, or-end, or-skip}
+use Rattle.doc_index.proofs.TermLemmas.{has-append, has-head, has-other, has-at, find-at, ascending-at, ascending-cons, first-below, rest-ascending, or-skip}
 use Rattle.doc_index.proofs.EntryLemmas.{no-rows}
 use Rattle.doc_index.proofs.RunLemmas.{joined-push, done-run, start-is}
 use Rattle.doc_index.proofs.PutLemmas.{all_rows}
 
 has-single : (t x : ℕ) → has t (x ∷ []) ≡ (x == t)
-has-single t x = or-end (x == t)
+has-single t x = or-false (x == t)
 
 -- an ascending list with a greater term behind it
 pub ascending-push : (xs : List ℕ) (x : ℕ) → is_ascending xs ≡ true → ((t : ℕ) → has t xs ≡ true → t < x) → is_ascending (xs ++ x ∷ []) ≡ true
@@ -117,7 +118,7 @@ module _ (all : List Entry) (ids : List ℕ) where
     rising = state.rising;
     members = λ t. elim (cases_eq term t) [
       | inl is ↦ sym (ap (λ z. has z made) is) ∙ there ∙ sym (or_right (has t (take number ids)) (has t (done ++ term ∷ [])) (has-append t done (term ∷ []) ∙ or_right (has t done) (has t (term ∷ [])) (has-head term t [] is)))
-      | inr other ↦ state.members t ∙ ap (λ b. has t (take number ids) || b) (sym (has-append t done (term ∷ []) ∙ ap (λ b. has t done || b) (has-other term t [] other) ∙ or-end (has t done)))
+      | inr other ↦ state.members t ∙ ap (λ b. has t (take number ids) || b) (sym (has-append t done (term ∷ []) ∙ ap (λ b. has t done || b) (has-other term t [] other) ∙ or-false (has t done)))
     ];
     below = state.below;
   }
@@ -245,15 +246,11 @@ pub narrowing-ids : (all : List Entry) (ids : List ℕ) (number : ℕ) (made mad
 narrowing-ids all ids number made made_starts state end = state.ids_are ∙ ap (filter (has_rows all)) (take_all number ids end)
 
 -- a term is one of those that pass a test where it is one of them and passes
-and-none : (a : Bool) → (a && false) ≡ false
-and-none true = refl
-and-none false = refl
-
 filter-head : (b c : Bool) (x t : ℕ) (ids rest : List ℕ) → x ≡ t → b ≡ c → has t rest ≡ (has t ids && c) → has t (cond b (x ∷ rest) rest) ≡ (has t (x ∷ ids) && c)
 filter-head true true x t ids rest same is rest_is = has-head x t rest same ∙ sym (ap (λ a. a && true) (has-head x t ids same))
 filter-head true false x t ids rest same is rest_is = absurd (true≢false is)
 filter-head false true x t ids rest same is rest_is = absurd (true≢false (sym is))
-filter-head false false x t ids rest same is rest_is = rest_is ∙ and-none (has t ids) ∙ sym (and-none (has t (x ∷ ids)))
+filter-head false false x t ids rest same is rest_is = rest_is ∙ and-false (has t ids) ∙ sym (and-false (has t (x ∷ ids)))
 
 filter-tail : (b : Bool) (x t : ℕ) (rest : List ℕ) → (x ≡ t → ⊥) → has t (cond b (x ∷ rest) rest) ≡ has t rest
 filter-tail true x t rest other = has-other x t rest other

@@ -2,7 +2,7 @@ ghost use Rattle.std.specs.Prelude.{◌≡◌, ◌≤◌, ◌<◌, ◌+◌, true
 ghost use Rattle.std.specs.List.Sorted.{IsNonDecreasingBy};
 ghost use Rattle.doc_index.specs.Terms.{are_distinct, leaf_ids};
 ghost use Rattle.doc_index.specs.Rows.{HasTerms, IsIndexed, IsSound};
-ghost use Rattle.doc_index.specs.Groups.{IsSortedFrom, entries_at, entries_with, entries_without, term_of};
+ghost use Rattle.doc_index.specs.steps.Groups.{IsSortedFrom, entries_at, entries_with, entries_without, term_of};
 
 use crate::entry::Entry;
 use crate::parts::Parts;

@@ -1,6 +1,6 @@
 ghost use Rattle.std.specs.Prelude.{◌≡◌, ◌++◌, IfOk, OnOk};
 ghost use Rattle.doc_index.specs.Rows.{entries, leaf_entries};
-ghost use Rattle.doc_index.specs.Groups.{IsSortedFrom};
+ghost use Rattle.doc_index.specs.steps.Groups.{IsSortedFrom};
 
 use crate::TermLeaf;
 use ft_base::{DocId, Memory};

@@ -3,8 +3,8 @@ ghost use Rattle.postings.specs.declared.row.Row.{Row};
 ghost use Rattle.shared_list.specs.Blocks.{joined, start_of, starts_from};
 ghost use Rattle.doc_index.specs.Terms.{leaf_ids};
 ghost use Rattle.doc_index.specs.Rows.{row_of};
-ghost use Rattle.doc_index.specs.Groups.{group, with_rows, without_rows};
-ghost use Rattle.doc_index.specs.Directory.{IsAround};
+ghost use Rattle.doc_index.specs.steps.Groups.{group, with_rows, without_rows};
+ghost use Rattle.doc_index.specs.steps.Directory.{IsAround};
 ghost use Rattle.doc_index.specs.declared.entry.Entry.{Entry};
 
 use crate::entry::Entry;

@@ -1,7 +1,7 @@
 ghost use Rattle.std.specs.Prelude.{◌≡◌, ◌≤◌, ◌<◌, ◌^◌, ◌+◌, ◌++◌, ◌∷◌, [], false, true, nat_le, length};
 ghost use Rattle.std.specs.Prelude.{take, slice_index, slice_index_or, IfNone, IfOk, IfSome};
 ghost use Rattle.doc_index.specs.Terms.{are_distinct, document_of, has, leaf_ids, with_leaf, without_leaf, words_of};
-ghost use Rattle.doc_index.specs.Directory.{place_of, slot_of};
+ghost use Rattle.doc_index.specs.steps.Directory.{place_of, slot_of};
 
 use crate::TermLeaf;
 use crate::slots::{close_gap, number_at, open_gap, put_number};
@@ -31,7 +31,7 @@ pub struct Leaves {
 
 impl Model for Leaves {
     ghost use Rattle.doc_index.specs.Terms.{TermDocument, document_of};
-    ghost use Rattle.doc_index.specs.Directory.{IsDirectory};
+    ghost use Rattle.doc_index.specs.steps.Directory.{IsDirectory};
 
     ghost Value = { TermDocument };
 

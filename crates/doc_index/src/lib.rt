@@ -1,7 +1,9 @@
 //! The index of one document, over the numbers of its terms: which terms it has, and at which places each of them
 //! stands. Leaves come into it and go out of it one by one or all at once, and each row that comes or goes is counted.
 //!
-//! `term_leaf` is one leaf, `doc_index` the index, `term_places` the places of one term.
+//! `term_leaf` is one leaf, `doc_index` the index, `term_places` the places of one term. Inside, `parts` is what an index
+//! is made of: `leaves` with `slots`, where each leaf is found by its number, and `terms` with the rows of each. `entry` makes
+//! words into rows; `changes`, `put_rows`, `take_rows` and `groups` put the rows of a leaf in, or take them out.
 #![tactic(auto)]
 
 mod changes;

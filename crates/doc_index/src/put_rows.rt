@@ -2,7 +2,7 @@ ghost use Rattle.std.specs.Prelude.{◌≡◌, ◌≤◌, ◌+◌, true, length,
 ghost use Rattle.ft_base.specs.Places.{is_ascending};
 ghost use Rattle.doc_index.specs.Terms.{are_distinct, leaf_ids};
 ghost use Rattle.doc_index.specs.Rows.{IsIndexed, entries_of};
-ghost use Rattle.doc_index.specs.Groups.{entries_with, grouped};
+ghost use Rattle.doc_index.specs.steps.Groups.{entries_with, grouped};
 
 use crate::entry::Entry;
 use crate::groups::{Run, put_term, start_at};

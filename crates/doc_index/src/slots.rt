@@ -1,5 +1,5 @@
 ghost use Rattle.std.specs.Prelude.{◌≡◌, ◌+◌, ◌-◌, ◌<◌, ◌≤◌, cond, nat_lt, length, slice_index, IfOk, OnOk};
-ghost use Rattle.doc_index.specs.Directory.{IsChanged, IsClosed, IsOpened};
+ghost use Rattle.doc_index.specs.steps.Directory.{IsChanged, IsClosed, IsOpened};
 
 use ft_base::Memory;
 

@@ -2,7 +2,7 @@ ghost use Rattle.std.specs.Prelude.{◌≡◌, ◌≤◌, ◌<◌, ◌+◌, ◌-
 ghost use Rattle.ft_base.specs.Places.{is_ascending};
 ghost use Rattle.doc_index.specs.Terms.{are_distinct, leaf_ids};
 ghost use Rattle.doc_index.specs.Rows.{IsIndexed, entries_of, of_term};
-ghost use Rattle.doc_index.specs.Groups.{entries_at, entries_without, grouped};
+ghost use Rattle.doc_index.specs.steps.Groups.{entries_at, entries_without, grouped};
 
 use crate::entry::Entry;
 use crate::groups::{Run, start_at, take_term};

@@ -3,7 +3,7 @@ ghost use Rattle.std.specs.Prelude.{length, map, nat_lt, slice_index, IfNone, If
 ghost use Rattle.ft_base.specs.Places.{is_ascending};
 ghost use Rattle.doc_index.specs.Terms.{has};
 ghost use Rattle.doc_index.specs.Rows.{HasTerms, IsIndexed, entries_of, has_rows};
-ghost use Rattle.doc_index.specs.Groups.{term_of};
+ghost use Rattle.doc_index.specs.steps.Groups.{term_of};
 ghost use Rattle.doc_index.specs.steps.Widening.{AreUpTo, IsWidening};
 ghost use Rattle.std.specs.List.Sorted.{IsNonDecreasingBy};
 

@@ -6,6 +6,7 @@ use Rattle.std.specs.List.{count_by}
 use Rattle.std.proofs.lemmas.Bool.{and_parts, ltb-true, lt-ltb, le-ltb, leb-true, le-leb, lt-leb}
 use Rattle.std.proofs.lemmas.List.Recursion.{is_count_by}
 use Rattle.ft_base.specs.Places.{is_ascending}
+use Rattle.doc_index.proofs.TermLemmas.{rest-ascending}
 
 -- a test that a number passes where a greater one does
 abbrev pub HoldsBelow : (ℕ → Bool) → Type 0
@@ -18,10 +19,6 @@ passing p (x ∷ xs) = cond (p x) (1 + passing p xs) (passing p xs)
 pub passing-count : (p : ℕ → Bool) (xs : List ℕ) → passing p xs ≡ count_by p xs
 passing-count p xs = is_count_by (passing p) p refl (λ x xs. refl) xs
 
-pub ascending-tail : (x : ℕ) (xs : List ℕ) → is_ascending (x ∷ xs) ≡ true → is_ascending xs ≡ true
-ascending-tail x [] up = refl
-ascending-tail x (y ∷ rest) up = (and_parts (nat_lt x y) (is_ascending (y ∷ rest)) up).1
-
 pub head-less : (x y : ℕ) (rest : List ℕ) → is_ascending (x ∷ y ∷ rest) ≡ true → x < y
 head-less x y rest up = ltb-true x y (and_parts (nat_lt x y) (is_ascending (y ∷ rest)) up).0
 
@@ -30,7 +27,7 @@ first-less x [] i up there = absurd (omega arith)
 first-less x (y ∷ rest) zero up there = head-less x y rest up
 first-less x (y ∷ rest) (suc i) up there =
     let front = head-less x y rest up in
-    let behind = first-less y rest i (ascending-tail x (y ∷ rest) up) (omega arith) in
+    let behind = first-less y rest i (rest-ascending x (y ∷ rest) up) (omega arith) in
     omega arith
 
 module _ (p : ℕ → Bool) (below : HoldsBelow p) where
@@ -45,13 +42,13 @@ module _ (p : ℕ → Bool) (below : HoldsBelow p) where
   none-behind x [] up fails = refl
   none-behind x (y ∷ rest) up fails =
       let also = fails-behind x y (head-less x y rest up) fails in
-      ap (λ b. cond b (1 + passing p rest) (passing p rest)) also ∙ none-behind y rest (ascending-tail x (y ∷ rest) up) also
+      ap (λ b. cond b (1 + passing p rest) (passing p rest)) also ∙ none-behind y rest (rest-ascending x (y ∷ rest) up) also
 
   passes-at : (xs : List ℕ) (i : ℕ) → is_ascending xs ≡ true → i < length xs → p (get_or xs i 0) ≡ true → i < passing p xs
   passes-at [] i up there holds = absurd (omega arith)
   passes-at (x ∷ xs) zero up there holds = subst (λ b. 0 < cond b (1 + passing p xs) (passing p xs)) (sym holds) (omega arith)
   passes-at (x ∷ xs) (suc i) up there holds =
-      let rest = passes-at xs i (ascending-tail x xs up) (omega arith) holds in
+      let rest = passes-at xs i (rest-ascending x xs up) (omega arith) holds in
       let first : p x ≡ true = below x (get_or xs i 0) (first-less x xs i up (omega arith)) holds in
       subst (λ b. suc i < cond b (1 + passing p xs) (passing p xs)) (sym first) (omega arith)
 
@@ -60,7 +57,7 @@ module _ (p : ℕ → Bool) (below : HoldsBelow p) where
   fails-at (x ∷ xs) zero up there fails =
       let none = none-behind x xs up fails in
       subst (λ b. cond b (1 + passing p xs) (passing p xs) ≤ 0) (sym fails) (omega arith)
-  fails-at (x ∷ xs) (suc i) up there fails = more (p x) (fails-at xs i (ascending-tail x xs up) (omega arith) fails)
+  fails-at (x ∷ xs) (suc i) up there fails = more (p x) (fails-at xs i (rest-ascending x xs up) (omega arith) fails)
     where
       more : (b : Bool) → passing p xs ≤ i → cond b (1 + passing p xs) (passing p xs) ≤ suc i
       more true h = omega arith
@@ -83,7 +80,7 @@ less-below q x y less h = let to = ltb-true y q h in lt-ltb x q (omega arith)
 -- how many are at most a number: no more than that number and 0
 few-behind : (q x : ℕ) (xs : List ℕ) → is_ascending (x ∷ xs) ≡ true → passing (λ y. nat_le y q) xs ≤ q - x
 few-behind q x [] up = omega arith
-few-behind q x (y ∷ rest) up = by (nat_le y q) refl (few-behind q y rest (ascending-tail x (y ∷ rest) up)) (head-less x y rest up)
+few-behind q x (y ∷ rest) up = by (nat_le y q) refl (few-behind q y rest (rest-ascending x (y ∷ rest) up)) (head-less x y rest up)
   where
     by : (b : Bool) → nat_le y q ≡ b → passing (λ z. nat_le z q) rest ≤ q - y → x < y → cond b (1 + passing (λ z. nat_le z q) rest) (passing (λ z. nat_le z q) rest) ≤ q - x
     by true e more less = let to = leb-true y q e in omega arith

@@ -9,15 +9,11 @@ use Rattle.ft_base.specs.declared.places.Breaks.{Breaks}
 use Rattle.ft_base.specs.declared.span.Span.{Span}
 use Rattle.ft_base.specs.Places.{is_ascending}
 use Rattle.ft_base.specs.Hits.{hit_place, comes_before, is_sorted}
+use Rattle.doc_index.proofs.TermLemmas.{ascending-drop, rest-ascending}
 use Rattle.index_cursors.specs.SpanHits.{word_hit, is_inside, hits_in, places_up_to, cursor_place, below}
-use Rattle.index_cursors.proofs.AscendingLemmas.{passing, passing-count, ascending-tail, head-less, none-behind, less-below}
+use Rattle.index_cursors.proofs.AscendingLemmas.{passing, passing-count, head-less, none-behind, less-below}
 
 -- parts of ascending lists ascend
-pub ascending-drop : (n : ℕ) (xs : List ℕ) → is_ascending xs ≡ true → is_ascending (drop n xs) ≡ true
-ascending-drop zero xs up = up
-ascending-drop (suc n) [] up = refl
-ascending-drop (suc n) (x ∷ xs) up = ascending-drop n xs (ascending-tail x xs up)
-
 pub ascending-take : (n : ℕ) (xs : List ℕ) → is_ascending xs ≡ true → is_ascending (take n xs) ≡ true
 ascending-take zero xs up = refl
 ascending-take (suc n) [] up = refl
@@ -40,14 +36,14 @@ words-behind breaks x z [] le up = refl
 words-behind breaks x z (y ∷ rest) le up =
     let less = head-less z y rest up in
     let here = word-before breaks x y (omega arith) in
-    let behind = words-behind breaks x y rest (omega arith) (ascending-tail z (y ∷ rest) up) in
+    let behind = words-behind breaks x y rest (omega arith) (rest-ascending z (y ∷ rest) up) in
     λ i. here i && behind i
 
 pub words-sorted : (breaks : Breaks) (xs : List ℕ) → is_ascending xs ≡ true → is_sorted (map (word_hit breaks) xs) ≡ true
 words-sorted breaks [] up = refl
 words-sorted breaks (x ∷ xs) up =
     let behind = words-behind breaks x x xs (omega arith) up in
-    let rest = words-sorted breaks xs (ascending-tail x xs up) in
+    let rest = words-sorted breaks xs (rest-ascending x xs up) in
     λ i. behind i && rest i
 
 pub span-sorted : (breaks : Breaks) (to first : ℕ) (places : List ℕ) → is_ascending places ≡ true → is_sorted (map (word_hit breaks) (places_up_to to first places)) ≡ true
@@ -74,7 +70,7 @@ none-inside span z [] le up = refl
 none-inside span z (y ∷ rest) le up =
     let less = head-less z y rest up in
     ap (λ b. cond b (y ∷ filter (is_inside span) rest) (filter (is_inside span) rest)) (inside-behind span y (omega arith))
-    ∙ none-inside span y rest (omega arith) (ascending-tail z (y ∷ rest) up)
+    ∙ none-inside span y rest (omega arith) (rest-ascending z (y ∷ rest) up)
 
 span-step : (span : Span) (x : ℕ) (xs : List ℕ) → span.from ≤ x → is_ascending (x ∷ xs) ≡ true → filter (is_inside span) xs ≡ take_while (λ p. nat_lt p span.to) xs
     → filter (is_inside span) (x ∷ xs) ≡ take_while (λ p. nat_lt p span.to) (x ∷ xs)
@@ -95,7 +91,7 @@ span-front : (span : Span) (x : ℕ) (xs : List ℕ) → span.from ≤ x → is_
 span-front span x [] le up = span-step span x [] le up refl
 span-front span x (y ∷ ys) le up =
     let less = head-less x y ys up in
-    span-step span x (y ∷ ys) le up (span-front span y ys (omega arith) (ascending-tail x (y ∷ ys) up))
+    span-step span x (y ∷ ys) le up (span-front span y ys (omega arith) (rest-ascending x (y ∷ ys) up))
 
 span-passing : (span : Span) (xs : List ℕ) → is_ascending xs ≡ true → filter (is_inside span) xs ≡ take_while (λ p. nat_lt p span.to) (drop (passing (λ p. nat_lt p span.from) xs) xs)
 span-passing span [] up = refl
@@ -103,7 +99,7 @@ span-passing span (x ∷ xs) up = elim (cases_lt x span.from) [
   | inl less ↦
       let one : 1 + passing (λ p. nat_lt p span.from) xs ≡ suc (passing (λ p. nat_lt p span.from) xs) = omega arith in
       ap (λ b. cond b (x ∷ filter (is_inside span) xs) (filter (is_inside span) xs)) (inside-front span x less)
-      ∙ span-passing span xs (ascending-tail x xs up)
+      ∙ span-passing span xs (rest-ascending x xs up)
       ∙ ap (λ n. take_while (λ p. nat_lt p span.to) (drop n (x ∷ xs))) (sym one)
       ∙ ap (λ b. take_while (λ p. nat_lt p span.to) (drop (cond b (1 + passing (λ p. nat_lt p span.from) xs) (passing (λ p. nat_lt p span.from) xs)) (x ∷ xs))) (sym (lt-ltb x span.from less))
   | inr le ↦

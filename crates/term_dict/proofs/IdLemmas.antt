@@ -4,7 +4,7 @@ use Rattle.std.specs.declared.cmp.Ordering.{Ordering}
 use Rattle.std.specs.declared.cmp.Ordering.TheVariants.{Less, Equal, Greater}
 use Rattle.std.specs.Ordering.{is_eq}
 use Rattle.std.specs.Cmp.{Equal-is}
-use Rattle.std.proofs.lemmas.Bool.{cases_Bool}
+use Rattle.std.proofs.lemmas.Bool.{cases_Bool, or_right}
 use Rattle.std.proofs.lemmas.Cmp.{eq_by_cmp_equiv}
 use Rattle.index_meaning.specs.Entries.{Entry, entry_cmp, by_order, has_entry}
 use Rattle.index_meaning.specs.Dictionaries.{Term, term, entries, Dictionary, dictionary, id_of, with_term, with_new, with_all_new}
@@ -31,15 +31,11 @@ id_kept f e d there = elim (cases_Bool (has_entry e (entries d.terms))) [
       ]
 ]
 
-or_later : (a b : Bool) → b ≡ true → (a || b) ≡ true
-or_later true b h = refl
-or_later false b h = h
-
 has_with : (f : Entry) (t : Term) (ts : List Term) → has_entry f (entries ts) ≡ true → has_entry f (entries (with_term t ts)) ≡ true
 has_with f t [] there = absurd (true≢false (sym there))
 has_with f t (u ∷ ts) there =
     elim (entry_cmp t.entry u.entry) as (λ o. has_entry f (entries (by_order o (t ∷ u ∷ ts) (u ∷ ts) (u ∷ with_term t ts))) ≡ true) [
-      | Less ↦ or_later (is_eq (entry_cmp f t.entry)) (has_entry f (entries (u ∷ ts))) there
+      | Less ↦ or_right (is_eq (entry_cmp f t.entry)) (has_entry f (entries (u ∷ ts))) there
       | Equal ↦ there
       | Greater ↦ elim (is_eq (entry_cmp f u.entry)) as (λ b. (b || has_entry f (entries ts)) ≡ true → (b || has_entry f (entries (with_term t ts))) ≡ true) [
         | true ↦ λ h. refl

@@ -3,7 +3,7 @@ use Rattle.std.proofs.lemmas.Result.{on_ok_weaker}
 use Rattle.ft_base.specs.Places.{is_ascending}
 use Rattle.doc_index.specs.Terms.{TermDocument, are_distinct, leaf_ids}
 use Rattle.doc_index.specs.Rows.{HasTerms, IsIndexed, entries_of}
-use Rattle.doc_index.specs.Groups.{entries_with}
+use Rattle.doc_index.specs.steps.Groups.{entries_with}
 use Rattle.doc_index.proofs.SoundLemmas.{new-grouped, with-terms}
 use Rattle.doc_index.proofs.changes.put_entries.Goals as goal
 

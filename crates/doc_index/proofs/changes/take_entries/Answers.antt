@@ -1,6 +1,6 @@
 use Rattle.std.proofs.Common.{◌≡◌, ◌≤◌, ℕ, List, Result, Ok, Err, OnOk, ap, sym, subst, ◌∙◌, arith}
 use Rattle.doc_index.specs.Rows.{IsIndexed}
-use Rattle.doc_index.specs.Groups.{entries_without}
+use Rattle.doc_index.specs.steps.Groups.{entries_without}
 use Rattle.doc_index.proofs.SoundLemmas.{old-grouped}
 use Rattle.doc_index.proofs.changes.take_entries.Goals as goal
 

@@ -6,7 +6,7 @@ use Rattle.std.proofs.lemmas.List.Elements.{filter_agree}
 use Rattle.std.proofs.lemmas.List.Sorted.{length_permutation, IsNonDecreasingBy-from_sort_by_key, answers_always}
 use Rattle.doc_index.specs.declared.entry.Entry.{Entry}
 use Rattle.doc_index.specs.Rows.{entry_at}
-use Rattle.doc_index.specs.Groups.{term_of}
+use Rattle.doc_index.specs.steps.Groups.{term_of}
 use Rattle.doc_index.proofs.entry.sorted.Goals as goal
 
 same-key : (t n : ℕ) → (not (is_lt (nat_cmp t n)) && not (is_lt (nat_cmp n t))) ≡ (n == t)

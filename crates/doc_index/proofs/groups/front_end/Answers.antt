@@ -1,6 +1,6 @@
 use Rattle.std.proofs.Common.{◌≡◌, ◌+◌, ◌-◌, ◌/◌, length, get_or, true, false, ap, sym, ◌∙◌, arith}
 use Rattle.doc_index.specs.Terms.{leaf_ids}
-use Rattle.doc_index.specs.Directory.{is_front}
+use Rattle.doc_index.specs.steps.Directory.{is_front}
 use Rattle.doc_index.proofs.GroupLemmas.{front-there, back-there}
 use Rattle.doc_index.proofs.groups.front_end.Goals as goal
 

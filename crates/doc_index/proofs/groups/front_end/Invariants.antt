@@ -1,7 +1,7 @@
 use Rattle.std.proofs.Common.{ℕ, ◌≤◌, ◌+◌, ◌-◌, List, length}
 use Rattle.postings.specs.declared.row.Row.{Row}
 use Rattle.doc_index.specs.Terms.{leaf_ids}
-use Rattle.doc_index.specs.Directory.{IsAround}
+use Rattle.doc_index.specs.steps.Directory.{IsAround}
 use Rattle.doc_index.proofs.groups.front_end.Given as goal
 
 abbrev pub invariant-loop-low : goal.invariant-loop-low

@@ -1,6 +1,6 @@
 use Rattle.std.proofs.Common.{◌≡◌, ◌≤◌, ◌+◌, ◌-◌, length, drop, map}
 use Rattle.doc_index.specs.Rows.{row_of}
-use Rattle.doc_index.specs.Groups.{group, with_rows}
+use Rattle.doc_index.specs.steps.Groups.{group, with_rows}
 use Rattle.doc_index.proofs.groups.put_group.Given as goal
 
 abbrev pub invariant-loop-rows : goal.invariant-loop-rows

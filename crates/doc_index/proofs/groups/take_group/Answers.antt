@@ -1,6 +1,6 @@
 use Rattle.std.proofs.Common.{◌≡◌, ◌+◌, length, drop, ap, sym, ◌∙◌, arith}
 use Rattle.doc_index.specs.Rows.{entry_at}
-use Rattle.doc_index.specs.Groups.{group, without_rows}
+use Rattle.doc_index.specs.steps.Groups.{group, without_rows}
 use Rattle.doc_index.proofs.groups.take_group.Goals as goal
 
 pub returns-in_err-take_row-clause-at_most : goal.returns-in_err-take_row-clause-at_most

@@ -1,5 +1,5 @@
 use Rattle.std.proofs.Common.{◌≡◌, ◌≤◌, ◌+◌, ◌-◌, length, drop}
-use Rattle.doc_index.specs.Groups.{group, without_rows}
+use Rattle.doc_index.specs.steps.Groups.{group, without_rows}
 use Rattle.doc_index.proofs.groups.take_group.Given as goal
 
 abbrev pub invariant-loop-rows : goal.invariant-loop-rows

@@ -2,7 +2,7 @@ use Rattle.std.proofs.Common.{drop, map, ap, ◌∙◌, ◌++◌}
 use Rattle.std.proofs.lemmas.Result.{on_ok_weaker}
 use Rattle.doc_index.specs.Terms.{leaf_ids}
 use Rattle.doc_index.specs.Rows.{row_of}
-use Rattle.doc_index.specs.Groups.{group, with_rows}
+use Rattle.doc_index.specs.steps.Groups.{group, with_rows}
 use Rattle.doc_index.proofs.GroupLemmas.{take-around}
 use Rattle.doc_index.proofs.groups.take_term.Goals as goal
 

@@ -2,7 +2,7 @@ use Rattle.std.proofs.Common.{◌≡◌, ◌≤◌, ◌+◌, ◌<◌, length, ge
 use Rattle.std.proofs.lemmas.List.{get_or_read}
 use Rattle.shared_list.specs.Blocks.{joined}
 use Rattle.doc_index.specs.Rows.{entries_of, runs_of}
-use Rattle.doc_index.specs.Groups.{group}
+use Rattle.doc_index.specs.steps.Groups.{group}
 use Rattle.doc_index.proofs.PutLemmas.{group-is, group-within}
 use Rattle.doc_index.proofs.StepLemmas.{IsPutting, starts-length, run-first, run-end, putting-start, putting-all, putting-indexed, putting-more}
 use Rattle.doc_index.proofs.put_rows.put_rows.Goals as goal

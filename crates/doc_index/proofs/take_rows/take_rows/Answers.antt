@@ -2,7 +2,7 @@ use Rattle.std.proofs.Common.{◌≡◌, ◌≤◌, ◌+◌, ◌-◌, ◌<◌, l
 use Rattle.std.proofs.lemmas.List.{get_or_read}
 use Rattle.shared_list.specs.Blocks.{joined}
 use Rattle.doc_index.specs.Rows.{entries_of, runs_of}
-use Rattle.doc_index.specs.Groups.{group}
+use Rattle.doc_index.specs.steps.Groups.{group}
 use Rattle.doc_index.proofs.PutLemmas.{group-is, group-within}
 use Rattle.doc_index.proofs.StepLemmas.{IsTaking, starts-length, run-first, run-end, taking-start, taking-all, taking-indexed, taking-more}
 use Rattle.doc_index.proofs.take_rows.take_rows.Goals as goal

@@ -3,7 +3,7 @@ use Rattle.std.proofs.lemmas.Bool.{cases_lt}
 use Rattle.std.proofs.lemmas.List.{get_or_read, map_more, take_all}
 use Rattle.doc_index.specs.Terms.{has}
 use Rattle.doc_index.specs.Rows.{entries_of}
-use Rattle.doc_index.specs.Groups.{term_of}
+use Rattle.doc_index.specs.steps.Groups.{term_of}
 use Rattle.doc_index.specs.steps.Widening.{AreUpTo, IsWidening}
 use Rattle.doc_index.proofs.WideningLemmas.{widening-start, widening-indexed, widening-members}
 use Rattle.doc_index.proofs.terms.widen.Goals as goal

@@ -1,7 +1,7 @@
 use Rattle.std.proofs.Common.{ℕ, ◌≡◌, ◌≤◌, ◌<◌, length, take, map, get_or}
 use Rattle.doc_index.specs.declared.entry.Entry.{Entry}
 use Rattle.doc_index.specs.Rows.{entries_of}
-use Rattle.doc_index.specs.Groups.{term_of}
+use Rattle.doc_index.specs.steps.Groups.{term_of}
 use Rattle.doc_index.specs.steps.Widening.{AreUpTo, IsWidening}
 use Rattle.doc_index.proofs.terms.widen.Given as goal
 

@@ -2,7 +2,7 @@ use Rattle.std.proofs.Common.{◌≡◌, ◌≤◌, ◌+◌, [], ℕ, List, leng
 use Rattle.doc_index.specs.declared.entry.Entry.{Entry}
 use Rattle.doc_index.specs.Terms.{TermDocument, are_distinct, document_of, leaf_ids, words_of}
 use Rattle.doc_index.specs.Rows.{HasTerms, IsIndexed, entries, entries_of}
-use Rattle.doc_index.specs.Groups.{IsSortedFrom, entries_with}
+use Rattle.doc_index.specs.steps.Groups.{IsSortedFrom, entries_with}
 use Rattle.doc_index.proofs.SoundLemmas.{all-count, all-same, indexed-same, sound-empty, terms-same}
 use Rattle.doc_index.proofs.doc_index.DocIndex.from_leaves.Goals as goal
 

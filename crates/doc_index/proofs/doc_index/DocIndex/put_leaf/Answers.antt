@@ -2,7 +2,7 @@ use Rattle.std.proofs.Common.{◌≡◌, ◌≤◌, ◌+◌, ℕ, List, false, l
 use Rattle.doc_index.specs.declared.entry.Entry.{Entry}
 use Rattle.doc_index.specs.Terms.{TermDocument, has, leaf_ids, leaf_of, with_leaf}
 use Rattle.doc_index.specs.Rows.{HasTerms, IsIndexed, entries_of, leaf_entries}
-use Rattle.doc_index.specs.Groups.{IsSortedFrom, entries_with}
+use Rattle.doc_index.specs.steps.Groups.{IsSortedFrom, entries_with}
 use Rattle.doc_index.proofs.SoundLemmas.{indexed-same, leaf-length, terms-same, with-same}
 use Rattle.doc_index.proofs.doc_index.DocIndex.put_leaf.Goals as goal
 

@@ -2,7 +2,7 @@ use Rattle.std.proofs.Common.{◌≡◌, ◌≤◌, ◌<◌, ◌+◌, [], ℕ, L
 use Rattle.doc_index.specs.declared.entry.Entry.{Entry}
 use Rattle.doc_index.specs.Terms.{TermDocument, leaf_words, without_leaf}
 use Rattle.doc_index.specs.Rows.{HasTerms, IsIndexed, entries_of, has_rows, leaf_entries}
-use Rattle.doc_index.specs.Groups.{IsSortedFrom, entries_at, entries_without}
+use Rattle.doc_index.specs.steps.Groups.{IsSortedFrom, entries_at, entries_without}
 use Rattle.doc_index.proofs.LeafLemmas.{words-read}
 use Rattle.doc_index.proofs.SoundLemmas.{entries-at, leaf-length, without-is, without-terms}
 use Rattle.doc_index.proofs.doc_index.DocIndex.take_leaf.Goals as goal

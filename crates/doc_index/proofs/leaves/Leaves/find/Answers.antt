@@ -1,6 +1,6 @@
 use Rattle.std.proofs.Common.{ap, ◌∙◌}
 use Rattle.doc_index.specs.Terms.{TermDocument, leaf_ids}
-use Rattle.doc_index.specs.Directory.{slot_of}
+use Rattle.doc_index.specs.steps.Directory.{slot_of}
 use Rattle.doc_index.proofs.LeafLemmas.{found-slot, found-none}
 use Rattle.doc_index.proofs.leaves.Leaves.find.Goals as goal
 

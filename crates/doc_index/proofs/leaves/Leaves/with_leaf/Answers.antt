@@ -1,7 +1,7 @@
 use Rattle.std.proofs.Common.{◌≡◌, ◌+◌, ◌<◌, ◌≤◌, ℕ, List, length, take, cond, nat_lt, false, ap, sym, subst, ◌∙◌, arith}
 use Rattle.std.proofs.lemmas.List.{length-map}
 use Rattle.doc_index.specs.Terms.{Leaf, TermDocument, leaf_ids, words_of, has}
-use Rattle.doc_index.specs.Directory.{IsChanged, IsDirectory, IsOpened}
+use Rattle.doc_index.specs.steps.Directory.{IsChanged, IsDirectory, IsOpened}
 use Rattle.doc_index.proofs.DirectoryLemmas.{directory-with}
 use Rattle.doc_index.proofs.LeafLemmas.{slot-most}
 use Rattle.doc_index.proofs.leaves.Leaves.with_leaf.Goals as goal

@@ -2,7 +2,7 @@ use Rattle.std.proofs.Common.{◌≡◌, ◌+◌, ◌-◌, ◌<◌, ◌≤◌, �
 use Rattle.std.proofs.lemmas.Bool.{cases_lt}
 use Rattle.std.proofs.lemmas.List.{length-map, get_or_past}
 use Rattle.doc_index.specs.Terms.{Leaf, TermDocument, leaf_ids}
-use Rattle.doc_index.specs.Directory.{IsClosed, IsDirectory}
+use Rattle.doc_index.specs.steps.Directory.{IsClosed, IsDirectory}
 use Rattle.doc_index.proofs.DirectoryLemmas.{directory-without, words_at}
 use Rattle.doc_index.proofs.LeafLemmas.{id-read, slot-at, words-read}
 use Rattle.doc_index.proofs.leaves.Leaves.without_leaf.Goals as goal
