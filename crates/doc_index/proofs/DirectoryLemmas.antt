@@ -1,9 +1,8 @@
 -- Where leaves are found by their numbers, when a leaf comes or goes.
-use Rattle.std.proofs.Common.{◌≡◌, ◌≢◌, ℕ, ◌+◌, ◌-◌, ◌<◌, ◌≤◌, suc, zero, Bool, true, false, not, cond, nat_lt, nat_le, ◌&&◌, ◌||◌, ◌==◌, List, [], ◌∷◌, ◌++◌, length, get_or, take, drop, map, refl, ap, sym, ◌∙◌, arith, append_assoc, append-nil, length-append, inl, inr, true≢false}
+use Rattle.std.proofs.Common.{◌≡◌, ℕ, ◌+◌, ◌-◌, ◌<◌, ◌≤◌, suc, zero, Bool, true, false, not, cond, nat_lt, ◌==◌, List, [], ◌∷◌, length, get_or, take, map, refl, ap, sym, ◌∙◌, arith, length-append, inl, inr, true≢false}
 use Rattle.std.specs.Prelude.{insert, remove}
-use Rattle.std.specs.List.{list_all, list_any, flat_map}
-use Rattle.std.proofs.lemmas.Bool.{and_parts, and_from, or_cases, or_right, or_left, or_parts, eqb-true, eq-eqb, ne_eqb, eqb-false, cases_eq, cases_lt, cases_Bool, cond-true, cond-false, not-true, lt-ltb, le-ltb, not_from_false, false_from_ne_true, true_from_ne_false}
-use Rattle.std.proofs.lemmas.List.{length-map, map-append, take-map, drop-map, get_or_past}
+use Rattle.std.proofs.lemmas.Bool.{and_parts, and_from, or_cases, or_right, or_left, or_parts, eq-eqb, ne_eqb, eqb-false, cases_eq, cases_lt, cond-true, cond-false, not-true, lt-ltb, le-ltb, not_from_false, false_from_ne_true, true_from_ne_false}
+use Rattle.std.proofs.lemmas.List.{length-map, get_or_past}
 use Rattle.std.proofs.lemmas.Bool.Decides.{nat_tests}
 use Rattle.doc_index.specs.Terms.{Leaf, leaf_ids, words_of, has, are_distinct}
 use Rattle.doc_index.specs.steps.Directory.{slot_of, next_slot, words_before, IsDirectory, IsOpened, IsClosed, IsChanged}

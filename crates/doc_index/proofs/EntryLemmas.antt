@@ -1,18 +1,17 @@
 -- The entries of a document by term.
-use Rattle.std.proofs.Common.{◌≡◌, ℕ, ◌+◌, ◌<◌, ◌≤◌, suc, zero, Bool, true, false, cond, nat_lt, ◌&&◌, ◌||◌, ◌==◌, List, [], ◌∷◌, ◌++◌, length, get_or, take, drop, map, filter, refl, ap, sym, ◌∙◌, arith, append_assoc, append-nil, length-append, inl, inr, true≢false}
-use Rattle.std.specs.List.{list_all, list_any, flat_map}
+use Rattle.std.proofs.Common.{◌≡◌, ℕ, ◌+◌, ◌<◌, suc, true, false, nat_lt, ◌==◌, List, [], ◌∷◌, ◌++◌, length, get_or, take, drop, map, refl, ap, sym, ◌∙◌, arith, inl, inr, true≢false}
+use Rattle.std.specs.List.{list_all}
 use Rattle.std.specs.List.Sorted.{IsNonDecreasingBy}
-use Rattle.std.proofs.lemmas.Bool.{and_parts, and_from, or_cases, or_right, or_left, eqb-true, eq-eqb, ne_eqb, cases_eq, cases_Bool, cond_both, lt-ltb, cond-true, cond-false}
+use Rattle.std.proofs.lemmas.Bool.{and_parts, and_from, or_right, eqb-true, eq-eqb, ne_eqb, cases_eq, lt-ltb, cond-true, cond-false}
 use Rattle.std.proofs.lemmas.List.{map-append, take-append-drop}
 use Rattle.std.proofs.lemmas.List.Elements.{filter-append}
 use Rattle.std.proofs.lemmas.List.Concat.{flat_map-append}
 use Rattle.ft_base.specs.Places.{is_ascending}
-use Rattle.postings.specs.declared.row.Row.{Row}
 use Rattle.doc_index.specs.declared.entry.Entry.{Entry}
-use Rattle.doc_index.specs.Terms.{Leaf, TermDocument, has, words_of}
-use Rattle.doc_index.specs.Rows.{entries, entries_from, leaf_entries, entries_of, has_rows, of_term, row_of, rows_of}
-use Rattle.doc_index.specs.steps.Groups.{term_of, group, grouped, front_entries, back_entries}
-use Rattle.doc_index.proofs.TermLemmas.{has-append, has-head, has-other, first-below, rest-ascending, not-in-rest}
+use Rattle.doc_index.specs.Terms.{Leaf, has, words_of}
+use Rattle.doc_index.specs.Rows.{entries, entries_from, leaf_entries, has_rows, of_term, row_of, rows_of}
+use Rattle.doc_index.specs.steps.Groups.{term_of, group, grouped}
+use Rattle.doc_index.proofs.TermLemmas.{has-head, has-other, first-below, rest-ascending, not-in-rest}
 
 pub of_term-append : (t : ℕ) (a b : List Entry) → of_term t (a ++ b) ≡ of_term t a ++ of_term t b
 of_term-append t a b = filter-append (λ (e : Entry). e.term == t) a b

@@ -1,13 +1,13 @@
 -- Which rows are of leaves in front of a place.
-use Rattle.std.proofs.Common.{◌≡◌, ℕ, ◌+◌, ◌<◌, ◌≤◌, suc, zero, Bool, true, false, not, cond, nat_le, ◌&&◌, ◌||◌, ◌==◌, List, [], ◌∷◌, ◌++◌, length, take, drop, map, refl, ap, sym, ◌∙◌, arith, inl, inr, true≢false}
-use Rattle.std.specs.List.{list_all, list_any, flat_map}
-use Rattle.std.proofs.lemmas.Bool.{and_parts, and_from, or_from, or_left, or_right, eq-eqb, cases_eq, le-leb, lt-leb, not-true, or_parts}
+use Rattle.std.proofs.Common.{◌≡◌, ℕ, ◌+◌, ◌<◌, ◌≤◌, suc, zero, Bool, true, false, not, nat_le, ◌==◌, List, [], ◌∷◌, ◌++◌, length, take, drop, map, refl, ap, sym, ◌∙◌, arith, inl, inr, true≢false}
+use Rattle.std.specs.List.{list_all, list_any}
+use Rattle.std.proofs.lemmas.Bool.{and_parts, and_from, or_from, or_right, eq-eqb, cases_eq, le-leb, lt-leb, not-true, or_parts}
 use Rattle.std.proofs.lemmas.List.{take-append-drop, take-map, drop-map, length-map, length-take-le}
 use Rattle.std.proofs.lemmas.List.Folds.{list_all-append, list_any-append}
 use Rattle.postings.specs.declared.row.Row.{Row}
 use Rattle.doc_index.specs.declared.entry.Entry.{Entry}
 use Rattle.doc_index.specs.Terms.{Leaf, has, are_distinct, leaf_ids}
-use Rattle.doc_index.specs.Rows.{entries, entries_from, leaf_entries, of_term, row_of, rows_of}
+use Rattle.doc_index.specs.Rows.{entries, entries_from, leaf_entries, row_of, rows_of}
 use Rattle.doc_index.specs.steps.Directory.{slot_of, next_slot, is_front}
 use Rattle.doc_index.proofs.TermLemmas.{has-append, has-head, has-other}
 use Rattle.doc_index.proofs.EntryLemmas.{of_term-here, of_term-other}

@@ -1,8 +1,7 @@
 -- Rows that are put into a list and taken out of it one by one, as the parts of the list.
-use Rattle.std.proofs.Common.{◌≡◌, ℕ, ◌+◌, ◌-◌, ◌<◌, ◌≤◌, suc, zero, true, false, cond, List, [], ◌∷◌, ◌++◌, length, take, drop, map, get_or, refl, ap, sym, ◌∙◌, arith, append_assoc, length-append, true≢false, inl, inr}
+use Rattle.std.proofs.Common.{◌≡◌, ℕ, ◌+◌, ◌-◌, ◌<◌, ◌≤◌, suc, zero, true, false, List, [], ◌∷◌, ◌++◌, length, map, get_or, refl, ap, sym, ◌∙◌, arith, append_assoc, length-append, true≢false, inl, inr}
 use Rattle.std.specs.Prelude.{insert, remove}
 use Rattle.postings.specs.declared.row.Row.{Row}
-use Rattle.std.specs.List.{list_all, list_any}
 use Rattle.std.proofs.lemmas.List.{length-map}
 use Rattle.std.proofs.lemmas.List.Folds.{list_any_at, list_all_at}
 use Rattle.std.proofs.lemmas.Bool.{true_from_ne_false, false_from_ne_true, cases_lt}

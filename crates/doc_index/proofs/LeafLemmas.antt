@@ -1,15 +1,12 @@
 -- What is read of leaves, as the code reads it.
-use Rattle.std.proofs.Common.{◌≡◌, ℕ, ◌+◌, ◌-◌, ◌<◌, ◌≤◌, suc, zero, Bool, true, false, not, cond, ◌&&◌, ◌||◌, ◌==◌, Option, Some, None, List, [], ◌∷◌, ◌++◌, length, get_or, take, drop, map, refl, ap, sym, ◌∙◌, arith, inl, inr, true≢false}
+use Rattle.std.proofs.Common.{◌≡◌, ℕ, ◌+◌, ◌-◌, ◌<◌, ◌≤◌, suc, zero, true, false, not, Option, Some, None, List, [], ◌∷◌, length, get_or, take, refl, ap, sym, ◌∙◌, arith, inl, inr, true≢false}
 use Rattle.std.specs.Option.{IfSome, IfNone, SomeIff}
-use Rattle.std.specs.Prelude.{insert}
-use Rattle.std.proofs.lemmas.Bool.{and_parts, cases_Bool, cases_eq, cases_lt, not-true, eq-eqb, false_from_ne_true}
-use Rattle.std.proofs.lemmas.List.{length-map, get_or-map, take_more, take-append-drop, take-map}
-use Rattle.std.proofs.lemmas.List.Edits.{insert_end}
-use Rattle.doc_index.specs.Terms.{Leaf, TermDocument, document_of, leaf_ids, has, are_distinct}
+use Rattle.std.proofs.lemmas.Bool.{and_parts, cases_Bool, cases_eq, cases_lt, not-true}
+use Rattle.std.proofs.lemmas.List.{length-map, get_or-map}
+use Rattle.doc_index.specs.Terms.{Leaf, leaf_ids, has, are_distinct}
 use Rattle.doc_index.specs.steps.Directory.{slot_of}
-use Rattle.doc_index.proofs.TermLemmas.{has-at, has-head, has-other}
+use Rattle.doc_index.proofs.TermLemmas.{has-at, has-other}
 use Rattle.doc_index.proofs.DirectoryLemmas.{slot-found, slot-there, slot-none, slot-zero, slot-some, slot-head, slot-other, next-some, words_at}
-use Rattle.doc_index.proofs.FrontLemmas.{apart-from, ids-split}
 
 pub slot-most : (ids : List ℕ) (id : ℕ) → slot_of ids id ≤ length ids
 slot-most ids id = elim (cases_Bool (has id ids)) [

@@ -1,20 +1,19 @@
 -- The places of a term's rows in their document.
-use Rattle.std.proofs.Common.{◌≡◌, ℕ, ◌+◌, ◌-◌, ◌<◌, ◌≤◌, suc, zero, Bool, true, false, not, cond, nat_lt, ◌&&◌, ◌==◌, List, [], ◌∷◌, ◌++◌, length, get_or, take, drop, map, refl, ap, sym, ◌∙◌, arith, append-nil, append_assoc, length-append, length-drop, ◌^◌, inl, inr, true≢false}
-use Rattle.std.proofs.lemmas.Bool.{and_parts, and_from, or_left, or_right, cases_eq, cases_lt, eq-eqb, ne_eqb, cond-true, cond-false, lt-ltb, not-true}
+use Rattle.std.proofs.Common.{◌≡◌, ℕ, ◌+◌, ◌-◌, ◌<◌, ◌≤◌, suc, zero, true, false, ◌==◌, List, [], ◌∷◌, ◌++◌, length, get_or, take, drop, map, refl, ap, sym, ◌∙◌, arith, append-nil, append_assoc, length-append, length-drop, ◌^◌, inl, inr, true≢false}
+use Rattle.std.proofs.lemmas.Bool.{or_right, cases_eq, cases_lt, eq-eqb, ne_eqb, cond-true, cond-false}
 use Rattle.std.proofs.lemmas.List.{length-map, map-append, get_or-map, length-take-le, take-append-drop}
 use Rattle.std.proofs.lemmas.List.Concat.{flat_map-append}
-use Rattle.shared_list.specs.Blocks.{joined, start_of, starts_from}
+use Rattle.shared_list.specs.Blocks.{joined, start_of}
 use Rattle.doc_index.proofs.GroupLemmas.{read-front, read-back}
 use Rattle.doc_index.proofs.RunLemmas.{next-run, start-is}
 use Rattle.doc_index.proofs.PutLemmas.{all_rows}
 use Rattle.doc_index.proofs.StepLemmas.{run-end}
 use Rattle.ft_base.specs.Places.{is_ascending}
 use Rattle.postings.specs.declared.row.Row.{Row}
-use Rattle.doc_index.specs.declared.entry.Entry.{Entry}
 use Rattle.doc_index.specs.Terms.{Leaf, TermDocument, has, are_distinct, leaf_ids, places_from, places_of, words_of}
-use Rattle.doc_index.specs.Rows.{HasTerms, IsIndexed, IsRunOf, runs_of, entries, entries_from, entries_of, leaf_entries, of_term, row_at, entry_at, row_of, rows_of}
+use Rattle.doc_index.specs.Rows.{HasTerms, IsIndexed, IsRunOf, runs_of, entries, entries_from, entries_of, leaf_entries, row_at, entry_at, row_of, rows_of}
 use Rattle.doc_index.specs.steps.Directory.{place_of, words_before}
-use Rattle.doc_index.proofs.TermLemmas.{has-head, has-other, has-append, first-below, ascending-cons, has-at}
+use Rattle.doc_index.proofs.TermLemmas.{has-head, has-other, ascending-cons, has-at}
 use Rattle.doc_index.proofs.EntryLemmas.{drop-front, no-rows, of_term-here, of_term-other, rows_of-append}
 use Rattle.doc_index.proofs.FrontLemmas.{apart-from}
 

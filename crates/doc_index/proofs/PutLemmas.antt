@@ -1,18 +1,18 @@
 -- The rows of a term where those of leaves that come to a place are put among them, and where those of a leaf are taken out.
-use Rattle.std.proofs.Common.{◌≡◌, ℕ, ◌+◌, ◌-◌, ◌<◌, ◌≤◌, suc, zero, Bool, true, false, List, [], ◌∷◌, ◌++◌, length, get_or, take, drop, map, refl, ap, sym, ◌∙◌, arith, append_assoc, append-nil, length-append, length-drop}
-use Rattle.std.specs.List.{list_all, list_any, flat_map}
-use Rattle.std.proofs.lemmas.List.{map-append, length-map, drop-drop}
+use Rattle.std.proofs.Common.{◌≡◌, ℕ, ◌+◌, ◌<◌, ◌≤◌, suc, true, List, [], ◌++◌, length, get_or, take, drop, map, ap, sym, ◌∙◌, arith, append_assoc, length-append, length-drop}
+use Rattle.std.specs.List.{list_any}
+use Rattle.std.proofs.lemmas.List.{drop-drop}
 use Rattle.ft_base.specs.Places.{is_ascending}
 use Rattle.postings.specs.declared.row.Row.{Row}
-use Rattle.shared_list.specs.Blocks.{joined, start_of, starts_from}
+use Rattle.shared_list.specs.Blocks.{joined}
 use Rattle.doc_index.specs.declared.entry.Entry.{Entry}
-use Rattle.doc_index.specs.Terms.{Leaf, TermDocument, has, are_distinct, leaf_ids}
-use Rattle.doc_index.specs.Rows.{entries, entries_of, of_term, row_of, rows_of, runs_of}
-use Rattle.doc_index.specs.steps.Groups.{term_of, group, grouped, front_entries, back_entries, entries_at, entries_with, entries_without}
+use Rattle.doc_index.specs.Terms.{TermDocument, are_distinct, leaf_ids}
+use Rattle.doc_index.specs.Rows.{entries, entries_of, of_term, row_of, rows_of}
+use Rattle.doc_index.specs.steps.Groups.{group, grouped, front_entries, back_entries, entries_at, entries_with, entries_without}
 use Rattle.doc_index.specs.steps.Directory.{IsAround, is_front}
 use Rattle.doc_index.proofs.TermLemmas.{ascending-drop}
 use Rattle.doc_index.proofs.EntryLemmas.{rows_of-append, split-entries, group-first, drop-front}
-use Rattle.doc_index.proofs.RunLemmas.{half_done, joined-push, rest-is, next-run, done-run, run-done}
+use Rattle.doc_index.proofs.RunLemmas.{half_done, rest-is, next-run, run-done}
 use Rattle.doc_index.proofs.FrontLemmas.{front-rows, back-rows}
 
 abbrev pub all_rows : List Entry → ℕ → List Row

@@ -1,12 +1,10 @@
 -- The rows of all terms, where those of one term change.
-use Rattle.std.proofs.Common.{◌≡◌, ℕ, ◌+◌, ◌<◌, ◌≤◌, suc, zero, Bool, true, false, List, [], ◌∷◌, ◌++◌, length, get_or, take, drop, map, refl, ap, sym, ◌∙◌, arith, append_assoc, append-nil, length-append, drop-cons}
-use Rattle.std.specs.List.{list_all, list_any, flat_map}
-use Rattle.std.proofs.lemmas.List.{map-append, map_more, length-map, take-map, take_more}
+use Rattle.std.proofs.Common.{◌≡◌, ℕ, ◌+◌, ◌<◌, suc, List, [], ◌∷◌, ◌++◌, length, get_or, take, drop, map, ap, sym, ◌∙◌, arith, append_assoc, append-nil, drop-cons}
+use Rattle.std.proofs.lemmas.List.{map_more, take-map}
 use Rattle.std.proofs.lemmas.List.Concat.{flat_map-append}
 use Rattle.postings.specs.declared.row.Row.{Row}
-use Rattle.shared_list.specs.Blocks.{joined, start_of, starts_from, IsBlockOf}
+use Rattle.shared_list.specs.Blocks.{joined, start_of, starts_from}
 use Rattle.shared_list.proofs.StartLemmas.{push-starts}
-use Rattle.doc_index.specs.steps.Directory.{IsAround, is_front}
 
 pub joined-push : {T : Type 0} (blocks : List (List T)) (new : List T) → joined (blocks ++ new ∷ []) ≡ joined blocks ++ new
 joined-push {T = T} blocks new = flat_map-append (λ (b : List T). b) blocks (new ∷ []) ∙ ap (λ xs. joined blocks ++ xs) (append-nil new)

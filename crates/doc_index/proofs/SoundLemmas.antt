@@ -1,8 +1,7 @@
 -- The index of a document where leaves came into it or a leaf went out of it.
-use Rattle.std.proofs.Common.{◌≡◌, ℕ, ◌+◌, ◌<◌, ◌≤◌, suc, zero, Bool, true, false, nat_lt, ◌&&◌, ◌||◌, ◌==◌, List, [], ◌∷◌, ◌++◌, length, get_or, take, drop, map, filter, refl, ap, sym, subst, ◌∙◌, arith, append-nil, append_assoc, length-append, drop-cons, inl, inr, true≢false}
-use Rattle.std.specs.Prelude.{insert, remove}
+use Rattle.std.proofs.Common.{◌≡◌, ℕ, ◌+◌, ◌<◌, suc, Bool, true, false, nat_lt, ◌&&◌, ◌||◌, List, [], ◌∷◌, ◌++◌, length, get_or, take, drop, map, filter, refl, ap, sym, subst, ◌∙◌, arith, append-nil, drop-cons, true≢false}
 use Rattle.std.specs.List.Sorted.{IsNonDecreasingBy}
-use Rattle.std.proofs.lemmas.Bool.{or_left, or_right, cases_Bool, true_from_ne_false}
+use Rattle.std.proofs.lemmas.Bool.{or_left, or_right}
 use Rattle.std.proofs.lemmas.List.{length-map, map-append, drop-drop}
 use Rattle.std.proofs.lemmas.List.Concat.{flat_map-append}
 use Rattle.ft_base.specs.Places.{is_ascending}
@@ -11,7 +10,7 @@ use Rattle.shared_list.specs.Blocks.{joined, starts_from}
 use Rattle.doc_index.specs.declared.entry.Entry.{Entry}
 use Rattle.doc_index.specs.Terms.{Leaf, TermDocument, document_of, with_leaf, without_leaf, has, terms_of, words_of}
 use Rattle.doc_index.specs.declared.parts.Parts.{Parts}
-use Rattle.doc_index.specs.Rows.{HasTerms, IsIndexed, IsSound, entries, entries_from, entries_of, has_rows, leaf_entries, of_term, row_of, rows_of, runs_of}
+use Rattle.doc_index.specs.Rows.{HasTerms, IsIndexed, IsSound, entries, entries_of, has_rows, leaf_entries, of_term, row_of, rows_of, runs_of}
 use Rattle.doc_index.specs.steps.Groups.{IsSortedFrom, back_entries, entries_at, entries_with, entries_without, front_entries, grouped, term_of}
 use Rattle.doc_index.proofs.TermLemmas.{has-append, are-terms}
 use Rattle.doc_index.proofs.EntryLemmas.{grouped-sorted, has-rows, of_term-append, split-entries, words-are, words-from}

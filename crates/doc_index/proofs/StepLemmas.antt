@@ -1,10 +1,10 @@
 -- The loops over the terms: how far the rows of entries are put among the others, and how far those of a leaf are taken out.
-use Rattle.std.proofs.Common.{◌≡◌, ℕ, ◌+◌, ◌-◌, ◌<◌, ◌≤◌, suc, zero, true, List, [], ◌∷◌, ◌++◌, length, get_or, take, drop, map, refl, ap, sym, subst, ◌∙◌, arith, append-nil, length-append, length-drop}
-use Rattle.std.proofs.lemmas.List.{length-map, take_all, drop_all, get_or_read}
+use Rattle.std.proofs.Common.{◌≡◌, ℕ, ◌+◌, ◌-◌, ◌<◌, ◌≤◌, true, List, [], ◌∷◌, ◌++◌, length, get_or, take, drop, map, refl, ap, sym, subst, ◌∙◌, arith, append-nil, length-append, length-drop}
+use Rattle.std.proofs.lemmas.List.{length-map, take_all, drop_all}
 use Rattle.ft_base.specs.Places.{is_ascending}
 use Rattle.postings.specs.declared.row.Row.{Row}
 use Rattle.shared_list.specs.Blocks.{joined, start_of, starts_from}
-use Rattle.shared_list.proofs.StartLemmas.{same-length, start-read}
+use Rattle.shared_list.proofs.StartLemmas.{same-length}
 use Rattle.doc_index.specs.declared.entry.Entry.{Entry}
 use Rattle.doc_index.specs.Terms.{TermDocument, are_distinct, leaf_ids}
 use Rattle.doc_index.specs.Rows.{IsIndexed, entries_of, of_term, row_of, rows_of, runs_of}
@@ -16,10 +16,9 @@ use Rattle.doc_index.proofs.PutLemmas.{rest_entries, all_rows, group-is, left-mo
 pub starts-length : (all : List Entry) (ids starts : List ℕ) (rows : List Row) → IsIndexed all ids starts rows → length starts ≡ length ids
 starts-length all ids starts rows indexed = omega (arith, same-length (runs_of all ids) starts indexed.starts_are, length-map ids (all_rows all))
 
--- a run of the terms that were there, by the start that was read and by the next one
-pub run-first : (all : List Entry) (ids starts : List ℕ) (k x : ℕ) → starts ≡ starts_from 0 (runs_of all ids) → k < length ids → x ≡ get_or starts k x →
-    x ≡ length (joined (map (all_rows all) (take k ids)))
-run-first all ids starts k x are there read = start-read (runs_of all ids) starts k x are (omega (arith, length-map ids (all_rows all))) read ∙ start-is (all_rows all) ids k
+-- a run of the terms that were there, from its start up to the next one
+pub run-first : (all : List Entry) (ids : List ℕ) (k first : ℕ) → first ≡ start_of (runs_of all ids) k → first ≡ length (joined (map (all_rows all) (take k ids)))
+run-first all ids k first is = is ∙ start-is (all_rows all) ids k
 
 pub run-end : (all : List Entry) (ids : List ℕ) (k end : ℕ) → k < length ids → end ≡ start_of (runs_of all ids) (k + 1) →
     end ≡ length (joined (map (all_rows all) (take k ids))) + length (rows_of (get_or ids k 0) all)
@@ -27,165 +26,142 @@ run-end all ids k end there is =
     is ∙ start-is (all_rows all) ids (k + 1) ∙ ap length (done-run (all_rows all) (all_rows all) ids k there)
     ∙ length-append (joined (map (all_rows all) (take k ids))) (rows_of (get_or ids k 0) all)
 
--- so many terms are done, and so many entries put
-pub record IsPutting (document : TermDocument) (at : ℕ) (new : List Entry) (ids : List ℕ) (k next : ℕ) (rows : List Row) (starts : List ℕ) : Type 0 where
-  pub rows_are : rows ≡ half_done (all_rows (entries_with document at new)) (all_rows (entries_of document)) ids k
-  pub starts_are : starts ≡ starts_from 0 (map (all_rows (entries_with document at new)) (take k ids))
-  pub lengths : length (joined (map (all_rows (entries_with document at new)) (take k ids))) ≡ length (joined (map (all_rows (entries_of document)) (take k ids))) + next
-  pub left : drop next new ≡ grouped (drop k ids) new
-  pub within : next ≤ length new
+-- So many terms are done, and so many entries: the rows of the terms that are done are as the second function gives them, and those of
+-- the others as the first does; each entry makes the rows of its term one longer, or one shorter.
+pub record IsHalfDone (old new longer shorter : ℕ → List Row) (all : List Entry) (ids : List ℕ) (k next : ℕ) (rows : List Row) (starts : List ℕ) : Type 0 where
+  pub rows_are : rows ≡ half_done new old ids k
+  pub starts_are : starts ≡ starts_from 0 (map new (take k ids))
+  pub lengths : length (joined (map longer (take k ids))) ≡ length (joined (map shorter (take k ids))) + next
+  pub left : drop next all ≡ grouped (drop k ids) all
+  pub within : next ≤ length all
 
-module _ (document : TermDocument) (at : ℕ) (new : List Entry) (ids : List ℕ) where
-  pub putting-start : (starts : List ℕ) (rows : List Row) → IsIndexed (entries_of document) ids starts rows → new ≡ grouped ids new → IsPutting document at new ids 0 0 rows []
-  putting-start starts rows indexed groups = record {
-    rows_are = indexed.rows_are;
+module _ {old new longer shorter : ℕ → List Row} {all : List Entry} {ids : List ℕ} where
+  pub half-start : (rows : List Row) → rows ≡ joined (map old ids) → all ≡ grouped ids all → IsHalfDone old new longer shorter all ids 0 0 rows []
+  half-start rows are groups = record {
+    rows_are = are;
     starts_are = refl;
     lengths = refl;
     left = groups;
     within = omega arith;
   }
 
-  pub putting-all : (k next : ℕ) (rows : List Row) (starts : List ℕ) → IsPutting document at new ids k next rows starts → length ids ≤ k → next ≡ length new
-  putting-all k next rows starts state end =
-      omega (arith, length-drop next new, ap length state.left, ap (λ ts. length (grouped ts new)) (drop_all k ids end), state.within)
+  module _ {k next : ℕ} {rows : List Row} {starts : List ℕ} (state : IsHalfDone old new longer shorter all ids k next rows starts) where
+    pub half-all : length ids ≤ k → next ≡ length all
+    half-all end = omega (arith, length-drop next all, ap length state.left, ap (λ ts. length (grouped ts all)) (drop_all k ids end), state.within)
 
-  pub putting-indexed : (k next : ℕ) (rows : List Row) (starts : List ℕ) → IsPutting document at new ids k next rows starts → length ids ≤ k →
-      IsIndexed (entries_with document at new) ids starts rows
-  putting-indexed k next rows starts state end =
+    pub half-rows : length ids ≤ k → rows ≡ joined (map new ids)
+    half-rows end = state.rows_are ∙ ap (λ ts. joined (map new ts) ++ joined (map old (drop k ids))) (take_all k ids end)
+        ∙ ap (λ ts. joined (map new ids) ++ joined (map old ts)) (drop_all k ids end) ∙ append-nil (joined (map new ids))
+
+    pub half-starts : length ids ≤ k → starts ≡ starts_from 0 (map new ids)
+    half-starts end = state.starts_are ∙ ap (λ ts. starts_from 0 (map new ts)) (take_all k ids end)
+
+    pub half-more : k < length ids → is_ascending ids ≡ true → (term first next_new : ℕ) (rows_new : List Row) → term ≡ get_or ids k 0 →
+        first ≡ length (joined (map new (take k ids))) → next_new ≡ next + length (group term (drop next all)) →
+        length (longer (get_or ids k 0)) ≡ length (shorter (get_or ids k 0)) + length (of_term (get_or ids k 0) all) → rows_new ≡ half_done new old ids (k + 1) →
+        IsHalfDone old new longer shorter all ids (k + 1) next_new rows_new (starts ++ first ∷ [])
+    half-more there up term first next_new rows_new term_is first_is next_is sum done =
+        let t = get_or ids k 0 in
+        let step : next_new ≡ next + length (group t (drop next all)) = next_is ∙ ap (λ u. next + length (group u (drop next all))) term_is in
+        record {
+          rows_are = done;
+          starts_are = starts-more new old ids k there starts first state.starts_are first_is;
+          lengths = omega (
+            arith,
+            ap length (done-run longer longer ids k there),
+            length-append (joined (map longer (take k ids))) (longer t),
+            ap length (done-run shorter shorter ids k there),
+            length-append (joined (map shorter (take k ids))) (shorter t),
+            ap length (group-is ids k next all there up state.left),
+            sum,
+            step,
+            state.lengths,
+          );
+          left = ap (λ n. drop n all) step ∙ left-more ids k next all there up state.left;
+          within = omega (arith, step, group-within ids k next all there up state.left state.within);
+        }
+
+-- the rows of entries come among the others
+abbrev pub IsPutting : TermDocument → ℕ → List Entry → List ℕ → ℕ → ℕ → List Row → List ℕ → Type 0
+IsPutting document at new ids k next rows starts =
+    IsHalfDone (all_rows (entries_of document)) (all_rows (entries_with document at new)) (all_rows (entries_with document at new)) (all_rows (entries_of document)) new ids k next rows starts
+
+module _ (document : TermDocument) (at : ℕ) (new : List Entry) (ids : List ℕ) (k next : ℕ) (rows : List Row) (starts : List ℕ)
+    (state : IsPutting document at new ids k next rows starts) (there : k < length ids) (first end : ℕ)
+    (first_is : first ≡ length (joined (map (all_rows (entries_of document)) (take k ids))) + next)
+    (end_is : end ≡ length (joined (map (all_rows (entries_of document)) (take k ids))) + length (rows_of (get_or ids k 0) (entries_of document)) + next) where
+  pub putting-more : is_ascending ids ≡ true → at ≤ length document.leaves → are_distinct (leaf_ids document.leaves) ≡ true →
+      (seen : TermDocument) → seen ≡ document → (term : ℕ) → term ≡ get_or ids k 0 → (rows_new : List Row) (next_new : ℕ) →
+      ((before front back behind : List Row) → IsAround (leaf_ids seen.leaves) at first end rows before front back behind →
+      rows_new ≡ before ++ (front ++ (map row_of (group term (drop next new)) ++ (back ++ behind)))) →
+      next_new ≡ next + length (group term (drop next new)) →
+      IsPutting document at new ids (k + 1) next_new rows_new (starts ++ first ∷ [])
+  putting-more up place apart seen seen_is term term_is rows_new next_new call next_is =
+      let t = get_or ids k 0 in
       let all = all_rows (entries_with document at new) in
       let old = all_rows (entries_of document) in
-      record {
-        rows_are = state.rows_are ∙ ap (λ ts. joined (map all ts) ++ joined (map old (drop k ids))) (take_all k ids end)
-            ∙ ap (λ ts. joined (map all ids) ++ joined (map old ts)) (drop_all k ids end) ∙ append-nil (joined (map all ids));
-        starts_are = state.starts_are ∙ ap (λ ts. starts_from 0 (map all ts)) (take_all k ids end);
-      }
+      let before = joined (map all (take k ids)) in
+      let behind = joined (map old (drop (k + 1) ids)) in
+      let front = rows_of t (front_entries document at) in
+      let back = rows_of t (back_entries document at) in
+      let is_first : first ≡ length before = omega (arith, first_is, state.lengths) in
+      let is_end : end ≡ length before + length (old t) = omega (arith, end_is, state.lengths) in
+      let around = put-run document at new ids k there rows state.rows_are first end place apart is_first is_end in
+      let groups : group term (drop next new) ≡ of_term t new = ap (λ u. group u (drop next new)) term_is ∙ group-is ids k next new there up state.left in
+      let sum : length (all t) ≡ length (old t) + length (of_term t new) =
+      omega (
+        arith,
+        ap length (new-rows document at new t),
+        length-append front (rows_of t new ++ back),
+        length-append (rows_of t new) back,
+        ap length (old-rows document at new t),
+        length-append front back,
+        length-map (of_term t new) row_of,
+      ) in
+      half-more state there up term first next_new rows_new term_is is_first next_is sum
+      (put-done document at new ids k there rows state.rows_are rows_new
+      (call before front back behind (subst (λ (d : TermDocument). IsAround (leaf_ids d.leaves) at first end rows before front back behind) (sym seen_is) around)
+      ∙ ap (λ es. before ++ (front ++ (map row_of es ++ (back ++ behind)))) groups))
 
-  module _ (k next : ℕ) (rows : List Row) (starts : List ℕ) (state : IsPutting document at new ids k next rows starts) (there : k < length ids)
-      (first end : ℕ)
-      (first_is : first ≡ length (joined (map (all_rows (entries_of document)) (take k ids))) + next)
-      (end_is : end ≡ length (joined (map (all_rows (entries_of document)) (take k ids))) + length (rows_of (get_or ids k 0) (entries_of document)) + next) where
-    pub putting-more : is_ascending ids ≡ true → at ≤ length document.leaves → are_distinct (leaf_ids document.leaves) ≡ true →
-        (seen : TermDocument) → seen ≡ document → (term : ℕ) → term ≡ get_or ids k 0 → (rows_new : List Row) (next_new : ℕ) →
-        ((before front back behind : List Row) → IsAround (leaf_ids seen.leaves) at first end rows before front back behind →
-        rows_new ≡ before ++ (front ++ (map row_of (group term (drop next new)) ++ (back ++ behind)))) →
-        next_new ≡ next + length (group term (drop next new)) →
-        IsPutting document at new ids (k + 1) next_new rows_new (starts ++ first ∷ [])
-    putting-more up place apart seen seen_is term term_is rows_new next_new call next_is =
-        let t = get_or ids k 0 in
-        let all = all_rows (entries_with document at new) in
-        let old = all_rows (entries_of document) in
-        let before = joined (map all (take k ids)) in
-        let behind = joined (map old (drop (k + 1) ids)) in
-        let front = rows_of t (front_entries document at) in
-        let back = rows_of t (back_entries document at) in
-        let is_first : first ≡ length before = omega (arith, first_is, state.lengths) in
-        let is_end : end ≡ length before + length (old t) = omega (arith, end_is, state.lengths) in
-        let around = put-run document at new ids k there rows state.rows_are first end place apart is_first is_end in
-        let groups : group term (drop next new) ≡ of_term t new = ap (λ u. group u (drop next new)) term_is ∙ group-is ids k next new there up state.left in
-        let step : next_new ≡ next + length (group t (drop next new)) = next_is ∙ ap (λ u. next + length (group u (drop next new))) term_is in
-        record {
-          rows_are = put-done document at new ids k there rows state.rows_are rows_new
-              (call before front back behind (subst (λ (d : TermDocument). IsAround (leaf_ids d.leaves) at first end rows before front back behind) (sym seen_is) around)
-              ∙ ap (λ es. before ++ (front ++ (map row_of es ++ (back ++ behind)))) groups);
-          starts_are = starts-more all old ids k there starts first state.starts_are is_first;
-          lengths = omega (
-            arith,
-            ap length (done-run all all ids k there),
-            length-append before (all t),
-            ap length (done-run old old ids k there),
-            length-append (joined (map old (take k ids))) (old t),
-            ap length (new-rows document at new t),
-            length-append front (rows_of t new ++ back),
-            length-append (rows_of t new) back,
-            ap length (old-rows document at new t),
-            length-append front back,
-            length-map (of_term t new) row_of,
-            next_is,
-            ap length groups,
-            state.lengths,
-          );
-          left = ap (λ n. drop n new) step ∙ left-more ids k next new there up state.left;
-          within = omega (arith, step, group-within ids k next new there up state.left state.within);
-        }
+-- the rows of a leaf go from among the others
+abbrev pub IsTaking : TermDocument → ℕ → List Entry → List ℕ → ℕ → ℕ → List Row → List ℕ → Type 0
+IsTaking document at old ids k next rows starts =
+    IsHalfDone (all_rows (entries_of document)) (all_rows (entries_without document at)) (all_rows (entries_of document)) (all_rows (entries_without document at)) old ids k next rows starts
 
--- the same where the rows of a leaf are taken out
-pub record IsTaking (document : TermDocument) (at : ℕ) (old : List Entry) (ids : List ℕ) (k next : ℕ) (rows : List Row) (starts : List ℕ) : Type 0 where
-  pub rows_are : rows ≡ half_done (all_rows (entries_without document at)) (all_rows (entries_of document)) ids k
-  pub starts_are : starts ≡ starts_from 0 (map (all_rows (entries_without document at)) (take k ids))
-  pub lengths : length (joined (map (all_rows (entries_of document)) (take k ids))) ≡ length (joined (map (all_rows (entries_without document at)) (take k ids))) + next
-  pub left : drop next old ≡ grouped (drop k ids) old
-  pub within : next ≤ length old
-
-module _ (document : TermDocument) (at : ℕ) (old : List Entry) (ids : List ℕ) where
-  pub taking-start : (starts : List ℕ) (rows : List Row) → IsIndexed (entries_of document) ids starts rows → old ≡ grouped ids old → IsTaking document at old ids 0 0 rows []
-  taking-start starts rows indexed groups = record {
-    rows_are = indexed.rows_are;
-    starts_are = refl;
-    lengths = refl;
-    left = groups;
-    within = omega arith;
-  }
-
-  pub taking-all : (k next : ℕ) (rows : List Row) (starts : List ℕ) → IsTaking document at old ids k next rows starts → length ids ≤ k → next ≡ length old
-  taking-all k next rows starts state end =
-      omega (arith, length-drop next old, ap length state.left, ap (λ ts. length (grouped ts old)) (drop_all k ids end), state.within)
-
-  pub taking-indexed : (k next : ℕ) (rows : List Row) (starts : List ℕ) → IsTaking document at old ids k next rows starts → length ids ≤ k →
-      IsIndexed (entries_without document at) ids starts rows
-  taking-indexed k next rows starts state end =
+module _ (document : TermDocument) (at : ℕ) (old : List Entry) (ids : List ℕ) (k next : ℕ) (rows : List Row) (starts : List ℕ)
+    (state : IsTaking document at old ids k next rows starts) (there : k < length ids) (first end : ℕ)
+    (first_is : first ≡ length (joined (map (all_rows (entries_of document)) (take k ids))) - next)
+    (end_is : end ≡ length (joined (map (all_rows (entries_of document)) (take k ids))) + length (rows_of (get_or ids k 0) (entries_of document)) - next) where
+  pub taking-more : is_ascending ids ≡ true → at < length document.leaves → are_distinct (leaf_ids document.leaves) ≡ true →
+      ((t : ℕ) → of_term t old ≡ of_term t (entries_at document at)) →
+      (seen : TermDocument) → seen ≡ document → (term : ℕ) → term ≡ get_or ids k 0 → (rows_new : List Row) (next_new : ℕ) →
+      ((before front back behind : List Row) → IsAround (leaf_ids seen.leaves) at first end rows before front (map row_of (group term (drop next old)) ++ back) behind →
+      rows_new ≡ before ++ (front ++ (back ++ behind))) →
+      next_new ≡ next + length (group term (drop next old)) →
+      IsTaking document at old ids (k + 1) next_new rows_new (starts ++ first ∷ [])
+  taking-more up place apart same seen seen_is term term_is rows_new next_new call next_is =
+      let t = get_or ids k 0 in
       let rest = all_rows (entries_without document at) in
       let all = all_rows (entries_of document) in
-      record {
-        rows_are = state.rows_are ∙ ap (λ ts. joined (map rest ts) ++ joined (map all (drop k ids))) (take_all k ids end)
-            ∙ ap (λ ts. joined (map rest ids) ++ joined (map all ts)) (drop_all k ids end) ∙ append-nil (joined (map rest ids));
-        starts_are = state.starts_are ∙ ap (λ ts. starts_from 0 (map rest ts)) (take_all k ids end);
-      }
-
-  module _ (k next : ℕ) (rows : List Row) (starts : List ℕ) (state : IsTaking document at old ids k next rows starts) (there : k < length ids)
-      (first end : ℕ)
-      (first_is : first ≡ length (joined (map (all_rows (entries_of document)) (take k ids))) - next)
-      (end_is : end ≡ length (joined (map (all_rows (entries_of document)) (take k ids))) + length (rows_of (get_or ids k 0) (entries_of document)) - next) where
-    pub taking-more : is_ascending ids ≡ true → at < length document.leaves → are_distinct (leaf_ids document.leaves) ≡ true →
-        ((t : ℕ) → of_term t old ≡ of_term t (entries_at document at)) →
-        (seen : TermDocument) → seen ≡ document → (term : ℕ) → term ≡ get_or ids k 0 → (rows_new : List Row) (next_new : ℕ) →
-        ((before front back behind : List Row) → IsAround (leaf_ids seen.leaves) at first end rows before front (map row_of (group term (drop next old)) ++ back) behind →
-        rows_new ≡ before ++ (front ++ (back ++ behind))) →
-        next_new ≡ next + length (group term (drop next old)) →
-        IsTaking document at old ids (k + 1) next_new rows_new (starts ++ first ∷ [])
-    taking-more up place apart same seen seen_is term term_is rows_new next_new call next_is =
-        let t = get_or ids k 0 in
-        let rest = all_rows (entries_without document at) in
-        let all = all_rows (entries_of document) in
-        let before = joined (map rest (take k ids)) in
-        let behind = joined (map all (drop (k + 1) ids)) in
-        let front = rows_of t (front_entries document at) in
-        let back = rows_of t (rest_entries document at old same) in
-        let is_first : first ≡ length before = omega (arith, first_is, state.lengths) in
-        let is_end : end ≡ length before + length (all t) = omega (arith, end_is, state.lengths) in
-        let around = take-run document at old same ids k there rows state.rows_are first end (omega (arith, place)) apart is_first is_end in
-        let groups : group term (drop next old) ≡ of_term t old = ap (λ u. group u (drop next old)) term_is ∙ group-is ids k next old there up state.left in
-        let step : next_new ≡ next + length (group t (drop next old)) = next_is ∙ ap (λ u. next + length (group u (drop next old))) term_is in
-        let seen_around = subst (λ (d : TermDocument). IsAround (leaf_ids d.leaves) at first end rows before front (rows_of t old ++ back) behind) (sym seen_is) around in
-        record {
-          rows_are = take-done document at old same ids k there rows state.rows_are rows_new
-              (call before front back behind (subst (λ (es : List Entry). IsAround (leaf_ids seen.leaves) at first end rows before front (map row_of es ++ back) behind) (sym groups) seen_around));
-          starts_are = starts-more rest all ids k there starts first state.starts_are is_first;
-          lengths = omega (
-            arith,
-            ap length (done-run rest rest ids k there),
-            length-append before (rest t),
-            ap length (done-run all all ids k there),
-            length-append (joined (map all (take k ids))) (all t),
-            ap length (all-split document at old same t),
-            length-append front (rows_of t old ++ back),
-            length-append (rows_of t old) back,
-            ap length (rest-split document at old same t),
-            length-append front back,
-            length-map (of_term t old) row_of,
-            next_is,
-            ap length groups,
-            state.lengths,
-          );
-          left = ap (λ n. drop n old) step ∙ left-more ids k next old there up state.left;
-          within = omega (arith, step, group-within ids k next old there up state.left state.within);
-        }
+      let before = joined (map rest (take k ids)) in
+      let behind = joined (map all (drop (k + 1) ids)) in
+      let front = rows_of t (front_entries document at) in
+      let back = rows_of t (rest_entries document at old same) in
+      let is_first : first ≡ length before = omega (arith, first_is, state.lengths) in
+      let is_end : end ≡ length before + length (all t) = omega (arith, end_is, state.lengths) in
+      let around = take-run document at old same ids k there rows state.rows_are first end (omega (arith, place)) apart is_first is_end in
+      let groups : group term (drop next old) ≡ of_term t old = ap (λ u. group u (drop next old)) term_is ∙ group-is ids k next old there up state.left in
+      let seen_around = subst (λ (d : TermDocument). IsAround (leaf_ids d.leaves) at first end rows before front (rows_of t old ++ back) behind) (sym seen_is) around in
+      let sum : length (all t) ≡ length (rest t) + length (of_term t old) =
+      omega (
+        arith,
+        ap length (all-split document at old same t),
+        length-append front (rows_of t old ++ back),
+        length-append (rows_of t old) back,
+        ap length (rest-split document at old same t),
+        length-append front back,
+        length-map (of_term t old) row_of,
+      ) in
+      half-more state there up term first next_new rows_new term_is is_first next_is sum
+      (take-done document at old same ids k there rows state.rows_are rows_new
+      (call before front back behind (subst (λ (es : List Entry). IsAround (leaf_ids seen.leaves) at first end rows before front (map row_of es ++ back) behind) (sym groups) seen_around)))

@@ -1,21 +1,17 @@
 -- Terms that are merged into those of an index, and terms that go.
-use Rattle.std.proofs.Common.{◌≡◌, ◌≢◌, ℕ, ◌+◌, ◌-◌, ◌<◌, ◌≤◌, suc, zero, Bool, true, false, cond, nat_lt, ◌&&◌, ◌||◌, ◌==◌, List, [], ◌∷◌, ◌++◌, length, get_or, take, drop, map, filter, Some, refl, ap, sym, subst, ◌∙◌, arith, append-nil, append_assoc, length-append, inl, inr, true≢false}
-use Rattle.std.specs.Option.{ForSome}
-use Rattle.std.specs.List.Sorted.{IsNonDecreasingBy}
+use Rattle.std.proofs.Common.{◌≡◌, ◌≢◌, ℕ, ◌+◌, ◌<◌, ◌≤◌, suc, zero, Bool, true, false, cond, nat_lt, ◌&&◌, ◌||◌, ◌==◌, List, [], ◌∷◌, ◌++◌, length, get_or, take, map, filter, Some, refl, ap, sym, ◌∙◌, arith, append-nil, length-append, inl, inr, true≢false}
 use Rattle.std.proofs.Math.Bool.{and-false, or-false}
-use Rattle.std.proofs.lemmas.Bool.{and_parts, or_cases, or_left, or_right, or_parts, eqb-true, eq-eqb, ne_eqb, cases_eq, cases_lt, cond-true, cond-false, lt-ltb, le-ltb, false_from_ne_true}
-use Rattle.std.proofs.lemmas.List.{take_more, take_all, map_more, map_push, take-append-drop, length-map}
+use Rattle.std.proofs.lemmas.Bool.{and_parts, or_cases, or_left, or_right, eqb-true, cases_eq, cases_lt, lt-ltb, le-ltb, false_from_ne_true}
+use Rattle.std.proofs.lemmas.List.{take_more, take_all, map_push, length-map}
 use Rattle.ft_base.specs.Places.{is_ascending, last_place}
-use Rattle.ft_base.proofs.PlacesLemmas.{is_ascending-push}
 use Rattle.postings.specs.declared.row.Row.{Row}
 use Rattle.shared_list.specs.Blocks.{joined, start_of, starts_from}
 use Rattle.shared_list.proofs.StartLemmas.{push-starts, start-read, same-length}
 use Rattle.doc_index.specs.declared.entry.Entry.{Entry}
 use Rattle.doc_index.specs.Terms.{has}
-use Rattle.doc_index.specs.Rows.{HasTerms, IsIndexed, has_rows, of_term, row_of, rows_of, runs_of}
-use Rattle.doc_index.specs.steps.Groups.{term_of}
+use Rattle.doc_index.specs.Rows.{IsIndexed, has_rows, of_term, row_of, rows_of, runs_of}
 use Rattle.doc_index.specs.steps.Widening.{AreUpTo, IsWidening}
-use Rattle.doc_index.proofs.TermLemmas.{has-append, has-head, has-other, has-at, find-at, ascending-at, ascending-cons, first-below, rest-ascending, or-skip}
+use Rattle.doc_index.proofs.TermLemmas.{has-append, has-head, has-other, find-at, ascending-at, ascending-cons, first-below, rest-ascending}
 use Rattle.doc_index.proofs.EntryLemmas.{no-rows}
 use Rattle.doc_index.proofs.RunLemmas.{joined-push, done-run, start-is}
 use Rattle.doc_index.proofs.PutLemmas.{all_rows}

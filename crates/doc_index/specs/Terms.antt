@@ -1,5 +1,5 @@
 -- A document as its leaves with the terms of their words, each term a number, and where a term stands in it.
-use Rattle.std.specs.Prelude.{ℕ, ◌+◌, Bool, true, not, cond, ◌&&◌, ◌==◌, nat_lt, List, [], ◌∷◌, length, map, insert, remove}
+use Rattle.std.specs.Prelude.{ℕ, ◌+◌, Bool, true, not, cond, ◌&&◌, ◌==◌, nat_lt, List, [], ◌∷◌, map, insert, remove}
 use Rattle.std.specs.List.{flat_map, list_any}
 
 -- a leaf, which is a text of the document: its number, and the terms of its words in order

@@ -1,11 +1,11 @@
-ghost use Rattle.std.specs.Prelude.{◌≡◌, ◌≤◌, ◌<◌, ◌+◌, [], false, length, slice_index, slice_index_or, IfNone, IfOk, IfSome, IsTrue, OnOk};
+ghost use Rattle.std.specs.Prelude.{◌≡◌, ◌≤◌, ◌<◌, ◌+◌, ◌^◌, [], false, true, length, slice_index, slice_index_or, IfNone, IfOk, IfSome, IsTrue, OnOk};
 ghost use Rattle.ft_base.specs.Places.{is_ascending};
 ghost use Rattle.doc_index.specs.Rows.{IsRunOf, IsSound};
 ghost use Rattle.doc_index.specs.Terms.{are_distinct, document_of, has, leaf_ids, leaf_of, leaf_words, places_of, terms_of, with_leaf, without_leaf, words_of};
 
 use crate::changes::{put_entries, take_entries};
 use crate::entry::{entries_of_leaf, entries_of_leaves, sorted};
-use crate::groups::{Run, start_at};
+use crate::groups::{Run, run_at};
 use crate::leaves::Leaves;
 use crate::parts::Parts;
 use crate::terms::{find_term, narrow};
@@ -138,10 +138,12 @@ impl DocIndex {
         self.parts.leaves.doc()
     }
 
-    /// How many leaves there are.
+    /// How many leaves there are. No two have the same number.
     pub fn leaf_count(&self) -> usize
-        ensures { result ≡ length self.now.leaves }
+        ensures count { result ≡ length self.now.leaves }
+        ensures distinct { are_distinct (leaf_ids self.now.leaves) ≡ true }
     {
+        let _doc = self.parts.leaves.doc();
         self.parts.leaves.count()
     }
 
@@ -161,9 +163,10 @@ impl DocIndex {
         self.parts.leaves.find(leaf)
     }
 
-    /// How many words the document has.
+    /// How many words the document has: a number of 32 bits.
     pub fn token_count(&self) -> usize
-        ensures { result ≡ length (words_of self.now.leaves) }
+        ensures count { result ≡ length (words_of self.now.leaves) }
+        ensures few { result < 2 ^ 32 }
     {
         self.parts.leaves.words()
     }
@@ -190,21 +193,23 @@ impl DocIndex {
     {
         let parts = &self.parts;
         let run = run_of(parts, term);
-        TermPlaces::new(&parts.leaves, &parts.rows, term, run)
+        TermPlaces::new(&parts.leaves, &parts.rows, run)
     }
 }
 
 /// The rows of a term; there are none where it isn't one of the document's.
 fn run_of(parts: &Parts, term: u32) -> Run
     requires { IsSound parts.now }
-    ensures { IsRunOf parts.now.leaves parts.now.rows term result.first result.end }
+    ensures term { result.term ≡ term }
+    ensures run { IsRunOf parts.now.leaves parts.now.rows result.term result.first result.end }
 {
     let _doc = parts.leaves.doc();
     match find_term(&parts.ids, term) {
-        Some(number) => Run {
-            first: start_at(&parts.starts, parts.rows.len(), number),
-            end: start_at(&parts.starts, parts.rows.len(), number + 1),
+        Some(number) => run_at(parts, parts.rows.len(), number),
+        None => Run {
+            term,
+            first: 0,
+            end: 0,
         },
-        None => Run { first: 0, end: 0 },
     }
 }

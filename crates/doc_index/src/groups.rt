@@ -1,4 +1,4 @@
-ghost use Rattle.std.specs.Prelude.{◌≡◌, ◌≤◌, ◌<◌, ◌+◌, ◌++◌, ◌∷◌, [], List, drop, length, map, slice_index_or, IfOk, IsFalse, IsTrue, OnOk};
+ghost use Rattle.std.specs.Prelude.{◌≡◌, ◌≤◌, ◌<◌, ◌+◌, ◌^◌, ◌++◌, ◌∷◌, [], List, drop, length, map, slice_index, slice_index_or, IfOk, IsFalse, IsTrue, OnOk};
 ghost use Rattle.postings.specs.declared.row.Row.{Row};
 ghost use Rattle.shared_list.specs.Blocks.{joined, start_of, starts_from};
 ghost use Rattle.doc_index.specs.Terms.{leaf_ids};
@@ -9,13 +9,15 @@ ghost use Rattle.doc_index.specs.declared.entry.Entry.{Entry};
 
 use crate::entry::Entry;
 use crate::leaves::Leaves;
+use crate::parts::Parts;
 use ft_base::{Memory, Steps};
 use postings::PostingList;
 use std::sync::ledger::Ledger;
 
-/// The rows of one term among all rows: from one place up to another.
+/// A term with its rows among all rows: from one place up to another.
 #[derive(Clone, Copy, PartialEq, Eq)]
 pub struct Run {
+    pub term: u32,
     pub first: usize,
     pub end: usize,
 }
@@ -28,6 +30,23 @@ pub(crate) fn start_at(starts: &Vec<usize>, total: usize, number: usize) -> usiz
         return starts[number];
     }
     total
+}
+
+/// The term of that number with its rows, where there were so many rows when the starts were told.
+pub(crate) fn run_at(parts: &Parts, total: usize, number: usize) -> Run
+    requires { number < length parts.now.ids.items }
+    ensures term { result.term ≡ slice_index parts.now.ids.items number }
+    ensures first { (runs : List (List Row)) → parts.now.starts.items ≡ starts_from 0 runs → total ≡ length (joined runs)
+        → result.first ≡ start_of runs number }
+    ensures end { (runs : List (List Row)) → parts.now.starts.items ≡ starts_from 0 runs → total ≡ length (joined runs)
+        → result.end ≡ start_of runs (number + 1) }
+    ensures fits { result.end < 2 ^ 64 }
+{
+    Run {
+        term: parts.ids[number],
+        first: start_at(&parts.starts, total, number),
+        end: start_at(&parts.starts, total, number + 1),
+    }
 }
 
 /// Whether the next entry is of the term.
@@ -133,21 +152,20 @@ pub(crate) fn put_term<L: Ledger>(
     run: Run,
     entries: &Vec<Entry>,
     next: usize,
-    term: u32,
     steps: &mut Steps<L>,
 ) -> Result<usize, Memory>
-    ensures next { IfOk result (λ end. end ≡ next + length (group term (drop next entries.now.items))) }
+    ensures next { IfOk result (λ end. end ≡ next + length (group run.term (drop next entries.now.items))) }
     ensures rows { OnOk result ((before front back behind : List Row)
         → IsAround (leaf_ids leaves.now.leaves) at run.first run.end rows.old before front back behind →
-        rows.new ≡ before ++ (front ++ (map row_of (group term (drop next entries.now.items)) ++ (back ++ behind)))) }
-    ensures counted { OnOk result (steps.new ≡ steps.old + length (group term (drop next entries.now.items))) }
-    ensures at_most { steps.new ≤ steps.old + length (group term (drop next entries.now.items)) }
+        rows.new ≡ before ++ (front ++ (map row_of (group run.term (drop next entries.now.items)) ++ (back ++ behind)))) }
+    ensures counted { OnOk result (steps.new ≡ steps.old + length (group run.term (drop next entries.now.items))) }
+    ensures at_most { steps.new ≤ steps.old + length (group run.term (drop next entries.now.items)) }
 {
-    if !is_next(entries, next, term) {
+    if !is_next(entries, next, run.term) {
         return Ok(next);
     }
     let place = front_end(leaves, rows, at, run);
-    put_group(rows, entries, next, term, place, steps)
+    put_group(rows, entries, next, run.term, place, steps)
 }
 
 /// Takes the rows of the next entries, as many as are of the term, out of its run, behind the rows of leaves in front
@@ -159,20 +177,19 @@ pub(crate) fn take_term<L: Ledger>(
     run: Run,
     entries: &Vec<Entry>,
     next: usize,
-    term: u32,
     steps: &mut Steps<L>,
 ) -> Result<usize, Memory>
-    ensures next { IfOk result (λ end. end ≡ next + length (group term (drop next entries.now.items))) }
+    ensures next { IfOk result (λ end. end ≡ next + length (group run.term (drop next entries.now.items))) }
     ensures rows { OnOk result ((before front back behind : List Row) →
         IsAround (leaf_ids leaves.now.leaves) at run.first run.end rows.old before front
-        (map row_of (group term (drop next entries.now.items)) ++ back) behind →
+        (map row_of (group run.term (drop next entries.now.items)) ++ back) behind →
         rows.new ≡ before ++ (front ++ (back ++ behind))) }
-    ensures counted { OnOk result (steps.new ≡ steps.old + length (group term (drop next entries.now.items))) }
-    ensures at_most { steps.new ≤ steps.old + length (group term (drop next entries.now.items)) }
+    ensures counted { OnOk result (steps.new ≡ steps.old + length (group run.term (drop next entries.now.items))) }
+    ensures at_most { steps.new ≤ steps.old + length (group run.term (drop next entries.now.items)) }
 {
-    if !is_next(entries, next, term) {
+    if !is_next(entries, next, run.term) {
         return Ok(next);
     }
     let place = front_end(leaves, rows, at, run);
-    take_group(rows, entries, next, term, place, steps)
+    take_group(rows, entries, next, run.term, place, steps)
 }

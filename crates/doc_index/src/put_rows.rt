@@ -5,7 +5,7 @@ ghost use Rattle.doc_index.specs.Rows.{IsIndexed, entries_of};
 ghost use Rattle.doc_index.specs.steps.Groups.{entries_with, grouped};
 
 use crate::entry::Entry;
-use crate::groups::{Run, put_term, start_at};
+use crate::groups::{Run, put_term, run_at};
 use crate::parts::Parts;
 use ft_base::{Memory, Steps};
 use std::sync::ledger::Ledger;
@@ -33,11 +33,7 @@ pub(crate) fn put_rows<L: Ledger>(
     let mut starts = Vec::with_capacity(*parts.ids.allocator(), parts.ids.len())?;
     let mut next = 0;
     for number in 0..parts.ids.len() {
-        let run = moved_back(
-            parts.starts[number],
-            start_at(&parts.starts, total, number + 1),
-            next,
-        )?;
+        let run = moved_back(run_at(parts, total, number), next)?;
         starts.push(run.first)?;
         next = put_term(
             &parts.leaves,
@@ -46,7 +42,6 @@ pub(crate) fn put_rows<L: Ledger>(
             run,
             entries,
             next,
-            parts.ids[number],
             steps,
         )?;
     }
@@ -54,15 +49,17 @@ pub(crate) fn put_rows<L: Ledger>(
     Ok(())
 }
 
-/// A run from one place to another, behind so many more rows.
-fn moved_back(first: usize, end: usize, by: usize) -> Result<Run, Memory>
-    ensures { IfOk result (λ run. (run.first ≡ first + by) × (run.end ≡ end + by)) }
+/// The run behind so many more rows.
+fn moved_back(run: Run, by: usize) -> Result<Run, Memory>
+    ensures term { IfOk result (λ moved. moved.term ≡ run.term) }
+    ensures first { IfOk result (λ moved. moved.first ≡ run.first + by) }
+    ensures end { IfOk result (λ moved. moved.end ≡ run.end + by) }
 {
-    let Some(first) = first.checked_add(by) else {
+    let Some(first) = run.first.checked_add(by) else {
         return Err(Memory);
     };
-    match end.checked_add(by) {
-        Some(end) => Ok(Run { first, end }),
+    match run.end.checked_add(by) {
+        Some(end) => Ok(Run { first, end, ..run }),
         None => Err(Memory),
     }
 }

@@ -5,7 +5,7 @@ ghost use Rattle.doc_index.specs.Rows.{IsIndexed, entries_of, of_term};
 ghost use Rattle.doc_index.specs.steps.Groups.{entries_at, entries_without, grouped};
 
 use crate::entry::Entry;
-use crate::groups::{Run, start_at, take_term};
+use crate::groups::{Run, run_at, take_term};
 use crate::parts::Parts;
 use ft_base::{Memory, Steps};
 use std::sync::ledger::Ledger;
@@ -33,11 +33,7 @@ pub(crate) fn take_rows<L: Ledger>(
     let mut starts = Vec::with_capacity(*parts.ids.allocator(), parts.ids.len())?;
     let mut next = 0;
     for number in 0..parts.ids.len() {
-        let run = moved_front(
-            parts.starts[number],
-            start_at(&parts.starts, total, number + 1),
-            next,
-        );
+        let run = moved_front(run_at(parts, total, number), next);
         starts.push(run.first)?;
         next = take_term(
             &parts.leaves,
@@ -46,7 +42,6 @@ pub(crate) fn take_rows<L: Ledger>(
             run,
             entries,
             next,
-            parts.ids[number],
             steps,
         )?;
     }
@@ -54,13 +49,15 @@ pub(crate) fn take_rows<L: Ledger>(
     Ok(())
 }
 
-/// A run from one place to another, behind so many fewer rows.
-fn moved_front(first: usize, end: usize, by: usize) -> Run
-    ensures first { result.first ≡ first - by }
-    ensures end { result.end ≡ end - by }
+/// The run behind so many fewer rows.
+fn moved_front(run: Run, by: usize) -> Run
+    ensures term { result.term ≡ run.term }
+    ensures first { result.first ≡ run.first - by }
+    ensures end { result.end ≡ run.end - by }
 {
     Run {
-        first: first.saturating_sub(by),
-        end: end.saturating_sub(by),
+        first: run.first.saturating_sub(by),
+        end: run.end.saturating_sub(by),
+        ..run
     }
 }

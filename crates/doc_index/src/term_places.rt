@@ -13,7 +13,6 @@ use std::marker::Model;
 pub struct TermPlaces<'v> {
     leaves: &'v Leaves,
     rows: &'v PostingList,
-    term: u32,
     run: Run,
 }
 
@@ -24,28 +23,18 @@ impl<'v> Model for TermPlaces<'v> {
 
     ghost Value = { List ℕ };
 
-    ghost view = { λ inside. places_of inside.term inside.leaves.now.leaves };
+    ghost view = { λ inside. places_of inside.run.term inside.leaves.now.leaves };
 
-    ghost invariant = { λ inside. IsRunOf inside.leaves.now inside.rows.now inside.term inside.run.first inside.run.end };
+    ghost invariant = { λ inside. IsRunOf inside.leaves.now inside.rows.now inside.run.term inside.run.first inside.run.end };
 }
 
 impl<'v> TermPlaces<'v> {
-    /// The places of a term whose rows are those of the run.
-    pub(crate) fn new(
-        leaves: &'v Leaves,
-        rows: &'v PostingList,
-        term: u32,
-        run: Run,
-    ) -> TermPlaces<'v>
-        requires { IsRunOf leaves.now rows.now term run.first run.end }
-        ensures { result ≡ places_of term leaves.now.leaves }
+    /// The places of the term of the run, whose rows these are.
+    pub(crate) fn new(leaves: &'v Leaves, rows: &'v PostingList, run: Run) -> TermPlaces<'v>
+        requires { IsRunOf leaves.now rows.now run.term run.first run.end }
+        ensures { result ≡ places_of run.term leaves.now.leaves }
     {
-        TermPlaces {
-            leaves,
-            rows,
-            term,
-            run,
-        }
+        TermPlaces { leaves, rows, run }
     }
 
     /// How many places there are.

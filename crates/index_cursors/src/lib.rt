@@ -10,6 +10,8 @@ mod cursor;
 mod every;
 pub mod examples;
 mod search;
+#[cfg(test)]
+mod tests;
 
 pub use break_view::BreakView;
 pub use cursor::Cursor;

@@ -1,8 +1,8 @@
--- What a dictionary has: entries in order, each under an id that it keeps while it is there.
-use Rattle.std.specs.Prelude.{ℕ, ◌+◌, Bool, true, cond, not, nat_lt, ◌&&◌, ◌==◌, List, [], ◌∷◌, filter, map, Option, Some, None}
+-- What a dictionary has: entries in order, each under an id that names it for ever.
+use Rattle.std.specs.Prelude.{ℕ, Bool, true, cond, not, nat_lt, ◌&&◌, ◌==◌, List, [], ◌∷◌, ◌++◌, length, filter, map, Option, Some, None}
 use Rattle.std.specs.List.{list_all}
 use Rattle.std.specs.Ordering.{is_eq}
-use Rattle.index_meaning.specs.Entries.{Entry, entry_cmp, by_order, has_entry}
+use Rattle.index_meaning.specs.Entries.{Entry, entry_cmp, by_order, has_entry, stands_at}
 
 -- an entry, and its id
 pub record Term : Type 0 where
@@ -12,13 +12,13 @@ pub record Term : Type 0 where
 abbrev pub term : Entry → ℕ → Term
 term e id = record { entry = e; id = id }
 
--- the terms, and the id that the next new one gets
+-- the terms, and the entries that ever came in, in the order in which they did: the id of an entry is its place among these, from 0
 pub record Dictionary : Type 0 where
   pub terms : List Term
-  pub next : ℕ
+  pub given : List Entry
 
-abbrev pub dictionary : List Term → ℕ → Dictionary
-dictionary terms next = record { terms = terms; next = next }
+abbrev pub dictionary : List Term → List Entry → Dictionary
+dictionary terms given = record { terms = terms; given = given }
 
 abbrev pub entries : List Term → List Entry
 entries terms = map (λ t. t.entry) terms
@@ -35,6 +35,10 @@ are_apart (t ∷ rest) = list_all (λ u. not (t.id == u.id)) rest && are_apart r
 abbrev pub ids_below : ℕ → List Term → Bool
 ids_below next terms = list_all (λ t. nat_lt t.id next) terms
 
+-- whether the id of each term names its entry among those that came in
+abbrev pub are_given : List Entry → List Term → Bool
+are_given given terms = list_all (λ t. stands_at t.entry t.id given) terms
+
 -- the id of the entry, if it is there
 abbrev pub id_of : Entry → List Term → Option ℕ
 id_of e [] = None
@@ -47,13 +51,13 @@ with_term t (u ∷ rest) = by_order (entry_cmp t.entry u.entry) (t ∷ u ∷ res
 
 -- the dictionary with one more entry, which gets an id that none had before; nothing changes where it is there
 abbrev pub with_new : Entry → Dictionary → Dictionary
-with_new e d = cond (has_entry e (entries d.terms)) d (dictionary (with_term (term e d.next) d.terms) (d.next + 1))
+with_new e d = cond (has_entry e (entries d.terms)) d (dictionary (with_term (term e (length d.given)) d.terms) (d.given ++ e ∷ []))
 
 -- the same for each of the new entries, one after the other
 abbrev pub with_all_new : List Entry → Dictionary → Dictionary
 with_all_new [] d = d
 with_all_new (e ∷ new) d = with_all_new new (with_new e d)
 
--- the dictionary without this entry, whose id no other will get
+-- the dictionary without this entry, which its id still names; it gets another one where it comes again
 abbrev pub without_term : Entry → Dictionary → Dictionary
-without_term e d = dictionary (filter (λ t. not (is_eq (entry_cmp e t.entry))) d.terms) d.next
+without_term e d = dictionary (filter (λ t. not (is_eq (entry_cmp e t.entry))) d.terms) d.given

@@ -1,6 +1,6 @@
 -- The entries of a dictionary: words, each with the key under which it is found.
-use Rattle.std.specs.Prelude.{◌≡◌, ℕ, ◌+◌, Bool, true, false, cond, not, ◌&&◌, ◌==◌, List, [], ◌∷◌, length, filter, map, Option, Some, None}
-use Rattle.std.specs.Option.{option_map}
+use Rattle.std.specs.Prelude.{ℕ, ◌+◌, Bool, true, false, cond, not, ◌&&◌, ◌==◌, List, [], ◌∷◌, length, filter, slice_get, Option, Some, None}
+use Rattle.std.specs.Option.{option_map, option_map_or}
 use Rattle.std.specs.Ordering.{is_lt, is_eq, nat_cmp, ordering_then}
 use Rattle.std.specs.declared.cmp.Ordering.{Ordering}
 use Rattle.std.specs.Cmp.Lexicographic.{slice_cmp}
@@ -56,6 +56,10 @@ without_entry e entries = filter (λ f. not (is_eq (entry_cmp e f))) entries
 -- whether the entry is one of these
 abbrev pub has_entry : Entry → List Entry → Bool
 has_entry e entries = list_any (λ f. is_eq (entry_cmp e f)) entries
+
+-- whether the entry of that number, counted from 0, is this one
+abbrev pub stands_at : Entry → ℕ → List Entry → Bool
+stands_at e number entries = option_map_or (λ f. is_eq (entry_cmp e f)) (slice_get entries number) false
 
 -- the number of the entry, counted from 0, if it is one of these
 abbrev pub number_of : Entry → List Entry → Option ℕ

@@ -1,5 +1,5 @@
 -- Small entries, for the examples.
-use Rattle.std.specs.Prelude.{ℕ, List, [], ◌∷◌, codes}
+use Rattle.std.specs.Prelude.{codes}
 use Rattle.index_meaning.specs.Entries.{Entry, entry}
 
 -- words in small letters, which are their own keys

@@ -1,6 +1,6 @@
 -- Small documents, for the examples.
-use Rattle.std.specs.Prelude.{◌≡◌, ℕ, ◌+◌, Bool, ◌&&◌, List, [], ◌∷◌, map, cond, nat_le, codes}
-use Rattle.index_meaning.specs.Documents.{Leaf, Document, Numbered}
+use Rattle.std.specs.Prelude.{ℕ, ◌+◌, ◌&&◌, List, [], ◌∷◌, map, cond, nat_le, codes}
+use Rattle.index_meaning.specs.Documents.{Leaf, Numbered}
 
 -- the key of the examples: A to Z as a to z
 abbrev pub lower : List ℕ → List ℕ

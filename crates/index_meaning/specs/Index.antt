@@ -1,10 +1,10 @@
 -- The index of documents, under the function that gives the key of a word.
-use Rattle.std.specs.Prelude.{◌≡◌, ℕ, ◌+◌, Bool, List, [], ◌∷◌, ◌++◌, length, map, cond, not, filter}
+use Rattle.std.specs.Prelude.{ℕ, ◌+◌, Bool, List, [], ◌∷◌, map, cond}
 use Rattle.std.specs.List.{flat_map, list_any, count_by}
 use Rattle.std.specs.Ordering.{is_eq, is_gt, nat_cmp, ordering_then}
 use Rattle.std.specs.declared.cmp.Ordering.{Ordering}
 use Rattle.index_meaning.specs.Documents.{Document, Numbered, words_of, token_count}
-use Rattle.index_meaning.specs.Entries.{Entry, entry, entry_cmp, with_entries, key_count}
+use Rattle.index_meaning.specs.Entries.{Entry, entry, entry_cmp, with_entries}
 
 -- a row of the index: a term, and a place at which it stands. Places count from 1
 pub record IndexRow : Type 0 where

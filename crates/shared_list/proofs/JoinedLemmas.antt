@@ -2,7 +2,7 @@
 use Rattle.std.proofs.Common.{◌≡◌, ℕ, ◌+◌, ◌-◌, ◌<◌, ◌≤◌, suc, zero, List, [], ◌∷◌, ◌++◌, length, take, drop, set, get_or, refl, ap, sym, ◌∙◌, arith, append_assoc, length-append, ◌⊎◌, inl, inr}
 use Rattle.std.specs.Prelude.{insert, remove}
 use Rattle.std.proofs.lemmas.Bool.{cases_lt}
-use Rattle.std.proofs.lemmas.List.{take_all, take_more}
+use Rattle.std.proofs.lemmas.List.{set-append_left, set-append_right, take_all, take_more}
 use Rattle.std.proofs.lemmas.List.Concat.{flat_map-append, get_or-flat_map}
 use Rattle.std.proofs.lemmas.List.Edits.{insert-append_left, insert-append_right, remove-append_left, remove-append_right}
 use Rattle.shared_list.specs.Blocks.{joined, start_of, IsBlockOf, IsRun}
@@ -50,6 +50,20 @@ joined-take blocks k at there within =
     ∙ ap (λ i. front ++ remove (b ++ back) i) (sym n)
     ∙ sym (remove-append_right front (b ++ back) (length front) (length front + at) refl (omega arith))
     ∙ ap (λ ys. remove ys (start_of blocks k + at)) (sym (joined-cut blocks k there))
+
+-- an item that comes in the place of another of a block comes there in the list
+pub joined-replace : {T : Type 0} (blocks : List (List T)) (k at : ℕ) (x : T) → k < length blocks → at < length (get_or blocks k []) →
+    joined (set blocks k (set (get_or blocks k []) at x)) ≡ set (joined blocks) (start_of blocks k + at) x
+joined-replace blocks k at x there within =
+    let b = get_or blocks k [] in
+    let front = joined (take k blocks) in
+    let back = joined (drop (suc k) blocks) in
+    let n : length front + at - length front ≡ at = omega arith in
+    joined-set blocks k (set b at x) there
+    ∙ ap (λ ys. front ++ ys) (sym (set-append_left b back at x within))
+    ∙ ap (λ i. front ++ set (b ++ back) i x) (sym n)
+    ∙ sym (set-append_right front (b ++ back) (length front) (length front + at) x refl (omega arith))
+    ∙ ap (λ ys. set ys (start_of blocks k + at) x) (sym (joined-cut blocks k there))
 
 -- an item of a block is the item of the list at the block's start and the place in the block
 pub joined-item : {T : Type 0} (blocks : List (List T)) (k at : ℕ) (d : T) → k < length blocks → at < length (get_or blocks k []) →
@@ -122,6 +136,12 @@ pub take-at : {T : Type 0} (blocks : List (List T)) (at k : ℕ) → IsBlockOf b
 take-at blocks at k is within =
     let e : start_of blocks k + (at - start_of blocks k) ≡ at = omega (arith, is.from) in
     joined-take blocks k (at - start_of blocks k) is.there (take-place blocks at k is within) ∙ ap (λ i. remove (joined blocks) i) e
+
+pub replace-at : {T : Type 0} (blocks : List (List T)) (at k : ℕ) (x : T) → IsBlockOf blocks at k → at < length (joined blocks) →
+    joined (set blocks k (set (get_or blocks k []) (at - start_of blocks k) x)) ≡ set (joined blocks) at x
+replace-at blocks at k x is within =
+    let e : start_of blocks k + (at - start_of blocks k) ≡ at = omega (arith, is.from) in
+    joined-replace blocks k (at - start_of blocks k) x is.there (take-place blocks at k is within) ∙ ap (λ i. set (joined blocks) i x) e
 
 pub item-at : {T : Type 0} (blocks : List (List T)) (at k : ℕ) (d : T) → IsBlockOf blocks at k → at < length (joined blocks) →
     get_or (get_or blocks k []) (at - start_of blocks k) d ≡ get_or (joined blocks) at d

@@ -23,6 +23,13 @@ starts-push n (b ∷ rest) new =
     let e : n + length b + length (joined rest) ≡ n + length (joined (b ∷ rest)) = omega (arith, length-append b (joined rest)) in
     ap (λ ys. n ∷ ys) (starts-push (n + length b) rest new ∙ ap (λ m. starts_from (n + length b) rest ++ m ∷ []) e)
 
+-- a block of the same length moves no start
+pub starts-same : {T : Type 0} (n : ℕ) (blocks : List (List T)) (k : ℕ) (new : List T) → k < length blocks → length new ≡ length (get_or blocks k []) →
+    starts_from n (set blocks k new) ≡ starts_from n blocks
+starts-same n [] k new there same = absurd (omega arith)
+starts-same n (b ∷ rest) zero new there same = ap (λ m. n ∷ starts_from (n + m) rest) same
+starts-same n (b ∷ rest) (suc k) new there same = ap (λ ys. n ∷ ys) (starts-same (n + length b) rest k new (omega arith) same)
+
 pub starts-forget : {T : Type 0} (n : ℕ) (blocks : List (List T)) (k : ℕ) → k < length blocks → get_or blocks k [] ≡ [] →
     starts_from n (remove blocks k) ≡ remove (starts_from n blocks) k
 starts-forget n [] k there empty = absurd (omega arith)

@@ -1,4 +1,4 @@
-ghost use Rattle.std.specs.Prelude.{◌≡◌, ◌≤◌, ◌<◌, ◌++◌, [], insert, remove, length, slice_index_or, IfOk, OnErr, OnOk};
+ghost use Rattle.std.specs.Prelude.{◌≡◌, ◌≤◌, ◌<◌, ◌++◌, [], insert, remove, length, slice_index_or, slice_set, IfOk, OnErr, OnOk};
 
 use crate::Share;
 use ft_base::Memory;
@@ -110,6 +110,35 @@ impl<T: Share> Block<T> {
         let item = copy.remove(at);
         self.items = Rc::new(alloc, copy)?;
         Ok(item)
+    }
+
+    /// Puts the item in the place of the one that is there. A block that other lists hold is copied first, so that they
+    /// keep theirs.
+    pub fn replace(&mut self, at: usize, item: T) -> Result<(), Memory>
+        requires { at < length self.old }
+        ensures ok { OnOk result (self.new ≡ slice_set self.old at item) }
+        ensures err { OnErr result (self.new ≡ self.old) }
+    {
+        match Rc::get_mut(&mut self.items) {
+            Some(items) => {
+                items[at] = item;
+                Ok(())
+            }
+            None => self.replace_in_copy(at, item),
+        }
+    }
+
+    /// Puts the item in the place of another in a copy of the block, which takes the block's place.
+    fn replace_in_copy(&mut self, at: usize, item: T) -> Result<(), Memory>
+        requires { at < length self.old }
+        ensures ok { OnOk result (self.new ≡ slice_set self.old at item) }
+        ensures err { OnErr result (self.new ≡ self.old) }
+    {
+        let alloc = *self.items.allocator();
+        let mut copy = T::copies(alloc, self.items.as_slice())?;
+        copy[at] = item;
+        self.items = Rc::new(alloc, copy)?;
+        Ok(())
     }
 
     /// The block as two blocks, the first of them with the items in front of the place.

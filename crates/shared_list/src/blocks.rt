@@ -124,6 +124,17 @@ impl<T: Share> Blocks<T> {
         Ok(())
     }
 
+    /// Puts the item in the place of one of that block.
+    pub fn replace(&mut self, number: usize, at: usize, item: T) -> Result<(), Memory>
+        requires block { number < length self.old }
+        requires place { at < length (slice_index_or self.old number []) }
+        ensures ok { OnOk result (self.new ≡ slice_set self.old number (slice_set (slice_index_or self.old number []) at item)) }
+        ensures err { OnErr result (self.new ≡ self.old) }
+    {
+        self.blocks[number].replace(at, item)?;
+        Ok(())
+    }
+
     /// Takes the item at a place of that block out.
     pub fn take(&mut self, number: usize, at: usize) -> Result<T, Memory>
         requires block { number < length self.old }

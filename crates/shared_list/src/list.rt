@@ -1,5 +1,5 @@
 ghost use Rattle.std.specs.Prelude.{◌≡◌, ◌≤◌, ◌<◌, ◌+◌, ◌-◌, ◌^◌, ◌↔◌, ◌++◌, ◌∷◌, [], insert, remove};
-ghost use Rattle.std.specs.Prelude.{length, slice_index_or, IfOk, IfSome, IsTrue, OnErr, OnOk};
+ghost use Rattle.std.specs.Prelude.{length, slice_index_or, slice_set, IfOk, IfSome, IsTrue, OnErr, OnOk};
 ghost use Rattle.shared_list.specs.Blocks.{joined, IsRun};
 
 use crate::Share;
@@ -117,6 +117,16 @@ impl<T: Share, const BLOCK: usize> SharedList<T, BLOCK> {
         Ok(())
     }
 
+    /// Puts the item in the place of the one at that place, counted from 0. Where memory runs out, the list stays as it
+    /// was and the item is dropped.
+    pub fn replace(&mut self, at: usize, item: T) -> Result<(), Memory>
+        requires { at < length self.old }
+        ensures ok { OnOk result (self.new ≡ slice_set self.old at item) }
+        ensures err { OnErr result (self.new ≡ self.old) }
+    {
+        replace(&mut self.blocks, at, item)
+    }
+
     /// Takes the item at that place, counted from 0, out of the list. Where memory runs out, the list stays as it was.
     pub fn remove(&mut self, at: usize) -> Result<T, Memory>
         requires { at < length self.old }
@@ -165,6 +175,18 @@ fn put<T: Share>(blocks: &mut Blocks<T>, at: usize, item: T) -> Result<(), Memor
     let number = blocks.block_of(at);
     let offset = at - blocks.start(number);
     blocks.put(number, offset, item)?;
+    Ok(())
+}
+
+/// Puts the item in the place of the one at that place of the list.
+fn replace<T: Share>(blocks: &mut Blocks<T>, at: usize, item: T) -> Result<(), Memory>
+    requires { at < length (joined blocks.old) }
+    ensures ok { OnOk result (joined blocks.new ≡ slice_set (joined blocks.old) at item) }
+    ensures err { OnErr result (blocks.new ≡ blocks.old) }
+{
+    let number = blocks.block_of(at);
+    let offset = at - blocks.start(number);
+    blocks.replace(number, offset, item)?;
     Ok(())
 }
 

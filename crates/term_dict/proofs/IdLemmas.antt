@@ -1,15 +1,15 @@
--- That an entry keeps its id where others come in and go out.
-use Rattle.std.proofs.Common.{◌≡◌, ℕ, ◌+◌, Bool, true, false, ◌||◌, cond, not, List, [], ◌∷◌, Option, Some, None, refl, ap, sym, ◌∙◌, true≢false, inl, inr}
-use Rattle.std.specs.declared.cmp.Ordering.{Ordering}
+-- That an entry keeps its id where others come in and go out, and an id its entry.
+use Rattle.std.proofs.Common.{◌≡◌, ℕ, ◌<◌, ◌≤◌, zero, suc, true, false, ◌||◌, cond, not, List, [], ◌∷◌, ◌++◌, length, Some, None, refl, ap, sym, ◌∙◌, arith, true≢false, inl, inr, length-append}
+use Rattle.std.specs.Prelude.{slice_get}
 use Rattle.std.specs.declared.cmp.Ordering.TheVariants.{Less, Equal, Greater}
 use Rattle.std.specs.Ordering.{is_eq}
 use Rattle.std.specs.Cmp.{Equal-is}
 use Rattle.std.proofs.lemmas.Bool.{cases_Bool, or_right}
 use Rattle.std.proofs.lemmas.Cmp.{eq_by_cmp_equiv}
 use Rattle.index_meaning.specs.Entries.{Entry, entry_cmp, by_order, has_entry}
-use Rattle.index_meaning.specs.Dictionaries.{Term, term, entries, Dictionary, dictionary, id_of, with_term, with_new, with_all_new}
+use Rattle.index_meaning.specs.Dictionaries.{Term, term, entries, Dictionary, id_of, with_term, with_new, with_all_new}
 use Rattle.term_dict.proofs.OrderLemmas.{entry_total, same_entry}
-use Rattle.term_dict.proofs.TermLemmas.{others}
+use Rattle.term_dict.proofs.TermLemmas.{others, grown}
 
 id_with : (f : Entry) (t : Term) (ts : List Term) → is_eq (entry_cmp f t.entry) ≡ false → id_of f (with_term t ts) ≡ id_of f ts
 id_with f t [] other = ap (λ b. cond b (Some t.id) None) other
@@ -23,11 +23,11 @@ id_with f t (u ∷ ts) other =
 -- an entry that is there keeps its id where another comes in
 pub id_kept : (f e : Entry) (d : Dictionary) → has_entry f (entries d.terms) ≡ true → id_of f (with_new e d).terms ≡ id_of f d.terms
 id_kept f e d there = elim (cases_Bool (has_entry e (entries d.terms))) [
-  | inl old ↦ ap (λ b. id_of f (cond b d (dictionary (with_term (term e d.next) d.terms) (d.next + 1))).terms) old
-  | inr new ↦ ap (λ b. id_of f (cond b d (dictionary (with_term (term e d.next) d.terms) (d.next + 1))).terms) new
+  | inl old ↦ ap (λ b. id_of f (cond b d (grown e d)).terms) old
+  | inr new ↦ ap (λ b. id_of f (cond b d (grown e d)).terms) new
       ∙ elim (cases_Bool (is_eq (entry_cmp f e))) [
         | inl same ↦ absurd (true≢false (sym there ∙ ap (λ g. has_entry g (entries d.terms)) (same_entry f e ((Equal-is (entry_cmp f e)).0 same)) ∙ new))
-        | inr other ↦ id_with f (term e d.next) d.terms other
+        | inr other ↦ id_with f (term e (length d.given)) d.terms other
       ]
 ]
 
@@ -44,9 +44,9 @@ has_with f t (u ∷ ts) there =
     ]
 
 has_new : (f e : Entry) (d : Dictionary) → has_entry f (entries d.terms) ≡ true → has_entry f (entries (with_new e d).terms) ≡ true
-has_new f e d there = elim (has_entry e (entries d.terms)) as (λ b. has_entry f (entries (cond b d (dictionary (with_term (term e d.next) d.terms) (d.next + 1))).terms) ≡ true) [
+has_new f e d there = elim (has_entry e (entries d.terms)) as (λ b. has_entry f (entries (cond b d (grown e d)).terms) ≡ true) [
   | true ↦ there
-  | false ↦ has_with f (term e d.next) d.terms there
+  | false ↦ has_with f (term e (length d.given)) d.terms there
 ]
 
 pub id_kept_by_all : (f : Entry) (new : List Entry) (d : Dictionary) → has_entry f (entries d.terms) ≡ true → id_of f (with_all_new new d).terms ≡ id_of f d.terms
@@ -67,3 +67,26 @@ id_left f e (u ∷ ts) other = elim (cases_Bool (is_eq (entry_cmp e u.entry))) [
       ap (λ b. id_of f (cond (not b) (u ∷ others e ts) (others e ts))) kept
       ∙ ap (λ o. cond (is_eq (entry_cmp f u.entry)) (Some u.id) o) (id_left f e ts other)
 ]
+
+-- ---- an id that was given names what it named
+
+get_front : (es fs : List Entry) (n : ℕ) → n < length es → slice_get (es ++ fs) n ≡ slice_get es n
+get_front [] fs n within = absurd (omega arith)
+get_front (e ∷ es) fs zero within = refl
+get_front (e ∷ es) fs (suc n) within = get_front es fs n (omega arith)
+
+pub named_still : (e : Entry) (d : Dictionary) (id : ℕ) → id < length d.given → slice_get (with_new e d).given id ≡ slice_get d.given id
+named_still e d id within = elim (has_entry e (entries d.terms)) as (λ b. slice_get (cond b d (grown e d)).given id ≡ slice_get d.given id) [
+  | true ↦ refl
+  | false ↦ get_front d.given (e ∷ []) id within
+]
+
+given_longer : (e : Entry) (d : Dictionary) → length d.given ≤ length (with_new e d).given
+given_longer e d = elim (has_entry e (entries d.terms)) as (λ b. length d.given ≤ length (cond b d (grown e d)).given) [
+  | true ↦ omega arith
+  | false ↦ omega (arith, length-append d.given (e ∷ []))
+]
+
+pub named_by_all : (new : List Entry) (d : Dictionary) (id : ℕ) → id < length d.given → slice_get (with_all_new new d).given id ≡ slice_get d.given id
+named_by_all [] d id within = refl
+named_by_all (e ∷ new) d id within = named_by_all new (with_new e d) id (omega (arith, within, given_longer e d)) ∙ named_still e d id within

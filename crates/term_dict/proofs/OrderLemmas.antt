@@ -1,13 +1,13 @@
--- The order of entries, and of their keys.
-use Rattle.std.proofs.Common.{◌≡◌, ◌∙◌, sym, ap, refl, true, false, ◌&&◌, List, [], ◌∷◌, ℕ, true≢false}
+-- The order of entries, and of their keys; and which entry stands at a place.
+use Rattle.std.proofs.Common.{◌≡◌, ◌<◌, ◌∙◌, sym, ap, refl, true, false, ◌&&◌, List, [], ◌∷◌, ◌++◌, ℕ, zero, suc, length, get_or, arith, true≢false}
 use Rattle.std.specs.declared.cmp.Ordering.{Ordering}
 use Rattle.std.specs.declared.cmp.Ordering.TheVariants.{Less, Equal, Greater}
 use Rattle.std.specs.Ordering.{is_lt, is_eq, is_gt, is_le, ordering_then, ordering_reverse}
-use Rattle.std.specs.Cmp.{IsTotalOrder}
+use Rattle.std.specs.Cmp.{IsTotalOrder, Equal-is}
 use Rattle.std.specs.FinMap.{slice_cmp-IsAntisymmetric, nat_cmp-IsAntisymmetric}
 use Rattle.std.proofs.lemmas.Bool.{and_parts}
-use Rattle.std.proofs.lemmas.Cmp.{on_total, then_total, nat_list_cmp_total, alike_right, upto}
-use Rattle.index_meaning.specs.Entries.{Entry, entry, entry_cmp, text_cmp, is_below}
+use Rattle.std.proofs.lemmas.Cmp.{on_total, then_total, nat_list_cmp_total, alike_right, tied_itself, upto}
+use Rattle.index_meaning.specs.Entries.{Entry, entry, entry_cmp, text_cmp, is_below, stands_at}
 use Rattle.term_dict.specs.Places.{stands_before}
 use Rattle.term_dict.specs.declared.places.Place.{Place}
 use Rattle.term_dict.specs.declared.places.Place.TheVariants.{AtEntry, AtKey, BehindKey}
@@ -27,6 +27,27 @@ same_entry e f h =
     let keys : e.key ≡ f.key = slice_cmp-IsAntisymmetric nat_cmp-IsAntisymmetric e.key f.key parts.0 in
     let words : e.word ≡ f.word = slice_cmp-IsAntisymmetric nat_cmp-IsAntisymmetric e.word f.word parts.1 in
     λ i. entry (keys i) (words i)
+
+-- the entry that stands at a place is the one of that number
+pub stands_there : (e : Entry) (n : ℕ) (es : List Entry) → stands_at e n es ≡ true → (n < length es) × (get_or es n e ≡ e)
+stands_there e n [] h = absurd (true≢false (sym h))
+stands_there e zero (f ∷ es) h = (omega arith, sym (same_entry e f ((Equal-is (entry_cmp e f)).0 h)))
+stands_there e (suc n) (f ∷ es) h = let rest = stands_there e n es h in (omega (arith, rest.0), rest.1)
+
+pub one_stands : (e f : Entry) (n : ℕ) (es : List Entry) → stands_at e n es ≡ true → stands_at f n es ≡ true → e ≡ f
+one_stands e f n [] h k = absurd (true≢false (sym h))
+one_stands e f zero (g ∷ es) h k = same_entry e g ((Equal-is (entry_cmp e g)).0 h) ∙ sym (same_entry f g ((Equal-is (entry_cmp f g)).0 k))
+one_stands e f (suc n) (g ∷ es) h k = one_stands e f n es h k
+
+-- it stays there where another comes behind the last one, and that stands there
+pub stands_still : (e f : Entry) (n : ℕ) (es : List Entry) → stands_at e n es ≡ true → stands_at e n (es ++ f ∷ []) ≡ true
+stands_still e f n [] h = absurd (true≢false (sym h))
+stands_still e f zero (g ∷ es) h = h
+stands_still e f (suc n) (g ∷ es) h = stands_still e f n es h
+
+pub stands_last : (e : Entry) (es : List Entry) → stands_at e (length es) (es ++ e ∷ []) ≡ true
+stands_last e [] = (Equal-is (entry_cmp e e)).1 (tied_itself entry_total e)
+stands_last e (f ∷ es) = stands_last e es
 
 pub turned_less : (e f : Entry) → entry_cmp e f ≡ Greater → entry_cmp f e ≡ Less
 turned_less e f h = entry_total.antisymm f e ∙ ap ordering_reverse h

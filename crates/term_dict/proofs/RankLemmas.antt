@@ -6,8 +6,8 @@ use Rattle.std.specs.Ordering.{is_lt, is_eq, is_gt, is_le}
 use Rattle.std.specs.List.{filter}
 use Rattle.std.specs.Option.{option_map}
 use Rattle.std.proofs.lemmas.Bool.{and_parts, ne_eqb}
-use Rattle.index_meaning.specs.Entries.{Entry, entry_cmp, text_cmp, is_below, is_sorted, has_entry, number_of, found, span, smaller_keys, same_keys}
-use Rattle.term_dict.specs.Places.{stands_before, count_before, stands_at}
+use Rattle.index_meaning.specs.Entries.{Entry, entry_cmp, text_cmp, is_below, is_sorted, has_entry, stands_at, number_of, found, span, smaller_keys, same_keys}
+use Rattle.term_dict.specs.Places.{stands_before, count_before}
 use Rattle.term_dict.specs.declared.places.Place.{Place}
 use Rattle.term_dict.specs.declared.places.Place.TheVariants.{AtEntry, BehindKey}
 use Rattle.term_dict.proofs.OrderLemmas.{before_closed, less_is, below_less}

@@ -46,6 +46,12 @@ window_front place e ts k low high t sorted within read is window =
 pub run_read : (ts items : List Term) (start k : ℕ) (t : Term) → IsRun ts start items → k < length items → t ≡ get_or items k t → t ≡ get_or ts (start + k) t
 run_read ts items start k t run within read = read ∙ run.same k t within
 
+-- the first term of a block
+pub first_read : (ts items : List Term) (start : ℕ) (t : Term) → IsRun ts start items → 0 < length items → t ≡ get_or items 0 t → (start < length ts) × (t ≡ get_or ts start t)
+first_read ts items start t run some read =
+    let place : start + 0 ≡ start = omega arith in
+    (omega (arith, run.within), run_read ts items start 0 t run some read ∙ ap (λ k. get_or ts k t) place)
+
 -- ---- the numbers of a key
 
 none_left : (a b : ℕ) → a ≡ a + b → b ≡ 0

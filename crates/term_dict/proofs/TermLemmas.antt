@@ -1,16 +1,21 @@
--- Terms with one more, and with one less: where they change, and that they stay in order with different ids.
-use Rattle.std.proofs.Common.{◌≡◌, ℕ, ◌+◌, ◌<◌, ◌≤◌, Bool, true, false, ◌&&◌, ◌||◌, cond, not, nat_lt, ◌==◌, List, [], ◌∷◌, refl, ap, sym, ◌∙◌, arith, true≢false}
+-- Terms with one more, and with one less: where they change, that they stay in order, and that their ids name them.
+use Rattle.std.proofs.Common.{◌≡◌, Bool, true, false, ◌&&◌, ◌||◌, cond, not, nat_lt, ◌==◌, List, [], ◌∷◌, ◌++◌, length, refl, ap, sym, ◌∙◌, true≢false}
 use Rattle.std.specs.Prelude.{insert, remove}
 use Rattle.std.specs.List.{filter, list_all}
 use Rattle.std.specs.declared.cmp.Ordering.TheVariants.{Less, Equal, Greater}
 use Rattle.std.specs.Ordering.{is_lt, is_eq, is_gt}
-use Rattle.std.proofs.lemmas.Bool.{and_parts, ltb-true, lt-ltb, ne_eqb}
-use Rattle.index_meaning.specs.Entries.{Entry, entry_cmp, is_below, is_sorted, has_entry, by_order, with_entry, without_entry}
-use Rattle.index_meaning.specs.Dictionaries.{Term, term, entries, are_apart, ids_below, with_term}
+use Rattle.std.proofs.lemmas.Bool.{and_parts, lt-ltb, ne_eqb}
+use Rattle.std.proofs.lemmas.Cmp.{tied_itself}
+use Rattle.index_meaning.specs.Entries.{Entry, entry_cmp, is_below, is_sorted, has_entry, by_order, with_entry, without_entry, stands_at}
+use Rattle.index_meaning.specs.Dictionaries.{Term, term, entries, Dictionary, dictionary, are_apart, are_given, ids_below, with_term}
 use Rattle.term_dict.specs.Places.{count_before}
 use Rattle.term_dict.specs.declared.places.Place.TheVariants.{AtEntry}
-use Rattle.term_dict.proofs.OrderLemmas.{turned_less, below_less, below_equal}
+use Rattle.term_dict.proofs.OrderLemmas.{entry_total, turned_less, below_less, below_equal, stands_there, one_stands, stands_still, stands_last}
 use Rattle.term_dict.proofs.RankLemmas.{no_rank, one_rank, not_among}
+
+-- the dictionary with an entry that isn't there
+abbrev pub grown : Entry → Dictionary → Dictionary
+grown e d = dictionary (with_term (term e (length d.given)) d.terms) (d.given ++ e ∷ [])
 
 -- ---- where the terms change
 
@@ -128,7 +133,7 @@ sorted_without e (f ∷ es) h =
       | false ↦ sorted_without e es parts.1
     ]
 
--- ---- their ids stay different, and below the next one
+-- ---- their ids name them
 
 all_with : (p : Term → Bool) (t : Term) (ts : List Term) → p t ≡ true → list_all p ts ≡ true → list_all p (with_term t ts) ≡ true
 all_with p t [] first h = λ i. first i && true
@@ -140,49 +145,42 @@ all_with p t (u ∷ ts) first h =
       | Greater ↦ λ i. parts.0 i && all_with p t ts first parts.1 i
     ]
 
-pub below_later : (n m : ℕ) (ts : List Term) → n ≤ m → ids_below n ts ≡ true → ids_below m ts ≡ true
-below_later n m [] upto h = refl
-below_later n m (u ∷ ts) upto h =
-    let parts = and_parts (nat_lt u.id n) (ids_below n ts) h in
-    let under : u.id < n = ltb-true u.id n parts.0 in
-    let first : nat_lt u.id m ≡ true = lt-ltb u.id m (omega arith) in
-    λ i. first i && below_later n m ts upto parts.1 i
+-- an entry that is there stays there, and a new one stands behind it
+given_more : (e : Entry) (given : List Entry) (ts : List Term) → are_given given ts ≡ true → are_given (given ++ e ∷ []) ts ≡ true
+given_more e given [] h = refl
+given_more e given (u ∷ ts) h =
+    let parts = and_parts (stands_at u.entry u.id given) (are_given given ts) h in
+    λ i. stands_still u.entry e u.id given parts.0 i && given_more e given ts parts.1 i
 
-pub below_with_next : (e : Entry) (n : ℕ) (ts : List Term) → ids_below n ts ≡ true → ids_below (n + 1) (with_term (term e n) ts) ≡ true
-below_with_next e n ts h = all_with (λ t. nat_lt t.id (n + 1)) (term e n) ts (lt-ltb n (n + 1) (omega arith)) (below_later n (n + 1) ts (omega arith) h)
+pub given_with : (e : Entry) (given : List Entry) (ts : List Term) → are_given given ts ≡ true → are_given (given ++ e ∷ []) (with_term (term e (length given)) ts) ≡ true
+given_with e given ts h = all_with (λ t. stands_at t.entry t.id (given ++ e ∷ [])) (term e (length given)) ts (stands_last e given) (given_more e given ts h)
 
--- a new id is none of those below it
-next_apart : (n : ℕ) (ts : List Term) → ids_below n ts ≡ true → list_all (λ (u : Term). not (n == u.id)) ts ≡ true
-next_apart n [] h = refl
-next_apart n (u ∷ ts) h =
-    let parts = and_parts (nat_lt u.id n) (ids_below n ts) h in
-    let under : u.id < n = ltb-true u.id n parts.0 in
-    let other : (n == u.id) ≡ false = ne_eqb n u.id (λ e. omega arith) in
-    λ i. not (other i) && next_apart n ts parts.1 i
+pub given_without : (e : Entry) (given : List Entry) (ts : List Term) → are_given given ts ≡ true → are_given given (others e ts) ≡ true
+given_without e given ts h = all_filter (λ (t : Term). stands_at t.entry t.id given) (λ (t : Term). not (is_eq (entry_cmp e t.entry))) ts h
 
-pub apart_with : (e : Entry) (n : ℕ) (ts : List Term) → ids_below n ts ≡ true → are_apart ts ≡ true → are_apart (with_term (term e n) ts) ≡ true
-apart_with e n [] below h = refl
-apart_with e n (u ∷ ts) below h =
-    let t = term e n in
-    let parts = and_parts (list_all (λ (v : Term). not (u.id == v.id)) ts) (are_apart ts) h in
-    let under = and_parts (nat_lt u.id n) (ids_below n ts) below in
-    let less : u.id < n = ltb-true u.id n under.0 in
-    let other : (u.id == n) ≡ false = ne_eqb u.id n (λ e. omega arith) in
-    elim (entry_cmp e u.entry) as (λ o. are_apart (by_order o (t ∷ u ∷ ts) (u ∷ ts) (u ∷ with_term t ts)) ≡ true) [
-      | Less ↦ λ i. next_apart n (u ∷ ts) below i && h i
-      | Equal ↦ h
-      | Greater ↦ λ i. all_with (λ v. not (u.id == v.id)) t ts (λ j. not (other j)) parts.0 i && apart_with e n ts under.1 parts.1 i
-    ]
+-- what has an id is among those that were given
+pub given_below : (given : List Entry) (ts : List Term) → are_given given ts ≡ true → ids_below (length given) ts ≡ true
+given_below given [] h = refl
+given_below given (u ∷ ts) h =
+    let parts = and_parts (stands_at u.entry u.id given) (are_given given ts) h in
+    let under : nat_lt u.id (length given) ≡ true = lt-ltb u.id (length given) (stands_there u.entry u.id given parts.0).0 in
+    λ i. under i && given_below given ts parts.1 i
 
-pub apart_without : (e : Entry) (ts : List Term) → are_apart ts ≡ true → are_apart (others e ts) ≡ true
-apart_without e [] h = refl
-apart_without e (u ∷ ts) h =
-    let parts = and_parts (list_all (λ (v : Term). not (u.id == v.id)) ts) (are_apart ts) h in
-    let kept = all_filter (λ (v : Term). not (u.id == v.id)) (λ (v : Term). not (is_eq (entry_cmp e v.entry))) ts parts.0 in
-    elim (not (is_eq (entry_cmp e u.entry))) as (λ b. are_apart (cond b (u ∷ others e ts) (others e ts)) ≡ true) [
-      | true ↦ λ i. kept i && apart_without e ts parts.1 i
-      | false ↦ apart_without e ts parts.1
-    ]
+-- terms with one id would have one entry
+other_ids : (given : List Entry) (t : Term) (ts : List Term) → is_below t.entry (entries ts) ≡ true → stands_at t.entry t.id given ≡ true → are_given given ts ≡ true →
+    list_all (λ (u : Term). not (t.id == u.id)) ts ≡ true
+other_ids given t [] below here h = refl
+other_ids given t (u ∷ ts) below here h =
+    let under = and_parts (is_lt (entry_cmp t.entry u.entry)) (is_below t.entry (entries ts)) below in
+    let parts = and_parts (stands_at u.entry u.id given) (are_given given ts) h in
+    let other : (t.id == u.id) ≡ false = ne_eqb t.id u.id (λ same.
+    let one = one_stands t.entry u.entry t.id given here (ap (λ n. stands_at u.entry n given) same ∙ parts.0) in
+    true≢false (sym under.0 ∙ ap (λ e. is_lt (entry_cmp t.entry e)) (sym one) ∙ ap is_lt (tied_itself entry_total t.entry))) in
+    λ i. not (other i) && other_ids given t ts under.1 here parts.1 i
 
-pub below_without : (e : Entry) (n : ℕ) (ts : List Term) → ids_below n ts ≡ true → ids_below n (others e ts) ≡ true
-below_without e n ts h = all_filter (λ (t : Term). nat_lt t.id n) (λ (t : Term). not (is_eq (entry_cmp e t.entry))) ts h
+pub given_apart : (given : List Entry) (ts : List Term) → is_sorted (entries ts) ≡ true → are_given given ts ≡ true → are_apart ts ≡ true
+given_apart given [] sorted h = refl
+given_apart given (u ∷ ts) sorted h =
+    let order = and_parts (is_below u.entry (entries ts)) (is_sorted (entries ts)) sorted in
+    let parts = and_parts (stands_at u.entry u.id given) (are_given given ts) h in
+    λ i. other_ids given u ts order.0 parts.0 parts.1 i && given_apart given ts order.1 parts.1 i

@@ -22,10 +22,7 @@ pub record IsWindow (place : Place) (e : Entry) (entries : List Entry) (low high
   pub from : low ≤ count_before place e entries
   pub to : count_before place e entries ≤ high
 
--- whether the entry of that number is this one, and whether it has this key
-abbrev pub stands_at : Entry → ℕ → List Entry → Bool
-stands_at e number entries = option_map_or (λ f. is_eq (entry_cmp e f)) (slice_get entries number) false
-
+-- whether the entry of that number has this key
 abbrev pub has_key_at : List ℕ → ℕ → List Entry → Bool
 has_key_at key number entries = option_map_or (λ f. is_eq (text_cmp f.key key)) (slice_get entries number) false
 

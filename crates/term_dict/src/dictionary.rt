@@ -1,25 +1,38 @@
-ghost use Rattle.std.specs.Prelude.{◌≡◌, ◌<◌, [], length, slice_get, true, false, Some, IfOk, OnErr, OnOk};
+ghost use Rattle.std.specs.Prelude.{◌≡◌, ◌≤◌, ◌<◌, ◌+◌, ◌^◌, ◌++◌, ◌∷◌, [], ℕ, insert, length, slice_get, true, false, Some, IfOk, OnErr, OnOk};
 ghost use Rattle.std.specs.Ordering.{is_eq};
 ghost use Rattle.index_meaning.specs.Entries.{Entry, entry, entry_cmp, has_entry, found, number_of, is_sorted};
 ghost use Rattle.index_meaning.specs.Entries.{key_count, with_entry, with_entries, without_entry};
-ghost use Rattle.index_meaning.specs.Dictionaries.{entries, ids, id_of, are_apart, ids_below, dictionary, with_new, with_all_new, without_term};
+ghost use Rattle.index_meaning.specs.Dictionaries.{term, entries, ids, id_of, are_apart, are_given, ids_below};
+ghost use Rattle.index_meaning.specs.Dictionaries.{dictionary, with_new, with_all_new, without_term};
 
 use crate::kept::Kept;
 use crate::places::{Place, Terms, brought_keys, count_before, stands_at};
+use crate::texts::Texts;
 use crate::{Entries, Term};
 use ft_base::{Memory, Span};
+use shared_list::SharedList;
 use std::alloc::Global;
 use std::marker::Model;
 
-/// The terms of an index, in the order of their keys and with one key in that of their words, each with an id that
-/// stays while the term is there. A copy shares the blocks of the dictionary that it was made of; neither sees a
-/// change to the other.
+/// How many entries a block by id holds at most.
+const BLOCK_GIVEN: usize = 256;
+
+/// How many ids there are at most.
+const MAX_IDS: usize = 4294967295;
+
+/// Entries by id.
+type Given = SharedList<Texts, BLOCK_GIVEN>;
+
+/// The terms of an index, in the order of their keys and with one key in that of their words, each with an id, which
+/// names its entry for ever. A copy shares the blocks of the dictionary that it was made of; neither sees a change to
+/// the other.
 #[derive(Drop)]
 pub struct TermDict {
     alloc: Global,
     terms: Terms,
+    // The entries that ever came in, each at its id.
+    given: Given,
     keys: usize,
-    next: u32,
 }
 
 impl Model for TermDict {
@@ -28,21 +41,21 @@ impl Model for TermDict {
 
     ghost Value = { Dictionary };
 
-    ghost view = { λ inside. dictionary inside.terms inside.next };
+    ghost view = { λ inside. dictionary inside.terms inside.given };
 
-    ghost invariant = { λ inside. IsSound inside.terms inside.keys inside.next };
+    ghost invariant = { λ inside. IsSound inside.terms inside.keys inside.given };
 }
 
 impl TermDict {
     /// The dictionary without terms.
     pub fn empty(alloc: Global) -> TermDict
-        ensures { result ≡ dictionary [] 0 }
+        ensures { result ≡ dictionary [] [] }
     {
         TermDict {
             alloc,
             terms: Terms::new(alloc),
+            given: Given::new(alloc),
             keys: 0,
-            next: 0,
         }
     }
 
@@ -51,20 +64,22 @@ impl TermDict {
         ensures { IfOk result (λ copy. copy ≡ self.now) }
     {
         let terms = self.terms.copy()?;
+        let given = self.given.copy()?;
         Ok(TermDict {
             alloc: self.alloc,
             terms,
+            given,
             keys: self.keys,
-            next: self.next,
         })
     }
 
-    /// How many terms there are. They are in order, each once, and no two have the same id.
+    /// How many terms there are. They are in order, each once; no two have the same id, and each id names its entry.
     pub fn len(&self) -> usize
         ensures count { result ≡ length self.now.terms }
         ensures sorted { is_sorted (entries self.now.terms) ≡ true }
         ensures apart { are_apart self.now.terms ≡ true }
-        ensures below { ids_below self.now.next self.now.terms ≡ true }
+        ensures below { ids_below (length self.now.given) self.now.terms ≡ true }
+        ensures given { are_given self.now.given self.now.terms ≡ true }
     {
         self.terms.len()
     }
@@ -96,6 +111,25 @@ impl TermDict {
         self.terms.get(number).id()
     }
 
+    /// How many ids were given: each number below is one.
+    pub fn given_count(&self) -> usize
+        ensures { result ≡ length self.now.given }
+    {
+        self.given.len()
+    }
+
+    /// The term that got that id, also where it isn't there any more.
+    pub fn entry(&self, id: u32) -> Term<'_>
+        requires { id < length self.now.given }
+        ensures { slice_get self.now.given id ≡ Some (entry result.key.now result.word.now) }
+    {
+        let texts = self.given.get(id as usize);
+        Term {
+            key: texts.key(),
+            word: texts.word(),
+        }
+    }
+
     /// The numbers of the terms with that key, and `None` exactly where there are none.
     pub fn find(&self, key: &str) -> Option<Span>
         ensures { result ≡ found key.now (entries self.now.terms) }
@@ -123,24 +157,23 @@ impl TermDict {
     }
 
     /// The dictionary with that term. Nothing changes where it is there; a new one gets an id that none had before,
-    /// and `Memory` is answered where there is none left.
+    /// and `Memory` is answered where there is none left. An id that was given names what it named.
     pub fn with(&self, key: &str, word: &str) -> Result<TermDict, Memory>
         ensures becomes { IfOk result (λ new. new ≡ with_new (entry key.now word.now) self.now) }
         ensures listed { IfOk result (λ new. entries new.terms ≡ with_entry (entry key.now word.now) (entries self.now.terms)) }
         ensures kept { IfOk result (λ new. (e : Entry) → has_entry e (entries self.now.terms) ≡ true → id_of e new.terms ≡ id_of e self.now.terms) }
+        ensures named { IfOk result (λ new. (id : ℕ) → id < length self.now.given → slice_get new.given id ≡ slice_get self.now.given id) }
     {
         let _ = &self.terms;
-        let mut new = self.copy()?;
-        match new.put(key, word) {
-            Ok(()) => Ok(new),
-            Err(_) => {
-                drop(new);
-                Err(Memory)
-            }
+        let copy = self.copy()?;
+        match copy.put(key, word) {
+            Ok(new) => Ok(new),
+            Err(_) => Err(Memory),
         }
     }
 
-    /// The dictionary without that term. Its id is not given again.
+    /// The dictionary without that term. Its id still names it and is not given again, so that it gets another one
+    /// where it comes again.
     pub fn without(&self, key: &str, word: &str) -> Result<TermDict, Memory>
         ensures becomes { IfOk result (λ new. new ≡ without_term (entry key.now word.now) self.now) }
         ensures listed { IfOk result (λ new. entries new.terms ≡ without_entry (entry key.now word.now) (entries self.now.terms)) }
@@ -162,36 +195,40 @@ impl TermDict {
         ensures becomes { IfOk result (λ all. all ≡ with_all_new new.now self.now) }
         ensures listed { IfOk result (λ all. entries all.terms ≡ with_entries new.now (entries self.now.terms)) }
         ensures kept { IfOk result (λ all. (e : Entry) → has_entry e (entries self.now.terms) ≡ true → id_of e all.terms ≡ id_of e self.now.terms) }
+        ensures named { IfOk result (λ all. (id : ℕ) → id < length self.now.given → slice_get all.given id ≡ slice_get self.now.given id) }
     {
         let _ = &self.terms;
-        let mut all = self.copy()?;
-        match put_all(&mut all, new) {
-            Ok(()) => Ok(all),
-            Err(_) => {
-                drop(all);
-                Err(Memory)
-            }
+        let copy = self.copy()?;
+        match put_all(copy, new) {
+            Ok(all) => Ok(all),
+            Err(_) => Err(Memory),
         }
     }
 
-    /// Puts the term in, where it isn't there.
-    fn put(&mut self, key: &str, word: &str) -> Result<(), Memory>
-        ensures ok { OnOk result (self.new ≡ with_new (entry key.now word.now) self.old) }
-        ensures err { OnErr result (self.new ≡ self.old) }
+    /// The dictionary with the term, where it isn't there.
+    fn put(self, key: &str, word: &str) -> Result<TermDict, Memory>
+        ensures { IfOk result (λ new. new ≡ with_new (entry key.now word.now) self) }
     {
         let number = count_before(&self.terms, Place::AtEntry, key, word);
         if stands_at(&self.terms, number, key, word) {
-            return Ok(());
+            return Ok(self);
         }
-        let Some(next) = self.next.checked_add(1) else {
-            return Err(Memory);
-        };
-        let brought = brought_keys(&self.terms, number, key);
-        let kept = Kept::new(self.alloc, key, word, self.next)?;
-        self.terms.insert(number, kept)?;
-        self.keys += brought;
-        self.next = next;
-        Ok(())
+        let keys = self.keys + brought_keys(&self.terms, number, key);
+        let alloc = self.alloc;
+        let mut terms = self.terms;
+        let mut given = self.given;
+        match put_new(alloc, &mut terms, &mut given, number, key, word) {
+            Ok(()) => Ok(TermDict {
+                alloc,
+                terms,
+                given,
+                keys,
+            }),
+            Err(_) => {
+                drop((terms, given));
+                Err(Memory)
+            }
+        }
     }
 
     /// Takes the term out, where it is there.
@@ -209,12 +246,46 @@ impl TermDict {
     }
 }
 
-/// Puts all of the terms in, one after the other.
-fn put_all(all: &mut TermDict, new: &Entries) -> Result<(), Memory>
-    ensures { OnOk result (all.new ≡ with_all_new new.now all.old) }
+/// The dictionary with all of the terms, one after the other.
+fn put_all(dict: TermDict, new: &Entries) -> Result<TermDict, Memory>
+    ensures { IfOk result (λ all. all ≡ with_all_new new.now dict) }
 {
+    let mut all = dict;
     for term in new.as_slice() {
-        all.put(term.key(), term.word())?;
+        all = all.put(term.key(), term.word())?;
     }
+    Ok(all)
+}
+
+/// Puts a term that isn't there among the others at that number, under the next id.
+fn put_new(
+    alloc: Global,
+    terms: &mut Terms,
+    given: &mut Given,
+    number: usize,
+    key: &str,
+    word: &str,
+) -> Result<(), Memory>
+    requires { number ≤ length terms.old }
+    ensures terms { OnOk result (terms.new ≡ insert terms.old number (term (entry key.now word.now) (length given.old))) }
+    ensures given { OnOk result (given.new ≡ given.old ++ entry key.now word.now ∷ []) }
+    ensures fits { OnOk result (length given.new < 2 ^ 32) }
+{
+    let id = next_id(given)?;
+    let texts = Texts::new(alloc, key, word)?;
+    let named = texts.share()?;
+    terms.insert(number, Kept::new(texts, id))?;
+    given.push(named)?;
     Ok(())
+}
+
+/// The id that the next new term gets, where there is one left.
+fn next_id(given: &Given) -> Result<u32, Memory>
+    ensures { IfOk result (λ id. (id ≡ length given.now) × (id + 1 < 2 ^ 32)) }
+{
+    let count = given.len();
+    if count >= MAX_IDS {
+        return Err(Memory);
+    }
+    Ok(count as u32)
 }

@@ -1,20 +1,19 @@
 ghost use Rattle.std.specs.Prelude.{◌≡◌, IfOk};
-ghost use Rattle.index_meaning.specs.Entries.{entry, entry_cmp, text_cmp};
+ghost use Rattle.index_meaning.specs.Entries.{entry_cmp, text_cmp};
 ghost use Rattle.index_meaning.specs.Dictionaries.{term};
 
-use crate::OwnedTerm;
 use crate::sought::Sought;
+use crate::texts::Texts;
 use ft_base::Memory;
 use shared_list::Share;
 use std::alloc::Global;
 use std::cmp::Ordering;
 use std::marker::Model;
-use std::rc::Rc;
 
 /// A term of a dictionary, with its id. A copy of it shares its texts.
 #[derive(Drop)]
 pub struct Kept {
-    texts: Rc<OwnedTerm>,
+    texts: Texts,
     id: u32,
 }
 
@@ -23,24 +22,22 @@ impl Model for Kept {
 
     ghost Value = { Term };
 
-    ghost view = { λ kept. term kept.texts.value kept.id };
+    ghost view = { λ kept. term kept.texts kept.id };
 }
 
 impl Kept {
-    /// A term with the texts' bytes, under that id.
-    pub fn new(alloc: Global, key: &str, word: &str, id: u32) -> Result<Kept, Memory>
-        ensures { IfOk result (λ kept. kept ≡ term (entry key.now word.now) id) }
+    /// A term with these texts, under that id.
+    pub fn new(texts: Texts, id: u32) -> Kept
+        ensures { result ≡ term texts id }
     {
-        let owned = OwnedTerm::new(alloc, key, word)?;
-        let texts = Rc::new(alloc, owned)?;
-        Ok(Kept { texts, id })
+        Kept { texts, id }
     }
 
     /// The same term once more; no text is copied.
     pub fn share(&self) -> Result<Kept, Memory>
         ensures { IfOk result (λ kept. kept ≡ self.now) }
     {
-        let texts = self.texts.clone()?;
+        let texts = self.texts.share()?;
         Ok(Kept { texts, id: self.id })
     }
 

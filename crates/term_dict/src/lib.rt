@@ -1,8 +1,9 @@
-//! The dictionary of an index: its terms in order, in blocks that the dictionary's copies share, each with an id that
-//! stays while the term is there.
+//! The dictionary of an index: its terms in order, in blocks that the dictionary's copies share, each with an id, which
+//! names it for ever.
 //!
-//! `term` is a term as it is read, `owned` one in memory of its own, `kept` one with its id, `sought` one that is looked for; `places` finds where an
-//! entry stands, and `dictionary` is the dictionary itself.
+//! `term` is a term as it is read, `owned` one in memory of its own, `texts` one whose copies share that memory, `kept`
+//! one with its id, `sought` one that is looked for; `places` finds where an entry stands, and `dictionary` is the
+//! dictionary itself.
 #![tactic(auto)]
 
 mod dictionary;
@@ -13,6 +14,7 @@ mod sought;
 mod term;
 #[cfg(test)]
 mod tests;
+mod texts;
 
 pub use dictionary::TermDict;
 pub use owned::OwnedTerm;

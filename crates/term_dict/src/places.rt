@@ -1,9 +1,9 @@
 //! Where an entry stands, or would stand, among terms in order.
 ghost use Rattle.std.specs.Prelude.{◌≡◌, ◌≤◌, ◌<◌, ◌+◌, ◌-◌, cond, length, slice_index_or, true, IfSome};
-ghost use Rattle.index_meaning.specs.Entries.{entry, is_sorted};
+ghost use Rattle.index_meaning.specs.Entries.{entry, is_sorted, stands_at};
 ghost use Rattle.index_meaning.specs.Dictionaries.{entries};
 ghost use Rattle.shared_list.specs.Blocks.{IsRun};
-ghost use Rattle.term_dict.specs.Places.{stands_before, count_before, IsWindow, stands_at, has_key_at, brings_key};
+ghost use Rattle.term_dict.specs.Places.{stands_before, count_before, IsWindow, has_key_at, brings_key};
 
 use crate::kept::Kept;
 use crate::sought::Sought;

@@ -74,6 +74,20 @@ fn expect_all(rt: &impl Abort, alloc: Global, dict: &TermDict) -> Result<(), Mem
     Ok(())
 }
 
+// The id of each turn names its term, whether it is there or not.
+fn expect_named(rt: &impl Abort, alloc: Global, dict: &TermDict) -> Result<(), Memory> {
+    assert!(rt; dict.given_count() >= COUNT);
+    for turn in 0..COUNT {
+        let term = term_of(alloc, shuffled(turn))?;
+        let read = dict.entry(turn as u32);
+        assert!(rt;
+            read.key == term.key() && read.word == term.word(),
+            "{turn}"
+        );
+    }
+    Ok(())
+}
+
 // The dictionary without the terms of all turns, from the last to the first.
 fn emptied(rt: &impl Abort, alloc: Global, all: &TermDict) -> Result<TermDict, Memory> {
     let mut dict = all.copy()?;
@@ -109,9 +123,10 @@ fn a_batch_does_what_one_by_one_does(rt: HostRuntime) -> Result<(), Fail> {
 fn terms_go_out_and_copies_keep_theirs(rt: HostRuntime) -> Result<(), Fail> {
     let all = filled(rt.alloc(), COUNT)?;
     let none = emptied(&rt, rt.alloc(), &all)?;
-    assert!(rt; none.keys() == 0);
+    assert!(rt; none.keys() == 0 && none.given_count() == COUNT);
     let one = none.with("key", "word")?;
     assert!(rt; one.len() > 0 && one.id(0) == COUNT as u32);
+    expect_named(&rt, rt.alloc(), &one)?;
     expect_all(&rt, rt.alloc(), &all)?;
     Ok(())
 }

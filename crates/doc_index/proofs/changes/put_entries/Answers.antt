@@ -1,6 +1,6 @@
-use Rattle.std.proofs.Common.{◌≡◌, ◌≤◌, ℕ, List, true, length, Result, Ok, Err, OnOk, ap, sym, subst, ◌∙◌, arith}
+-- Once the new terms are among the others, the entries are those of the terms, one behind the other.
+use Rattle.std.proofs.Common.{ℕ, List, length, Result, Ok, Err, OnOk, ap, sym, subst, ◌∙◌, arith}
 use Rattle.std.proofs.lemmas.Result.{on_ok_weaker}
-use Rattle.ft_base.specs.Places.{is_ascending}
 use Rattle.doc_index.specs.Terms.{TermDocument, are_distinct, leaf_ids}
 use Rattle.doc_index.specs.Rows.{HasTerms, IsIndexed, entries_of}
 use Rattle.doc_index.specs.steps.Groups.{entries_with}

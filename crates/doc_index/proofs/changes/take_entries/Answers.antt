@@ -1,4 +1,5 @@
-use Rattle.std.proofs.Common.{◌≡◌, ◌≤◌, ℕ, List, Result, Ok, Err, OnOk, ap, sym, subst, ◌∙◌, arith}
+-- The entries of a leaf are those of the document's terms, one behind the other.
+use Rattle.std.proofs.Common.{ℕ, List, Result, Ok, Err, OnOk, sym, subst}
 use Rattle.doc_index.specs.Rows.{IsIndexed}
 use Rattle.doc_index.specs.steps.Groups.{entries_without}
 use Rattle.doc_index.proofs.SoundLemmas.{old-grouped}

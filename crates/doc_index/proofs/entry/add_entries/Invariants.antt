@@ -1,3 +1,4 @@
+-- What is made, with the entries of the words that are left, is all.
 use Rattle.std.proofs.Common.{◌≡◌, ◌++◌, drop}
 use Rattle.doc_index.specs.Rows.{entries_from}
 use Rattle.doc_index.proofs.entry.add_entries.Given as goal

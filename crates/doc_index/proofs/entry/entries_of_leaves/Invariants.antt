@@ -1,3 +1,4 @@
+-- The entries of the leaves up to the next one are made.
 use Rattle.std.proofs.Common.{◌≡◌, take}
 use Rattle.doc_index.specs.Rows.{entries}
 use Rattle.doc_index.proofs.entry.entries_of_leaves.Given as goal

@@ -1,4 +1,5 @@
-use Rattle.std.proofs.Common.{◌≡◌, ◌+◌, ◌-◌, ◌/◌, length, get_or, true, false, ap, sym, ◌∙◌, arith}
+-- What stands in front of a row of a leaf in front of the place is of such leaves too, and what stands behind another is not.
+use Rattle.std.proofs.Common.{◌≡◌, ◌+◌, ◌-◌, ◌/◌, true, false, sym, ◌∙◌, arith}
 use Rattle.doc_index.specs.Terms.{leaf_ids}
 use Rattle.doc_index.specs.steps.Directory.{is_front}
 use Rattle.doc_index.proofs.GroupLemmas.{front-there, back-there}

@@ -1,4 +1,5 @@
-use Rattle.std.proofs.Common.{ℕ, ◌≤◌, ◌+◌, ◌-◌, List, length}
+-- The place is between two numbers, whatever the parts of the run are.
+use Rattle.std.proofs.Common.{◌≤◌, ◌+◌, ◌-◌, List, length}
 use Rattle.postings.specs.declared.row.Row.{Row}
 use Rattle.doc_index.specs.Terms.{leaf_ids}
 use Rattle.doc_index.specs.steps.Directory.{IsAround}

@@ -1,4 +1,5 @@
-use Rattle.std.proofs.Common.{◌≡◌, ◌≤◌, ◌+◌, ◌-◌, length, drop, map}
+-- With the rows that are left all are put, and counted.
+use Rattle.std.proofs.Common.{◌≡◌, ◌≤◌, ◌+◌, length, drop, map}
 use Rattle.doc_index.specs.Rows.{row_of}
 use Rattle.doc_index.specs.steps.Groups.{group, with_rows}
 use Rattle.doc_index.proofs.groups.put_group.Given as goal

@@ -1,4 +1,5 @@
-use Rattle.std.proofs.Common.{◌≡◌, ◌<◌, length, ap, sym, ◌∙◌, arith}
+-- Behind the last term the rows end.
+use Rattle.std.proofs.Common.{length, ap, sym, ◌∙◌, arith}
 use Rattle.std.proofs.lemmas.List.{take_all}
 use Rattle.shared_list.specs.Blocks.{joined}
 use Rattle.shared_list.proofs.StartLemmas.{same-length, start-read}

@@ -1,4 +1,5 @@
-use Rattle.std.proofs.Common.{◌≡◌, ◌+◌, length, drop, ap, sym, ◌∙◌, arith}
+-- One row goes for each entry.
+use Rattle.std.proofs.Common.{◌+◌, length, drop, ap, sym, ◌∙◌, arith}
 use Rattle.doc_index.specs.Rows.{entry_at}
 use Rattle.doc_index.specs.steps.Groups.{group, without_rows}
 use Rattle.doc_index.proofs.groups.take_group.Goals as goal

@@ -1,4 +1,5 @@
-use Rattle.std.proofs.Common.{◌≡◌, ◌≤◌, ◌+◌, ◌-◌, length, drop}
+-- With the rows that are left all are taken out, and counted.
+use Rattle.std.proofs.Common.{◌≡◌, ◌+◌, length, drop}
 use Rattle.doc_index.specs.steps.Groups.{group, without_rows}
 use Rattle.doc_index.proofs.groups.take_group.Given as goal
 

@@ -1,13 +1,14 @@
-use Rattle.std.proofs.Common.{drop, map, ap, ◌∙◌, ◌++◌}
+-- The rows of the term go from behind those of leaves in front of the place.
+use Rattle.std.proofs.Common.{drop, map, ◌∙◌, ◌++◌}
 use Rattle.std.proofs.lemmas.Result.{on_ok_weaker}
 use Rattle.doc_index.specs.Terms.{leaf_ids}
 use Rattle.doc_index.specs.Rows.{row_of}
-use Rattle.doc_index.specs.steps.Groups.{group, with_rows}
+use Rattle.doc_index.specs.steps.Groups.{group}
 use Rattle.doc_index.proofs.GroupLemmas.{take-around}
 use Rattle.doc_index.proofs.groups.take_term.Goals as goal
 
 pub returns-clause-rows : goal.returns-clause-rows
 returns-clause-rows g c =
-    let taken = group c.args.term (drop c.args.next c.args.entries.now.items) in
+    let taken = group c.args.run.term (drop c.args.next c.args.entries.now.items) in
     on_ok_weaker c.take_group.result (λ rows before front back behind around. rows ∙ take-around (leaf_ids c.args.leaves.now.leaves) c.args.at c.args.run.first c.args.run.end c.args.rows.now before front back behind
     c.front_end-place.result taken around (c.front_end-place.ensures.place before front (map row_of taken ++ back) behind around)) c.take_group.ensures.rows

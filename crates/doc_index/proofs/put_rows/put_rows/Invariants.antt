@@ -1,3 +1,4 @@
+-- So many terms are done, and as many rows are counted as entries are put.
 use Rattle.std.proofs.Common.{◌≡◌, ◌+◌}
 use Rattle.doc_index.proofs.StepLemmas.{IsPutting}
 use Rattle.doc_index.proofs.put_rows.put_rows.Given as goal

@@ -1,3 +1,4 @@
+-- The numbers up to the next one are lowered where their slots are behind the place, and those from it on are as they were.
 use Rattle.std.proofs.Common.{◌≡◌, ℕ, ◌-◌, ◌<◌, ◌≤◌, cond, nat_lt, length, slice_index}
 use Rattle.doc_index.proofs.slots.lower_behind.Given as goal
 

@@ -1,3 +1,4 @@
+-- So many terms are done, and as many rows are counted as entries are taken.
 use Rattle.std.proofs.Common.{◌≡◌, ◌+◌}
 use Rattle.doc_index.proofs.StepLemmas.{IsTaking}
 use Rattle.doc_index.proofs.take_rows.take_rows.Given as goal

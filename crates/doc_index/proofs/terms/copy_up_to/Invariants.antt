@@ -1,3 +1,4 @@
+-- Whatever new terms were done before, they are done still, and no term above the bound is.
 use Rattle.std.proofs.Common.{ℕ, List, ◌-◌, length}
 use Rattle.doc_index.specs.Rows.{entries_of}
 use Rattle.doc_index.specs.steps.Widening.{AreUpTo, IsWidening}

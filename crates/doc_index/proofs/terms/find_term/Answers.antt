@@ -1,4 +1,5 @@
-use Rattle.std.proofs.Common.{◌≡◌, ◌≤◌, ◌<◌, ℕ, List, length, get_or, ap, sym, ◌∙◌, arith, inl, inr, Option, Result, Ok, Err, true, false, subst}
+-- Ascending terms are in order, so that the search finds one or shows that there is none.
+use Rattle.std.proofs.Common.{◌≡◌, ◌≤◌, ◌<◌, ℕ, List, length, get_or, ap, sym, ◌∙◌, arith, inl, inr, Ok, Err, true, false}
 use Rattle.std.proofs.lemmas.Bool.{cases_lt, false_from_ne_true}
 use Rattle.std.proofs.lemmas.List.Sorted.{searched}
 use Rattle.ft_base.specs.Places.{is_ascending}

@@ -1,8 +1,9 @@
-use Rattle.std.proofs.Common.{◌≡◌, ◌+◌, ◌<◌, ◌≤◌, ◌++◌, ◌∷◌, [], ℕ, List, length, get_or, nat_lt, ap, sym, subst, refl, ◌∙◌, arith}
+-- A term stays where its run is not empty.
+use Rattle.std.proofs.Common.{◌<◌, length, nat_lt, ap, refl, ◌∙◌, arith}
 use Rattle.std.proofs.lemmas.List.{get_or_read}
 use Rattle.doc_index.specs.Rows.{entries_of, runs_of}
 use Rattle.doc_index.proofs.StepLemmas.{starts-length}
-use Rattle.doc_index.proofs.WideningLemmas.{IsNarrowing, narrowing-start, narrowing-more, narrowing-indexed, narrowing-ids}
+use Rattle.doc_index.proofs.WideningLemmas.{narrowing-start, narrowing-more, narrowing-indexed, narrowing-ids}
 use Rattle.doc_index.proofs.terms.narrow.Goals as goal
 
 pub loop-number-init : goal.loop-number-init

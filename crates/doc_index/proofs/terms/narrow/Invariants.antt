@@ -1,4 +1,4 @@
-use Rattle.std.proofs.Common.{◌≡◌}
+-- Of the terms up to the next one those with rows are kept.
 use Rattle.doc_index.specs.Rows.{entries_of}
 use Rattle.doc_index.proofs.WideningLemmas.{IsNarrowing}
 use Rattle.doc_index.proofs.terms.narrow.Given as goal

@@ -1,4 +1,5 @@
-use Rattle.std.proofs.Common.{◌≡◌, ◌+◌, ◌<◌, ◌≤◌, ◌++◌, ◌∷◌, [], ℕ, List, Result, Ok, Err, OnOk, length, get_or, true, ap, sym, subst, ◌∙◌, arith, true≢false}
+-- A new term has no rows, and comes where the next of the others begins.
+use Rattle.std.proofs.Common.{◌≡◌, ◌<◌, ◌++◌, ◌∷◌, [], ℕ, List, Result, Ok, Err, OnOk, length, true, ap, sym, subst, ◌∙◌, arith, true≢false}
 use Rattle.std.proofs.lemmas.Result.{on_ok_weaker}
 use Rattle.doc_index.specs.Terms.{has}
 use Rattle.doc_index.specs.Rows.{entries_of, runs_of}

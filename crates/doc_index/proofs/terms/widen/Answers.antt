@@ -1,10 +1,11 @@
-use Rattle.std.proofs.Common.{◌≡◌, ◌+◌, ◌<◌, ◌≤◌, ◌++◌, ◌||◌, ◌∷◌, [], ℕ, List, length, get_or, map, take, true, ap, sym, subst, ◌∙◌, arith, true≢false, inl, inr}
+-- Each entry brings its term where it is not there, and in the end all terms that were there are done.
+use Rattle.std.proofs.Common.{◌≡◌, ◌+◌, ◌<◌, ◌≤◌, ◌++◌, ◌||◌, ◌∷◌, [], ℕ, List, length, get_or, map, take, ap, sym, subst, ◌∙◌, arith, true≢false, inl, inr}
 use Rattle.std.proofs.lemmas.Bool.{cases_lt}
 use Rattle.std.proofs.lemmas.List.{get_or_read, map_more, take_all}
 use Rattle.doc_index.specs.Terms.{has}
 use Rattle.doc_index.specs.Rows.{entries_of}
 use Rattle.doc_index.specs.steps.Groups.{term_of}
-use Rattle.doc_index.specs.steps.Widening.{AreUpTo, IsWidening}
+use Rattle.doc_index.specs.steps.Widening.{IsWidening}
 use Rattle.doc_index.proofs.WideningLemmas.{widening-start, widening-indexed, widening-members}
 use Rattle.doc_index.proofs.terms.widen.Goals as goal
 

@@ -1,4 +1,5 @@
-use Rattle.std.proofs.Common.{ℕ, ◌≡◌, ◌≤◌, ◌<◌, length, take, map, get_or}
+-- The terms of the entries up to the next one are done, and none is greater than one that is to come.
+use Rattle.std.proofs.Common.{ℕ, ◌≤◌, ◌<◌, length, take, map, get_or}
 use Rattle.doc_index.specs.declared.entry.Entry.{Entry}
 use Rattle.doc_index.specs.Rows.{entries_of}
 use Rattle.doc_index.specs.steps.Groups.{term_of}

@@ -1,3 +1,4 @@
+-- The number is between two others.
 use Rattle.std.proofs.Common.{◌≤◌, ◌-◌, length}
 use Rattle.index_cursors.specs.SpanHits.{started}
 use Rattle.index_cursors.proofs.break_view.started_at.Given as goal

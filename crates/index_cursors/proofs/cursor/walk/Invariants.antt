@@ -1,3 +1,4 @@
+-- With what is left to pass all are passed, and each is counted.
 use Rattle.std.proofs.Common.{◌≡◌, ◌≤◌, ◌+◌, ◌-◌, drop}
 use Rattle.std.specs.List.{prefix_len}
 use Rattle.index_cursors.specs.SpanHits.{is_before_both}

@@ -1,3 +1,4 @@
+-- The number is between two others.
 use Rattle.std.proofs.Common.{◌≤◌, ◌-◌, length}
 use Rattle.index_cursors.specs.SpanHits.{below}
 use Rattle.index_cursors.proofs.search.between.Given as goal

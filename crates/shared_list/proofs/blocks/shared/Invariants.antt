@@ -1,3 +1,4 @@
+-- The blocks up to the next one are there.
 use Rattle.std.proofs.Common.{◌≡◌, take}
 use Rattle.shared_list.proofs.blocks.shared.Given as goal
 

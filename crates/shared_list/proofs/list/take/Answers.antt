@@ -1,3 +1,4 @@
+-- The item goes out of its block, and a block that it leaves empty goes with it.
 use Rattle.std.proofs.Common.{◌-◌, [], get_or, set, ap, ◌∙◌}
 use Rattle.std.specs.Prelude.{remove}
 use Rattle.shared_list.specs.Blocks.{joined}

@@ -1,3 +1,4 @@
+-- The place is between the starts of two numbers.
 use Rattle.std.proofs.Common.{◌≤◌, ◌<◌, ◌-◌, length, slice_index}
 use Rattle.shared_list.proofs.starts.between.Given as goal
 

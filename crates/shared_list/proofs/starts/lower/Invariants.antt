@@ -1,3 +1,4 @@
+-- The starts up to the next one are lowered, and those from it on are as they were.
 use Rattle.std.proofs.Common.{◌≡◌, ℕ, ◌+◌, ◌<◌, ◌≤◌, length}
 use Rattle.std.specs.Prelude.{slice_index}
 use Rattle.shared_list.proofs.starts.lower.Given as goal

@@ -1,3 +1,4 @@
+-- The terms up to the next one are copied.
 use Rattle.std.proofs.Common.{◌≡◌, take}
 use Rattle.term_dict.proofs.kept.shared.Given as goal
 

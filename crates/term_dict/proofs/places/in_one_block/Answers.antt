@@ -1,3 +1,4 @@
+-- At first the place is among all terms.
 use Rattle.std.proofs.Common.{arith}
 use Rattle.std.proofs.lemmas.List.{length-map}
 use Rattle.index_meaning.specs.Dictionaries.{Term, entries}

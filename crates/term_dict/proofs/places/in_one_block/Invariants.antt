@@ -1,3 +1,4 @@
+-- The place is between two numbers.
 use Rattle.std.proofs.Common.{◌-◌}
 use Rattle.index_meaning.specs.Dictionaries.{entries}
 use Rattle.term_dict.specs.Places.{IsWindow}

@@ -1,3 +1,4 @@
+-- The term in the middle tells in which half the place is.
 use Rattle.std.proofs.Common.{◌+◌, ◌-◌, ◌/◌, ◌<◌, length, sym, ◌∙◌, arith}
 use Rattle.std.proofs.lemmas.List.{length-map}
 use Rattle.index_meaning.specs.Dictionaries.{Term}

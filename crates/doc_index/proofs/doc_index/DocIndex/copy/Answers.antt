@@ -1,3 +1,4 @@
+-- What is made of the same parts is as sound as they are.
 use Rattle.doc_index.proofs.SoundLemmas.{sound-copy}
 use Rattle.doc_index.proofs.doc_index.DocIndex.copy.Goals as goal
 

@@ -1,3 +1,4 @@
+-- No leaves have no terms and no rows.
 use Rattle.doc_index.proofs.SoundLemmas.{sound-empty}
 use Rattle.doc_index.proofs.doc_index.DocIndex.empty.Goals as goal
 

@@ -1,6 +1,7 @@
-use Rattle.std.proofs.Common.{◌≡◌, ◌≤◌, ◌+◌, [], ℕ, List, length, ap, sym, subst, ◌∙◌, arith}
+-- The entries of all leaves, put into the index of none, are those of the document.
+use Rattle.std.proofs.Common.{[], List, length, ap, sym, subst, arith}
 use Rattle.doc_index.specs.declared.entry.Entry.{Entry}
-use Rattle.doc_index.specs.Terms.{TermDocument, are_distinct, document_of, leaf_ids, words_of}
+use Rattle.doc_index.specs.Terms.{TermDocument, are_distinct, document_of, leaf_ids}
 use Rattle.doc_index.specs.Rows.{HasTerms, IsIndexed, entries, entries_of}
 use Rattle.doc_index.specs.steps.Groups.{IsSortedFrom, entries_with}
 use Rattle.doc_index.proofs.SoundLemmas.{all-count, all-same, indexed-same, sound-empty, terms-same}

@@ -1,3 +1,4 @@
+-- The number of the leaf that stands at the place.
 use Rattle.std.proofs.Common.{◌<◌, length, get_or, ap, ◌∙◌, arith}
 use Rattle.doc_index.specs.Terms.{TermDocument, leaf_ids}
 use Rattle.doc_index.proofs.LeafLemmas.{id-read}

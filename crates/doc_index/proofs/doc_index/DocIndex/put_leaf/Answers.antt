@@ -1,6 +1,7 @@
-use Rattle.std.proofs.Common.{◌≡◌, ◌≤◌, ◌+◌, ℕ, List, false, length, ap, sym, subst, ◌∙◌, arith}
+-- The entries with those of the leaf between them are those of the document with the leaf.
+use Rattle.std.proofs.Common.{◌≡◌, ℕ, List, length, ap, sym, subst, ◌∙◌, arith}
 use Rattle.doc_index.specs.declared.entry.Entry.{Entry}
-use Rattle.doc_index.specs.Terms.{TermDocument, has, leaf_ids, leaf_of, with_leaf}
+use Rattle.doc_index.specs.Terms.{TermDocument, has, leaf_ids, with_leaf}
 use Rattle.doc_index.specs.Rows.{HasTerms, IsIndexed, entries_of, leaf_entries}
 use Rattle.doc_index.specs.steps.Groups.{IsSortedFrom, entries_with}
 use Rattle.doc_index.proofs.SoundLemmas.{indexed-same, leaf-length, terms-same, with-same}

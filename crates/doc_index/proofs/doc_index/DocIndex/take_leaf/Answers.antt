@@ -1,8 +1,9 @@
-use Rattle.std.proofs.Common.{◌≡◌, ◌≤◌, ◌<◌, ◌+◌, [], ℕ, List, length, get_or, filter, ap, sym, subst, ◌∙◌, arith}
+-- The entries without those of the leaf are those of the document without it, whose terms are the ones that still have rows.
+use Rattle.std.proofs.Common.{◌≡◌, ◌<◌, [], ℕ, List, length, get_or, filter, ap, sym, subst, ◌∙◌, arith}
 use Rattle.doc_index.specs.declared.entry.Entry.{Entry}
 use Rattle.doc_index.specs.Terms.{TermDocument, leaf_words, without_leaf}
 use Rattle.doc_index.specs.Rows.{HasTerms, IsIndexed, entries_of, has_rows, leaf_entries}
-use Rattle.doc_index.specs.steps.Groups.{IsSortedFrom, entries_at, entries_without}
+use Rattle.doc_index.specs.steps.Groups.{IsSortedFrom}
 use Rattle.doc_index.proofs.LeafLemmas.{words-read}
 use Rattle.doc_index.proofs.SoundLemmas.{entries-at, leaf-length, without-is, without-terms}
 use Rattle.doc_index.proofs.doc_index.DocIndex.take_leaf.Goals as goal

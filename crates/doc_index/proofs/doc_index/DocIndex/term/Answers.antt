@@ -1,3 +1,4 @@
+-- The numbers that are kept are the document's terms.
 use Rattle.std.proofs.Common.{◌<◌, length, get_or, ap, ◌∙◌, arith}
 use Rattle.std.proofs.lemmas.List.{get_or_read}
 use Rattle.doc_index.specs.Terms.{TermDocument, terms_of, words_of}

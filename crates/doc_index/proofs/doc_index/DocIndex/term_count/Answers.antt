@@ -1,3 +1,4 @@
+-- The numbers that are kept are the document's terms.
 use Rattle.std.proofs.Common.{length, ap, arith}
 use Rattle.doc_index.specs.Terms.{TermDocument, terms_of, words_of}
 use Rattle.doc_index.proofs.SoundLemmas.{ids-are-terms}

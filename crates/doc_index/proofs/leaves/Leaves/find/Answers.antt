@@ -1,3 +1,4 @@
+-- The slot of a number is the place of its leaf, counted from 1.
 use Rattle.std.proofs.Common.{ap, ◌∙◌}
 use Rattle.doc_index.specs.Terms.{TermDocument, leaf_ids}
 use Rattle.doc_index.specs.steps.Directory.{slot_of}

@@ -1,4 +1,5 @@
-use Rattle.std.proofs.Common.{◌≡◌, ◌<◌, List, length, get_or, ap, subst, ◌∙◌, arith}
+-- As all numbers are different, each is none of those in front of it.
+use Rattle.std.proofs.Common.{◌<◌, List, length, get_or, ap, ◌∙◌, arith}
 use Rattle.doc_index.specs.Terms.{Leaf, TermDocument, has, leaf_ids}
 use Rattle.doc_index.proofs.LeafLemmas.{next-apart}
 use Rattle.doc_index.proofs.leaves.Leaves.of.Goals as goal

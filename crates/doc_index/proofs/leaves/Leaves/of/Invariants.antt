@@ -1,3 +1,4 @@
+-- The leaves up to the next one are there.
 use Rattle.std.proofs.Common.{◌≡◌, take}
 use Rattle.doc_index.specs.Terms.{document_of}
 use Rattle.doc_index.proofs.leaves.Leaves.of.Given as goal

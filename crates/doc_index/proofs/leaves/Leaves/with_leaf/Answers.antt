@@ -1,4 +1,5 @@
-use Rattle.std.proofs.Common.{◌≡◌, ◌+◌, ◌<◌, ◌≤◌, ℕ, List, length, take, cond, nat_lt, false, ap, sym, subst, ◌∙◌, arith}
+-- The directory with a gap at the place, and in the gap the new leaf.
+use Rattle.std.proofs.Common.{◌≡◌, ◌+◌, ◌≤◌, ℕ, List, length, take, cond, nat_lt, false, ap, sym, subst, ◌∙◌, arith}
 use Rattle.std.proofs.lemmas.List.{length-map}
 use Rattle.doc_index.specs.Terms.{Leaf, TermDocument, leaf_ids, words_of, has}
 use Rattle.doc_index.specs.steps.Directory.{IsChanged, IsDirectory, IsOpened}

@@ -1,6 +1,6 @@
-use Rattle.std.proofs.Common.{◌≡◌, ◌<◌, length, get_or, take, true, ap, ◌∙◌, arith}
-use Rattle.doc_index.specs.Terms.{TermDocument, leaf_ids, words_of, has}
-use Rattle.doc_index.specs.steps.Directory.{words_before}
+-- What is kept for the leaf at the place is how many words stand in front of it.
+use Rattle.std.proofs.Common.{◌<◌, length, get_or, take, ap, ◌∙◌, arith}
+use Rattle.doc_index.specs.Terms.{TermDocument, leaf_ids, words_of}
 use Rattle.doc_index.proofs.DirectoryLemmas.{before-there}
 use Rattle.doc_index.proofs.LeafLemmas.{differs, id-read, has-id}
 use Rattle.doc_index.proofs.leaves.Leaves.words_in_front.Goals as goal

@@ -1,3 +1,4 @@
+-- The leaves up to the next one are copied.
 use Rattle.std.proofs.Common.{◌≡◌, take}
 use Rattle.doc_index.proofs.term_leaf.TermLeafShare.copies.Given as goal
 

@@ -1,37 +1,38 @@
-use Rattle.std.proofs.Common.{◌≡◌, ◌+◌, ◌<◌, length, get_or, ap, ◌∙◌, arith}
-use Rattle.doc_index.specs.Terms.{places_of, words_of}
+-- The place of a row of the run is the place of that number.
+use Rattle.std.proofs.Common.{◌<◌, length, get_or, ap, ◌∙◌, arith}
+use Rattle.doc_index.specs.Terms.{places_of}
 use Rattle.doc_index.proofs.PlaceLemmas.{run-length, row-known, row-place, place-within}
 use Rattle.doc_index.proofs.term_places.TermPlaces.get.Goals as goal
 
 pub overflow_add-self-inside : goal.overflow_add-self-inside
 overflow_add-self-inside c =
     let inside = c.self.inside in
-    omega (arith, c.requires, ap length c.self.view_is, run-length inside.leaves.now inside.rows.now inside.term inside.run.first inside.run.end c.self.invariant, c.self.invariant.order, c.self.invariant.fits)
+    omega (arith, c.requires, ap length c.self.view_is, run-length inside.leaves.now inside.rows.now inside.run.term inside.run.first inside.run.end c.self.invariant, c.self.invariant.order, c.self.invariant.fits)
 
 pub get-row-requires : goal.get-row-requires
 get-row-requires c =
     let inside = c.self.inside in
-    omega (arith, c.requires, ap length c.self.view_is, run-length inside.leaves.now inside.rows.now inside.term inside.run.first inside.run.end c.self.invariant, c.self.invariant.order, c.self.invariant.within)
+    omega (arith, c.requires, ap length c.self.view_is, run-length inside.leaves.now inside.rows.now inside.run.term inside.run.first inside.run.end c.self.invariant, c.self.invariant.order, c.self.invariant.within)
 
 pub place-requires-clause-leaf : goal.place-requires-clause-leaf
 place-requires-clause-leaf c =
     let inside = c.self.inside in
-    let there : c.args.number < length (places_of inside.term inside.leaves.now.leaves) = omega (arith, c.requires, ap length c.self.view_is) in
-    row-known inside.leaves.now inside.rows.now inside.term inside.run.first inside.run.end c.self.invariant c.args.number c.get-row.result there c.get-row.ensures
+    let there : c.args.number < length (places_of inside.run.term inside.leaves.now.leaves) = omega (arith, c.requires, ap length c.self.view_is) in
+    row-known inside.leaves.now inside.rows.now inside.run.term inside.run.first inside.run.end c.self.invariant c.args.number c.get-row.result there c.get-row.ensures
 
 pub place-requires-clause-within : goal.place-requires-clause-within
 place-requires-clause-within c =
     let inside = c.self.inside in
-    let there : c.args.number < length (places_of inside.term inside.leaves.now.leaves) = omega (arith, c.requires, ap length c.self.view_is) in
+    let there : c.args.number < length (places_of inside.run.term inside.leaves.now.leaves) = omega (arith, c.requires, ap length c.self.view_is) in
     omega (
       arith,
-      row-place inside.leaves.now inside.rows.now inside.term inside.run.first inside.run.end c.self.invariant c.args.number c.get-row.result there c.get-row.ensures,
-      place-within inside.term inside.leaves.now.leaves c.args.number there,
+      row-place inside.leaves.now inside.rows.now inside.run.term inside.run.first inside.run.end c.self.invariant c.args.number c.get-row.result there c.get-row.ensures,
+      place-within inside.run.term inside.leaves.now.leaves c.args.number there,
     )
 
 pub returns : goal.returns
 returns c =
     let inside = c.self.inside in
-    let there : c.args.number < length (places_of inside.term inside.leaves.now.leaves) = omega (arith, c.requires, ap length c.self.view_is) in
-    c.place.ensures ∙ row-place inside.leaves.now inside.rows.now inside.term inside.run.first inside.run.end c.self.invariant c.args.number c.get-row.result there c.get-row.ensures
+    let there : c.args.number < length (places_of inside.run.term inside.leaves.now.leaves) = omega (arith, c.requires, ap length c.self.view_is) in
+    c.place.ensures ∙ row-place inside.leaves.now inside.rows.now inside.run.term inside.run.first inside.run.end c.self.invariant c.args.number c.get-row.result there c.get-row.ensures
     ∙ ap (λ ps. get_or ps c.args.number 0) c.self.view_is

@@ -1,3 +1,4 @@
+-- From the first place of the span on the hits are those of the span.
 use Rattle.index_cursors.proofs.SpanLemmas.{first-hit}
 use Rattle.index_cursors.proofs.cursor.Cursor.aim.Goals as goal
 

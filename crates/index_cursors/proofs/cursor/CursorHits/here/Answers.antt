@@ -1,3 +1,4 @@
+-- Behind the last place, or at one behind the span, there is no hit; else there is that of the place.
 use Rattle.std.proofs.Common.{◌<◌, ◌≤◌, length, get_or, Some, ap, sym, subst, ◌∙◌, arith}
 use Rattle.std.specs.Prelude.{IsTrue}
 use Rattle.ft_base.specs.Hits.{HitPlace, hit_at, is_sorted}

@@ -1,3 +1,4 @@
+-- At the end of the span there is no hit; else there is that of the place.
 use Rattle.std.proofs.Common.{◌<◌, ◌-◌, Some, ap, sym, subst, ◌∙◌, arith}
 use Rattle.std.specs.Prelude.{IsTrue}
 use Rattle.ft_base.specs.Hits.{HitPlace, hit_at, is_sorted}

@@ -1,3 +1,4 @@
+-- Where there is a hit, the end is not reached.
 use Rattle.std.proofs.Common.{◌<◌, ◌-◌, length, sym, subst, arith}
 use Rattle.std.proofs.lemmas.List.FromFn.{length-map-range_with_len}
 use Rattle.ft_base.specs.Hits.{HitPlace}

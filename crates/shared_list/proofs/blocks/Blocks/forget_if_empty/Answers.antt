@@ -1,3 +1,4 @@
+-- A block without items goes with its start, and the items stay.
 use Rattle.std.proofs.Common.{◌<◌, length, [], ap, sym, ◌∙◌, arith}
 use Rattle.std.proofs.lemmas.List.{get_or_read, nil_from_length}
 use Rattle.shared_list.specs.Blocks.{joined, starts_from}

@@ -1,3 +1,4 @@
+-- Two halves have the items of the block in whose place they come, and the second starts behind the first.
 use Rattle.std.proofs.Common.{◌≡◌, ◌+◌, ◌<◌, [], length, set, ap, sym, ◌∙◌, arith}
 use Rattle.std.specs.Prelude.{insert, remove}
 use Rattle.std.proofs.lemmas.List.{get_or_read, length-set}

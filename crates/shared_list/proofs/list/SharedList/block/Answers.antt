@@ -1,3 +1,4 @@
+-- A block's items stand in the list from the block's start on.
 use Rattle.std.proofs.Common.{◌<◌, length, subst, sym, arith}
 use Rattle.shared_list.specs.Blocks.{joined, start_of, IsRun}
 use Rattle.shared_list.proofs.JoinedLemmas.{block-run}

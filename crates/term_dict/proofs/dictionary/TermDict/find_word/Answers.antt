@@ -1,3 +1,4 @@
+-- An entry that is there stands at its place.
 use Rattle.std.proofs.Common.{Some, None, cond, ap, sym, ◌∙◌}
 use Rattle.index_meaning.specs.Entries.{entry, number_of}
 use Rattle.index_meaning.specs.Dictionaries.{Dictionary, entries}

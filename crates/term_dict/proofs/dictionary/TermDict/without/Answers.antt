@@ -1,3 +1,4 @@
+-- What the terms and the ids of others become without a term.
 use Rattle.std.proofs.Common.{ap, ◌∙◌}
 use Rattle.index_meaning.specs.Entries.{entry}
 use Rattle.index_meaning.specs.Dictionaries.{Dictionary, entries, id_of, without_term}

@@ -1,0 +1,128 @@
+-- How counts change where the terms of a document come or go, one after the other.
+use Rattle.std.proofs.Common.{◌≡◌, ℕ, ◌+◌, ◌-◌, ◌<◌, ◌≤◌, suc, zero, Bool, true, false, ◌&&◌, ◌||◌, ◌==◌, cond, List, [], ◌∷◌, ◌++◌, length, get_or, set, take, filter, refl, ap, sym, ◌∙◌, arith, inl, inr, true≢false, append_assoc}
+use Rattle.std.proofs.lemmas.Bool.{cases_eq, cases_lt, eq-eqb, eqb-true, ne_eqb, or_cases, or_right, false_from_ne_true}
+use Rattle.std.proofs.lemmas.List.{get_or-set_same, get_or-set_other, get_or_past, take_all, take_more}
+use Rattle.std.proofs.lemmas.List.Elements.{filter-append}
+use Rattle.std.proofs.lemmas.List.Folds.{list_any_more}
+use Rattle.ft_base.specs.Places.{is_ascending}
+use Rattle.doc_index.specs.Terms.{has, terms_of}
+use Rattle.doc_index.proofs.TermLemmas.{first-below, rest-ascending, has-at, has-head, has-terms_of}
+use Rattle.doc_index.proofs.WideningLemmas.{has-filter}
+use Rattle.document_counts.specs.Counts.{count_of, count_with, count_without, fallen}
+
+-- ---- one count
+
+pub count-zero : (counts : List ℕ) (t : ℕ) → count_of (counts ++ 0 ∷ []) t ≡ count_of counts t
+count-zero [] zero = refl
+count-zero [] (suc t) = refl
+count-zero (c ∷ counts) zero = refl
+count-zero (c ∷ counts) (suc t) = count-zero counts t
+
+-- a term with a count is one of the list's
+pub counted-there : (counts : List ℕ) (t : ℕ) → 0 < count_of counts t → t < length counts
+counted-there counts t some = elim (cases_lt t (length counts)) [
+  | inl there ↦ there
+  | inr past ↦ absurd (omega (arith, some, get_or_past counts t 0 past))
+]
+
+set-count : (counts : List ℕ) (at y t : ℕ) → at < length counts → count_of (set counts at y) t ≡ cond (at == t) y (count_of counts t)
+set-count counts at y t there = elim (cases_eq at t) [
+  | inl same ↦
+      ap (λ k. get_or (set counts at y) k 0) (sym same) ∙ get_or-set_same counts at y 0 there ∙ sym (ap (λ b. cond b y (count_of counts t)) (eq-eqb at t same))
+  | inr other ↦
+      get_or-set_other counts at t y 0 (λ same. other (sym same)) ∙ sym (ap (λ b. cond b y (count_of counts t)) (ne_eqb at t other))
+]
+
+one_more : (b : Bool) (y n : ℕ) → (b ≡ true → y ≡ n + 1) → cond b y n ≡ n + cond b 1 0
+one_more true y n is = is refl
+one_more false y n is = omega arith
+
+one_less : (b : Bool) (y n : ℕ) → (b ≡ true → y ≡ n - 1) → cond b y n ≡ n - cond b 1 0
+one_less true y n is = is refl
+one_less false y n is = omega arith
+
+pub count-raised : (counts : List ℕ) (at y t : ℕ) → at < length counts → y ≡ count_of counts at + 1 → count_of (set counts at y) t ≡ count_of counts t + cond (at == t) 1 0
+count-raised counts at y t there is =
+    set-count counts at y t there ∙ one_more (at == t) y (count_of counts t) (λ same. is ∙ ap (λ k. count_of counts k + 1) (eqb-true at t same))
+
+pub count-lowered : (counts : List ℕ) (at y t : ℕ) → at < length counts → y ≡ count_of counts at - 1 → count_of (set counts at y) t ≡ count_of counts t - cond (at == t) 1 0
+count-lowered counts at y t there is =
+    set-count counts at y t there ∙ one_less (at == t) y (count_of counts t) (λ same. is ∙ ap (λ k. count_of counts k - 1) (eqb-true at t same))
+
+-- ---- one term after the other
+
+-- of ascending terms those in front of one are less
+pub front-below : (terms : List ℕ) (k t : ℕ) → is_ascending terms ≡ true → k < length terms → has t (take k terms) ≡ true → t < get_or terms k 0
+front-below [] k t up there h = absurd (omega arith)
+front-below (x ∷ terms) zero t up there h = absurd (true≢false (sym h))
+front-below (x ∷ terms) (suc k) t up there h = elim (or_cases (x == t) (has t (take k terms)) h) [
+  | inl here ↦ omega (arith, eqb-true x t here, first-below x terms up (get_or terms k 0) (has-at terms k (omega arith)))
+  | inr further ↦ front-below terms k t (rest-ascending x terms up) (omega arith) further
+]
+
+filter-same : (p q : ℕ → Bool) (terms : List ℕ) → ((t : ℕ) → has t terms ≡ true → p t ≡ q t) → filter p terms ≡ filter q terms
+filter-same p q [] same = refl
+filter-same p q (x ∷ terms) same =
+    let rest = filter-same p q terms (λ t there. same t (or_right (x == t) (has t terms) there)) in
+    λ i. cond (same x (has-head x x terms refl) i) (x ∷ rest i) (rest i)
+
+one_or_none : (a b : Bool) → (a ≡ true → b ≡ true → ⊥) → cond (a || b) 1 0 ≡ cond a 1 0 + cond b 1 0
+one_or_none true true apart = absurd (apart refl refl)
+one_or_none true false apart = refl
+one_or_none false b apart = omega arith
+
+less_none : (b : Bool) (m n : ℕ) → (b ≡ true → ⊥) → m ≡ n - cond b 1 0 → n ≡ m
+less_none true m n none is = absurd (none refl)
+less_none false m n none is = omega arith
+
+module _ (terms : List ℕ) (k term : ℕ) (up : is_ascending terms ≡ true) (there : k < length terms) (is : term ≡ get_or terms k 0) where
+  done-more : (t : ℕ) → cond (has t (take (k + 1) terms)) 1 0 ≡ cond (has t (take k terms)) 1 0 + cond (term == t) 1 0
+  done-more t =
+      ap (λ b. cond b 1 0) (list_any_more (λ other. other == t) terms k 0 there ∙ ap (λ u. has t (take k terms) || (u == t)) (sym is))
+      ∙ one_or_none (has t (take k terms)) (term == t) (λ front here. omega (arith, front-below terms k t up there front, eqb-true term t here, is))
+
+  pub raised-more : (old now new : List ℕ) → ((t : ℕ) → count_of now t ≡ count_with old (take k terms) t) → ((t : ℕ) → count_of new t ≡ count_of now t + cond (term == t) 1 0) →
+      (t : ℕ) → count_of new t ≡ count_with old (take (k + 1) terms) t
+  raised-more old now new before step t = omega (arith, step t, before t, done-more t)
+
+  pub lowered-more : (old now new : List ℕ) → ((t : ℕ) → count_of now t ≡ count_without old (take k terms) t) → ((t : ℕ) → count_of new t ≡ count_of now t - cond (term == t) 1 0) →
+      (t : ℕ) → count_of new t ≡ count_without old (take (k + 1) terms) t
+  lowered-more old now new before step t = omega (arith, step t, before t, done-more t)
+
+  -- the next term wasn't lowered yet
+  pub next-counted : (old now words : List ℕ) → terms ≡ terms_of words → ((t : ℕ) → has t words ≡ true → 0 < count_of old t) → ((t : ℕ) → count_of now t ≡ count_without old (take k terms) t) →
+      0 < count_of now term
+  next-counted old now words are counted before =
+      let had : has term words ≡ true =
+      sym (has-terms_of term words) ∙ ap (has term) (sym are) ∙ ap (λ t. has t terms) is ∙ has-at terms k there in
+      let not_done : has term (take k terms) ≡ false = false_from_ne_true (has term (take k terms)) (λ front. omega (arith, front-below terms k term up there front, is)) in
+      omega (arith, counted term had, before term, ap {B = ℕ} (λ b. cond b 1 0) not_done)
+
+  pub fallen-more : (now new gone more : List ℕ) (count : ℕ) → ((t : ℕ) → count_of new t ≡ count_of now t - cond (term == t) 1 0) → count ≡ count_of new term →
+      more ≡ (gone ++ filter (λ t. count_of now t == 0) (take k terms)) ++ cond (count == 0) (term ∷ []) [] → more ≡ gone ++ filter (λ t. count_of new t == 0) (take (k + 1) terms)
+  fallen-more now new gone more count step is_count is_more =
+      let p = λ (t : ℕ). count_of now t == 0 in
+      let q = λ (t : ℕ). count_of new t == 0 in
+      let kept : filter p (take k terms) ≡ filter q (take k terms) =
+      filter-same p q (take k terms) (λ t front. ap (λ n. n == 0)
+      (less_none (term == t) (count_of new t) (count_of now t) (λ here. omega (arith, front-below terms k t up there front, eqb-true term t here, is)) (step t))) in
+      let last : cond (count == 0) (term ∷ []) [] ≡ filter q (get_or terms k 0 ∷ []) =
+      ap (λ n. cond (n == 0) (term ∷ []) []) is_count ∙ ap (λ t. filter q (t ∷ [])) is in
+      is_more ∙ append_assoc gone (filter p (take k terms)) (cond (count == 0) (term ∷ []) [])
+      ∙ ap (λ ts. gone ++ ts) ((λ i. kept i ++ last i) ∙ sym (ap (filter q) (take_more terms k 0 there) ∙ filter-append q (take k terms) (get_or terms k 0 ∷ [])))
+
+-- the fallen terms are those of the document whose count is 0
+pub fallen-members : (counts words gone : List ℕ) → gone ≡ fallen counts words → (t : ℕ) → has t gone ≡ (has t words && (count_of counts t == 0))
+fallen-members counts words gone is t =
+    ap (has t) is ∙ has-filter (λ u. count_of counts u == 0) (terms_of words) t ∙ ap (λ b. b && (count_of counts t == 0)) (has-terms_of t words)
+
+-- once all terms are done
+pub all-raised : (old new words : List ℕ) (k : ℕ) → length (terms_of words) ≤ k → ((t : ℕ) → count_of new t ≡ count_with old (take k (terms_of words)) t) →
+    (t : ℕ) → count_of new t ≡ count_with old words t
+all-raised old new words k end done t =
+    done t ∙ ap (λ b. count_of old t + cond b 1 0) (ap (has t) (take_all k (terms_of words) end) ∙ has-terms_of t words)
+
+pub all-lowered : (old new words : List ℕ) (k : ℕ) → length (terms_of words) ≤ k → ((t : ℕ) → count_of new t ≡ count_without old (take k (terms_of words)) t) →
+    (t : ℕ) → count_of new t ≡ count_without old words t
+all-lowered old new words k end done t =
+    done t ∙ ap (λ b. count_of old t - cond b 1 0) (ap (has t) (take_all k (terms_of words) end) ∙ has-terms_of t words)
