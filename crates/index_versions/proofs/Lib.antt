@@ -1,0 +1,10 @@
+pub mod ChangeLemmas
+pub mod CutLemmas
+pub mod DocumentLemmas
+pub mod EntryLemmas
+pub mod ExchangeLemmas
+pub mod LeafLemmas
+pub mod NamingLemmas
+pub mod PlacesLemmas
+pub mod TermsLemmas
+pub mod UpdateLemmas

@@ -1,0 +1,4 @@
+pub mod Exchange
+pub mod Held
+pub mod Naming
+pub mod Sound

@@ -1,0 +1,64 @@
+//! The definitions on small documents, by computation.
+ghost use Rattle.std.specs.Prelude.{◌≡◌, ◌∷◌, [], codes, Some, None};
+ghost use Rattle.text_forms.specs.Forms.{key_of};
+ghost use Rattle.index_cursors.specs.Examples.{hit, span};
+ghost use Rattle.index_meaning.specs.Entries.{entry};
+ghost use Rattle.index_meaning.specs.Documents.{document_of, leaf_of};
+ghost use Rattle.index_meaning.specs.Examples.{greeting, short, bare};
+ghost use Rattle.index_versions.specs.Versions.{all_hits, term_at, term_hits, terms_of};
+ghost use Rattle.index_versions.specs.steps.Held.{document_under, documents_with, held_at, ids_of_leaf, listed, listed_ids};
+ghost use Rattle.index_versions.specs.steps.Held.{nothing_held, numbers, place_behind, word_of};
+ghost use Rattle.index_versions.specs.steps.Exchange.{exchanged, in_back, in_front, of_number};
+ghost use Rattle.index_versions.specs.steps.Naming.{all_words};
+ghost use Rattle.index_versions.specs.Examples.{breaks, first, given, second};
+
+/// The terms of documents are their words, each under its key; a term has hits where it stands in a span.
+pub fn terms_of_documents()
+    ensures terms { terms_of (short ∷ bare ∷ []) ≡ entry (key_of (codes "world")) (codes "world") ∷ [] }
+    ensures no_words { terms_of (bare ∷ []) ≡ [] }
+    ensures number { (term_at 0 (short ∷ [])).word ≡ codes "world" }
+    ensures hits { term_hits 0 3 (span 1 2) (short ∷ bare ∷ []) ≡ hit 1 1 1 ∷ [] }
+    ensures outside { term_hits 0 3 (span 1 1) (short ∷ bare ∷ []) ≡ [] }
+    ensures another_document { term_hits 0 5 (span 1 2) (short ∷ bare ∷ []) ≡ [] }
+    ensures all_places { all_hits 7 (span 2 4) (short ∷ greeting ∷ []) ≡ hit 2 1 1 ∷ hit 3 1 1 ∷ [] }
+{}
+
+/// An id names a word, and a document over ids means what its ids name.
+pub fn documents_over_ids()
+    ensures word { word_of given 0 ≡ codes "Hello" }
+    ensures not_given { word_of given 2 ≡ [] }
+    ensures meant { document_under given second ≡ document_of (leaf_of 0 (codes "world" ∷ []) ∷ []) breaks }
+    ensures numbers { numbers (first ∷ second ∷ []) ≡ 3 ∷ 7 ∷ [] }
+    ensures found { held_at 7 (first ∷ second ∷ []) ≡ second }
+    ensures not_found { held_at 5 (first ∷ second ∷ []) ≡ nothing_held 5 }
+    ensures one_listed { listed (Some first) ≡ first ∷ [] }
+    ensures none_listed { listed_ids None ≡ [] }
+    ensures ids_listed { listed_ids (Some first) ≡ 0 ∷ 1 ∷ 1 ∷ [] }
+{}
+
+/// A document has an id once, however often the id stands there.
+pub fn counted_ids()
+    ensures both { documents_with 1 (first ∷ second ∷ []) ≡ 2 }
+    ensures one { documents_with 0 (first ∷ second ∷ []) ≡ 1 }
+    ensures none { documents_with 2 (first ∷ second ∷ []) ≡ 0 }
+{}
+
+/// A document takes the place of the one with its number, or comes between the others.
+pub fn exchanged_documents()
+    ensures in_front { in_front 7 (first ∷ second ∷ []) ≡ first ∷ [] }
+    ensures of_number { of_number 7 (first ∷ second ∷ []) ≡ second ∷ [] }
+    ensures in_back { in_back 3 (first ∷ second ∷ []) ≡ second ∷ [] }
+    ensures replaced { exchanged 7 (nothing_held 7 ∷ []) (first ∷ second ∷ []) ≡ first ∷ nothing_held 7 ∷ [] }
+    ensures between { exchanged 5 (nothing_held 5 ∷ []) (first ∷ second ∷ []) ≡ first ∷ nothing_held 5 ∷ second ∷ [] }
+    ensures gone { exchanged 3 [] (first ∷ second ∷ []) ≡ second ∷ [] }
+{}
+
+/// A leaf is found by its number, and the place behind it counts it too.
+pub fn places_of_leaves()
+    ensures ids { ids_of_leaf 2 first.index.leaves ≡ 1 ∷ [] }
+    ensures no_leaf { ids_of_leaf 3 first.index.leaves ≡ [] }
+    ensures in_front { place_behind None (4 ∷ 2 ∷ []) ≡ 0 }
+    ensures behind_first { place_behind (Some (record { 0 = 4 })) (4 ∷ 2 ∷ []) ≡ 1 }
+    ensures behind_last { place_behind (Some (record { 0 = 2 })) (4 ∷ 2 ∷ []) ≡ 2 }
+    ensures words { all_words (leaf_of 4 (codes "Hello" ∷ []) ∷ leaf_of 2 (codes "world" ∷ []) ∷ []) ≡ codes "Hello" ∷ codes "world" ∷ [] }
+{}

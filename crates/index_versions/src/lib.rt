@@ -1,0 +1,33 @@
+//! The index of a collection of documents as a value: a version. A version that is cloned shares its memory with the
+//! clone, and neither sees a change to the other.
+//!
+//! `version` is the type with its terms, `reading` has the calls that read a document, `changing` those that change one.
+//! `word_leaf` is a text that comes in. Inside, `parts` is what a version is made of, `held` one of its documents,
+//! `documents` finds one, and `terms` has the terms and their ids; `words` makes words into ids, `leaves` puts leaves in
+//! and takes them out, `exchange` puts a document in the place of another, and `changes` keeps the dictionary and the
+//! counts with it.
+#![tactic(auto)]
+
+mod changes;
+mod changing;
+mod documents;
+pub mod examples;
+mod exchange;
+mod held;
+mod leaves;
+mod parts;
+mod reading;
+mod terms;
+#[cfg(test)]
+mod tests;
+mod version;
+mod word_leaf;
+mod words;
+
+pub use index_cursors::{BreakView, Cursor, Every};
+pub use term_dict::Term;
+pub use version::Version;
+pub use word_leaf::WordLeaf;
+
+/// A list of leaves with their words.
+pub type WordLeaves = ft_base::Items<WordLeaf>;

@@ -1,0 +1,48 @@
+ghost use Rattle.std.specs.Prelude.{◌≡◌, [], IfOk};
+ghost use Rattle.index_meaning.specs.Dictionaries.{dictionary};
+
+use crate::documents::Documents;
+use document_counts::DocumentCounts;
+use ft_base::Memory;
+use std::alloc::Global;
+use term_dict::TermDict;
+
+/// What a version is made of: its documents in the order of their numbers, over the ids of their words; the dictionary
+/// that names these ids; and how many documents have each.
+#[derive(Drop)]
+pub struct Parts {
+    pub documents: Documents,
+    pub dictionary: TermDict,
+    pub counts: DocumentCounts,
+}
+
+impl Parts {
+    /// The parts where there is no document.
+    pub(crate) fn empty(alloc: Global) -> Parts
+        ensures documents { result.documents ≡ [] }
+        ensures dictionary { result.dictionary ≡ dictionary [] [] }
+        ensures counts { result.counts ≡ [] }
+    {
+        Parts {
+            documents: Documents::new(alloc),
+            dictionary: TermDict::empty(alloc),
+            counts: DocumentCounts::empty(alloc),
+        }
+    }
+
+    /// The same parts once more; no document and no term is copied.
+    pub(crate) fn copy(&self) -> Result<Parts, Memory>
+        ensures documents { IfOk result (λ copy. copy.documents ≡ self.now.documents) }
+        ensures dictionary { IfOk result (λ copy. copy.dictionary ≡ self.now.dictionary) }
+        ensures counts { IfOk result (λ copy. copy.counts ≡ self.now.counts) }
+    {
+        let documents = self.documents.copy()?;
+        let dictionary = self.dictionary.copy()?;
+        let counts = self.counts.copy()?;
+        Ok(Parts {
+            documents,
+            dictionary,
+            counts,
+        })
+    }
+}

@@ -1,0 +1,130 @@
+ghost use Rattle.std.specs.Prelude.{◌≡◌, ◌+◌, ◌<◌, true, length, slice_index, IsTrue};
+ghost use Rattle.ft_base.specs.Hits.{hit_place};
+ghost use Rattle.ft_base.specs.Places.{is_ascending};
+ghost use Rattle.index_meaning.specs.Documents.{breaks_of, document_at, document_ids, has_document, has_leaf, leaf_ids, token_count};
+ghost use Rattle.index_meaning.specs.Postings.{places};
+ghost use Rattle.index_versions.specs.Versions.{all_hits, term_at, term_hits, terms_of};
+ghost use Rattle.index_versions.specs.steps.Held.{document_under, held_at};
+ghost use Rattle.index_versions.specs.steps.Sound.{IsSound, meaning};
+
+use crate::documents::{document, has_document};
+use crate::held::HeldDocument;
+use crate::parts::Parts;
+use crate::terms::term_id;
+use crate::version::Version;
+use doc_index::TermPlaces;
+use ft_base::{DocId, LeafId, Span, Steps};
+use index_cursors::{BreakView, Cursor, Every};
+use std::sync::ledger::Ledger;
+
+impl Version {
+    /// Whether the document is there. Documents are in the order of their numbers, each once.
+    pub fn has_doc(&self, doc: DocId) -> bool
+        ensures there { result ≡ has_document doc.0 self.now }
+        ensures ordered { IsTrue (is_ascending (document_ids self.now)) }
+    {
+        has_document(&self.parts.documents, doc)
+    }
+
+    /// How many words the document has.
+    pub fn token_count(&self, doc: DocId) -> u32
+        requires { has_document doc.0 self.now ≡ true }
+        ensures { result ≡ token_count (document_at doc.0 self.now) }
+    {
+        held(&self.parts, doc).index().token_count() as u32
+    }
+
+    /// How many leaves the document has.
+    pub fn leaf_count(&self, doc: DocId) -> usize
+        requires { has_document doc.0 self.now ≡ true }
+        ensures { result ≡ length (document_at doc.0 self.now).leaves }
+    {
+        held(&self.parts, doc).index().leaf_count()
+    }
+
+    /// The leaf of that number in the order of the document, counted from 0.
+    pub fn leaf(&self, doc: DocId, number: usize) -> LeafId
+        requires there { has_document doc.0 self.now ≡ true }
+        requires number { number < length (document_at doc.0 self.now).leaves }
+        ensures leaf { result.0 ≡ slice_index (leaf_ids (document_at doc.0 self.now).leaves) number }
+        ensures there { has_leaf result.0 (document_at doc.0 self.now) ≡ true }
+    {
+        held(&self.parts, doc).index().leaf(number)
+    }
+
+    /// Where the sentences and the paragraphs of the document start.
+    pub fn breaks(&self, doc: DocId) -> BreakView<'_>
+        requires { has_document doc.0 self.now ≡ true }
+        ensures { result.breaks.now ≡ breaks_of (document_at doc.0 self.now) }
+    {
+        BreakView::new(held(&self.parts, doc).breaks())
+    }
+
+    /// A cursor over the places of the term of that number in a span of the document, at the first of them. Counts one
+    /// step, for which it searches the rows of the term by halves.
+    pub fn cursor<'v, L: Ledger>(
+        &'v self,
+        term: usize,
+        doc: DocId,
+        span: Span,
+        steps: &mut Steps<L>,
+    ) -> Cursor<'v>
+        requires term { term < length (terms_of self.now) }
+        requires there { has_document doc.0 self.now ≡ true }
+        ensures cursor { result ≡ hit_place (term_hits term doc.0 span self.now) 0 }
+        ensures counted { steps.new ≡ steps.old + 1 }
+    {
+        let (places, breaks) = self.places(term, doc);
+        Cursor::new(places, breaks, span, steps)
+    }
+
+    /// Makes the cursor the one that `cursor` makes, and counts one step. It searches from the place at which it stands,
+    /// so that a later span of the same document and term is found at once.
+    pub fn aim_cursor<'v, L: Ledger>(
+        &'v self,
+        cursor: &mut Cursor<'v>,
+        term: usize,
+        doc: DocId,
+        span: Span,
+        steps: &mut Steps<L>,
+    )
+        requires term { term < length (terms_of self.now) }
+        requires there { has_document doc.0 self.now ≡ true }
+        ensures cursor { cursor.new ≡ hit_place (term_hits term doc.0 span self.now) 0 }
+        ensures counted { steps.new ≡ steps.old + 1 }
+    {
+        let (places, breaks) = self.places(term, doc);
+        cursor.aim(places, breaks, span, steps);
+    }
+
+    /// All places of a span of the document, at the first of them. Counts one step.
+    pub fn every<'v, L: Ledger>(&'v self, doc: DocId, span: Span, steps: &mut Steps<L>) -> Every<'v>
+        requires { has_document doc.0 self.now ≡ true }
+        ensures list { result ≡ hit_place (all_hits doc.0 span self.now) 0 }
+        ensures counted { steps.new ≡ steps.old + 1 }
+    {
+        Every::new(self.breaks(doc), span, steps)
+    }
+
+    /// Where the term of that number stands in the document, and the breaks of the document.
+    fn places(&self, term: usize, doc: DocId) -> (TermPlaces<'_>, BreakView<'_>)
+        requires term { term < length (terms_of self.now) }
+        requires there { has_document doc.0 self.now ≡ true }
+        ensures places { result.0 ≡ places (term_at term self.now).word (document_at doc.0 self.now) }
+        ensures breaks { result.1.breaks.now ≡ breaks_of (document_at doc.0 self.now) }
+    {
+        let held = held(&self.parts, doc);
+        let places = held.index().places(term_id(&self.parts, term));
+        (places, BreakView::new(held.breaks()))
+    }
+}
+
+/// The document of that number, with what it means.
+fn held(parts: &Parts, doc: DocId) -> &HeldDocument
+    requires sound { IsSound parts.now }
+    requires there { has_document doc.0 (meaning parts.now) ≡ true }
+    ensures held { result.now ≡ held_at doc.0 parts.now.documents }
+    ensures meant { document_under parts.now.dictionary.given result.now ≡ document_at doc.0 (meaning parts.now) }
+{
+    document(&parts.documents, doc)
+}
