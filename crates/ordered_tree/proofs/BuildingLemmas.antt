@@ -1,7 +1,7 @@
 -- The slots of a document in document order, one node further, and what they stand for.
 use Rattle.std.proofs.Common.{◌≡◌, ℕ, suc, ◌+◌, ◌<◌, ◌≤◌, ◌==◌, Bool, false, List, [], ◌∷◌, ◌++◌, Option, Some, None, map, length, drop, get_or, refl, sym, ap, ap₂, ◌∙◌, arith, append_assoc, length-append, zero, option_map, slice_set, add-one, drop-cons}
 use Rattle.std.proofs.lemmas.Bool.Decides.{nat_tests}
-use Rattle.std.proofs.lemmas.List.{length-map, get_or_at, set_at, length_push, drop_all, map-append}
+use Rattle.std.proofs.lemmas.List.{length-map, get_or_at, set_at, length_push, drop_all, map-append, nil_from_length}
 use Rattle.doc_grammar.specs.Limits.{node_count, nodes_count}
 use Rattle.plain_tree.specs.Document.{Node, element, text, Nodes, no_nodes, node_then, nodes}
 use Rattle.plain_tree.specs.View.{node}
@@ -15,7 +15,8 @@ use Rattle.ordered_tree.specs.Slots.{slot, slot_at, no_slot}
 use Rattle.ordered_tree.specs.Stands.{stands, child_stands, stands_in, round_root, round_first}
 use Rattle.ordered_tree.specs.declared.around.Around.{Around}
 use Rattle.ft_base.specs.declared.ids.NodeRef.{NodeRef}
-use Rattle.ordered_tree.specs.declared.slot.Held.TheVariants.{Element, Text}
+use Rattle.ordered_tree.specs.declared.slot.Held.{Held}
+use Rattle.ordered_tree.specs.declared.slot.Held.TheVariants.{Element, Text, Free}
 use Rattle.ordered_tree.specs.declared.slot.Slot.{Slot}
 
 -- ---- a numbered document without its references
@@ -119,8 +120,9 @@ stands-element name attrs kids a s =
     ∷ map slot (child_stands (round_first a.before (record { 0 = s })) (children_numbered (suc s) kids))) (plain_children-numbered kids (suc s)))
 
 -- what `finish` puts into the slot of an element
-abbrev pub finished : Slot → ℕ → Bool → ℕ → Option NodeRef → ℕ → Slot
-finished s here is_last length last words = record s {
+abbrev pub finished : Slot → Held → ℕ → Bool → ℕ → Option NodeRef → ℕ → Slot
+finished s put here is_last length last words = record s {
+  held = put;
   around = record s.around { next = next_sibling is_last length };
   first_child = option_map (λ _. record { 0 = here + 1 }) last;
   last_child = last;
@@ -129,14 +131,15 @@ finished s here is_last length last words = record s {
 
 pub element_done : (before opened inner after : List Slot) (here : ℕ) (name : List ℕ) (attrs : List Attr) (kids : Nodes) (a : Around) (is_last : Bool) (last : Option NodeRef) (words : ℕ)
     → here ≡ length before
-    → opened ≡ before ++ record { held = Element name attrs; around = a; first_child = None; last_child = None; words = 0 } ∷ []
+    → opened ≡ before ++ record { held = Free; around = a; first_child = None; last_child = None; words = 0 } ∷ []
     → inner ≡ opened ++ map slot (child_stands (round_first a.before (record { 0 = here })) (children_numbered (length opened) kids))
     → last ≡ last_of (children_numbered (length opened) kids)
     → words ≡ word_counts kids
-    → after ≡ slice_set inner here (finished (slot_at inner (record { 0 = here })) here is_last (length inner) last words)
+    → after ≡ slice_set inner here (finished (slot_at inner (record { 0 = here })) (Element name attrs) here is_last (length inner) last words)
     → after ≡ before ++ map slot (stands (record a { next = next_sibling is_last (length before + node_count (element name attrs kids)) }) (numbered (length before) (element name attrs kids)))
 element_done before opened inner after here name attrs kids a is_last last words at open' filled last-is words-are done =
-    let first : Slot = record { held = Element name attrs; around = a; first_child = None; last_child = None; words = 0 } in
+    let put : Held = Element name attrs in
+    let first : Slot = record { held = Free; around = a; first_child = None; last_child = None; words = 0 } in
     let rest : List Slot = map slot (child_stands (round_first a.before (record { 0 = length before })) (children_numbered (length before + 1) kids)) in
     let more : length opened ≡ length before + 1 = ap length open' ∙ length_push before first in
     let all : inner ≡ before ++ first ∷ rest =
@@ -146,12 +149,12 @@ element_done before opened inner after here name attrs kids a is_last last words
     length-append before (first ∷ rest) ∙ (let e : length rest ≡ nodes_count kids = length-map (child_stands (round_first a.before (record { 0 = length before })) (children_numbered (length before + 1) kids)) slot ∙ length-child_stands kids (round_first a.before (record { 0 = length before })) (length before + 1) in omega arith) in
     let last-at : last ≡ last_of (children_numbered (length before + 1) kids) = last-is ∙ ap (λ l. last_of (children_numbered l kids)) more in
     done
-    ∙ ap (λ l. slice_set l here (finished (slot_at l (record { 0 = here })) here is_last (length l) last words)) all
-    ∙ ap (λ h. slice_set (before ++ first ∷ rest) h (finished (slot_at (before ++ first ∷ rest) (record { 0 = h })) h is_last (length (before ++ first ∷ rest)) last words)) at
+    ∙ ap (λ l. slice_set l here (finished (slot_at l (record { 0 = here })) put here is_last (length l) last words)) all
+    ∙ ap (λ h. slice_set (before ++ first ∷ rest) h (finished (slot_at (before ++ first ∷ rest) (record { 0 = h })) put h is_last (length (before ++ first ∷ rest)) last words)) at
     ∙ set_at before first rest _ (length before) refl
-    ∙ ap (λ s. before ++ finished s (length before) is_last (length (before ++ first ∷ rest)) last words ∷ rest) (get_or_at before first rest no_slot (length before) refl)
-    ∙ ap₂ (λ c w. before ++ finished first (length before) is_last c last w ∷ rest) count words-are
-    ∙ ap (λ l. before ++ finished first (length before) is_last (length before + (1 + nodes_count kids)) l (word_counts kids) ∷ rest) last-at
+    ∙ ap (λ s. before ++ finished s put (length before) is_last (length (before ++ first ∷ rest)) last words ∷ rest) (get_or_at before first rest no_slot (length before) refl)
+    ∙ ap₂ (λ c w. before ++ finished first put (length before) is_last c last w ∷ rest) count words-are
+    ∙ ap (λ l. before ++ finished first put (length before) is_last (length before + (1 + nodes_count kids)) l (word_counts kids) ∷ rest) last-at
     ∙ ap (λ f. before ++ record { held = Element name attrs; around = record a { next = next_sibling is_last (length before + (1 + nodes_count kids)) }; first_child = f; last_child = last_of (children_numbered (length before + 1) kids); words = word_counts kids } ∷ rest) (first_of-last (length before + 1) kids)
     ∙ ap (λ l. before ++ l) (sym (stands-element name attrs kids (record a { next = next_sibling is_last (length before + (1 + nodes_count kids)) }) (length before)))
 
@@ -188,6 +191,9 @@ drop-next kids i kid more is = rw add-one (drop-cons kids i kid more ∙ ap (λ 
 
 pub kids-done : (kids : List Tree) (i : ℕ) → length kids ≤ i → nodes (map node (drop i kids)) ≡ no_nodes
 kids-done kids i done = ap (λ l. nodes (map node l)) (drop_all i kids done)
+
+pub kids-none : (kids : List Tree) (left : ℕ) → left ≡ length kids → left ≡ 0 → nodes (map node kids) ≡ no_nodes
+kids-none kids left long none = ap (λ l. nodes (map node l)) (nil_from_length kids (sym long ∙ none))
 
 pub nodes_count-drop : (kids : List Tree) (i : ℕ) → nodes_count (nodes (map node (drop i kids))) ≤ nodes_count (nodes (map node kids))
 nodes_count-drop kids zero = omega arith

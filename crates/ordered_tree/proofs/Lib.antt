@@ -1,4 +1,5 @@
 pub mod BuildingLemmas
+pub mod GatheringLemmas
 pub mod LawsLemmas
 pub mod LeavesLemmas
 pub mod LinksLemmas

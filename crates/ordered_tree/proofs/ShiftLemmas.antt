@@ -1,5 +1,5 @@
 -- The shift law: the tokens at the places of a node's span, counted from 1 again, are the node's own.
-use Rattle.std.proofs.Common.{◌≡◌, ℕ, suc, ◌+◌, ◌-◌, ◌<◌, ◌≤◌, Bool, true, false, List, [], ◌∷◌, ◌++◌, map, filter, flat_map, take, drop, length, refl, sym, ap, ap₂, ◌∙◌, arith, inl, inr, append_assoc, append-nil}
+use Rattle.std.proofs.Common.{◌≡◌, ℕ, suc, ◌+◌, ◌-◌, ◌<◌, ◌≤◌, Bool, true, false, List, [], ◌∷◌, ◌++◌, map, filter, take, drop, length, refl, sym, ap, ap₂, ◌∙◌, arith, inl, inr, append_assoc, append-nil}
 use Rattle.std.specs.List.{All}
 use Rattle.std.proofs.lemmas.Bool.{cases_Bool, cases_lt}
 use Rattle.std.proofs.lemmas.List.Concat.{flat_map-append}
@@ -16,6 +16,7 @@ use Rattle.ordered_tree.specs.Numbered.{Numbered, element_at, text_at, Children,
 use Rattle.ordered_tree.specs.Part.{counted_from, renumbered, part}
 use Rattle.ordered_tree.specs.declared.around.Around.{Around}
 use Rattle.ordered_tree.specs.Stands.{Stand, round_root, round_first, round_next, stands, child_stands, stands_in, span}
+use Rattle.ordered_tree.specs.steps.Gathering.{parts_of}
 
 -- ---- the words among parts
 
@@ -120,14 +121,11 @@ part-tokens_from xs ys zs =
 
 -- ---- the parts of a node
 
-abbrev parts_of : Nodes → List Part
-parts_of ns = flat_map parts_of_event (events_of ns)
-
-parts-element : (name : List ℕ) (attrs : _) (kids : Nodes) → parts (element name attrs kids) ≡ gap_tag name ∷ (parts_of kids ++ gap_tag name ∷ [])
+pub parts-element : (name : List ℕ) (attrs : _) (kids : Nodes) → parts (element name attrs kids) ≡ gap_tag name ∷ (parts_of kids ++ gap_tag name ∷ [])
 unfolding events
 parts-element name attrs kids = ap (λ ps. gap_tag name ∷ ps) (flat_map-append parts_of_event (events_of kids) _)
 
-parts_of-then : (n : Node) (ns : Nodes) → parts_of (node_then n ns) ≡ parts n ++ parts_of ns
+pub parts_of-then : (n : Node) (ns : Nodes) → parts_of (node_then n ns) ≡ parts n ++ parts_of ns
 unfolding events_of
 parts_of-then n ns = flat_map-append parts_of_event (events n) (events_of ns)
 

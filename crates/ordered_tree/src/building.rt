@@ -1,22 +1,25 @@
-ghost use Rattle.std.specs.Prelude.{◌≡◌, ◌+◌, ◌<◌, ◌^◌, ◌∷◌, ◌++◌, [], length, map, max, slice_set, option_map, None, IfOk, OnOk};
+ghost use Rattle.std.specs.Prelude.{◌≡◌, ◌+◌, ◌<◌, ◌^◌, ◌∷◌, ◌++◌, [], length, map, max, slice_set, option_map, None, Err, IfOk, OnOk};
 ghost use Rattle.doc_grammar.specs.Limits.{node_count, nodes_count};
 ghost use Rattle.plain_tree.specs.Document.{element, text, nodes};
 ghost use Rattle.plain_tree.specs.View.{node};
+ghost use Rattle.tokenizer.specs.Parts.{parts};
 ghost use Rattle.tokenizer.specs.Words.{words};
+ghost use Rattle.tokenizer.specs.steps.StartsLeft.{words_seen};
 ghost use Rattle.ordered_tree.specs.Counts.{word_count, word_counts, element_depth, element_depths};
+ghost use Rattle.ordered_tree.specs.Leaves.{texts, texts_of};
 ghost use Rattle.ordered_tree.specs.Numbered.{last_of};
 ghost use Rattle.ordered_tree.specs.Numbering.{numbered, children_numbered, next_sibling};
 ghost use Rattle.ordered_tree.specs.Slots.{slot, slot_at};
 ghost use Rattle.ordered_tree.specs.Stands.{stands, child_stands, round_first};
+ghost use Rattle.ordered_tree.specs.steps.Gathering.{Gathers, parts_of};
 
 use crate::NodeRef;
 use crate::around::Around;
-use crate::attrs::copy_attrs;
 use crate::slot::{Held, Slot};
+use crate::texts_read::TextsRead;
 use ft_base::{Line, Memory};
 use plain_tree::{Attrs, Kids, Tree};
-use std::alloc::Global;
-use tokenizer::count_words;
+use tokenizer::TokenFault;
 
 /// What is known of a node that was added.
 #[derive(Clone, Copy)]
@@ -34,87 +37,103 @@ struct Row {
     levels: usize,
 }
 
-/// Puts the slots of a node and of all below it to the end, in document order.
+/// Puts the slots of a node and of all below it to the end, in document order, and reads the texts among them.
 #[cycle(adding)]
 #[tactic(auto, using(crate::proofs::TreeCounts::tree_counts))]
 pub(crate) fn add_tree(
-    alloc: Global,
     slots: &mut Vec<Slot>,
-    tree: &Tree,
+    read: &mut TextsRead,
+    tree: Tree,
     around: Around,
     is_last: bool,
-) -> Result<Added, Memory>
-    requires few_nodes { length slots.old.items + node_count (node tree.now) < 2 ^ 31 }
-    requires few_words { around.before + word_count (node tree.now) < 2 ^ 31 }
+) -> Result<Added, TokenFault>
+    requires few_nodes { length slots.old.items + node_count (node tree) < 2 ^ 31 }
+    requires before { around.before ≡ words_seen read.old.starts }
     ensures slots { OnOk result (slots.new.items ≡ slots.old.items ++ map slot (stands
-        (record around { next = next_sibling is_last (length slots.old.items + node_count (node tree.now)) })
-        (numbered (length slots.old.items) (node tree.now)))) }
-    ensures words { IfOk result (λ added. added.words ≡ word_count (node tree.now)) }
-    ensures levels { IfOk result (λ added. added.levels ≡ element_depth (node tree.now)) }
+        (record around { next = next_sibling is_last (length slots.old.items + node_count (node tree)) })
+        (numbered (length slots.old.items) (node tree)))) }
+    ensures words { IfOk result (λ added. added.words ≡ word_count (node tree)) }
+    ensures levels { IfOk result (λ added. added.levels ≡ element_depth (node tree)) }
+    ensures counted { OnOk result (words_seen read.new.starts ≡ words_seen read.old.starts + word_count (node tree)) }
+    ensures gathers { OnOk result (Gathers read.old (texts (numbered (length slots.old.items) (node tree))) (parts (node tree)) read.new) }
+    ensures full { result ≡ Err TokenFault.Tokens → read.old.most < words_seen read.old.starts + word_count (node tree) }
 {
     match tree {
-        Tree::Text { text } => add_text(alloc, slots, text.as_str(), around, is_last),
+        Tree::Text { text } => add_text(slots, read, text, around, is_last),
         Tree::Elem { name, attrs, kids } => {
-            add_element(alloc, slots, name.as_str(), attrs, kids, around, is_last)
+            add_element(slots, read, name, attrs, kids, around, is_last)
         }
     }
 }
 
-/// Puts the slots of an element and of all nodes below it to the end.
+/// Puts the slots of an element and of all nodes below it to the end, and reads the texts among them.
 #[cycle(adding)]
 fn add_element(
-    alloc: Global,
     slots: &mut Vec<Slot>,
-    name: &str,
-    attrs: &Attrs,
-    kids: &Kids,
+    read: &mut TextsRead,
+    name: Line,
+    attrs: Attrs,
+    kids: Kids,
     around: Around,
     is_last: bool,
-) -> Result<Added, Memory>
-    requires few_nodes { length slots.old.items + (1 + nodes_count (nodes (map node kids.now))) < 2 ^ 31 }
-    requires few_words { around.before + word_counts (nodes (map node kids.now)) < 2 ^ 31 }
+) -> Result<Added, TokenFault>
+    requires few_nodes { length slots.old.items + (1 + nodes_count (nodes (map node kids))) < 2 ^ 31 }
+    requires before { around.before ≡ words_seen read.old.starts }
     ensures slots { OnOk result (slots.new.items ≡ slots.old.items ++ map slot (stands
-        (record around { next = next_sibling is_last (length slots.old.items + (1 + nodes_count (nodes (map node kids.now)))) })
-        (numbered (length slots.old.items) (element name.now attrs.now (nodes (map node kids.now)))))) }
-    ensures words { IfOk result (λ added. added.words ≡ word_counts (nodes (map node kids.now))) }
-    ensures levels { IfOk result (λ added. added.levels ≡ element_depths (nodes (map node kids.now)) + 1) }
+        (record around { next = next_sibling is_last (length slots.old.items + (1 + nodes_count (nodes (map node kids)))) })
+        (numbered (length slots.old.items) (element name attrs (nodes (map node kids)))))) }
+    ensures words { IfOk result (λ added. added.words ≡ word_counts (nodes (map node kids))) }
+    ensures levels { IfOk result (λ added. added.levels ≡ element_depths (nodes (map node kids)) + 1) }
+    ensures counted { OnOk result (words_seen read.new.starts ≡ words_seen read.old.starts + word_counts (nodes (map node kids))) }
+    ensures gathers { OnOk result (Gathers read.old
+        (texts (numbered (length slots.old.items) (element name attrs (nodes (map node kids)))))
+        (parts (element name attrs (nodes (map node kids)))) read.new) }
+    ensures full { result ≡ Err TokenFault.Tokens
+        → read.old.most < words_seen read.old.starts + word_counts (nodes (map node kids)) }
 {
     let here = slots.len();
-    push_element(alloc, slots, name, attrs, around)?;
-    let row = add_children(alloc, slots, kids, NodeRef(here as u32), around.before)?;
-    finish(slots, here, row, is_last);
+    open_element(slots, around)?;
+    read.pass_tag(name.as_str());
+    let row = add_children(slots, read, kids, NodeRef(here as u32), around.before)?;
+    read.pass_tag(name.as_str());
+    finish(slots, here, Held::Element { name, attrs }, row, is_last);
     Ok(Added {
         words: row.words,
         levels: row.levels + 1,
     })
 }
 
-/// Puts the slots of all children, and of all nodes below them, to the end.
+/// Puts the slots of all children, and of all nodes below them, to the end, and reads the texts among them.
 #[cycle(adding)]
 fn add_children(
-    alloc: Global,
     slots: &mut Vec<Slot>,
-    kids: &Kids,
+    read: &mut TextsRead,
+    kids: Kids,
     parent: NodeRef,
     before: u32,
-) -> Result<Row, Memory>
+) -> Result<Row, TokenFault>
     requires some { 0 < length slots.old.items }
-    requires few_nodes { length slots.old.items + nodes_count (nodes (map node kids.now)) < 2 ^ 31 }
-    requires few_words { before + word_counts (nodes (map node kids.now)) < 2 ^ 31 }
+    requires few_nodes { length slots.old.items + nodes_count (nodes (map node kids)) < 2 ^ 31 }
+    requires before { before ≡ words_seen read.old.starts }
     ensures slots { OnOk result (slots.new.items ≡ slots.old.items ++ map slot (child_stands (round_first before parent)
-        (children_numbered (length slots.old.items) (nodes (map node kids.now))))) }
+        (children_numbered (length slots.old.items) (nodes (map node kids))))) }
     ensures last { IfOk result (λ row. row.last
-        ≡ last_of (children_numbered (length slots.old.items) (nodes (map node kids.now)))) }
-    ensures words { IfOk result (λ row. row.words ≡ word_counts (nodes (map node kids.now))) }
-    ensures levels { IfOk result (λ row. row.levels ≡ element_depths (nodes (map node kids.now))) }
+        ≡ last_of (children_numbered (length slots.old.items) (nodes (map node kids)))) }
+    ensures words { IfOk result (λ row. row.words ≡ word_counts (nodes (map node kids))) }
+    ensures levels { IfOk result (λ row. row.levels ≡ element_depths (nodes (map node kids))) }
+    ensures counted { OnOk result (words_seen read.new.starts ≡ words_seen read.old.starts + word_counts (nodes (map node kids))) }
+    ensures gathers { OnOk result (Gathers read.old
+        (texts_of (children_numbered (length slots.old.items) (nodes (map node kids)))) (parts_of (nodes (map node kids))) read.new) }
+    ensures full { result ≡ Err TokenFault.Tokens
+        → read.old.most < words_seen read.old.starts + word_counts (nodes (map node kids)) }
 {
     let mut around = Around::first_child(parent, before);
     let mut levels = 0;
     let mut left = kids.len();
-    for kid in kids.as_slice() {
+    for kid in kids.into_vec() {
         left -= 1;
         let here = NodeRef(slots.len() as u32);
-        let added = add_tree(alloc, slots, kid, around, left == 0)?;
+        let added = add_tree(slots, read, kid, around, left == 0)?;
         around = around.behind(here, added.words);
         levels = greater(levels, added.levels);
     }
@@ -125,46 +144,55 @@ fn add_children(
     })
 }
 
-/// Puts the slot of a text to the end.
+/// Puts the slot of a text to the end, and reads it.
 fn add_text(
-    alloc: Global,
     slots: &mut Vec<Slot>,
-    content: &str,
+    read: &mut TextsRead,
+    content: Line,
     around: Around,
     is_last: bool,
-) -> Result<Added, Memory>
+) -> Result<Added, TokenFault>
     requires few_nodes { length slots.old.items + 1 < 2 ^ 31 }
-    requires few_words { around.before + length (words content.now) < 2 ^ 31 }
     ensures slots { OnOk result (slots.new.items ≡ slots.old.items ++ map slot (stands
         (record around { next = next_sibling is_last (length slots.old.items + 1) })
-        (numbered (length slots.old.items) (text content.now)))) }
-    ensures words { IfOk result (λ added. added.words ≡ length (words content.now)) }
+        (numbered (length slots.old.items) (text content)))) }
+    ensures words { IfOk result (λ added. added.words ≡ length (words content)) }
     ensures levels { IfOk result (λ added. added.levels ≡ 0) }
+    ensures counted { OnOk result (words_seen read.new.starts ≡ words_seen read.old.starts + length (words content)) }
+    ensures gathers { OnOk result (Gathers read.old (texts (numbered (length slots.old.items) (text content))) (parts (text content)) read.new) }
+    ensures full { result ≡ Err TokenFault.Tokens → read.old.most < words_seen read.old.starts + length (words content) }
 {
-    let words = count_words(content)? as u32;
-    let next = sibling(is_last, slots.len() + 1);
+    let here = slots.len();
+    let words = read.pass_text(NodeRef(here as u32), content.as_str())?;
+    let next = sibling(is_last, here + 1);
+    push_text(slots, content, Around { next, ..around }, words)?;
+    Ok(Added { words, levels: 0 })
+}
+
+/// Puts the slot of a text of so many words to the end.
+fn push_text(slots: &mut Vec<Slot>, text: Line, around: Around, words: u32) -> Result<(), Memory>
+    ensures { OnOk result (slots.new.items ≡ slots.old.items ++ record {
+      held = Held.Text text;
+      around = around;
+      first_child = None;
+      last_child = None;
+      words = words;
+    } ∷ []) }
+{
     slots.push(Slot {
-        held: Held::Text {
-            text: Line::read(alloc, content)?,
-        },
-        around: Around { next, ..around },
+        held: Held::Text { text },
+        around,
         first_child: None,
         last_child: None,
         words,
     })?;
-    Ok(Added { words, levels: 0 })
+    Ok(())
 }
 
-/// Puts the slot of an element without children to the end.
-fn push_element(
-    alloc: Global,
-    slots: &mut Vec<Slot>,
-    name: &str,
-    attrs: &Attrs,
-    around: Around,
-) -> Result<(), Memory>
+/// Puts a slot to the end for an element whose children come next.
+fn open_element(slots: &mut Vec<Slot>, around: Around) -> Result<(), Memory>
     ensures { OnOk result (slots.new.items ≡ slots.old.items ++ record {
-      held = Held.Element name.now attrs.now;
+      held = Held.Free;
       around = around;
       first_child = None;
       last_child = None;
@@ -172,10 +200,7 @@ fn push_element(
     } ∷ []) }
 {
     slots.push(Slot {
-        held: Held::Element {
-            name: Line::read(alloc, name)?,
-            attrs: copy_attrs(alloc, attrs)?,
-        },
+        held: Held::Free,
         around,
         first_child: None,
         last_child: None,
@@ -184,11 +209,12 @@ fn push_element(
     Ok(())
 }
 
-/// Puts what its children bring into the slot of an element, behind which all slots are those of nodes below it.
-fn finish(slots: &mut Vec<Slot>, here: usize, row: Row, is_last: bool)
+/// Puts an element, and what its children bring, into its slot, behind which all slots are those of nodes below it.
+fn finish(slots: &mut Vec<Slot>, here: usize, held: Held, row: Row, is_last: bool)
     requires here { here < length slots.old.items }
     requires few { length slots.old.items < 2 ^ 31 }
     ensures { slots.new.items ≡ slice_set slots.old.items here (record (slot_at slots.old.items (record { 0 = here })) {
+      held = held;
       around = record (slot_at slots.old.items (record { 0 = here })).around { next = next_sibling is_last (length slots.old.items) };
       first_child = option_map (λ _. record { 0 = here + 1 }) row.last;
       last_child = row.last;
@@ -197,6 +223,7 @@ fn finish(slots: &mut Vec<Slot>, here: usize, row: Row, is_last: bool)
 {
     let next = sibling(is_last, slots.len());
     let slot = &mut slots[here];
+    slot.held = held;
     slot.around.next = next;
     slot.first_child = first_child(here, row.last);
     slot.last_child = row.last;

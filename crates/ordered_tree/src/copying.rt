@@ -1,8 +1,8 @@
 ghost use Rattle.std.specs.Prelude.{◌≡◌, IfOk};
 
-use crate::attrs::copy_attrs;
 use crate::slot::{Held, Slot};
 use ft_base::{Line, Memory};
+use plain_tree::copy_attrs;
 use std::alloc::Global;
 
 /// A copy of the slots.

@@ -5,12 +5,15 @@ use crate::copying::copy_slots;
 use crate::counting::count_nodes;
 use crate::leaves::add_leaves;
 use crate::plain::tree_of;
+use crate::read::Read;
 use crate::slot::Slot;
+use crate::texts_read::TextsRead;
 use crate::{Leaves, NodeRef, Place};
 use ft_base::Memory;
 use plain_tree::{PlainDoc, Tree};
 use std::alloc::Global;
 use std::marker::Model;
+use tokenizer::TokenFault;
 
 /// A document in one vector of slots: each node has a reference, which is the number of its slot.
 #[derive(Drop)]
@@ -38,7 +41,7 @@ impl Model for DocTree {
 }
 
 impl DocTree {
-    ghost use Rattle.std.specs.Prelude.{◌≡◌, ◌≢◌, ◌+◌, ◌<◌, ◌^◌, length, true, AllPairs, Contains, IfOk, IfSome, Some};
+    ghost use Rattle.std.specs.Prelude.{◌≡◌, ◌≢◌, ◌+◌, ◌≤◌, ◌<◌, ◌^◌, length, true, AllPairs, Contains, Err, IfOk, IfSome, OnOk, Some};
     ghost use Rattle.doc_grammar.specs.Limits.{node_count};
     ghost use Rattle.plain_tree.specs.View as view;
     ghost use Rattle.ordered_tree.specs.Counts.{element_depth};
@@ -48,7 +51,7 @@ impl DocTree {
     ghost use Rattle.ordered_tree.specs.Places.{at_place};
     ghost use Rattle.ordered_tree.specs.Slots.{slot};
     ghost use Rattle.ordered_tree.specs.Stands.{OnNode, references};
-    ghost use Rattle.tokenizer.specs.Tokens.{tokens};
+    ghost use Rattle.tokenizer.specs.Tokens.{tokens, sentence_starts, paragraph_starts};
 
     /// The document, with references in document order, from 0.
     pub fn from_doc(alloc: Global, doc: &PlainDoc) -> Result<DocTree, Memory>
@@ -56,16 +59,54 @@ impl DocTree {
         requires few_words { length (tokens doc.now) < 2 ^ 31 }
         ensures { IfOk result (λ tree. tree ≡ record { root = numbered 0 doc.now; slots = node_count doc.now }) }
     {
-        let root = doc.root();
-        let mut slots = Vec::with_capacity(alloc, count_nodes(root))?;
-        let added = add_tree(alloc, &mut slots, root, Around::root(), true)?;
+        match DocTree::read(alloc, doc.copy(alloc)?, 2_147_483_647) {
+            Ok(
+                Read {
+                    tree,
+                    leaves,
+                    breaks,
+                },
+            ) => {
+                drop((leaves, breaks));
+                Ok(tree)
+            }
+            Err(TokenFault::Tokens) => unreachable!(),
+            Err(TokenFault::Memory) => Err(Memory),
+        }
+    }
+
+    /// The document, with references in document order, from 0; its leaves; and where its sentences and paragraphs start. Its
+    /// names, attributes and texts stay in their memory. `Tokens` comes where it has more than `most` words.
+    pub(crate) fn read(alloc: Global, doc: PlainDoc, most: u32) -> Result<Read, TokenFault>
+        requires few_nodes { node_count doc < 2 ^ 31 }
+        requires countable { most < 2 ^ 31 }
+        ensures tree { IfOk result (λ read. read.tree ≡ record { root = numbered 0 doc; slots = node_count doc }) }
+        ensures leaves { IfOk result (λ read. read.leaves ≡ leaves (numbered 0 doc)) }
+        ensures sentences { IfOk result (λ read. read.breaks.sentences ≡ sentence_starts (tokens doc)) }
+        ensures paragraphs { IfOk result (λ read. read.breaks.paragraphs ≡ paragraph_starts (tokens doc)) }
+        ensures few { OnOk result (length (tokens doc) ≤ most) }
+        ensures full { result ≡ Err TokenFault.Tokens → most < length (tokens doc) }
+    {
+        let root = doc.into_tree();
+        let Ok(mut slots) = Vec::with_capacity(alloc, count_nodes(&root)) else {
+            drop(root);
+            return Err(TokenFault::Memory);
+        };
+        let mut texts = TextsRead::new(alloc, most);
+        let added = add_tree(&mut slots, &mut texts, root, Around::root(), true)?;
         let nodes = slots.len();
-        Ok(DocTree {
+        let (leaves, breaks) = texts.into_parts();
+        let tree = DocTree {
             alloc,
             slots,
             free: None,
             nodes,
             depth: added.levels,
+        };
+        Ok(Read {
+            tree,
+            leaves,
+            breaks,
         })
     }
 

@@ -12,13 +12,16 @@ pub mod laws;
 mod leaf;
 mod leaves;
 mod plain;
+mod read;
 mod reading;
 mod slot;
+mod texts_read;
 
 pub use doc_tree::DocTree;
 use ft_base::Items;
 pub use ft_base::{LeafId, NodeRef};
 pub use leaf::LeafWords;
+pub use read::{Read, load_doc};
 
 /// A list of leaves.
 pub type LeafIds = Items<LeafId>;

@@ -5,10 +5,9 @@ ghost use Rattle.ordered_tree.specs.Numbered.{plain, plain_children};
 ghost use Rattle.ordered_tree.specs.Slots.{IsRow, row, node_at};
 
 use crate::NodeRef;
-use crate::attrs::copy_attrs;
 use crate::slot::{Held, Slot};
 use ft_base::{Line, Memory};
-use plain_tree::{Kids, Tree};
+use plain_tree::{Kids, Tree, copy_attrs};
 use std::alloc::Global;
 
 /// The node of this reference as a plain tree, with all that is below it.

@@ -1,8 +1,11 @@
-ghost use Rattle.std.specs.Prelude.{◌≡◌, IsTrue};
+ghost use Rattle.std.specs.Prelude.{◌≡◌, IfOk, IsTrue};
 ghost use Rattle.plain_tree.specs.Document.{is_document};
 ghost use Rattle.plain_tree.specs.View.{node};
 
+use crate::copying::copy_tree;
 use crate::tree::Tree;
+use ft_base::Memory;
+use std::alloc::Global;
 use std::marker::Model;
 
 /// A document: its root is an element, no text in it is empty, and no two texts stand side by side.
@@ -40,5 +43,21 @@ impl PlainDoc {
         ensures document { IsTrue (is_document self.now) }
     {
         &self.root
+    }
+
+    /// The root, which is an element, in its memory.
+    pub fn into_tree(self) -> Tree
+        ensures tree { node result ≡ self }
+        ensures document { IsTrue (is_document self) }
+    {
+        self.root
+    }
+
+    /// The same document in memory of its own.
+    pub fn copy(&self, alloc: Global) -> Result<PlainDoc, Memory>
+        ensures { IfOk result (λ copy. copy ≡ self.now) }
+    {
+        let root = copy_tree(alloc, &self.root)?;
+        Ok(PlainDoc { root })
     }
 }

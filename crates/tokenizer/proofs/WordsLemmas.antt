@@ -1,5 +1,5 @@
 -- The words among the segments of a text, the places at which they stand, and the letters and digits of ASCII.
-use Rattle.std.proofs.Common.{◌≡◌, ℕ, ◌<◌, Bool, true, false, ◌||◌, List, [], ◌∷◌, ◌++◌, map, filter, All, IsUtf8, refl, sym, ap, ap₂, ◌∙◌, append_assoc, append-nil, arith, subst, inl, inr}
+use Rattle.std.proofs.Common.{◌≡◌, ℕ, suc, ◌<◌, Bool, true, false, ◌||◌, List, [], ◌∷◌, ◌++◌, map, filter, length, All, IsUtf8, refl, sym, ap, ap₂, ◌∙◌, append_assoc, append-nil, arith, subst, inl, inr}
 use Rattle.std.proofs.lemmas.Bool.{cond-true, cond-false, cases_Bool}
 use Rattle.std.proofs.lemmas.List.Elements.{All-nil, All-cons, All-head, All-tail}
 use Rattle.std.specs.Char.{is_ascii_alphanumeric}
@@ -32,6 +32,9 @@ module _ {X Y : Type 0} (keeps : X → Bool) (f : X → Y) (x : X) (xs : List X)
 
   pub passed : (ys : List Y) → keeps x ≡ false → ys ++ map f (filter keeps (x ∷ xs)) ≡ ys ++ map f (filter keeps xs)
   passed ys fails = ap (λ l. ys ++ map f l) (cond-false _ _ _ fails)
+
+pub length-kept : {X : Type 0} (keeps : X → Bool) (x : X) (xs : List X) → keeps x ≡ true → length (filter keeps (x ∷ xs)) ≡ suc (length (filter keeps xs))
+length-kept keeps x xs holds = ap length (cond-true _ _ _ holds)
 
 -- nothing is left
 pub finished : {X Y : Type 0} (keeps : X → Bool) (f : X → Y) (xs : List X) (ys all : List Y) → xs ≡ [] → ys ++ map f (filter keeps xs) ≡ all → ys ≡ all

@@ -12,5 +12,6 @@ mod words;
 
 pub use breaks::breaks_of;
 pub use ft_base::Token;
+pub use starts::Starts;
 pub use tokens::{TokenFault, tokens_of, tokens_of_tree};
 pub use words::{Piece, count_words, words_of};

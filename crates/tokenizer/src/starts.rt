@@ -1,16 +1,22 @@
-ghost use Rattle.std.specs.Prelude.{◌≡◌, ◌==◌, ◌+◌, ◌≤◌, ◌<◌, ◌^◌, ◌∷◌, ◌++◌, ℕ, List, [], OnOk, if◌then◌else◌};
+ghost use Rattle.std.specs.Prelude.{◌≡◌, ◌==◌, ◌+◌, ◌≤◌, ◌<◌, ◌^◌, ◌∷◌, ◌++◌, ℕ, List, [], map, length, Err, IfOk, OnOk, if◌then◌else◌};
 ghost use Rattle.std.specs.Option.{ForSome};
 ghost use Rattle.ft_base.specs.Places.{last_place};
-ghost use Rattle.tokenizer.specs.Parts.{Part, word, gap_characters, gap_tag};
+ghost use Rattle.unicode_segmentation.specs.Word.{word_bounds};
+ghost use Rattle.tokenizer.specs.Parts.{Part, word, gap_characters, gap_tag, part_of_segment};
 ghost use Rattle.tokenizer.specs.Tokens.{tokens_from, sentence_starts, paragraph_starts};
+ghost use Rattle.tokenizer.specs.Words.{words};
 
 use crate::numbering::Numbering;
-use ft_base::{Breaks, Memory, Places};
+use crate::tokens::TokenFault;
+use crate::words::is_word;
+use ft_base::{Breaks, Line, Lines, Memory, Places};
 use std::alloc::Global;
+use unicode::segmentation::UnicodeSegmentation;
 
-/// The places at which sentences and paragraphs start, as far as the document was seen, and how many words were.
+/// The places at which sentences and paragraphs start, as far as a document was seen, and how many words were. Whoever walks
+/// over a document hands it the tags and the texts, in the order in which they are written.
 #[derive(Drop)]
-pub(crate) struct Starts {
+pub struct Starts {
     breaks: Breaks,
     last: Numbering,
     words: u32,
@@ -21,14 +27,15 @@ pub(crate) struct Starts {
 }
 
 impl Starts {
-    ghost use Rattle.tokenizer.specs.steps.StartsLeft.{sentences_in, paragraphs_in};
+    ghost use Rattle.tokenizer.specs.steps.StartsLeft.{words_seen, sentences_in, paragraphs_in};
 
-    pub(crate) fn new(alloc: Global) -> Starts
+    /// Before the document.
+    pub fn new(alloc: Global) -> Starts
         ensures sentences { (rest : List Part) →
             sentences_in result rest ≡ sentence_starts (tokens_from 1 1 rest) }
         ensures paragraphs { (rest : List Part) →
             paragraphs_in result rest ≡ paragraph_starts (tokens_from 1 1 rest) }
-        ensures words { result.words ≡ 0 }
+        ensures words { words_seen result ≡ 0 }
     {
         Starts {
             breaks: Breaks {
@@ -52,14 +59,67 @@ impl Starts {
     }
 
     /// Goes past a tag of an element of this name.
-    pub(crate) fn pass_tag(&mut self, name: &str)
+    pub fn pass_tag(&mut self, name: &str)
         ensures sentences { (rest : List Part) →
             sentences_in self.old (gap_tag name.now ∷ rest) ≡ sentences_in self.new rest }
         ensures paragraphs { (rest : List Part) →
             paragraphs_in self.old (gap_tag name.now ∷ rest) ≡ paragraphs_in self.new rest }
-        ensures words { self.new.words ≡ self.old.words }
+        ensures words { words_seen self.new ≡ words_seen self.old }
     {
         self.last.pass_tag(name);
+    }
+
+    /// Goes past a text, and gives its words in order. `Tokens` comes where more than `most` words stand in what was seen
+    /// with this text; no more than that many are made.
+    pub fn pass_text(&mut self, alloc: Global, text: &str, most: u32) -> Result<Lines, TokenFault>
+        requires few { words_seen self.old ≤ most }
+        requires countable { most < 2 ^ 31 }
+        ensures words { IfOk result (λ lines. lines ≡ words text.now) }
+        ensures counted { OnOk result (words_seen self.new ≡ words_seen self.old + length (words text.now)) }
+        ensures few { words_seen self.new ≤ most }
+        ensures full { result ≡ Err TokenFault.Tokens → most < words_seen self.old + length (words text.now) }
+        ensures sentences { OnOk result ((rest : List Part) →
+            sentences_in self.old (map part_of_segment (word_bounds text.now) ++ rest) ≡ sentences_in self.new rest) }
+        ensures paragraphs { OnOk result ((rest : List Part) →
+            paragraphs_in self.old (map part_of_segment (word_bounds text.now) ++ rest) ≡ paragraphs_in self.new rest) }
+    {
+        let mut lines = Lines::new(alloc);
+        for segment in text.split_word_bounds() {
+            if is_word(segment) {
+                self.take_word(alloc, segment, most, &mut lines)?;
+            } else {
+                self.pass_characters(segment);
+            }
+        }
+        Ok(lines)
+    }
+
+    /// Goes past a word, and puts it to the end.
+    fn take_word(
+        &mut self,
+        alloc: Global,
+        segment: &str,
+        most: u32,
+        lines: &mut Lines,
+    ) -> Result<(), TokenFault>
+        requires few { self.old.words ≤ most }
+        requires countable { most < 2 ^ 31 }
+        ensures sentences { OnOk result ((rest : List Part) →
+            sentences_in self.old (word segment.now ∷ rest) ≡ sentences_in self.new rest) }
+        ensures paragraphs { OnOk result ((rest : List Part) →
+            paragraphs_in self.old (word segment.now ∷ rest) ≡ paragraphs_in self.new rest) }
+        ensures counted { OnOk result (self.new.words ≡ self.old.words + 1) }
+        ensures few { self.new.words ≤ most }
+        ensures full { result ≡ Err TokenFault.Tokens → most ≤ self.old.words }
+        ensures lines { OnOk result (lines.new ≡ lines.old ++ segment.now ∷ []) }
+    {
+        if self.words >= most {
+            return Err(TokenFault::Tokens);
+        }
+        let line = Line::read(alloc, segment)?;
+        lines.push(line)?;
+        self.pass_word()?;
+        Ok(())
     }
 
     /// Goes past a word.
@@ -91,7 +151,7 @@ impl Starts {
     }
 
     /// The places, where the document ends here.
-    pub(crate) fn into_breaks(self) -> Breaks
+    pub fn into_breaks(self) -> Breaks
         ensures sentences { result.sentences ≡ sentences_in self [] }
         ensures paragraphs { result.paragraphs ≡ paragraphs_in self [] }
     {

@@ -1,13 +1,25 @@
-use Rattle.std.proofs.Common.{◌≡◌, sym, ap, ◌∙◌, ◌+◌, ◌++◌, ◌∷◌, [], None, length, rules}
+use Rattle.std.proofs.Common.{◌≡◌, ℕ, List, sym, ap, ◌∙◌, ◌+◌, ◌++◌, ◌∷◌, [], None, map, length, rules, arith, subst}
+use Rattle.unicode_segmentation.specs.Word.{word_bounds}
+use Rattle.tokenizer.specs.Parts.{part_of_segment}
 use Rattle.tokenizer.specs.Words.{words}
 use Rattle.ordered_tree.specs.Numbering.{next_sibling}
+use Rattle.ordered_tree.specs.steps.Gathering.{Gathers}
 use Rattle.ordered_tree.specs.declared.slot.Held.TheVariants.{Text}
 use Rattle.ordered_tree.proofs.BuildingLemmas.{stands-text}
+use Rattle.ordered_tree.proofs.GatheringLemmas.{Gathers-text}
 use Rattle.ordered_tree.proofs.building.add_text.Goals as goal
 
 pub returns-clause-slots : goal.returns-clause-slots
 returns-clause-slots c =
     let before = c.args.slots.now.items in
     let next = next_sibling c.args.is_last (length before + 1) in
-    let pushed : c.push.new.self.items ≡ before ++ record { held = Text c.args.content.now; around = record c.args.around { next = next }; first_child = None; last_child = None; words = length (words c.args.content.now) } ∷ [] = search rules in
-    pushed ∙ ap (λ l. before ++ l) (sym (stands-text c.args.content.now (record c.args.around { next = next }) (length before)))
+    let pushed : c.push_text.new.slots.items ≡ before ++ record { held = Text c.args.content; around = record c.args.around { next = next }; first_child = None; last_child = None; words = length (words c.args.content) } ∷ [] = search rules in
+    pushed ∙ ap (λ l. before ++ l) (sym (stands-text c.args.content (record c.args.around { next = next }) (length before)))
+
+pub returns-clause-gathers : goal.returns-clause-gathers
+returns-clause-gathers c =
+    let old = c.args.read.now in
+    let new = c.pass_text.new.self in
+    let here = c.len-here.result in
+    Gathers-text old new c.args.content (length c.args.slots.now.items) here (omega arith)
+    (subst (λ (b : List ℕ). Gathers old ((record { 0 = here }, b) ∷ []) (map part_of_segment (word_bounds b)) new) c.as_str.ensures c.in_ok-words.ensures.gathers)

@@ -1,0 +1,87 @@
+ghost use Rattle.std.specs.Prelude.{◌≡◌, ◌+◌, ◌≤◌, ◌<◌, ◌^◌, ◌∷◌, [], List, map, length, None, Err, IfOk, OnOk};
+ghost use Rattle.unicode_segmentation.specs.Word.{word_bounds};
+ghost use Rattle.tokenizer.specs.Parts.{Part, gap_tag, part_of_segment};
+ghost use Rattle.tokenizer.specs.Tokens.{tokens_from, sentence_starts, paragraph_starts};
+ghost use Rattle.tokenizer.specs.Words.{words};
+ghost use Rattle.tokenizer.specs.steps.StartsLeft.{words_seen, sentences_in, paragraphs_in};
+
+use crate::leaf::LeafWords;
+use crate::{Leaves, NodeRef};
+use ft_base::{Breaks, LeafId};
+use std::alloc::Global;
+use tokenizer::{Starts, TokenFault};
+
+/// What was read of a document's texts, as far as it was passed: the leaves, and where sentences and paragraphs start.
+#[derive(Drop)]
+pub(crate) struct TextsRead {
+    alloc: Global,
+    leaves: Leaves,
+    /// The last leaf.
+    last: Option<LeafId>,
+    starts: Starts,
+    /// How many words the document may have.
+    most: u32,
+    ghost few: { words_seen starts ≤ most },
+    ghost countable: { most < 2 ^ 31 },
+}
+
+impl TextsRead {
+    ghost use Rattle.ordered_tree.specs.steps.Gathering.{Gathers};
+
+    /// Before the document.
+    pub(crate) fn new(alloc: Global, most: u32) -> TextsRead
+        requires { most < 2 ^ 31 }
+        ensures leaves { result.leaves ≡ [] }
+        ensures last { result.last ≡ None }
+        ensures sentences { (rest : List Part) →
+            sentences_in result.starts rest ≡ sentence_starts (tokens_from 1 1 rest) }
+        ensures paragraphs { (rest : List Part) →
+            paragraphs_in result.starts rest ≡ paragraph_starts (tokens_from 1 1 rest) }
+        ensures words { words_seen result.starts ≡ 0 }
+        ensures most { result.most ≡ most }
+    {
+        TextsRead {
+            alloc,
+            leaves: Leaves::new(alloc),
+            last: None,
+            starts: Starts::new(alloc),
+            most,
+        }
+    }
+
+    /// Goes past a tag of an element of this name.
+    pub(crate) fn pass_tag(&mut self, name: &str)
+        ensures gathers { Gathers self.old [] (gap_tag name.now ∷ []) self.new }
+        ensures words { words_seen self.new.starts ≡ words_seen self.old.starts }
+    {
+        self.starts.pass_tag(name);
+    }
+
+    /// Goes past the text of a node, and gives how many words it has.
+    pub(crate) fn pass_text(&mut self, node: NodeRef, text: &str) -> Result<u32, TokenFault>
+        ensures gathers { OnOk result (Gathers self.old ((node, text.now) ∷ []) (map part_of_segment (word_bounds text.now)) self.new) }
+        ensures words { IfOk result (λ count. count ≡ length (words text.now)) }
+        ensures counted { OnOk result (words_seen self.new.starts ≡ words_seen self.old.starts + length (words text.now)) }
+        ensures full { result ≡ Err TokenFault.Tokens → self.old.most < words_seen self.old.starts + length (words text.now) }
+    {
+        let words = self.starts.pass_text(self.alloc, text, self.most)?;
+        let count = words.len() as u32;
+        let leaf = LeafId(node.0);
+        self.leaves.push(LeafWords {
+            leaf,
+            after: self.last,
+            words,
+        })?;
+        self.last = Some(leaf);
+        Ok(count)
+    }
+
+    /// The leaves and the places, where the document ends here.
+    pub(crate) fn into_parts(self) -> (Leaves, Breaks)
+        ensures leaves { result.0 ≡ self.leaves }
+        ensures sentences { result.1.sentences ≡ sentences_in self.starts [] }
+        ensures paragraphs { result.1.paragraphs ≡ paragraphs_in self.starts [] }
+    {
+        (self.leaves, self.starts.into_breaks())
+    }
+}
