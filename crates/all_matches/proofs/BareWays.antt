@@ -1,5 +1,5 @@
 -- Without negated selections each way makes one Match, which has no excludes.
-use Rattle.std.proofs.Common.{◌≡◌, refl, ap, sym, ◌∙◌, ℕ, List, [], ◌∷◌, ◌++◌, Bool, true, false, ◌&&◌, cond}
+use Rattle.std.proofs.Common.{◌≡◌, refl, ap, sym, ◌∙◌, List, [], ◌∷◌, ◌++◌, Bool, true, false, ◌&&◌, cond}
 use Rattle.std.specs.Prelude.{map, filter, flat_map, Option}
 use Rattle.std.specs.List.{list_any, list_all}
 use Rattle.std.proofs.lemmas.Bool.{and_parts}
@@ -8,6 +8,8 @@ use Rattle.std.proofs.lemmas.List.{map-append}
 use Rattle.ft_base.specs.Lists.{is_not_empty}
 use Rattle.ft_base.specs.declared.hit.Hit.{Hit}
 use Rattle.ft_base.specs.declared.filter.Filter.{Filter}
+use Rattle.ft_base.specs.declared.span.Span.{Span}
+use Rattle.all_matches.specs.declared.window.Window.{Window}
 use Rattle.all_matches.specs.Hits.{match_of_hit}
 use Rattle.all_matches.specs.Boolean.{both, ft_and, is_clean}
 use Rattle.all_matches.specs.MildNot.{stands_out, ft_mild_not}
@@ -43,32 +45,32 @@ bare_apart lefts rights =
     (λ i. cond (list_any-map (λ m. is_not_empty m.includes) bare_match rights i) (kept_out lefts rights i) (map bare_match lefts))
     ∙ sym (map-cond bare_match (list_any (λ way. is_not_empty (way_includes way)) rights) (filter (λ a. list_all (λ b. stands_out (way_includes a) (way_includes b)) rights) lefts) lefts)
 
-bare_choices : (kind : Filter) (way : Way) (cs : List (Option ℕ)) → map (through kind (bare_match way)) cs ≡ map bare_match (map (by_filter way kind) cs)
+bare_choices : (kind : Filter) (way : Way) (cs : List (Option Window)) → map (through kind (bare_match way)) cs ≡ map bare_match (map (by_filter way kind) cs)
 bare_choices kind way [] = refl
 bare_choices kind way (c ∷ rest) = ap (λ ms. bare_match (by_filter way kind c) ∷ ms) (bare_choices kind way rest)
 
-bare_filtered : (kind : Filter) (count : ℕ) (ways : List Way) → ft_filtered kind count (map bare_match ways) ≡ map bare_match (flat_map (filtered_ways kind count) ways)
-bare_filtered kind count [] = refl
-bare_filtered kind count (way ∷ rest) =
-    (λ i. (ap (λ ms. cond (passes kind (way_includes way) count) ms []) (bare_choices kind way (choices kind (way_includes way)))
-    ∙ sym (map-cond bare_match (passes kind (way_includes way) count) (map (by_filter way kind) (choices kind (way_includes way))) [])) i
-    ++ bare_filtered kind count rest i)
-    ∙ sym (map-append bare_match (filtered_ways kind count way) (flat_map (filtered_ways kind count) rest))
+bare_filtered : (kind : Filter) (item : Span) (ways : List Way) → ft_filtered kind item (map bare_match ways) ≡ map bare_match (flat_map (filtered_ways kind item) ways)
+bare_filtered kind item [] = refl
+bare_filtered kind item (way ∷ rest) =
+    (λ i. (ap (λ ms. cond (passes kind (way_includes way) item) ms []) (bare_choices kind way (choices kind (way_includes way)))
+    ∙ sym (map-cond bare_match (passes kind (way_includes way) item) (map (by_filter way kind) (choices kind (way_includes way))) [])) i
+    ++ bare_filtered kind item rest i)
+    ∙ sym (map-append bare_match (filtered_ways kind item way) (flat_map (filtered_ways kind item) rest))
 
-pub bare_matches : (count : ℕ) (operator : Operator) → without_negation operator ≡ true → matches_of count operator ≡ map bare_match (ways_of count operator)
+pub bare_matches : (item : Span) (operator : Operator) → without_negation operator ≡ true → matches_of item operator ≡ map bare_match (ways_of item operator)
 unfolding matches_of ways_of
-bare_matches count (phrase found) h = bare_phrase found
-bare_matches count (either left right) h =
+bare_matches item (phrase found) h = bare_phrase found
+bare_matches item (either left right) h =
     let parts = and_parts (without_negation left) (without_negation right) h in
-    (λ i. bare_matches count left parts.0 i ++ bare_matches count right parts.1 i) ∙ sym (map-append bare_match (ways_of count left) (ways_of count right))
-bare_matches count (together left right) h =
+    (λ i. bare_matches item left parts.0 i ++ bare_matches item right parts.1 i) ∙ sym (map-append bare_match (ways_of item left) (ways_of item right))
+bare_matches item (together left right) h =
     let parts = and_parts (without_negation left) (without_negation right) h in
-    (λ i. ft_and (bare_matches count left parts.0 i) (bare_matches count right parts.1 i)) ∙ bare_pairs (ways_of count left) (ways_of count right)
-bare_matches count (apart left right) h =
+    (λ i. ft_and (bare_matches item left parts.0 i) (bare_matches item right parts.1 i)) ∙ bare_pairs (ways_of item left) (ways_of item right)
+bare_matches item (apart left right) h =
     let parts = and_parts (without_negation left) (without_negation right) h in
-    (λ i. ft_mild_not (bare_matches count left parts.0 i) (bare_matches count right parts.1 i)) ∙ bare_apart (ways_of count left) (ways_of count right)
-bare_matches count (negated operand) h = cc
-bare_matches count (through_filter operand kind) h = ap (ft_filtered kind count) (bare_matches count operand h) ∙ bare_filtered kind count (ways_of count operand)
+    (λ i. ft_mild_not (bare_matches item left parts.0 i) (bare_matches item right parts.1 i)) ∙ bare_apart (ways_of item left) (ways_of item right)
+bare_matches item (negated operand) h = cc
+bare_matches item (through_filter operand kind) h = ap (ft_filtered kind item) (bare_matches item operand h) ∙ bare_filtered kind item (ways_of item operand)
 
 -- tests of the ways of an operator
 module _ (test : Way → Bool) where
@@ -96,33 +98,33 @@ module _ (test : Way → Bool) where
       let parts = and_parts (test way) (list_all test rest) h in
       all_cond (p way) (way ∷ filter p rest) (filter p rest) (λ i. parts.0 i && all_kept p rest parts.1 i) (all_kept p rest parts.1)
 
-  all_choices : (kind : Filter) (way : Way) → ((c : Option ℕ) → test (by_filter way kind c) ≡ true) → (cs : List (Option ℕ)) → list_all test (map (by_filter way kind) cs) ≡ true
+  all_choices : (kind : Filter) (way : Way) → ((c : Option Window) → test (by_filter way kind c) ≡ true) → (cs : List (Option Window)) → list_all test (map (by_filter way kind) cs) ≡ true
   all_choices kind way each [] = refl
   all_choices kind way each (c ∷ rest) = λ i. each c i && all_choices kind way each rest i
 
-  all_filtered : (kind : Filter) (count : ℕ) → ((way : Way) (c : Option ℕ) → test way ≡ true → test (by_filter way kind c) ≡ true) → (ways : List Way) → list_all test ways ≡ true → list_all test (flat_map (filtered_ways kind count) ways) ≡ true
-  all_filtered kind count each [] h = refl
-  all_filtered kind count each (way ∷ rest) h =
+  all_filtered : (kind : Filter) (item : Span) → ((way : Way) (c : Option Window) → test way ≡ true → test (by_filter way kind c) ≡ true) → (ways : List Way) → list_all test ways ≡ true → list_all test (flat_map (filtered_ways kind item) ways) ≡ true
+  all_filtered kind item each [] h = refl
+  all_filtered kind item each (way ∷ rest) h =
       let parts = and_parts (test way) (list_all test rest) h in
-      list_all-append test (filtered_ways kind count way) (flat_map (filtered_ways kind count) rest)
-      ∙ (λ i. all_cond (passes kind (way_includes way) count) (map (by_filter way kind) (choices kind (way_includes way))) [] (all_choices kind way (λ c. each way c parts.0) (choices kind (way_includes way))) refl i
-      && all_filtered kind count each rest parts.1 i)
+      list_all-append test (filtered_ways kind item way) (flat_map (filtered_ways kind item) rest)
+      ∙ (λ i. all_cond (passes kind (way_includes way) item) (map (by_filter way kind) (choices kind (way_includes way))) [] (all_choices kind way (λ c. each way c parts.0) (choices kind (way_includes way))) refl i
+      && all_filtered kind item each rest parts.1 i)
 
-pub bare_ways : (count : ℕ) (operator : Operator) → without_negation operator ≡ true → list_all is_bare (ways_of count operator) ≡ true
+pub bare_ways : (item : Span) (operator : Operator) → without_negation operator ≡ true → list_all is_bare (ways_of item operator) ≡ true
 unfolding ways_of
-bare_ways count (phrase found) h = all_found is_bare (λ hit. refl) found
-bare_ways count (either left right) h =
+bare_ways item (phrase found) h = all_found is_bare (λ hit. refl) found
+bare_ways item (either left right) h =
     let parts = and_parts (without_negation left) (without_negation right) h in
-    list_all-append is_bare (ways_of count left) (ways_of count right) ∙ (λ i. bare_ways count left parts.0 i && bare_ways count right parts.1 i)
-bare_ways count (together left right) h =
+    list_all-append is_bare (ways_of item left) (ways_of item right) ∙ (λ i. bare_ways item left parts.0 i && bare_ways item right parts.1 i)
+bare_ways item (together left right) h =
     let parts = and_parts (without_negation left) (without_negation right) h in
-    all_pairs is_bare (λ a b ha hb i. ha i && hb i) (ways_of count left) (ways_of count right) (bare_ways count left parts.0) (bare_ways count right parts.1)
-bare_ways count (apart left right) h =
+    all_pairs is_bare (λ a b ha hb i. ha i && hb i) (ways_of item left) (ways_of item right) (bare_ways item left parts.0) (bare_ways item right parts.1)
+bare_ways item (apart left right) h =
     let parts = and_parts (without_negation left) (without_negation right) h in
-    all_cond is_bare (list_any (λ way. is_not_empty (way_includes way)) (ways_of count right)) _ (ways_of count left)
-    (all_kept is_bare (λ a. list_all (λ b. stands_out (way_includes a) (way_includes b)) (ways_of count right)) (ways_of count left) (bare_ways count left parts.0)) (bare_ways count left parts.0)
-bare_ways count (negated operand) h = cc
-bare_ways count (through_filter operand kind) h = all_filtered is_bare kind count (λ way c e. e) (ways_of count operand) (bare_ways count operand h)
+    all_cond is_bare (list_any (λ way. is_not_empty (way_includes way)) (ways_of item right)) _ (ways_of item left)
+    (all_kept is_bare (λ a. list_all (λ b. stands_out (way_includes a) (way_includes b)) (ways_of item right)) (ways_of item left) (bare_ways item left parts.0)) (bare_ways item left parts.0)
+bare_ways item (negated operand) h = cc
+bare_ways item (through_filter operand kind) h = all_filtered is_bare kind item (λ way c e. e) (ways_of item operand) (bare_ways item operand h)
 
 -- a bare way makes its one Match
 pub made-bare : (way : Way) → is_bare way ≡ true → made way ≡ bare_match way ∷ []
@@ -148,15 +150,15 @@ all_good [] h = refl
 all_good (way ∷ rest) h = let parts = and_parts (is_bare way) (list_all is_bare rest) h in λ i. bare_good way parts.0 i && all_good rest parts.1 i
 
 -- the ways of an operator whose negated selections stand neither inside one another nor inside mild not
-pub good_ways : (count : ℕ) (operator : Operator) → is_plain operator ≡ true → list_all is_good (ways_of count operator) ≡ true
+pub good_ways : (item : Span) (operator : Operator) → is_plain operator ≡ true → list_all is_good (ways_of item operator) ≡ true
 unfolding ways_of
-good_ways count (phrase found) h = all_found is_good (λ hit. refl) found
-good_ways count (either left right) h =
+good_ways item (phrase found) h = all_found is_good (λ hit. refl) found
+good_ways item (either left right) h =
     let parts = and_parts (is_plain left) (is_plain right) h in
-    list_all-append is_good (ways_of count left) (ways_of count right) ∙ (λ i. good_ways count left parts.0 i && good_ways count right parts.1 i)
-good_ways count (together left right) h =
+    list_all-append is_good (ways_of item left) (ways_of item right) ∙ (λ i. good_ways item left parts.0 i && good_ways item right parts.1 i)
+good_ways item (together left right) h =
     let parts = and_parts (is_plain left) (is_plain right) h in
-    all_pairs is_good (λ a b ha hb i. ha i && hb i) (ways_of count left) (ways_of count right) (good_ways count left parts.0) (good_ways count right parts.1)
-good_ways count (apart left right) h = all_good (ways_of count (apart left right)) (bare_ways count (apart left right) h)
-good_ways count (negated operand) h = λ i. (ap (list_all is_clean) (bare_matches count operand h) ∙ bare_clean (ways_of count operand)) i && true
-good_ways count (through_filter operand kind) h = all_filtered is_good kind count (λ way c e. e) (ways_of count operand) (good_ways count operand h)
+    all_pairs is_good (λ a b ha hb i. ha i && hb i) (ways_of item left) (ways_of item right) (good_ways item left parts.0) (good_ways item right parts.1)
+good_ways item (apart left right) h = all_good (ways_of item (apart left right)) (bare_ways item (apart left right) h)
+good_ways item (negated operand) h = λ i. (ap (list_all is_clean) (bare_matches item operand h) ∙ bare_clean (ways_of item operand)) i && true
+good_ways item (through_filter operand kind) h = all_filtered is_good kind item (λ way c e. e) (ways_of item operand) (good_ways item operand h)

@@ -14,6 +14,7 @@ use Rattle.all_matches.specs.Variants.{Item, Lexicon}
 use Rattle.all_matches.specs.Hits.{Interval, hit_on, match_of_hit, intervals_of}
 use Rattle.all_matches.specs.Boolean.{empty_match, ft_not, ft_or_of, ft_and_of, satisfied}
 use Rattle.all_matches.specs.Filters.{ft_filtered}
+use Rattle.all_matches.specs.Spans.{whole_text}
 use Rattle.all_matches.specs.MildNot.{ft_mild_not}
 use Rattle.all_matches.specs.Times.{occurring}
 use Rattle.all_matches.specs.Meaning.{inside, phrases_by, strings_of, each_phrase, joined_by, value_matches, phrase_count, all_matches, each_form}
@@ -63,7 +64,7 @@ module _ (by : ℕ) where
     all_matches-shifted lexicon options first tokens (not_of form) =
         ap ft_not (all_matches-shifted lexicon options first tokens form) ∙ not-shifted by (all_matches lexicon options first tokens form)
     all_matches-shifted lexicon options first tokens (filtered form kind) =
-        ap (ft_filtered kind (length tokens)) (all_matches-shifted lexicon options first tokens form) ∙ filtered-shifted by kind (length tokens) (all_matches lexicon options first tokens form)
+        ap (ft_filtered kind (whole_text tokens)) (all_matches-shifted lexicon options first tokens form) ∙ filtered-shifted by kind (whole_text tokens) (all_matches lexicon options first tokens form)
     all_matches-shifted lexicon options first tokens (with_options form inner) = all_matches-shifted lexicon (inside inner options) first tokens form
 
     pub each_form-shifted : (lexicon : Lexicon) (options : Options) (first : ℕ) (tokens : List Token) (forms : Forms) → each_form lexicon options (by + first) tokens forms ≡ map (shifted by) (each_form lexicon options first tokens forms)

@@ -1,5 +1,5 @@
 -- The operator of a selection that may stand under a filter, and its ways.
-use Rattle.std.proofs.Common.{◌≡◌, refl, ap, sym, ◌∙◌, ℕ, ◌+◌, List, [], ◌∷◌, ◌++◌, Bool, true, false, ◌&&◌, length}
+use Rattle.std.proofs.Common.{◌≡◌, refl, ap, sym, ◌∙◌, ℕ, ◌+◌, List, [], ◌∷◌, ◌++◌, Bool, true, false, ◌&&◌}
 use Rattle.std.specs.Prelude.{fold, cond, flat_map}
 use Rattle.std.specs.List.{list_all, list_any}
 use Rattle.std.proofs.lemmas.Bool.{and_parts, and_from}
@@ -14,6 +14,7 @@ use Rattle.ft_base.specs.declared.words.Mode.TheVariants.{Any, AnyWord, All, All
 use Rattle.ft_base.specs.Selection.{Form, Forms, words, or_of, and_of, mild_not, not_of, filtered, with_options, none, more}
 use Rattle.all_matches.specs.Variants.{Item, Lexicon}
 use Rattle.all_matches.specs.Hits.{hits}
+use Rattle.all_matches.specs.Spans.{whole_text}
 use Rattle.all_matches.specs.Boolean.{is_clean, satisfied, survives}
 use Rattle.all_matches.specs.Meaning.{inside, singly, phrases_by, strings_of, phrase_count, all_matches}
 use Rattle.all_matches.specs.Ways.{Operator, phrase, either, together, apart, negated, through_filter, without_negation, is_plain, matches_of, ways_of, clean_under}
@@ -168,9 +169,9 @@ clean-survives m = each m.excludes m.includes
     each (hit ∷ rest) includes = refl
 
 pub some_clean_way : (lexicon : Lexicon) (options : Options) (first : ℕ) (tokens : List Token) (form : Form) → may_be_filtered form ≡ true
-    → satisfied (all_matches lexicon options first tokens form) ≡ list_any (clean_under (kept_by [])) (ways_of (length tokens) (operator_of lexicon options first tokens form))
+    → satisfied (all_matches lexicon options first tokens form) ≡ list_any (clean_under (kept_by [])) (ways_of (whole_text tokens) (operator_of lexicon options first tokens form))
 some_clean_way lexicon options first tokens form h =
     let parts = and_parts (without_times form) (has_plain_nots form) h in
     ap satisfied (sym (operator-matches lexicon options first tokens form parts.0))
-    ∙ list_any-alike is_clean (survives (kept_by [])) (matches_of (length tokens) (operator_of lexicon options first tokens form)) clean-survives
-    ∙ some_way (length tokens) (operator_of lexicon options first tokens form) (kept_by []) (plain lexicon options first tokens form parts.1)
+    ∙ list_any-alike is_clean (survives (kept_by [])) (matches_of (whole_text tokens) (operator_of lexicon options first tokens form)) clean-survives
+    ∙ some_way (whole_text tokens) (operator_of lexicon options first tokens form) (kept_by []) (plain lexicon options first tokens form parts.1)

@@ -1,6 +1,6 @@
 -- Filters of AllMatches whose phrases have other numbers.
-use Rattle.std.proofs.Common.{◌≡◌, refl, ap, sym, ◌∙◌, ℕ, ◌+◌, ◌-◌, List, [], ◌∷◌, ◌++◌, Bool, ◌&&◌, ◌||◌, arith}
-use Rattle.std.specs.Prelude.{◌==◌, map, cond, Option, Some, None, option_map, option_to_list, nat_le}
+use Rattle.std.proofs.Common.{◌≡◌, refl, ap, sym, ◌∙◌, ℕ, suc, ◌+◌, ◌-◌, List, [], ◌∷◌, ◌++◌, Bool, ◌&&◌, ◌||◌, arith}
+use Rattle.std.specs.Prelude.{pos, ◌-ℤ◌, ◌==◌, map, cond, Option, Some, None, option_map, option_to_list, nat_le}
 use Rattle.std.specs.List.{list_any, list_all, range_with_len}
 use Rattle.std.proofs.lemmas.Bool.Decides.{nat_tests}
 use Rattle.std.proofs.lemmas.List.{map-append}
@@ -9,11 +9,14 @@ use Rattle.ft_base.specs.declared.hit.Match.{Match}
 use Rattle.ft_base.specs.declared.filter.Filter.{Filter}
 use Rattle.ft_base.specs.declared.filter.Filter.TheVariants as F
 use Rattle.ft_base.specs.declared.range.Range.{Range}
+use Rattle.ft_base.specs.declared.span.Span.{Span}
 use Rattle.ft_base.specs.declared.unit.TextUnit.{TextUnit}
 use Rattle.ft_base.specs.declared.unit.TextUnit.TheVariants.{Words, Sentences, Paragraphs}
+use Rattle.all_matches.specs.declared.window.Window.{Window}
+use Rattle.all_matches.specs.Spans.{places_in}
 use Rattle.all_matches.specs.Positions.{start_in, end_in, covers, places_from_to, share_one, are_apart, agree_in_order}
 use Rattle.all_matches.specs.Join.{least, greatest, are_whole, join}
-use Rattle.all_matches.specs.Window.{leads_of, fits_window, lies_in_window}
+use Rattle.all_matches.specs.Window.{window_at, windows_round, fits_window, lies_in_window}
 use Rattle.all_matches.specs.Distance.{gap_in_range, stands_before, put_in_order, in_order, neighbours_in_range, distance_in_range}
 use Rattle.ft_base.specs.Hits.{every_two}
 use Rattle.all_matches.specs.Filters.{passes, choices, keeps, after, through, filtered_match, ft_filtered}
@@ -107,9 +110,10 @@ module _ (by : ℕ) where
   distance-shifted range kind a b =
       λ i. cond (stands_before a b) (gap_in_range range (end-shifted kind a i) (start-shifted kind b i)) (gap_in_range range (end-shifted kind b i) (start-shifted kind a i))
 
-  leads_of-shifted : (size : ℕ) (kind : TextUnit) (joined : Option Hit) → leads_of size kind (option_map (shifted_hit by) joined) ≡ leads_of size kind joined
-  leads_of-shifted size kind None = refl
-  leads_of-shifted size kind (Some hit) = λ i. range_with_len 0 ((start-shifted kind hit i + size) - end-shifted kind hit i)
+  windows-shifted : (size : ℕ) (kind : TextUnit) (joined : Option Hit) → windows_round size kind (option_map (shifted_hit by) joined) ≡ windows_round size kind joined
+  windows-shifted size kind None = refl
+  windows-shifted size kind (Some hit) =
+      λ i. map (λ n. window_at size (pos (suc (end-shifted kind hit i) + n) -ℤ pos size)) (range_with_len 0 ((start-shifted kind hit i + size) - end-shifted kind hit i))
 
   fits-shifted : (size : ℕ) (kind : TextUnit) (joined : Option Hit) → fits_window size kind (option_map (shifted_hit by) joined) ≡ fits_window size kind joined
   fits-shifted size Words None = refl
@@ -119,23 +123,22 @@ module _ (by : ℕ) where
   fits-shifted size Sentences (Some hit) = refl
   fits-shifted size Paragraphs (Some hit) = refl
 
-  lies-shifted : (size : ℕ) (kind : TextUnit) (joined : Option Hit) (lead : ℕ) (hit : Hit) → lies_in_window size kind (option_map (shifted_hit by) joined) lead (shifted_hit by hit) ≡ lies_in_window size kind joined lead hit
-  lies-shifted size kind None lead hit = refl
-  lies-shifted size Words (Some joined) lead hit = refl
-  lies-shifted size Sentences (Some joined) lead hit = refl
-  lies-shifted size Paragraphs (Some joined) lead hit = refl
+  lies-shifted : (kind : TextUnit) (window : Window) (hit : Hit) → lies_in_window kind window (shifted_hit by hit) ≡ lies_in_window kind window hit
+  lies-shifted Words window hit = refl
+  lies-shifted Sentences window hit = refl
+  lies-shifted Paragraphs window hit = refl
 
-  passes-shifted : (kind : Filter) (includes : List Hit) (count : ℕ) → passes kind (map (shifted_hit by) includes) count ≡ passes kind includes count
-  passes-shifted F.Ordered includes count = every_two-shifted agree_in_order agree-shifted includes
-  passes-shifted (F.Window size kind) includes count = ap (fits_window size kind) (join-shifted includes) ∙ fits-shifted size kind (join includes)
-  passes-shifted (F.Distance range kind) includes count = ap (neighbours_in_range range kind) (in_order-shifted includes) ∙ neighbours-shifted range kind (in_order includes)
-  passes-shifted F.SameSentence includes count = all_pairs-shifted (share_one Sentences) (share_one-shifted Sentences) includes
-  passes-shifted F.SameParagraph includes count = all_pairs-shifted (share_one Paragraphs) (share_one-shifted Paragraphs) includes
-  passes-shifted F.DifferentSentence includes count = every_two-shifted (are_apart Sentences) (are_apart-shifted Sentences) includes
-  passes-shifted F.DifferentParagraph includes count = every_two-shifted (are_apart Paragraphs) (are_apart-shifted Paragraphs) includes
-  passes-shifted F.AtStart includes count = any-shifted by (λ hit. hit.from == 1) (λ hit. refl) includes
-  passes-shifted F.AtEnd includes count = any-shifted by (λ hit. hit.to == count) (λ hit. refl) includes
-  passes-shifted F.EntireContent includes count = entire (places_from_to 1 count)
+  passes-shifted : (kind : Filter) (includes : List Hit) (item : Span) → passes kind (map (shifted_hit by) includes) item ≡ passes kind includes item
+  passes-shifted F.Ordered includes item = every_two-shifted agree_in_order agree-shifted includes
+  passes-shifted (F.Window size kind) includes item = ap (fits_window size kind) (join-shifted includes) ∙ fits-shifted size kind (join includes)
+  passes-shifted (F.Distance range kind) includes item = ap (neighbours_in_range range kind) (in_order-shifted includes) ∙ neighbours-shifted range kind (in_order includes)
+  passes-shifted F.SameSentence includes item = all_pairs-shifted (share_one Sentences) (share_one-shifted Sentences) includes
+  passes-shifted F.SameParagraph includes item = all_pairs-shifted (share_one Paragraphs) (share_one-shifted Paragraphs) includes
+  passes-shifted F.DifferentSentence includes item = every_two-shifted (are_apart Sentences) (are_apart-shifted Sentences) includes
+  passes-shifted F.DifferentParagraph includes item = every_two-shifted (are_apart Paragraphs) (are_apart-shifted Paragraphs) includes
+  passes-shifted F.AtStart includes item = any-shifted by (λ hit. hit.from == item.from) (λ hit. refl) includes
+  passes-shifted F.AtEnd includes item = any-shifted by (λ hit. suc hit.to == item.to) (λ hit. refl) includes
+  passes-shifted F.EntireContent includes item = entire (places_in item)
     where
       entire : (places : List ℕ) → list_all (λ place. list_any (λ hit. hit.whole && covers hit place) (map (shifted_hit by) includes)) places ≡ list_all (λ place. list_any (λ hit. hit.whole && covers hit place) includes) places
       entire [] = refl
@@ -143,7 +146,7 @@ module _ (by : ℕ) where
 
   choices-shifted : (kind : Filter) (includes : List Hit) → choices kind (map (shifted_hit by) includes) ≡ choices kind includes
   choices-shifted F.Ordered includes = refl
-  choices-shifted (F.Window size kind) includes = ap (map Some) (ap (leads_of size kind) (join-shifted includes) ∙ leads_of-shifted size kind (join includes))
+  choices-shifted (F.Window size kind) includes = ap (map Some) (ap (windows_round size kind) (join-shifted includes) ∙ windows-shifted size kind (join includes))
   choices-shifted (F.Distance range kind) includes = refl
   choices-shifted F.SameSentence includes = refl
   choices-shifted F.SameParagraph includes = refl
@@ -153,10 +156,10 @@ module _ (by : ℕ) where
   choices-shifted F.AtEnd includes = refl
   choices-shifted F.EntireContent includes = refl
 
-  keeps-shifted : (kind : Filter) (includes : List Hit) (choice : Option ℕ) (hit : Hit) → keeps kind (map (shifted_hit by) includes) choice (shifted_hit by hit) ≡ keeps kind includes choice hit
+  keeps-shifted : (kind : Filter) (includes : List Hit) (choice : Option Window) (hit : Hit) → keeps kind (map (shifted_hit by) includes) choice (shifted_hit by hit) ≡ keeps kind includes choice hit
   keeps-shifted F.Ordered includes choice hit = all-shifted by (agree_in_order (shifted_hit by hit)) (agree_in_order hit) (agree-shifted hit) includes
   keeps-shifted (F.Window size kind) includes None hit = refl
-  keeps-shifted (F.Window size kind) includes (Some lead) hit = ap (λ joined. lies_in_window size kind joined lead (shifted_hit by hit)) (join-shifted includes) ∙ lies-shifted size kind (join includes) lead hit
+  keeps-shifted (F.Window size kind) includes (Some window) hit = lies-shifted kind window hit
   keeps-shifted (F.Distance range kind) includes choice hit = some_distance includes
     where
       some_distance : (hits : List Hit) → list_any (distance_in_range range kind (shifted_hit by hit)) (map (shifted_hit by) hits) ≡ list_any (distance_in_range range kind hit) hits
@@ -186,24 +189,24 @@ module _ (by : ℕ) where
   after-shifted F.AtEnd includes = refl
   after-shifted F.EntireContent includes = refl
 
-  through-shifted : (kind : Filter) (m : Match) (choice : Option ℕ) → through kind (shifted_match by m) choice ≡ shifted_match by (through kind m choice)
+  through-shifted : (kind : Filter) (m : Match) (choice : Option Window) → through kind (shifted_match by m) choice ≡ shifted_match by (through kind m choice)
   through-shifted kind m choice = λ i. record {
     includes = after-shifted kind m.includes i;
     excludes = filter-shifted by (keeps kind (map (shifted_hit by) m.includes) choice) (keeps kind m.includes choice) (keeps-shifted kind m.includes choice) m.excludes i;
   }
 
-  each_choice : (kind : Filter) (m : Match) (cs : List (Option ℕ)) → map (through kind (shifted_match by m)) cs ≡ map (shifted_match by) (map (through kind m) cs)
+  each_choice : (kind : Filter) (m : Match) (cs : List (Option Window)) → map (through kind (shifted_match by m)) cs ≡ map (shifted_match by) (map (through kind m) cs)
   each_choice kind m [] = refl
   each_choice kind m (c ∷ cs) = λ i. through-shifted kind m c i ∷ each_choice kind m cs i
 
-  filtered_match-shifted : (kind : Filter) (count : ℕ) (m : Match) → filtered_match kind count (shifted_match by m) ≡ map (shifted_match by) (filtered_match kind count m)
-  filtered_match-shifted kind count m =
-      (λ i. cond (passes-shifted kind m.includes count i) (map (through kind (shifted_match by m)) (choices-shifted kind m.includes i)) [])
-      ∙ ap (λ ms. cond (passes kind m.includes count) ms []) (each_choice kind m (choices kind m.includes))
-      ∙ sym (map-cond (shifted_match by) (passes kind m.includes count) (map (through kind m) (choices kind m.includes)) [])
+  filtered_match-shifted : (kind : Filter) (item : Span) (m : Match) → filtered_match kind item (shifted_match by m) ≡ map (shifted_match by) (filtered_match kind item m)
+  filtered_match-shifted kind item m =
+      (λ i. cond (passes-shifted kind m.includes item i) (map (through kind (shifted_match by m)) (choices-shifted kind m.includes i)) [])
+      ∙ ap (λ ms. cond (passes kind m.includes item) ms []) (each_choice kind m (choices kind m.includes))
+      ∙ sym (map-cond (shifted_match by) (passes kind m.includes item) (map (through kind m) (choices kind m.includes)) [])
 
-  pub filtered-shifted : (kind : Filter) (count : ℕ) (ms : List Match) → ft_filtered kind count (shifted by ms) ≡ shifted by (ft_filtered kind count ms)
-  filtered-shifted kind count [] = refl
-  filtered-shifted kind count (m ∷ rest) =
-      (λ i. filtered_match-shifted kind count m i ++ filtered-shifted kind count rest i)
-      ∙ sym (map-append (shifted_match by) (filtered_match kind count m) (ft_filtered kind count rest))
+  pub filtered-shifted : (kind : Filter) (item : Span) (ms : List Match) → ft_filtered kind item (shifted by ms) ≡ shifted by (ft_filtered kind item ms)
+  filtered-shifted kind item [] = refl
+  filtered-shifted kind item (m ∷ rest) =
+      (λ i. filtered_match-shifted kind item m i ++ filtered-shifted kind item rest i)
+      ∙ sym (map-append (shifted_match by) (filtered_match kind item m) (ft_filtered kind item rest))

@@ -1,6 +1,6 @@
 -- The hits of a phrase with several variants, counted by the places at which variants of one length begin.
 use Rattle.std.proofs.Common.{◌≡◌, refl, sym, ap, ◌∙◌, ℕ, zero, suc, ◌+◌, ◌<◌, ◌≤◌, ◌==◌, Bool, true, false, ◌&&◌, ◌||◌, List, [], ◌∷◌, ◌++◌, map, sum, fold, cond, length, take, arith}
-use Rattle.std.proofs.Math.Bool.{or_assoc, or-false, and-true, and-false, and-or_distrib_left}
+use Rattle.std.proofs.Math.Bool.{or_assoc, or_comm, or-false, and-true, and-false, and-or_distrib_left}
 use Rattle.std.specs.Prelude.{⊤}
 use Rattle.std.specs.List.{list_any, range_with_len, count_by}
 use Rattle.std.proofs.lemmas.Bool.Decides.{nat_tests}
@@ -20,13 +20,6 @@ swapped : (a b c : Bool) → (a && (b && c)) ≡ (b && (a && c))
 swapped true b c = refl
 swapped false true c = refl
 swapped false false c = refl
-
-regrouped : (a b c : Bool) → ((a || b) || c) ≡ ((a || c) || b)
-regrouped true b c = refl
-regrouped false true true = refl
-regrouped false true false = refl
-regrouped false false true = refl
-regrouped false false false = refl
 
 differ_back : (m n : ℕ) → (m == n) ≡ false → (n == m) ≡ false
 differ_back m n h = grind (arith, nat_tests)
@@ -89,7 +82,7 @@ module _ {X : Type 0} where
     put_any [] items = or-false (test items || false) ∙ or-false (test items)
     put_any (group ∷ groups) items =
         elim (length items == group.0) as (λ t. some_group (cond t ((group.0, group.1 ++ items ∷ []) ∷ groups) (group ∷ put_variant items groups)) ≡ (some_group (group ∷ groups) || test items)) [
-          | true ↦ ap (λ b. b || some_group groups) (any_behind group.1 items) ∙ regrouped (list_any test group.1) (test items) (some_group groups)
+          | true ↦ ap (λ b. b || some_group groups) (any_behind group.1 items) ∙ or_assoc (list_any test group.1) (test items) (some_group groups) ∙ ap (λ b. list_any test group.1 || b) (or_comm (test items) (some_group groups)) ∙ sym (or_assoc (list_any test group.1) (some_group groups) (test items))
           | false ↦ ap (λ b. list_any test group.1 || b) (put_any groups items) ∙ sym (or_assoc (list_any test group.1) (some_group groups) (test items))
         ]
 

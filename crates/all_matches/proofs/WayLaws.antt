@@ -1,5 +1,5 @@
 -- Some Match of a selection survives a test exactly where some way of it is clean under that test.
-use Rattle.std.proofs.Common.{◌≡◌, refl, ap, sym, ◌∙◌, ℕ, List, [], ◌∷◌, ◌++◌, Bool, true, false, not, ◌&&◌, ◌||◌, cond}
+use Rattle.std.proofs.Common.{◌≡◌, refl, ap, sym, ◌∙◌, List, [], ◌∷◌, ◌++◌, Bool, true, false, not, ◌&&◌, ◌||◌, cond}
 use Rattle.std.specs.Prelude.{map, filter, flat_map, Option}
 use Rattle.std.specs.List.{list_any, list_all, AllByRecursion}
 use Rattle.std.proofs.lemmas.Bool.{and_parts}
@@ -8,6 +8,8 @@ use Rattle.std.proofs.lemmas.List.Folds.{list_any-append, list_all-append}
 use Rattle.ft_base.specs.declared.hit.Hit.{Hit}
 use Rattle.ft_base.specs.declared.hit.Match.{Match}
 use Rattle.ft_base.specs.declared.filter.Filter.{Filter}
+use Rattle.ft_base.specs.declared.span.Span.{Span}
+use Rattle.all_matches.specs.declared.window.Window.{Window}
 use Rattle.all_matches.specs.Hits.{match_of_hit}
 use Rattle.all_matches.specs.Boolean.{both, with_include, with_exclude, ft_and, ft_not, is_clean, survives}
 use Rattle.all_matches.specs.Filters.{passes, choices, keeps, after, filtered_match}
@@ -71,7 +73,7 @@ turned_includes (m ∷ rest) c =
     all_append (λ n. n.includes ≡ []) (flat_map (λ hit. map (with_exclude hit) (ft_not rest)) m.includes) (flat_map (λ hit. map (with_include hit) (ft_not rest)) m.excludes)
     (exclude_rows m.includes (ft_not rest) (turned_includes rest parts.1)) (no_includes m.includes m.excludes (ft_not rest) parts.0)
 
-filter_includes : (kind : Filter) (includes : List Hit) (choice : Option ℕ) (ms : List Match) → AllByRecursion (λ m. m.includes ≡ after kind includes) (map (behind_filter kind includes choice) ms)
+filter_includes : (kind : Filter) (includes : List Hit) (choice : Option Window) (ms : List Match) → AllByRecursion (λ m. m.includes ≡ after kind includes) (map (behind_filter kind includes choice) ms)
 filter_includes kind includes choice [] = tt
 filter_includes kind includes choice (m ∷ rest) = (refl, filter_includes kind includes choice rest)
 
@@ -90,14 +92,14 @@ and_any p left right =
     ∙ list_any-alike (λ a. list_any p (map (both a) right)) (λ a. list_any (λ b. p (both a b)) right) left (λ a. list_any-map p (both a) right)
 
 -- what a filter makes of a Match whose includes are known
-made_by_filter : Filter → ℕ → List Hit → Match → List Match
-made_by_filter kind count includes m = cond (passes kind includes count) (map (λ c. behind_filter kind includes c m) (choices kind includes)) []
+made_by_filter : Filter → Span → List Hit → Match → List Match
+made_by_filter kind item includes m = cond (passes kind includes item) (map (λ c. behind_filter kind includes c m) (choices kind includes)) []
 
-filter_known : (kind : Filter) (count : ℕ) (includes : List Hit) (m : Match) → m.includes ≡ includes → filtered_match kind count m ≡ made_by_filter kind count includes m
+filter_known : (kind : Filter) (item : Span) (includes : List Hit) (m : Match) → m.includes ≡ includes → filtered_match kind item m ≡ made_by_filter kind item includes m
 unfolding made_by_filter
-filter_known kind count includes m e = ap (λ xs. cond (passes kind xs count) (map (λ c. behind_filter kind xs c m) (choices kind xs)) []) e
+filter_known kind item includes m e = ap (λ xs. cond (passes kind xs item) (map (λ c. behind_filter kind xs c m) (choices kind xs)) []) e
 
-some_choices : (p : Match → Bool) (way : Way) (kind : Filter) (ms : List Match) (b : Bool) (cs : List (Option ℕ)) → made way ≡ ms
+some_choices : (p : Match → Bool) (way : Way) (kind : Filter) (ms : List Match) (b : Bool) (cs : List (Option Window)) → made way ≡ ms
     → list_any (λ m. list_any p (cond b (map (λ c. behind_filter kind (way_includes way) c m) cs) [])) ms ≡ list_any (λ u. list_any p (made u)) (cond b (map (by_filter way kind) cs) [])
 some_choices p way kind ms false cs e = list_any-never ms
 some_choices p way kind ms true cs e =
@@ -108,46 +110,46 @@ some_choices p way kind ms true cs e =
     (λ c. sym (list_any-map p (behind_filter kind (way_includes way) c) ms) ∙ ap (λ ns. list_any p (map (behind_filter kind (way_includes way) c) ns)) (sym e))
     ∙ sym (list_any-map (λ u. list_any p (made u)) (by_filter way kind) cs)
 
-filter_any : (p : Match → Bool) (kind : Filter) (count : ℕ) (way : Way) → is_good way ≡ true → list_any (λ m. list_any p (filtered_match kind count m)) (made way) ≡ list_any (λ u. list_any p (made u)) (filtered_ways kind count way)
+filter_any : (p : Match → Bool) (kind : Filter) (item : Span) (way : Way) → is_good way ≡ true → list_any (λ m. list_any p (filtered_match kind item m)) (made way) ≡ list_any (λ u. list_any p (made u)) (filtered_ways kind item way)
 unfolding made_by_filter
-filter_any p kind count way h =
-    any_on (λ m. m.includes ≡ way_includes way) (λ m. list_any p (filtered_match kind count m)) (λ m. list_any p (made_by_filter kind count (way_includes way) m))
-    (λ m e. ap (list_any p) (filter_known kind count (way_includes way) m e)) (made way) (made_includes way h)
-    ∙ some_choices p way kind (made way) (passes kind (way_includes way) count) (choices kind (way_includes way)) refl
+filter_any p kind item way h =
+    any_on (λ m. m.includes ≡ way_includes way) (λ m. list_any p (filtered_match kind item m)) (λ m. list_any p (made_by_filter kind item (way_includes way) m))
+    (λ m e. ap (list_any p) (filter_known kind item (way_includes way) m e)) (made way) (made_includes way h)
+    ∙ some_choices p way kind (made way) (passes kind (way_includes way) item) (choices kind (way_includes way)) refl
 
 found_any : (p : Match → Bool) (found : List Hit) → list_any p (map match_of_hit found) ≡ list_any (λ w. list_any p (made w)) (map one_hit found)
 found_any p [] = refl
 found_any p (hit ∷ rest) = λ i. sym (or-false (p (match_of_hit hit))) i || found_any p rest i
 
 -- some Match of a selection passes a test exactly where some Match of one of its ways does
-pub any_way : (count : ℕ) (operator : Operator) → is_plain operator ≡ true → (p : Match → Bool) → list_any p (matches_of count operator) ≡ list_any (λ w. list_any p (made w)) (ways_of count operator)
+pub any_way : (item : Span) (operator : Operator) → is_plain operator ≡ true → (p : Match → Bool) → list_any p (matches_of item operator) ≡ list_any (λ w. list_any p (made w)) (ways_of item operator)
 unfolding matches_of ways_of
-any_way count (phrase found) h p = found_any p found
-any_way count (either left right) h p =
+any_way item (phrase found) h p = found_any p found
+any_way item (either left right) h p =
     let parts = and_parts (is_plain left) (is_plain right) h in
-    list_any-append p (matches_of count left) (matches_of count right)
-    ∙ (λ i. any_way count left parts.0 p i || any_way count right parts.1 p i)
-    ∙ sym (list_any-append (λ w. list_any p (made w)) (ways_of count left) (ways_of count right))
-any_way count (together left right) h p =
+    list_any-append p (matches_of item left) (matches_of item right)
+    ∙ (λ i. any_way item left parts.0 p i || any_way item right parts.1 p i)
+    ∙ sym (list_any-append (λ w. list_any p (made w)) (ways_of item left) (ways_of item right))
+any_way item (together left right) h p =
     let parts = and_parts (is_plain left) (is_plain right) h in
-    and_any p (matches_of count left) (matches_of count right)
-    ∙ any_way count left parts.0 (λ a. list_any (λ b. p (both a b)) (matches_of count right))
-    ∙ list_any-alike (λ w. list_any (λ a. list_any (λ b. p (both a b)) (matches_of count right)) (made w)) (λ w. list_any (λ v. list_any p (made (two_ways w v))) (ways_of count right)) (ways_of count left) (λ w.
-    list_any-alike (λ a. list_any (λ b. p (both a b)) (matches_of count right)) (λ a. list_any (λ v. list_any (λ b. p (both a b)) (made v)) (ways_of count right)) (made w) (λ a. any_way count right parts.1 (λ b. p (both a b)))
-    ∙ any_swap (λ a v. list_any (λ b. p (both a b)) (made v)) (made w) (ways_of count right)
-    ∙ list_any-alike (λ v. list_any (λ a. list_any (λ b. p (both a b)) (made v)) (made w)) (λ v. list_any p (made (two_ways w v))) (ways_of count right) (λ v. sym (and_any p (made w) (made v))))
-    ∙ sym (list_any-flat_map (λ u. list_any p (made u)) (λ a. map (two_ways a) (ways_of count right)) (ways_of count left)
-    ∙ list_any-alike (λ w. list_any (λ u. list_any p (made u)) (map (two_ways w) (ways_of count right))) (λ w. list_any (λ v. list_any p (made (two_ways w v))) (ways_of count right)) (ways_of count left) (λ w. list_any-map (λ u. list_any p (made u)) (two_ways w) (ways_of count right)))
-any_way count (apart left right) h p =
-    ap (list_any p) (bare_matches count (apart left right) h)
-    ∙ list_any-map p bare_match (ways_of count (apart left right))
-    ∙ any_of is_bare (λ w. p (bare_match w)) (λ w. list_any p (made w)) (λ w e. sym (ap (list_any p) (made-bare w e) ∙ or-false (p (bare_match w)))) (ways_of count (apart left right)) (bare_ways count (apart left right) h)
-any_way count (negated operand) h p = sym (or-false (list_any p (ft_not (matches_of count operand))))
-any_way count (through_filter operand kind) h p =
-    list_any-flat_map p (filtered_match kind count) (matches_of count operand)
-    ∙ any_way count operand h (λ m. list_any p (filtered_match kind count m))
-    ∙ any_of is_good (λ w. list_any (λ m. list_any p (filtered_match kind count m)) (made w)) (λ w. list_any (λ u. list_any p (made u)) (filtered_ways kind count w)) (λ w e. filter_any p kind count w e) (ways_of count operand) (good_ways count operand h)
-    ∙ sym (list_any-flat_map (λ u. list_any p (made u)) (filtered_ways kind count) (ways_of count operand))
+    and_any p (matches_of item left) (matches_of item right)
+    ∙ any_way item left parts.0 (λ a. list_any (λ b. p (both a b)) (matches_of item right))
+    ∙ list_any-alike (λ w. list_any (λ a. list_any (λ b. p (both a b)) (matches_of item right)) (made w)) (λ w. list_any (λ v. list_any p (made (two_ways w v))) (ways_of item right)) (ways_of item left) (λ w.
+    list_any-alike (λ a. list_any (λ b. p (both a b)) (matches_of item right)) (λ a. list_any (λ v. list_any (λ b. p (both a b)) (made v)) (ways_of item right)) (made w) (λ a. any_way item right parts.1 (λ b. p (both a b)))
+    ∙ any_swap (λ a v. list_any (λ b. p (both a b)) (made v)) (made w) (ways_of item right)
+    ∙ list_any-alike (λ v. list_any (λ a. list_any (λ b. p (both a b)) (made v)) (made w)) (λ v. list_any p (made (two_ways w v))) (ways_of item right) (λ v. sym (and_any p (made w) (made v))))
+    ∙ sym (list_any-flat_map (λ u. list_any p (made u)) (λ a. map (two_ways a) (ways_of item right)) (ways_of item left)
+    ∙ list_any-alike (λ w. list_any (λ u. list_any p (made u)) (map (two_ways w) (ways_of item right))) (λ w. list_any (λ v. list_any p (made (two_ways w v))) (ways_of item right)) (ways_of item left) (λ w. list_any-map (λ u. list_any p (made u)) (two_ways w) (ways_of item right)))
+any_way item (apart left right) h p =
+    ap (list_any p) (bare_matches item (apart left right) h)
+    ∙ list_any-map p bare_match (ways_of item (apart left right))
+    ∙ any_of is_bare (λ w. p (bare_match w)) (λ w. list_any p (made w)) (λ w e. sym (ap (list_any p) (made-bare w e) ∙ or-false (p (bare_match w)))) (ways_of item (apart left right)) (bare_ways item (apart left right) h)
+any_way item (negated operand) h p = sym (or-false (list_any p (ft_not (matches_of item operand))))
+any_way item (through_filter operand kind) h p =
+    list_any-flat_map p (filtered_match kind item) (matches_of item operand)
+    ∙ any_way item operand h (λ m. list_any p (filtered_match kind item m))
+    ∙ any_of is_good (λ w. list_any (λ m. list_any p (filtered_match kind item m)) (made w)) (λ w. list_any (λ u. list_any p (made u)) (filtered_ways kind item w)) (λ w e. filter_any p kind item w e) (ways_of item operand) (good_ways item operand h)
+    ∙ sym (list_any-flat_map (λ u. list_any p (made u)) (filtered_ways kind item) (ways_of item operand))
 
 -- a test that looks at excludes alone, under And and behind a filter
 survives-both : (kept : Hit → Bool) (a b : Match) → survives kept (both a b) ≡ (survives kept a && survives kept b)
@@ -181,7 +183,7 @@ clean_way kept (by_filter way kind choice) h =
     (λ m. kept_behind (keeps kind (way_includes way) choice) kept m.excludes)
     ∙ clean_way (λ hit. keeps kind (way_includes way) choice hit && kept hit) way h
 
-pub some_way : (count : ℕ) (operator : Operator) (kept : Hit → Bool) → is_plain operator ≡ true → list_any (survives kept) (matches_of count operator) ≡ list_any (clean_under kept) (ways_of count operator)
-some_way count operator kept h =
-    any_way count operator h (survives kept)
-    ∙ any_of is_good (λ w. list_any (survives kept) (made w)) (clean_under kept) (clean_way kept) (ways_of count operator) (good_ways count operator h)
+pub some_way : (item : Span) (operator : Operator) (kept : Hit → Bool) → is_plain operator ≡ true → list_any (survives kept) (matches_of item operator) ≡ list_any (clean_under kept) (ways_of item operator)
+some_way item operator kept h =
+    any_way item operator h (survives kept)
+    ∙ any_of is_good (λ w. list_any (survives kept) (made w)) (clean_under kept) (clean_way kept) (ways_of item operator) (good_ways item operator h)

@@ -1,7 +1,8 @@
 -- The filters round a selection, from the inside to the outside, as a value.
-use Rattle.std.specs.Prelude.{ℕ, Bool, true, ◌&&◌, List, [], ◌∷◌, Option}
+use Rattle.std.specs.Prelude.{Bool, true, ◌&&◌, List, [], ◌∷◌, Option}
 use Rattle.ft_base.specs.declared.hit.Hit.{Hit}
 use Rattle.ft_base.specs.declared.filter.Filter.{Filter}
+use Rattle.all_matches.specs.declared.window.Window.{Window}
 use Rattle.all_matches.specs.Filters.{keeps}
 use Rattle.all_matches.specs.Ways.{Way, way_includes}
 
@@ -9,7 +10,7 @@ use Rattle.all_matches.specs.Ways.{Way, way_includes}
 pub record Link : Type 0 where
   pub kind : Filter
   pub includes : List Hit
-  pub choice : Option ℕ
+  pub choice : Option Window
 
 -- whether each filter keeps an exclude
 abbrev pub kept_by : List Link → Hit → Bool
@@ -17,5 +18,5 @@ kept_by [] hit = true
 kept_by (link ∷ links) hit = keeps link.kind link.includes link.choice hit && kept_by links hit
 
 -- the filter behind which a way goes on
-abbrev pub link_of : Way → Filter → Option ℕ → Link
+abbrev pub link_of : Way → Filter → Option Window → Link
 link_of way kind choice = record { kind = kind; includes = way_includes way; choice = choice }

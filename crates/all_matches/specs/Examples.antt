@@ -1,8 +1,11 @@
 -- Texts, words and selections for examples: words are divided by spaces and accept themselves alone.
-use Rattle.std.specs.Prelude.{ℕ, Bool, true, false, ◌&&◌, ◌==◌, List, [], ◌∷◌, map, filter, codes, bytes_eq, Option, Some, None}
+use Rattle.std.specs.Prelude.{ℕ, ℤ, Bool, true, false, ◌&&◌, ◌==◌, List, [], ◌∷◌, map, filter, codes, bytes_eq, Option, Some, None}
 use Rattle.std.specs.List.{slice_split}
 use Rattle.ft_base.specs.declared.token.Token.{Token}
+use Rattle.ft_base.specs.declared.hit.Hit.{Hit}
+use Rattle.ft_base.specs.declared.span.Span.{Span}
 use Rattle.ft_base.specs.declared.range.Range.{Range}
+use Rattle.ft_base.specs.declared.range.Range.TheVariants.{AtLeast}
 use Rattle.ft_base.specs.declared.words.Mode.{Mode}
 use Rattle.ft_base.specs.declared.words.Mode.TheVariants.{Any}
 use Rattle.ft_base.specs.declared.options.Options.{Options}
@@ -11,6 +14,7 @@ use Rattle.ft_base.specs.declared.options.StopChoice.{StopChoice}
 use Rattle.ft_base.specs.declared.options.ThesaurusChoice.{ThesaurusChoice}
 use Rattle.ft_base.specs.declared.options.Case.TheVariants.{Insensitive, Sensitive, Lower, Upper}
 use Rattle.ft_base.specs.Selection.{no_options, Form, words, or_of, and_of, not_of, with_options, none, more}
+use Rattle.all_matches.specs.declared.window.Window.{Window}
 use Rattle.all_matches.specs.Variants.{Item, any_word, word, pattern, Lexicon}
 
 abbrev pub has_bytes : List ℕ → Bool
@@ -80,6 +84,10 @@ word_c = quoted (codes "c")
 abbrev pub word_x : Form
 word_x = quoted (codes "x")
 
+-- `"a" occurs at least 2 times`
+abbrev pub twice_a : Form
+twice_a = value Any (Some (AtLeast 2)) (codes "a" ∷ [])
+
 -- the words of a paragraph that is one sentence, the paragraphs before it being so too
 abbrev pub paragraph : ℕ → List ℕ → List Token
 paragraph number bytes = map (λ w. record { word = w; sentence = number; paragraph = number }) (spaced_words bytes)
@@ -132,3 +140,17 @@ stopped choice = record no_options { stop_words = Some choice }
 
 abbrev pub with_thesaurus : ThesaurusChoice → Options
 with_thesaurus choice = record no_options { thesaurus = Some choice }
+
+-- windows and spans, from one number to another
+abbrev pub window : ℤ → ℤ → Window
+window from to = record { from = from; to = to }
+
+abbrev pub span : ℕ → ℕ → Span
+span from to = record { from = from; to = to }
+
+-- a hit that is in other sentences, and one that doesn't cover each of its words
+abbrev pub in_sentences : ℕ → ℕ → Hit → Hit
+in_sentences from to hit = record hit { sent_from = from; sent_to = to }
+
+abbrev pub with_a_hole : Hit → Hit
+with_a_hole hit = record hit { whole = false }

@@ -12,6 +12,7 @@ use Rattle.ft_base.specs.declared.words.Mode.TheVariants.{Any, AnyWord, All, All
 use Rattle.ft_base.specs.Selection.{no_options, Form, Forms, words, or_of, and_of, mild_not, not_of, filtered, with_options, none, more}
 use Rattle.all_matches.specs.Variants.{Item, Lexicon}
 use Rattle.all_matches.specs.Hits.{phrase_matches}
+use Rattle.all_matches.specs.Spans.{whole_text}
 use Rattle.all_matches.specs.Boolean.{ft_or_of, ft_and_of, ft_not, satisfied}
 use Rattle.all_matches.specs.MildNot.{ft_mild_not}
 use Rattle.all_matches.specs.Filters.{ft_filtered}
@@ -89,7 +90,7 @@ unfoldable mutual
   all_matches lexicon options first tokens (mild_not left right) =
       ft_mild_not (all_matches lexicon options first tokens left) (all_matches lexicon options (first + phrase_count lexicon options left) tokens right)
   all_matches lexicon options first tokens (not_of form) = ft_not (all_matches lexicon options first tokens form)
-  all_matches lexicon options first tokens (filtered form kind) = ft_filtered kind (length tokens) (all_matches lexicon options first tokens form)
+  all_matches lexicon options first tokens (filtered form kind) = ft_filtered kind (whole_text tokens) (all_matches lexicon options first tokens form)
   all_matches lexicon options first tokens (with_options form inner) = all_matches lexicon (inside inner options) first tokens form
 
   pub each_form : Lexicon → Options → ℕ → List Token → Forms → List (List Match)

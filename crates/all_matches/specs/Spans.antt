@@ -1,5 +1,6 @@
 -- Parts of a text, and hits told in the numbers of a part.
-use Rattle.std.specs.Prelude.{ℕ, ◌-◌, Bool, ◌&&◌, nat_lt, nat_le, List, slice_range}
+use Rattle.std.specs.Prelude.{ℕ, suc, ◌-◌, Bool, ◌&&◌, nat_lt, nat_le, List, length, slice_range}
+use Rattle.std.specs.List.{range_with_len}
 use Rattle.ft_base.specs.declared.hit.Hit.{Hit}
 use Rattle.ft_base.specs.declared.span.Span.{Span}
 use Rattle.ft_base.specs.declared.token.Token.{Token}
@@ -7,6 +8,14 @@ use Rattle.ft_base.specs.declared.token.Token.{Token}
 -- a token whose sentence and paragraph have other numbers
 abbrev pub renumbered : (ℕ → ℕ) → (ℕ → ℕ) → Token → Token
 renumbered sentences paragraphs token = record { word = token.word; sentence = sentences token.sentence; paragraph = paragraphs token.paragraph }
+
+-- the span of a whole text
+abbrev pub whole_text : List Token → Span
+whole_text tokens = record { from = 1; to = suc (length tokens) }
+
+-- the places of a span
+abbrev pub places_in : Span → List ℕ
+places_in span = range_with_len span.from (span.to - span.from)
 
 -- the tokens at the places of a span
 abbrev pub in_span : Span → List Token → List Token

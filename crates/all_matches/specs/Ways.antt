@@ -1,12 +1,14 @@
 -- A selection whose phrases have been found, and the ways in which it may be satisfied: in each, one hit of each phrase that it
 -- needs, one side of each Or, and one window of each window filter is chosen. What is left to choose are the includes of the
 -- negated selections inside, and a way is clean where they can be chosen so that no exclude stays.
-use Rattle.std.specs.Prelude.{ℕ, Bool, true, false, not, ◌&&◌, if◌then◌else◌, List, [], ◌∷◌, ◌++◌, map, filter, flat_map, Option}
+use Rattle.std.specs.Prelude.{Bool, true, false, not, ◌&&◌, if◌then◌else◌, List, [], ◌∷◌, ◌++◌, map, filter, flat_map, Option}
 use Rattle.std.specs.List.{list_any, list_all}
 use Rattle.ft_base.specs.Lists.{is_not_empty}
 use Rattle.ft_base.specs.declared.hit.Hit.{Hit}
 use Rattle.ft_base.specs.declared.hit.Match.{Match}
 use Rattle.ft_base.specs.declared.filter.Filter.{Filter}
+use Rattle.ft_base.specs.declared.span.Span.{Span}
+use Rattle.all_matches.specs.declared.window.Window.{Window}
 use Rattle.all_matches.specs.Hits.{match_of_hit}
 use Rattle.all_matches.specs.Boolean.{ft_or, ft_and, ft_not, is_clean}
 use Rattle.all_matches.specs.MildNot.{stands_out, ft_mild_not}
@@ -21,21 +23,21 @@ pub data Operator : Type 0 where
   negated : Operator → Operator
   through_filter : Operator → Filter → Operator
 
--- the AllMatches of an operator, in a text of so many tokens
-unfoldable pub matches_of : ℕ → Operator → List Match
-matches_of count (phrase found) = map match_of_hit found
-matches_of count (either left right) = ft_or (matches_of count left) (matches_of count right)
-matches_of count (together left right) = ft_and (matches_of count left) (matches_of count right)
-matches_of count (apart left right) = ft_mild_not (matches_of count left) (matches_of count right)
-matches_of count (negated operand) = ft_not (matches_of count operand)
-matches_of count (through_filter operand kind) = ft_filtered kind count (matches_of count operand)
+-- the AllMatches of an operator, in the item of this span
+unfoldable pub matches_of : Span → Operator → List Match
+matches_of item (phrase found) = map match_of_hit found
+matches_of item (either left right) = ft_or (matches_of item left) (matches_of item right)
+matches_of item (together left right) = ft_and (matches_of item left) (matches_of item right)
+matches_of item (apart left right) = ft_mild_not (matches_of item left) (matches_of item right)
+matches_of item (negated operand) = ft_not (matches_of item operand)
+matches_of item (through_filter operand kind) = ft_filtered kind item (matches_of item operand)
 
 -- what was chosen
 pub data Way : Type 0 where
   one_hit : Hit → Way
   two_ways : Way → Way → Way
   turned_about : List Match → Way
-  by_filter : Way → Filter → Option ℕ → Way
+  by_filter : Way → Filter → Option Window → Way
 
 -- the includes of the Matches that are made in a way
 abbrev pub way_includes : Way → List Hit
@@ -45,7 +47,7 @@ way_includes (turned_about matches) = []
 way_includes (by_filter way kind choice) = after kind (way_includes way)
 
 -- a Match behind a filter, whose includes in front of the filter are known
-abbrev pub behind_filter : Filter → List Hit → Option ℕ → Match → Match
+abbrev pub behind_filter : Filter → List Hit → Option Window → Match → Match
 behind_filter kind includes choice m = record { includes = after kind includes; excludes = filter (keeps kind includes choice) m.excludes }
 
 -- the Matches that are made in a way
@@ -62,17 +64,17 @@ standing_out left right =
     else left
 
 -- the ways through a filter
-abbrev pub filtered_ways : Filter → ℕ → Way → List Way
-filtered_ways kind count way = if passes kind (way_includes way) count then map (by_filter way kind) (choices kind (way_includes way)) else []
+abbrev pub filtered_ways : Filter → Span → Way → List Way
+filtered_ways kind item way = if passes kind (way_includes way) item then map (by_filter way kind) (choices kind (way_includes way)) else []
 
 -- the ways of an operator
-unfoldable pub ways_of : ℕ → Operator → List Way
-ways_of count (phrase found) = map one_hit found
-ways_of count (either left right) = ways_of count left ++ ways_of count right
-ways_of count (together left right) = flat_map (λ a. map (two_ways a) (ways_of count right)) (ways_of count left)
-ways_of count (apart left right) = standing_out (ways_of count left) (ways_of count right)
-ways_of count (negated operand) = turned_about (matches_of count operand) ∷ []
-ways_of count (through_filter operand kind) = flat_map (filtered_ways kind count) (ways_of count operand)
+unfoldable pub ways_of : Span → Operator → List Way
+ways_of item (phrase found) = map one_hit found
+ways_of item (either left right) = ways_of item left ++ ways_of item right
+ways_of item (together left right) = flat_map (λ a. map (two_ways a) (ways_of item right)) (ways_of item left)
+ways_of item (apart left right) = standing_out (ways_of item left) (ways_of item right)
+ways_of item (negated operand) = turned_about (matches_of item operand) ∷ []
+ways_of item (through_filter operand kind) = flat_map (filtered_ways kind item) (ways_of item operand)
 
 -- whether the negated selections of a way leave no exclude that a test keeps: each filter round one adds itself to the test
 abbrev pub clean_under : (Hit → Bool) → Way → Bool

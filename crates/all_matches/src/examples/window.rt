@@ -1,12 +1,14 @@
 //! Windows on small texts, by computation. A period ends a sentence, `|` a paragraph.
 #![tactic(auto, unfolding(crate::specs::Meaning::sat_under, crate::specs::Meaning::all_matches, crate::specs::Meaning::phrase_count))]
 
-ghost use Rattle.std.specs.Prelude.{◌≡◌, ◌++◌, true, false, codes};
+ghost use Rattle.std.specs.Prelude.{◌≡◌, ◌++◌, ◌∷◌, [], true, false, codes, pos, negsuc, Some, None};
 ghost use Rattle.ft_base.specs.declared.filter.Filter.TheVariants as F;
 ghost use Rattle.ft_base.specs.declared.unit.TextUnit.TheVariants as U;
+ghost use Rattle.ft_base.specs.HitExamples.{word, phrase};
 ghost use Rattle.ft_base.specs.Selection.{filtered, not_of};
-ghost use Rattle.all_matches.specs.Examples.{plain, text, sentence, paragraph, quoted, two_and, three_and, but_not, word_a, word_b, word_c, word_x};
+ghost use Rattle.all_matches.specs.Examples.{plain, text, sentence, paragraph, quoted, two_and, three_and, but_not, word_a, word_b, word_c, word_x, in_sentences, window};
 ghost use Rattle.all_matches.specs.Meaning.{sat};
+ghost use Rattle.all_matches.specs.Window.{windows_round, lies_in_window};
 
 /// A window holds all hits, in whichever order they stand in the query, and is told in words, sentences or paragraphs.
 pub fn hits_in_windows()
@@ -43,4 +45,26 @@ pub fn excludes_in_windows()
         (sentence 1 (codes "a") ++ sentence 2 (codes "b")) ≡ false }
     ensures across_paragraphs { sat plain (filtered (but_not word_a (quoted (codes "a b"))) (F.Window 1 U.Paragraphs))
         (paragraph 1 (codes "a") ++ paragraph 2 (codes "b")) ≡ true }
+{}
+
+/// The windows of a size that hold a hit, by their first numbers, which may be below 1.
+pub fn windows_of_a_size()
+    ensures of_three_words { windows_round 3 U.Words (Some (phrase 1 2 3)) ≡ window (pos 1) (pos 3) ∷ window (pos 2) (pos 4) ∷ [] }
+    ensures in_front_of_the_text { windows_round 3 U.Words (Some (word 1))
+        ≡ window (negsuc 0) (pos 1) ∷ window (pos 0) (pos 2) ∷ window (pos 1) (pos 3) ∷ [] }
+    ensures as_wide_as_the_hit { windows_round 2 U.Words (Some (phrase 1 2 3)) ≡ window (pos 2) (pos 3) ∷ [] }
+    ensures too_narrow { windows_round 1 U.Words (Some (phrase 1 2 3)) ≡ [] }
+    ensures of_no_words { windows_round 0 U.Words (Some (word 2)) ≡ [] }
+    ensures of_sentences { windows_round 2 U.Sentences (Some (in_sentences 4 5 (word 9))) ≡ window (pos 4) (pos 5) ∷ [] }
+    ensures round_no_hit { windows_round 3 U.Words None ≡ [] }
+{}
+
+/// A hit lies in a window where it begins no earlier and ends no later.
+pub fn hits_in_a_window()
+    ensures from_end_to_end { lies_in_window U.Words (window (pos 2) (pos 4)) (phrase 1 2 4) ≡ true }
+    ensures begins_in_front { lies_in_window U.Words (window (pos 2) (pos 4)) (phrase 1 1 4) ≡ false }
+    ensures ends_behind { lies_in_window U.Words (window (pos 2) (pos 4)) (phrase 1 2 5) ≡ false }
+    ensures from_below_one { lies_in_window U.Words (window (negsuc 2) (pos 1)) (word 1) ≡ true }
+    ensures below_one { lies_in_window U.Words (window (negsuc 2) (pos 0)) (word 1) ≡ false }
+    ensures of_sentences { lies_in_window U.Sentences (window (pos 4) (pos 5)) (in_sentences 4 5 (word 9)) ≡ true }
 {}

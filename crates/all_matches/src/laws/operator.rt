@@ -1,6 +1,6 @@
 //! A selection, its operator, and the ways in which it is satisfied.
 
-ghost use Rattle.std.specs.Prelude.{◌≡◌, ℕ, List, [], length, true};
+ghost use Rattle.std.specs.Prelude.{◌≡◌, ℕ, List, [], true};
 ghost use Rattle.std.specs.List.{list_any};
 ghost use Rattle.ft_base.specs.declared.filter.Filter.{Filter};
 ghost use Rattle.ft_base.specs.declared.options.Options.{Options};
@@ -11,13 +11,14 @@ ghost use Rattle.all_matches.specs.Boolean.{satisfied};
 ghost use Rattle.all_matches.specs.Chain.{kept_by};
 ghost use Rattle.all_matches.specs.Meaning.{all_matches};
 ghost use Rattle.all_matches.specs.Operators.{operator_of};
+ghost use Rattle.all_matches.specs.Spans.{whole_text};
 ghost use Rattle.all_matches.specs.Variants.{Lexicon};
 ghost use Rattle.all_matches.specs.Ways.{clean_under, is_plain, matches_of, ways_of};
 
 /// The AllMatches of the operator of a selection without `occurs` are those of the selection.
 pub fn operator_law()
     ensures { (lexicon : Lexicon) (options : Options) (first : ℕ) (tokens : List Token) (form : Form) → without_times form ≡ true
-        → matches_of (length tokens) (operator_of lexicon options first tokens form) ≡ all_matches lexicon options first tokens form }
+        → matches_of (whole_text tokens) (operator_of lexicon options first tokens form) ≡ all_matches lexicon options first tokens form }
 {}
 
 /// Where `ftnot` stands neither in another nor in `not in`, the negated operands of the operator don't either.
@@ -36,5 +37,5 @@ pub fn allowed_law()
 pub fn filtered_selection_law()
     ensures { (lexicon : Lexicon) (options : Options) (first : ℕ) (tokens : List Token) (form : Form) → may_be_filtered form ≡ true
         → satisfied (all_matches lexicon options first tokens form)
-        ≡ list_any (clean_under (kept_by [])) (ways_of (length tokens) (operator_of lexicon options first tokens form)) }
+        ≡ list_any (clean_under (kept_by [])) (ways_of (whole_text tokens) (operator_of lexicon options first tokens form)) }
 {}

@@ -1,0 +1,5 @@
+pub mod PairLemmas
+pub mod CoverLemmas
+pub mod JoinLemmas
+pub mod OrderLemmas
+pub mod NeighbourLemmas
