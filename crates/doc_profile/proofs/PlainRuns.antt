@@ -28,7 +28,6 @@ pub record Plain (c : ℕ) : Type 0 where
   pub no_markup : (c == 60) ≡ false
   pub no_reference : (c == 38) ≡ false
   pub no_return : (c == 13) ≡ false
-  pub no_feed : (c == 10) ≡ false
   pub is_char : is_char c ≡ true
 
 plain_is : (c : ℕ) → is_plain c ≡ true → Plain c
@@ -38,7 +37,6 @@ plain_is c h = record {
   no_markup = grind (arith, nat_tests);
   no_reference = grind (arith, nat_tests);
   no_return = grind (arith, nat_tests);
-  no_feed = grind (arith, nat_tests);
   is_char = grind (arith, nat_tests);
 }
 

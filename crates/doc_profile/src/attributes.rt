@@ -6,9 +6,10 @@ use plain_tree::Attr;
 use std::alloc::Global;
 use std::collections::HashSet;
 use std::marker::Model;
+use std::mem;
 
-/// How many attributes are looked at one by one.
-const FEW: usize = 16;
+/// How many attributes are looked at one by one: the names of the others stand in a set.
+pub(crate) const FEW: usize = 16;
 
 /// The attributes of a start tag under way, which contracts see as the list of them. The names of those behind the first few
 /// stand in a set too, so that whether a name is there takes no longer the more there are.
@@ -41,11 +42,13 @@ impl TagAttributes {
         }
     }
 
-    /// The vector of the attributes, in its memory.
-    pub fn into_vec(self) -> Vec<Attr>
-        ensures { result.items ≡ self }
+    /// Takes all attributes out, in their memory.
+    pub fn take_all(&mut self, alloc: Global) -> Vec<Attr>
+        ensures taken { result.items ≡ self.old }
+        ensures left { self.new ≡ [] }
     {
-        self.attrs
+        let taken = mem::replace(self, TagAttributes::new(alloc));
+        taken.attrs
     }
 
     /// Whether an attribute has the name.

@@ -49,7 +49,7 @@ impl Reader {
     {
         let level = Level {
             name: mem::replace(&mut self.name, String::new(self.alloc)),
-            attrs: mem::replace(&mut self.attrs, TagAttributes::new(self.alloc)).into_vec(),
+            attrs: self.attrs.take_all(self.alloc),
             kids: mem::replace(&mut self.kids, Vec::new(self.alloc)),
             text: mem::replace(&mut self.text, String::new(self.alloc)),
         };
@@ -83,10 +83,7 @@ impl Reader {
         }
         let element = Tree::Elem {
             name: Line::from_string(mem::replace(&mut self.name, String::new(self.alloc))),
-            attrs: Items::from_vec(mem::replace(
-                &mut self.attrs,
-                TagAttributes::new(self.alloc),
-            ).into_vec()),
+            attrs: Items::from_vec(self.attrs.take_all(self.alloc)),
             kids: Items::new(self.alloc),
         };
         let kids = mem::replace(&mut self.kids, Vec::new(self.alloc));

@@ -1,9 +1,10 @@
 -- Where a selection may end, a symbol goes on with it exactly where the machine does.
 use Rattle.std.proofs.Common.{◌≡◌, ℕ, Bool, true, false, ◌||◌, ◌&&◌, cond, List, [], ◌∷◌, ◌++◌, Option, Some, None, refl, sym, ◌∙◌, ap}
 use Rattle.std.specs.Prelude.{codes}
-use Rattle.std.specs.Option.{is_some}
+use Rattle.std.specs.Option.{is_none, is_some}
 use Rattle.std.proofs.lemmas.Bool.{not-false, not-true, or_parts}
 use Rattle.std.proofs.Math.Bool.{or-false, or_assoc}
+use Rattle.ft_base.proofs.Truth.{none_from_test}
 use Rattle.ft_base.specs.declared.words.Mode.TheVariants as M
 use Rattle.selection_grammar.specs.declared.symbol.Placed.{Placed}
 use Rattle.selection_grammar.specs.declared.parsed.PlacedOption.{PlacedOption}
@@ -14,7 +15,7 @@ use Rattle.selection_grammar.specs.Shapes.{Shape, whole, nothing, word, number, 
 use Rattle.selection_grammar.specs.Tree.{Primary, phrases}
 use Rattle.ft_parser.specs.steps.Ending.{joins, follows_options, follows_mode, follows_name, begins_mode, begins_term, goes_on, ends_in, ends_before}
 use Rattle.ft_parser.specs.steps.Parts.{begins_filter, begins_other_filter}
-use Rattle.ft_parser.specs.steps.Turns.{is_none, begins_range_without_at}
+use Rattle.ft_parser.specs.steps.Turns.{begins_range_without_at}
 
 -- whether a symbol leads on along a shape
 abbrev takes : {A : Type 0} → Shape A → Placed → Bool
@@ -162,10 +163,6 @@ by_stage left (m.with_filter x) C partly wholly = wholly (record {
   filters = λ w h. h;
 })
 
-none_there : {A : Type 0} (o : Option A) → is_some o ≡ false → o ≡ None
-none_there None h = refl
-none_there (Some x) h = cc
-
 -- where it ends before symbols, the first of them leads nowhere and begins no filter
 pub record Ends (s : State) (w : List Placed) : Type 0 where
   pub stops : (p : Placed) (z : List Placed) → w ≡ p ∷ z → step (next s) p ≡ None
@@ -174,7 +171,7 @@ pub record Ends (s : State) (w : List Placed) : Type 0 where
 stage_ends : (left : Left) (stage : Stage) (p : Placed) (z : List Placed) → goes_on stage (p ∷ z) ≡ false → step (m.next_at [] left stage) p ≡ None
 stage_ends left stage p z h = by_stage left stage _
     (λ e f. let two : true ≡ false = sym (f (p ∷ z)) ∙ h in cc)
-    (λ x. none_there (step (m.next_at [] left stage) p) (leads_takes (m.next_at [] left stage) p ∙ x.leads p z ∙ h))
+    (λ x. none_from_test (step (m.next_at [] left stage) p) (leads_takes (m.next_at [] left stage) p ∙ x.leads p z ∙ h))
 
 stage_filters : (left : Left) (stage : Stage) (w : List Placed) → goes_on stage w ≡ false → begins_filter w ≡ false
 stage_filters left stage w h = by_stage left stage _ (λ e f. let two : true ≡ false = sym (f w) ∙ h in cc) (λ x. x.filters w h)

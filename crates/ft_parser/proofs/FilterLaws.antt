@@ -1,5 +1,6 @@
 -- Which selections under way are filters round others: those in parentheses alone, and those that end with a filter.
 use Rattle.std.proofs.Common.{◌≡◌, ℕ, Bool, true, false, ◌&&◌, List, [], ◌∷◌, ◌++◌, Option, Some, None, refl, ◌∙◌, ap}
+use Rattle.std.specs.Option.{is_none}
 use Rattle.ft_base.specs.Lists.{is_empty}
 use Rattle.ft_base.specs.declared.words.Mode.{Mode}
 use Rattle.ft_base.specs.declared.words.Mode.TheVariants as M
@@ -11,7 +12,6 @@ use Rattle.selection_grammar.specs.Tree.{Tree, Primary, phrases, inner}
 use Rattle.ft_parser.specs.Limits.{has_all_filters}
 use Rattle.ft_parser.specs.steps.Scan.{stands_first}
 use Rattle.ft_parser.specs.steps.State.{primary_of, stage_of}
-use Rattle.ft_parser.specs.steps.Turns.{is_none}
 use Rattle.ft_parser.specs.declared.state.Operand.{Operand}
 use Rattle.ft_parser.specs.declared.state.Stage.{Stage}
 use Rattle.ft_parser.specs.declared.state.Stage.TheVariants.{Wanted, InBraces, Valued, AnyOf, AllOf, Moded, Given, StopTerms, StopStrings, Thesaurus, ThesaurusIn, ThesauriIn, WithFilter}

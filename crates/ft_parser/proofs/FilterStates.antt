@@ -102,9 +102,6 @@ abbrev pub state_within : State → Bool
 state_within s = frames_within s.outer && under_within s.left s.stage
 
 -- a state that has read no more than before, but for symbols
-abbrev pub Old : Bool → Bool → Type 0
-Old old new = new ≡ (old && true)
-
 pub old : (a : Bool) → a ≡ (a && true)
 old a = sym (and-true a)
 

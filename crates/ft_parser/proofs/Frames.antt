@@ -1,8 +1,6 @@
--- The open parentheses, the innermost first.
-use Rattle.std.proofs.Common.{◌≡◌, List, [], ◌∷◌, ◌++◌, map, ap}
+-- A stack is seen with its last item first, so that what is pushed comes first.
+use Rattle.std.proofs.Common.{◌≡◌, List, [], ◌∷◌, ◌++◌, map, reverse, ap}
 use Rattle.std.proofs.lemmas.List.{reverse-append}
-use Rattle.ft_parser.specs.steps.State.{frame_of, frames_of}
-use Rattle.ft_parser.specs.declared.state.Frame.{Frame}
 
-pub frames_pushed : (frames : List Frame) (frame : Frame) → frames_of (frames ++ frame ∷ []) ≡ frame_of frame ∷ frames_of frames
-frames_pushed frames frame = ap (map frame_of) (reverse-append frames (frame ∷ []))
+pub pushed_first : {A B : Type 0} (view : A → B) (items : List A) (item : A) → map view (reverse (items ++ item ∷ [])) ≡ view item ∷ map view (reverse items)
+pushed_first view items item = ap (map view) (reverse-append items (item ∷ []))

@@ -17,7 +17,7 @@ use Rattle.selection_grammar.proofs.Decided.{read-append}
 use Rattle.selection_grammar.proofs.Readings.{Stopped, is_whole}
 use Rattle.ft_parser.specs.Answer.{scanned_from, ended}
 use Rattle.ft_parser.specs.steps.Ending.{ends_before}
-use Rattle.ft_parser.specs.Limits.{has_all_filters, open_behind, open_within, passes, limit_fault, is_deep_filter}
+use Rattle.ft_parser.specs.Limits.{has_all_filters, open_behind, open_within, exceeds, limit_fault, is_deep_filter}
 use Rattle.ft_parser.specs.steps.Parts.{begins_filter}
 use Rattle.ft_parser.specs.Prefix as prefix
 use Rattle.ft_parser.specs.Prefix.{counted, numbered_form, run_length, with_number}
@@ -51,7 +51,7 @@ behind_small depth symbol = go (is_mark open_parenthesis symbol) (is_mark close_
 
 within_small : (u : List Placed) (depth d : ℕ) → open_within depth u ≡ Ok d → d ≤ depth + length u
 within_small [] depth d e = let same : depth ≡ d = cc in omega (arith, same)
-within_small (p ∷ u) depth d e = go (passes depth p.symbol) (λ k. within_small u (open_behind depth p.symbol) d k) e
+within_small (p ∷ u) depth d e = go (exceeds depth p.symbol) (λ k. within_small u (open_behind depth p.symbol) d k) e
   where
     go : (b : Bool) → (open_within (open_behind depth p.symbol) u ≡ Ok d → d ≤ open_behind depth p.symbol + length u) → cond b (Err (limit_fault p)) (open_within (open_behind depth p.symbol) u) ≡ Ok d → d ≤ depth + length (p ∷ u)
     go true on e = cc
@@ -71,9 +71,9 @@ one_along : (bad : Option ℕ) (size : ℕ) (p : Placed) (f v : List Placed) (de
     → ((y : Shape State) → run (Some y) f ≡ Some r → rest_read (open_behind depth p.symbol) y (f ++ v) bad size ≡ on_within (open_within (open_behind depth p.symbol) f) (λ d. rest_read d r v bad size))
     → rest_read depth x (p ∷ f ++ v) bad size ≡ on_within (open_within depth (p ∷ f)) (λ d. rest_read d r v bad size)
 one_along bad size p f v depth x r None d a e on = cc
-one_along bad size p f v depth x r (Some y) d a e on = go (passes depth p.symbol) refl
+one_along bad size p f v depth x r (Some y) d a e on = go (exceeds depth p.symbol) refl
   where
-    go : (b : Bool) → passes depth p.symbol ≡ b → rest_read depth x (p ∷ f ++ v) bad size ≡ on_within (cond b (Err (limit_fault p)) (open_within (open_behind depth p.symbol) f)) (λ d. rest_read d r v bad size)
+    go : (b : Bool) → exceeds depth p.symbol ≡ b → rest_read depth x (p ∷ f ++ v) bad size ≡ on_within (cond b (Err (limit_fault p)) (open_within (open_behind depth p.symbol) f)) (λ d. rest_read d r v bad size)
     go true l = at_limit bad size depth p (f ++ v) x l
     go false l = passed bad size depth p (f ++ v) x y l d a ∙ on y e
 
@@ -144,9 +144,9 @@ left_comes : (r : Shape State) (depth : ℕ) (v : List Placed) (bad : Option ℕ
     → rest_read depth r v bad size ≡ read_to_end depth v bad size (finished_at r)
 unfolding scanned_from
 left_comes r depth [] bad size stops shallow = refl
-left_comes r depth (q ∷ z) bad size stops shallow = go (passes depth q.symbol) refl
+left_comes r depth (q ∷ z) bad size stops shallow = go (exceeds depth q.symbol) refl
   where
-    go : (b : Bool) → passes depth q.symbol ≡ b → rest_read depth r (q ∷ z) bad size ≡ Err (cond b (limit_fault q) (Q.Syntax q.from))
+    go : (b : Bool) → exceeds depth q.symbol ≡ b → rest_read depth r (q ∷ z) bad size ≡ Err (cond b (limit_fault q) (Q.Syntax q.from))
     go true l = at_limit bad size depth q z r l
     go false l = at_symbol bad size depth q z r l (shallow q z refl) (stops q z refl)
 

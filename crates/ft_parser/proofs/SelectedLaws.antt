@@ -18,9 +18,9 @@ use Rattle.selection_grammar.specs.Tree.{Tree}
 use Rattle.selection_grammar.proofs.Decided.{spells_read, read_spells, read_begins, refused_begins, read-append}
 use Rattle.selection_faults.specs.Faults.{fault_of}
 use Rattle.ft_parser.specs.Answer.{scanned_on, scanned_from, faultless, ended, read_as}
-use Rattle.ft_parser.specs.Limits.{is_great, open_behind, passes, before_limit, from_limit, limit_fault, is_deep_filter, is_filter_word}
+use Rattle.ft_parser.specs.Limits.{is_great, open_behind, exceeds, before_limit, from_limit, limit_fault, is_deep_filter, is_filter_word}
 use Rattle.ft_parser.proofs.FilterRuns.{none_deep_within}
-use Rattle.ft_parser.specs.Selected.{open_after, open_in, is_deep_there, is_deep_behind, passes_limit, MayStand, IsWhole, Selects, Refuses}
+use Rattle.ft_parser.specs.Selected.{open_after, open_in, is_deep_there, is_deep_behind, exceeds_limit, MayStand, IsWhole, Selects, Refuses}
 
 -- the last symbol of a list, or one before it
 last_or_inner : (u : List Placed) (p : Placed) (before : List Placed) (q : Placed) (rest : List Placed) (C : Type 0) → u ++ p ∷ [] ≡ before ++ q ∷ rest → (before ≡ u → q ≡ p → C) → ((inner : List Placed) → u ≡ before ++ q ∷ inner → C) → C
@@ -42,21 +42,21 @@ pub number_no_mark : (s : Symbol) → is_great (number_of s) ≡ true → is_mar
 number_no_mark (S.Number n) h = refl
 number_no_mark other h = cc
 
-word_passes_none : (s : Symbol) (depth : ℕ) (all : Bool) → (is_filter_word s && all) ≡ true → passes depth s ≡ false
-word_passes_none (S.Name name) depth all h = no_mark (nat_le max_open depth)
+word_exceeds_none : (s : Symbol) (depth : ℕ) (all : Bool) → (is_filter_word s && all) ≡ true → exceeds depth s ≡ false
+word_exceeds_none (S.Name name) depth all h = no_mark (nat_le max_open depth)
   where
     no_mark : (b : Bool) → (b && false) ≡ false
     no_mark true = refl
     no_mark false = refl
-word_passes_none other depth all h = cc
+word_exceeds_none other depth all h = cc
 
-pub deep_passes_none : (shape : Shape State) (s : Symbol) (depth : ℕ) → is_deep_filter shape s ≡ true → passes depth s ≡ false
-deep_passes_none (whole t) s depth h = word_passes_none s depth _ h
-deep_passes_none nothing s depth h = cc
-deep_passes_none (word key to rest) s depth h = cc
-deep_passes_none (shapes.number to rest) s depth h = cc
-deep_passes_none (text to rest) s depth h = cc
-deep_passes_none (mark m to rest) s depth h = cc
+pub deep_exceeds_none : (shape : Shape State) (s : Symbol) (depth : ℕ) → is_deep_filter shape s ≡ true → exceeds depth s ≡ false
+deep_exceeds_none (whole t) s depth h = word_exceeds_none s depth _ h
+deep_exceeds_none nothing s depth h = cc
+deep_exceeds_none (word key to rest) s depth h = cc
+deep_exceeds_none (shapes.number to rest) s depth h = cc
+deep_exceeds_none (text to rest) s depth h = cc
+deep_exceeds_none (mark m to rest) s depth h = cc
 
 -- what is read of the symbols that are left
 abbrev pub rest_read : ℕ → Shape State → List Placed → Option ℕ → ℕ → Result Form QueryFault
@@ -70,8 +70,8 @@ Outcome symbols bad size (Err fault) = Refuses symbols bad size fault
 whole_of : {u : List Placed} {tree : Tree} → MayStand u → Selection u tree → IsWhole u tree
 whole_of {u = u} {tree = tree} h a = record {
   spells = a;
-  limits = λ before p rest e. (or_parts (passes (open_in before) p.symbol) (is_deep_behind before p.symbol) (h.limits before p rest e)).0;
-  filters = none_deep_within u tree a (λ before p rest e. (or_parts (passes (open_in before) p.symbol) (is_deep_behind before p.symbol) (h.limits before p rest e)).1);
+  limits = λ before p rest e. (or_parts (exceeds (open_in before) p.symbol) (is_deep_behind before p.symbol) (h.limits before p rest e)).0;
+  filters = none_deep_within u tree a (λ before p rest e. (or_parts (exceeds (open_in before) p.symbol) (is_deep_behind before p.symbol) (h.limits before p rest e)).1);
 }
 
 judged : (u : List Placed) (size : ℕ) (tree : Tree) (o : Option QueryFault) → MayStand u → Selection u tree → fault_of tree ≡ o → Outcome u None size (faultless tree o)
@@ -84,10 +84,10 @@ at_end u shape None size None r h e = Refuses.end refl h (λ x a. let two : Some
 at_end u shape None size (Some tree) r h e = judged u size tree (fault_of tree) h (read_spells u tree (ap finished r ∙ e)) refl
 
 -- one symbol more
-stands_on : (u : List Placed) (p : Placed) (shape : Shape State) → MayStand u → passes_limit u p.symbol ≡ false → read (u ++ p ∷ []) ≡ Some shape → MayStand (u ++ p ∷ [])
+stands_on : (u : List Placed) (p : Placed) (shape : Shape State) → MayStand u → exceeds_limit u p.symbol ≡ false → read (u ++ p ∷ []) ≡ Some shape → MayStand (u ++ p ∷ [])
 stands_on u p shape h l r = record {
   begins = read_begins (u ++ p ∷ []) shape r;
-  limits = λ before q rest e. last_or_inner u p before q rest (passes_limit before q.symbol ≡ false) e (λ a b. (λ i. passes_limit (a i) (b i).symbol) ∙ l) (λ inner a. h.limits before q inner a);
+  limits = λ before q rest e. last_or_inner u p before q rest (exceeds_limit before q.symbol ≡ false) e (λ a b. (λ i. exceeds_limit (a i) (b i).symbol) ∙ l) (λ inner a. h.limits before q inner a);
 }
 
 read_one : (u : List Placed) (p : Placed) (shape : Shape State) → read u ≡ Some shape → read (u ++ p ∷ []) ≡ run_on (advance shape p) []
@@ -98,17 +98,17 @@ one_read : (bad : Option ℕ) (size : ℕ) (p : Placed) (v u : List Placed) (sha
     → ((next : Shape State) → read (u ++ p ∷ []) ≡ Some next → MayStand (u ++ p ∷ []) → Outcome ((u ++ p ∷ []) ++ v) bad size (rest_read (open_behind depth p.symbol) next v bad size))
     → Outcome (u ++ p ∷ v) bad size (rest_read depth shape (p ∷ v) bad size)
 unfolding scanned_from
-one_read bad size p v u shape depth r h e further = by_limit (passes depth p.symbol) refl
+one_read bad size p v u shape depth r h e further = by_limit (exceeds depth p.symbol) refl
   where
-    by_advance : (o : Option (Shape State)) → advance shape p ≡ o → passes_limit u p.symbol ≡ false → Outcome (u ++ p ∷ v) bad size (read_as (scanned_on p o (λ s. scanned_from s (before_limit (open_behind depth p.symbol) v))) (from_limit (open_behind depth p.symbol) v) bad size)
+    by_advance : (o : Option (Shape State)) → advance shape p ≡ o → exceeds_limit u p.symbol ≡ false → Outcome (u ++ p ∷ v) bad size (read_as (scanned_on p o (λ s. scanned_from s (before_limit (open_behind depth p.symbol) v))) (from_limit (open_behind depth p.symbol) v) bad size)
     by_advance None a l = Refuses.symbol u p v refl h l (refused_begins (u ++ p ∷ []) (read_one u p shape r ∙ ap (λ o. run_on o []) a))
     by_advance (Some next) a l =
         let there : read (u ++ p ∷ []) ≡ Some next = read_one u p shape r ∙ ap (λ o. run_on o []) a in
         subst (λ w. Outcome w bad size (rest_read (open_behind depth p.symbol) next v bad size)) (append_assoc u (p ∷ []) v) (further next there (stands_on u p next h l there))
 
-    by_filter : (b : Bool) → is_deep_filter shape p.symbol ≡ b → passes depth p.symbol ≡ false → Outcome (u ++ p ∷ v) bad size (read_as (cond b (Err (Q.Deep p.from)) (scanned_on p (advance shape p) (λ s. scanned_from s (before_limit (open_behind depth p.symbol) v)))) (from_limit (open_behind depth p.symbol) v) bad size)
+    by_filter : (b : Bool) → is_deep_filter shape p.symbol ≡ b → exceeds depth p.symbol ≡ false → Outcome (u ++ p ∷ v) bad size (read_as (cond b (Err (Q.Deep p.from)) (scanned_on p (advance shape p) (λ s. scanned_from s (before_limit (open_behind depth p.symbol) v)))) (from_limit (open_behind depth p.symbol) v) bad size)
     by_filter true a l = Refuses.filter u p v refl h (ap (λ o. is_deep_there o p.symbol) r ∙ a)
-    by_filter false a l = by_advance (advance shape p) refl (ap (λ n. passes n p.symbol || is_deep_behind u p.symbol) e ∙ ap (λ b. b || is_deep_behind u p.symbol) l ∙ ap (λ o. is_deep_there o p.symbol) r ∙ a)
+    by_filter false a l = by_advance (advance shape p) refl (ap (λ n. exceeds n p.symbol || is_deep_behind u p.symbol) e ∙ ap (λ b. b || is_deep_behind u p.symbol) l ∙ ap (λ o. is_deep_there o p.symbol) r ∙ a)
 
     by_kind : (b c d : Bool) → is_great (number_of p.symbol) ≡ b → nat_le max_open depth ≡ c → is_mark open_parenthesis p.symbol ≡ d → (b || (c && d)) ≡ true → Outcome (u ++ p ∷ v) bad size (Err (limit_fault p))
     by_kind true c d a k m l = subst (λ b. Refuses (u ++ p ∷ v) bad size (cond b (Q.Deep p.from) (Q.Number p.from))) (sym (number_no_mark p.symbol a)) (Refuses.number u p v refl h a)
@@ -116,7 +116,7 @@ one_read bad size p v u shape depth r h e further = by_limit (passes depth p.sym
     by_kind false true false a k m l = cc
     by_kind false false d a k m l = cc
 
-    by_limit : (b : Bool) → passes depth p.symbol ≡ b → Outcome (u ++ p ∷ v) bad size (read_as (scanned_from shape (cond b [] (p ∷ before_limit (open_behind depth p.symbol) v))) (cond b (p ∷ v) (from_limit (open_behind depth p.symbol) v)) bad size)
+    by_limit : (b : Bool) → exceeds depth p.symbol ≡ b → Outcome (u ++ p ∷ v) bad size (read_as (scanned_from shape (cond b [] (p ∷ before_limit (open_behind depth p.symbol) v))) (cond b (p ∷ v) (from_limit (open_behind depth p.symbol) v)) bad size)
     by_limit true l = by_kind (is_great (number_of p.symbol)) (nat_le max_open depth) (is_mark open_parenthesis p.symbol) refl refl refl l
     by_limit false l = by_filter (is_deep_filter shape p.symbol) refl l
 
@@ -129,7 +129,7 @@ forward bad size (p ∷ v) u shape depth r h e = one_read bad size p v u shape d
 nothing_read : MayStand []
 nothing_read = record { begins = read_begins [] (whole start) refl; limits = λ before p rest e. no before p rest e }
   where
-    no : (before : List Placed) (p : Placed) (rest : List Placed) → [] ≡ before ++ p ∷ rest → passes_limit before p.symbol ≡ false
+    no : (before : List Placed) (p : Placed) (rest : List Placed) → [] ≡ before ++ p ∷ rest → exceeds_limit before p.symbol ≡ false
     no [] p rest e = cc
     no (b ∷ before) p rest e = cc
 

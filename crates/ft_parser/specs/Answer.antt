@@ -38,7 +38,7 @@ ended (Some bad) size x = Err (Q.Syntax bad)
 ended None size None = Err (Q.Syntax size)
 ended None size (Some tree) = faultless tree (fault_of tree)
 
--- behind the symbols before the first that passes a limit
+-- behind the symbols before the first that exceeds a limit
 abbrev pub limited : List Placed → Option ℕ → ℕ → Option Tree → Result Form QueryFault
 limited [] bad size x = ended bad size x
 limited (p ∷ rest) bad size x = Err (limit_fault p)

@@ -14,7 +14,7 @@ use Rattle.selection_grammar.specs.Texts.{Begins}
 use Rattle.selection_grammar.specs.Tree.{Tree}
 use Rattle.selection_faults.specs.Faults.{fault_of}
 use Rattle.ft_parser.specs.FilterLimit.{are_filters_within}
-use Rattle.ft_parser.specs.Limits.{is_great, open_behind, passes, is_deep_filter}
+use Rattle.ft_parser.specs.Limits.{is_great, open_behind, exceeds, is_deep_filter}
 use Rattle.query_symbols.specs.Symbols.{symbols_of}
 
 -- how many parentheses are open behind symbols
@@ -33,19 +33,19 @@ is_deep_there (Some shape) symbol = is_deep_filter shape symbol
 abbrev pub is_deep_behind : List Placed → Symbol → Bool
 is_deep_behind before symbol = is_deep_there (read before) symbol
 
--- whether a symbol passes a limit where it stands behind others: of numbers, of parentheses, or of filters
-abbrev pub passes_limit : List Placed → Symbol → Bool
-passes_limit before symbol = passes (open_in before) symbol || is_deep_behind before symbol
+-- whether a symbol exceeds a limit where it stands behind others: of numbers, of parentheses, or of filters
+abbrev pub exceeds_limit : List Placed → Symbol → Bool
+exceeds_limit before symbol = exceeds (open_in before) symbol || is_deep_behind before symbol
 
--- Symbols that may stand at the beginning of a selection: they begin one, and none of them passes a limit.
+-- Symbols that may stand at the beginning of a selection: they begin one, and none of them exceeds a limit.
 pub record MayStand (symbols : List Placed) : Type 0 where
   pub begins : Begins symbols
-  pub limits : (before : List Placed) (p : Placed) (rest : List Placed) → symbols ≡ before ++ p ∷ rest → passes_limit before p.symbol ≡ false
+  pub limits : (before : List Placed) (p : Placed) (rest : List Placed) → symbols ≡ before ++ p ∷ rest → exceeds_limit before p.symbol ≡ false
 
 -- The symbols are this selection, within all limits.
 pub record IsWhole (symbols : List Placed) (tree : Tree) : Type 0 where
   pub spells : Selection symbols tree
-  pub limits : (before : List Placed) (p : Placed) (rest : List Placed) → symbols ≡ before ++ p ∷ rest → passes (open_in before) p.symbol ≡ false
+  pub limits : (before : List Placed) (p : Placed) (rest : List Placed) → symbols ≡ before ++ p ∷ rest → exceeds (open_in before) p.symbol ≡ false
   pub filters : are_filters_within tree ≡ true
 
 -- The symbols make up the whole text and are a selection without a fault, and this is the selection.
@@ -69,7 +69,7 @@ pub data Refuses (symbols : List Placed) (bad : Option ℕ) (size : ℕ) : Query
       → is_deep_behind before p.symbol ≡ true → Refuses symbols bad size (Q.Deep p.from)
   -- with the symbol there they begin no selection
   symbol : (before : List Placed) (p : Placed) (rest : List Placed) → symbols ≡ before ++ p ∷ rest → MayStand before
-      → passes_limit before p.symbol ≡ false → (Begins (before ++ p ∷ []) → ⊥) → Refuses symbols bad size (Q.Syntax p.from)
+      → exceeds_limit before p.symbol ≡ false → (Begins (before ++ p ∷ []) → ⊥) → Refuses symbols bad size (Q.Syntax p.from)
   -- a character behind all symbols begins none
   character : (at : ℕ) → bad ≡ Some at → MayStand symbols → Refuses symbols bad size (Q.Syntax at)
   -- the text ends before the selection does

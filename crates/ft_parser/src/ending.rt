@@ -14,7 +14,7 @@ use selection_grammar::Placed;
 pub(crate) fn ends_before(symbols: &[Placed], next: usize, state: &State) -> bool
     ensures { result ≡ spec.ends_before (state_of state.now) (drop next symbols.now) }
 {
-    if !state.outer.is_empty() {
+    if !state.context.outer.is_empty() {
         return false;
     }
     !goes_on(symbols, next, &state.stage)

@@ -21,10 +21,10 @@ pub(crate) fn begins_deep_filter(symbols: &[Placed], next: usize, state: &State)
 
 /// Whether the selection under way has as many filters directly round one another as may stand so.
 fn has_all_filters(state: &State) -> bool
-    ensures { result ≡ limits.has_all_filters (m.selection_at (left_of state.now.left) (stage_of state.now.stage)) }
+    ensures { result ≡ limits.has_all_filters (m.selection_at (left_of state.now.context.left) (stage_of state.now.stage)) }
 {
     match &state.stage {
-        Stage::Given(operand) => stands_first(&state.left) && operand_has_all(operand),
+        Stage::Given(operand) => stands_first(&state.context.left) && operand_has_all(operand),
         Stage::WithFilter(parsed) => has_filters(parsed, MAX_FILTERS),
         _ => false,
     }

@@ -14,14 +14,15 @@ use std::alloc::Global;
 
 /// The selection, if it may end there.
 pub(crate) fn finish(alloc: Global, state: State) -> Result<Option<Parsed>, Memory>
-    ensures { IfOk result (λ o. option_map tree o ≡ m.finished_in (frames_of state.outer.items) (m.selection_at (left_of state.left) (stage_of state.stage))) }
+    ensures { IfOk result (λ o. option_map tree o
+        ≡ m.finished_in (frames_of state.context.outer.items) (m.selection_at (left_of state.context.left) (stage_of state.stage))) }
 {
-    let State { outer, left, stage } = state;
-    if !outer.is_empty() {
-        drop((outer, left, stage));
+    let State { context, stage } = state;
+    if !context.outer.is_empty() {
+        drop((context, stage));
         return Ok(None);
     }
-    selection_at(alloc, left, stage)
+    selection_at(alloc, context.left, stage)
 }
 
 fn selection_at(alloc: Global, left: Left, stage: Stage) -> Result<Option<Parsed>, Memory>

@@ -4,6 +4,7 @@ ghost use Rattle.std.specs.Prelude.{◌≡◌, ◌≤◌, ◌+◌, IsTrue, IfOk,
 ghost use Rattle.selection_grammar.specs.steps.Reading.{first_is, first_is_mark, first_number, first_text, first_place};
 ghost use Rattle.selection_grammar.specs.Shapes as shapes;
 
+use crate::state::Reader;
 use ft_base::{Line, Memory};
 use selection_grammar::{Placed, Symbol};
 use std::alloc::Global;
@@ -49,16 +50,12 @@ fn number_in(symbol: &Symbol) -> Option<u32>
 }
 
 /// A copy of the string there, if it is one.
-pub(crate) fn text_at(
-    alloc: Global,
-    symbols: &[Placed],
-    number: usize,
-) -> Result<Option<Line>, Memory>
-    ensures value { IfOk result (λ text. text ≡ first_text (drop number symbols.now)) }
-    ensures within { IfOk result (λ text. IfSome text (λ n. number + 1 ≤ length symbols.now)) }
+pub(crate) fn text_at(reader: Reader<'_>, number: usize) -> Result<Option<Line>, Memory>
+    ensures value { IfOk result (λ text. text ≡ first_text (drop number reader.entry.symbols.now)) }
+    ensures within { IfOk result (λ text. IfSome text (λ n. number + 1 ≤ length reader.entry.symbols.now)) }
 {
-    match symbols.get(number) {
-        Some(placed) => text_in(alloc, &placed.symbol),
+    match reader.symbols.get(number) {
+        Some(placed) => text_in(reader.alloc, &placed.symbol),
         None => Ok(None),
     }
 }

@@ -6,8 +6,8 @@ ghost use Rattle.ft_parser.specs.Limits as spec;
 use ft_base::{MAX_NUMBER, MAX_OPEN, QueryFault};
 use selection_grammar::{Placed, Symbol};
 
-fn passes(depth: usize, symbol: &Symbol) -> bool
-    ensures { result ≡ spec.passes depth symbol.now }
+fn exceeds(depth: usize, symbol: &Symbol) -> bool
+    ensures { result ≡ spec.exceeds depth symbol.now }
 {
     match symbol {
         Symbol::Number(number) => *number > MAX_NUMBER,
@@ -27,14 +27,14 @@ fn open_behind(depth: usize, symbol: &Symbol) -> usize
     }
 }
 
-/// How many parentheses are open behind symbols where so many are open before them, or the fault of the first of them that passes a limit.
+/// How many parentheses are open behind symbols where so many are open before them, or the fault of the first of them that exceeds a limit.
 pub(crate) fn open_within(depth: usize, symbols: &[Placed]) -> Result<usize, QueryFault>
     requires { depth + length symbols.now < 2 ^ 63 }
     ensures { result ≡ spec.open_within depth symbols.now }
 {
     let mut count = depth;
     for placed in symbols {
-        if passes(count, &placed.symbol) {
+        if exceeds(count, &placed.symbol) {
             return Err(limit_fault(placed));
         }
         count = open_behind(count, &placed.symbol);
@@ -42,17 +42,17 @@ pub(crate) fn open_within(depth: usize, symbols: &[Placed]) -> Result<usize, Que
     Ok(count)
 }
 
-/// The fault of a symbol that can't stand where so many parentheses are open: a limit that it passes counts first.
+/// The fault of a symbol that can't stand where so many parentheses are open: a limit that it exceeds counts first.
 pub(crate) fn symbol_fault(depth: usize, placed: &Placed) -> QueryFault
     ensures { result ≡ spec.symbol_fault depth placed.now }
 {
-    if passes(depth, &placed.symbol) {
+    if exceeds(depth, &placed.symbol) {
         return limit_fault(placed);
     }
     QueryFault::Syntax { at: placed.from }
 }
 
-/// The fault of a symbol that passes a limit.
+/// The fault of a symbol that exceeds a limit.
 fn limit_fault(placed: &Placed) -> QueryFault
     ensures { result ≡ spec.limit_fault placed.now }
 {

@@ -15,9 +15,9 @@ use crate::heads::{
     closes_brace, closes_parenthesis, is_comma, is_word, opens_brace, opens_parenthesis, place_at,
     text_at,
 };
-use crate::state::{Frame, Halt, Left, Operand, Primary, Stage, State};
+use crate::state::{Context, Frame, Halt, Left, Operand, Primary, Reader, Stage, State};
 use ft_base::{Items, Memory};
-use selection_grammar::{Parsed, Placed, PlacedString};
+use selection_grammar::{Parsed, PlacedString};
 use std::alloc::Global;
 
 /// A list of one string.
@@ -42,194 +42,184 @@ pub(crate) fn nothing_left_of(alloc: Global) -> Left
 
 /// Where an operand is wanted, perhaps behind `ftnot`.
 pub(crate) fn wanted(
-    alloc: Global,
-    symbols: &[Placed],
+    reader: Reader<'_>,
     next: usize,
-    outer: Vec<Frame>,
-    left: Left,
+    context: Context,
     negation: Option<usize>,
 ) -> Result<(State, usize), Halt>
-    ensures { Answers state_of result (reading (m.wanted_next (frames_of outer.items) (left_of left) negation) symbols.now next) }
+    ensures { Answers state_of result
+        (reading (m.wanted_next (frames_of context.outer.items) (left_of context.left) negation) reader.entry.symbols.now next) }
 {
     match negation {
-        Some(at) => operand(alloc, symbols, next, outer, left, Some(at)),
+        Some(at) => operand(reader, next, context, Some(at)),
         None => {
-            if !is_word(symbols, next, "ftnot") {
-                return operand(alloc, symbols, next, outer, left, None);
+            if !is_word(reader.symbols, next, "ftnot") {
+                return operand(reader, next, context, None);
             }
-            let stage = Stage::Wanted(Some(place_at(symbols, next)));
-            Ok((State { outer, left, stage }, next + 1))
+            let stage = Stage::Wanted(Some(place_at(reader.symbols, next)));
+            Ok((State { context, stage }, next + 1))
         }
     }
 }
 
 fn operand(
-    alloc: Global,
-    symbols: &[Placed],
+    reader: Reader<'_>,
     next: usize,
-    outer: Vec<Frame>,
-    left: Left,
+    context: Context,
     negation: Option<usize>,
 ) -> Result<(State, usize), Halt>
-    ensures { Answers state_of result (reading (m.operand_next (frames_of outer.items) (left_of left) negation) symbols.now next) }
+    ensures { Answers state_of result
+        (reading (m.operand_next (frames_of context.outer.items) (left_of context.left) negation) reader.entry.symbols.now next) }
 {
-    match text_at(alloc, symbols, next) {
+    match text_at(reader, next) {
         Err(_) => {
-            drop((outer, left));
+            drop(context);
             Err(Halt::Memory)
         }
-        Ok(None) => enclosed(alloc, symbols, next, outer, left, negation),
+        Ok(None) => enclosed(reader, next, context, negation),
         Ok(Some(text)) => {
-            let at = place_at(symbols, next);
-            let Ok(strings) = one_string(alloc, PlacedString { at, text }) else {
-                drop((outer, left));
+            let at = place_at(reader.symbols, next);
+            let Ok(strings) = one_string(reader.alloc, PlacedString { at, text }) else {
+                drop(context);
                 return Err(Halt::Memory);
             };
             let stage = Stage::Valued(negation, strings);
-            Ok((State { outer, left, stage }, next + 1))
+            Ok((State { context, stage }, next + 1))
         }
     }
 }
 
 /// An operand that begins with a brace or a parenthesis.
 fn enclosed(
-    alloc: Global,
-    symbols: &[Placed],
+    reader: Reader<'_>,
     next: usize,
-    outer: Vec<Frame>,
-    left: Left,
+    context: Context,
     negation: Option<usize>,
 ) -> Result<(State, usize), Halt>
-    ensures { Answers state_of result (reading (m.enclosed_next (frames_of outer.items) (left_of left) negation) symbols.now next) }
+    ensures { Answers state_of result
+        (reading (m.enclosed_next (frames_of context.outer.items) (left_of context.left) negation) reader.entry.symbols.now next) }
 {
-    if opens_brace(symbols, next) {
-        first_in_braces(alloc, symbols, next + 1, outer, left, negation)
-    } else if opens_parenthesis(symbols, next) {
-        let inside = opened(alloc, outer, left, negation)?;
+    if opens_brace(reader.symbols, next) {
+        first_in_braces(reader, next + 1, context, negation)
+    } else if opens_parenthesis(reader.symbols, next) {
+        let inside = opened(reader.alloc, context, negation)?;
         Ok((inside, next + 1))
     } else {
-        drop((outer, left));
+        drop(context);
         Err(Halt::Stuck(next))
     }
 }
 
 fn first_in_braces(
-    alloc: Global,
-    symbols: &[Placed],
+    reader: Reader<'_>,
     next: usize,
-    outer: Vec<Frame>,
-    left: Left,
+    context: Context,
     negation: Option<usize>,
 ) -> Result<(State, usize), Halt>
-    ensures { Answers state_of result (reading (m.first_in_braces (frames_of outer.items) (left_of left) negation) symbols.now next) }
+    ensures { Answers state_of result
+        (reading (m.first_in_braces (frames_of context.outer.items) (left_of context.left) negation) reader.entry.symbols.now next) }
 {
-    match text_at(alloc, symbols, next) {
+    match text_at(reader, next) {
         Err(_) => {
-            drop((outer, left));
+            drop(context);
             Err(Halt::Memory)
         }
         Ok(None) => {
-            drop((outer, left));
+            drop(context);
             Err(Halt::Stuck(next))
         }
         Ok(Some(text)) => {
-            let at = place_at(symbols, next);
-            let Ok(strings) = one_string(alloc, PlacedString { at, text }) else {
-                drop((outer, left));
+            let at = place_at(reader.symbols, next);
+            let Ok(strings) = one_string(reader.alloc, PlacedString { at, text }) else {
+                drop(context);
                 return Err(Halt::Memory);
             };
             let stage = Stage::InBraces(negation, strings);
-            Ok((State { outer, left, stage }, next + 1))
+            Ok((State { context, stage }, next + 1))
         }
     }
 }
 
 /// Inside one more parenthesis.
-#[tactic(auto, using(crate::proofs::Frames::frames_pushed))]
-fn opened(
-    alloc: Global,
-    outer: Vec<Frame>,
-    left: Left,
-    negation: Option<usize>,
-) -> Result<State, Memory>
-    ensures { IfOk result (λ state. state_of state ≡ m.opened (frames_of outer.items) (left_of left) negation) }
+#[tactic(auto, using(crate::proofs::Frames::pushed_first))]
+fn opened(alloc: Global, context: Context, negation: Option<usize>) -> Result<State, Memory>
+    ensures { IfOk result (λ state. state_of state ≡ m.opened (frames_of context.outer.items) (left_of context.left) negation) }
 {
+    let Context { outer, left } = context;
     let mut frames = outer;
     frames.push(Frame { left, negation })?;
-    Ok(State {
+    let context = Context {
         outer: frames,
         left: nothing_left_of(alloc),
-        stage: Stage::Wanted(None),
-    })
+    };
+    let stage = Stage::Wanted(None);
+    Ok(State { context, stage })
 }
 
 /// Behind a string in braces.
 pub(crate) fn in_braces(
-    alloc: Global,
-    symbols: &[Placed],
+    reader: Reader<'_>,
     next: usize,
-    outer: Vec<Frame>,
-    left: Left,
+    context: Context,
     negation: Option<usize>,
     strings: Items<PlacedString>,
 ) -> Result<(State, usize), Halt>
-    ensures { Answers state_of result (reading (m.next_at (frames_of outer.items) (left_of left) (m.in_braces negation strings)) symbols.now next) }
+    ensures { Answers state_of result
+        (reading (m.next_at (frames_of context.outer.items) (left_of context.left) (m.in_braces negation strings)) reader.entry.symbols.now next) }
 {
-    if is_comma(symbols, next) {
-        more_in_braces(alloc, symbols, next + 1, outer, left, negation, strings)
-    } else if closes_brace(symbols, next) {
+    if is_comma(reader.symbols, next) {
+        more_in_braces(reader, next + 1, context, negation, strings)
+    } else if closes_brace(reader.symbols, next) {
         let stage = Stage::Valued(negation, strings);
-        Ok((State { outer, left, stage }, next + 1))
+        Ok((State { context, stage }, next + 1))
     } else {
-        drop((outer, left, strings));
+        drop((context, strings));
         Err(Halt::Stuck(next))
     }
 }
 
 fn more_in_braces(
-    alloc: Global,
-    symbols: &[Placed],
+    reader: Reader<'_>,
     next: usize,
-    outer: Vec<Frame>,
-    left: Left,
+    context: Context,
     negation: Option<usize>,
     strings: Items<PlacedString>,
 ) -> Result<(State, usize), Halt>
     ensures { Answers state_of result
-        (reading (m.further_string (λ xs. stands (frames_of outer.items) (left_of left) (m.in_braces negation xs)) strings) symbols.now next) }
+        (reading (m.further_string (λ xs. stands (frames_of context.outer.items) (left_of context.left) (m.in_braces negation xs)) strings)
+        reader.entry.symbols.now next) }
 {
-    match text_at(alloc, symbols, next) {
+    match text_at(reader, next) {
         Err(_) => {
-            drop((outer, left, strings));
+            drop((context, strings));
             Err(Halt::Memory)
         }
         Ok(None) => {
-            drop((outer, left, strings));
+            drop((context, strings));
             Err(Halt::Stuck(next))
         }
         Ok(Some(text)) => {
-            let at = place_at(symbols, next);
+            let at = place_at(reader.symbols, next);
             let mut more = strings;
             if more.push(PlacedString { at, text }).is_err() {
-                drop((outer, left, more));
+                drop((context, more));
                 return Err(Halt::Memory);
             }
             let stage = Stage::InBraces(negation, more);
-            Ok((State { outer, left, stage }, next + 1))
+            Ok((State { context, stage }, next + 1))
         }
     }
 }
 
 /// A parenthesis that closes the selection.
-#[tactic(auto, using(crate::proofs::Frames::frames_pushed))]
+#[tactic(auto, using(crate::proofs::Frames::pushed_first))]
 pub(crate) fn close(
-    alloc: Global,
-    symbols: &[Placed],
+    reader: Reader<'_>,
     next: usize,
     outer: Vec<Frame>,
     selection: Parsed,
 ) -> Result<(State, usize), Halt>
-    ensures { Answers state_of result (reading (m.close_next (frames_of outer.items) (tree selection)) symbols.now next) }
+    ensures { Answers state_of result (reading (m.close_next (frames_of outer.items) (tree selection)) reader.entry.symbols.now next) }
 {
     let mut frames = outer;
     match frames.pop() {
@@ -238,11 +228,11 @@ pub(crate) fn close(
             Err(Halt::Stuck(next))
         }
         Some(frame) => {
-            if !closes_parenthesis(symbols, next) {
+            if !closes_parenthesis(reader.symbols, next) {
                 drop((frames, frame, selection));
                 return Err(Halt::Stuck(next));
             }
-            Ok((closed(alloc, frames, frame, selection), next + 1))
+            Ok((closed(reader.alloc, frames, frame, selection), next + 1))
         }
     }
 }
@@ -255,65 +245,66 @@ fn closed(alloc: Global, outer: Vec<Frame>, frame: Frame, selection: Parsed) -> 
         primary: Primary::Inner(selection),
         options: Items::new(alloc),
     };
-    State {
+    let context = Context {
         outer,
         left: frame.left,
-        stage: Stage::Given(operand),
-    }
+    };
+    let stage = Stage::Given(operand);
+    State { context, stage }
 }
 
 /// Behind a whole operand.
 pub(crate) fn joint(
-    alloc: Global,
-    symbols: &[Placed],
+    reader: Reader<'_>,
     next: usize,
-    outer: Vec<Frame>,
-    left: Left,
+    context: Context,
     operand: Parsed,
 ) -> Result<(State, usize), Halt>
-    ensures { Answers state_of result (reading (m.joint_next (frames_of outer.items) (left_of left) (tree operand)) symbols.now next) }
+    ensures { Answers state_of result
+        (reading (m.joint_next (frames_of context.outer.items) (left_of context.left) (tree operand)) reader.entry.symbols.now next) }
 {
-    if is_word(symbols, next, "ftor") {
-        let state = behind_or(alloc, outer, left, operand)?;
+    if is_word(reader.symbols, next, "ftor") {
+        let state = behind_or(reader.alloc, context, operand)?;
         Ok((state, next + 1))
-    } else if is_word(symbols, next, "ftand") {
-        let state = behind_and(alloc, outer, left, operand)?;
+    } else if is_word(reader.symbols, next, "ftand") {
+        let state = behind_and(reader.alloc, context, operand)?;
         Ok((state, next + 1))
-    } else if is_word(symbols, next, "not") {
-        behind_not(alloc, symbols, next + 1, outer, left, operand)
+    } else if is_word(reader.symbols, next, "not") {
+        behind_not(reader, next + 1, context, operand)
     } else {
-        let selection = selection_with(alloc, left, operand)?;
-        close(alloc, symbols, next, outer, selection)
+        let Context { outer, left } = context;
+        let selection = selection_with(reader.alloc, left, operand)?;
+        close(reader, next, outer, selection)
     }
 }
 
 /// Behind the first word of `not in`.
 fn behind_not(
-    alloc: Global,
-    symbols: &[Placed],
+    reader: Reader<'_>,
     next: usize,
-    outer: Vec<Frame>,
-    left: Left,
+    context: Context,
     operand: Parsed,
 ) -> Result<(State, usize), Halt>
     ensures { Answers state_of result (reading
-        (keywords.key (codes "in") (whole (stands (frames_of outer.items)
-        (record { ors = (left_of left).ors; ands = (left_of left).ands; mild = Some (m.mild_with (left_of left).mild (tree operand)) }) (m.wanted None))))
-        symbols.now next) }
+        (keywords.key (codes "in") (whole (stands (frames_of context.outer.items)
+        (record { ors = (left_of context.left).ors; ands = (left_of context.left).ands; mild = Some (m.mild_with (left_of context.left).mild (tree operand)) })
+        (m.wanted None))))
+        reader.entry.symbols.now next) }
 {
-    if is_word(symbols, next, "in") {
-        let state = behind_mild(alloc, outer, left, operand)?;
+    if is_word(reader.symbols, next, "in") {
+        let state = behind_mild(reader.alloc, context, operand)?;
         Ok((state, next + 1))
     } else {
-        drop((outer, left, operand));
+        drop((context, operand));
         Err(Halt::Stuck(next))
     }
 }
 
-fn behind_or(alloc: Global, outer: Vec<Frame>, left: Left, operand: Parsed) -> Result<State, Memory>
+fn behind_or(alloc: Global, context: Context, operand: Parsed) -> Result<State, Memory>
     ensures { IfOk result (λ state. state_of state
-        ≡ stands (frames_of outer.items) (record { ors = m.ors_with (left_of left) (tree operand); ands = []; mild = None }) (m.wanted None)) }
+        ≡ stands (frames_of context.outer.items) (record { ors = m.ors_with (left_of context.left) (tree operand); ands = []; mild = None }) (m.wanted None)) }
 {
+    let Context { outer, left } = context;
     let mild = mild_with(alloc, left.mild, operand)?;
     let and = and_with(left.ands, mild)?;
     let mut ors = left.ors;
@@ -323,19 +314,17 @@ fn behind_or(alloc: Global, outer: Vec<Frame>, left: Left, operand: Parsed) -> R
         ands: Vec::new(alloc),
         mild: None,
     };
+    let context = Context { outer, left };
     let stage = Stage::Wanted(None);
-    Ok(State { outer, left, stage })
+    Ok(State { context, stage })
 }
 
-fn behind_and(
-    alloc: Global,
-    outer: Vec<Frame>,
-    left: Left,
-    operand: Parsed,
-) -> Result<State, Memory>
+fn behind_and(alloc: Global, context: Context, operand: Parsed) -> Result<State, Memory>
     ensures { IfOk result (λ state. state_of state
-        ≡ stands (frames_of outer.items) (record { ors = (left_of left).ors; ands = m.ands_with (left_of left) (tree operand); mild = None }) (m.wanted None)) }
+        ≡ stands (frames_of context.outer.items)
+        (record { ors = (left_of context.left).ors; ands = m.ands_with (left_of context.left) (tree operand); mild = None }) (m.wanted None)) }
 {
+    let Context { outer, left } = context;
     let mild = mild_with(alloc, left.mild, operand)?;
     let mut ands = left.ands;
     ands.push(mild)?;
@@ -344,26 +333,25 @@ fn behind_and(
         ands,
         mild: None,
     };
+    let context = Context { outer, left };
     let stage = Stage::Wanted(None);
-    Ok(State { outer, left, stage })
+    Ok(State { context, stage })
 }
 
-fn behind_mild(
-    alloc: Global,
-    outer: Vec<Frame>,
-    left: Left,
-    operand: Parsed,
-) -> Result<State, Memory>
+fn behind_mild(alloc: Global, context: Context, operand: Parsed) -> Result<State, Memory>
     ensures { IfOk result (λ state. state_of state
-        ≡ stands (frames_of outer.items)
-        (record { ors = (left_of left).ors; ands = (left_of left).ands; mild = Some (m.mild_with (left_of left).mild (tree operand)) }) (m.wanted None)) }
+        ≡ stands (frames_of context.outer.items)
+        (record { ors = (left_of context.left).ors; ands = (left_of context.left).ands; mild = Some (m.mild_with (left_of context.left).mild (tree operand)) })
+        (m.wanted None)) }
 {
+    let Context { outer, left } = context;
     let mild = mild_with(alloc, left.mild, operand)?;
     let left = Left {
         ors: left.ors,
         ands: left.ands,
         mild: Some(mild),
     };
+    let context = Context { outer, left };
     let stage = Stage::Wanted(None);
-    Ok(State { outer, left, stage })
+    Ok(State { context, stage })
 }

@@ -16,11 +16,11 @@ use crate::parts::{
     range_without_at, side,
 };
 use crate::plain_option::plain_option;
-use crate::state::{Frame, Halt, Left, Operand, Stage, State, Stops, Uses};
+use crate::state::{Context, Frame, Halt, Left, Operand, Reader, Stage, State, Stops, Uses};
 use crate::stop_turns::term;
 use crate::thesaurus_turns::{levels_outside, related, thesaurus_first, with_one_use};
 use ft_base::{Filter, Items, Memory, Range, StopChoice};
-use selection_grammar::{MatchOption, Parsed, Placed, PlacedOption};
+use selection_grammar::{MatchOption, Parsed, PlacedOption};
 use std::alloc::Global;
 
 /// Behind a filter, which was read or not.
@@ -54,25 +54,25 @@ fn filtered_state(
 {
     let whole = filtered(alloc, selection, filter)?;
     let left = nothing_left_of(alloc);
+    let context = Context { outer, left };
     let stage = Stage::WithFilter(whole);
-    Ok(State { outer, left, stage })
+    Ok(State { context, stage })
 }
 
 /// Behind a whole selection with a filter.
 #[tactic(auto, unfolding(crate::specs::steps::Turns::with_filter_turn))]
 pub(crate) fn with_filter(
-    alloc: Global,
-    symbols: &[Placed],
+    reader: Reader<'_>,
     next: usize,
     outer: Vec<Frame>,
     selection: Parsed,
 ) -> Result<(State, usize), Halt>
-    ensures { Answers state_of result (turns.with_filter_turn (frames_of outer.items) (tree selection) symbols.now next) }
+    ensures { Answers state_of result (turns.with_filter_turn (frames_of outer.items) (tree selection) reader.entry.symbols.now next) }
 {
-    if begins_filter(symbols, next) {
-        behind_filter(alloc, outer, selection, filter(symbols, next))
+    if begins_filter(reader.symbols, next) {
+        behind_filter(reader.alloc, outer, selection, filter(reader.symbols, next))
     } else {
-        close(alloc, symbols, next, outer, selection)
+        close(reader, next, outer, selection)
     }
 }
 
@@ -117,125 +117,119 @@ pub(crate) fn thesaurus_ended(alloc: Global, left: Left, last: Uses) -> Result<P
 /// Behind whole options.
 #[tactic(auto, unfolding(crate::specs::steps::Turns::options_turn))]
 pub(crate) fn given(
-    alloc: Global,
-    symbols: &[Placed],
+    reader: Reader<'_>,
     next: usize,
-    outer: Vec<Frame>,
-    left: Left,
+    context: Context,
     operand: Operand,
 ) -> Result<(State, usize), Halt>
     ensures { Answers state_of result
-        (turns.options_turn (frames_of outer.items) (left_of left) operand.negation (primary_of operand.primary) operand.options symbols.now next) }
+        (turns.options_turn (frames_of context.outer.items) (left_of context.left) operand.negation (primary_of operand.primary) operand.options
+        reader.entry.symbols.now next) }
 {
-    if begins_filter(symbols, next) {
-        let selection = ended(alloc, left, operand)?;
-        behind_filter(alloc, outer, selection, filter(symbols, next))
+    if begins_filter(reader.symbols, next) {
+        let Context { outer, left } = context;
+        let selection = ended(reader.alloc, left, operand)?;
+        behind_filter(reader.alloc, outer, selection, filter(reader.symbols, next))
     } else {
-        unfiltered(alloc, symbols, next, outer, left, operand)
+        unfiltered(reader, next, context, operand)
     }
 }
 
 /// Behind whole options, but no filter.
 #[tactic(auto, unfolding(crate::specs::steps::Turns::unfiltered_turn))]
 fn unfiltered(
-    alloc: Global,
-    symbols: &[Placed],
+    reader: Reader<'_>,
     next: usize,
-    outer: Vec<Frame>,
-    left: Left,
+    context: Context,
     operand: Operand,
 ) -> Result<(State, usize), Halt>
     ensures { Answers state_of result
-        (turns.unfiltered_turn (frames_of outer.items) (left_of left) operand.negation (primary_of operand.primary) operand.options symbols.now next) }
+        (turns.unfiltered_turn (frames_of context.outer.items) (left_of context.left) operand.negation (primary_of operand.primary) operand.options
+        reader.entry.symbols.now next) }
 {
-    if is_word(symbols, next, "using") {
-        let at = place_at(symbols, next);
-        using(alloc, symbols, next + 1, outer, left, operand, at)
+    if is_word(reader.symbols, next, "using") {
+        let at = place_at(reader.symbols, next);
+        using(reader, next + 1, context, operand, at)
     } else {
-        let Ok(parsed) = operand_tree(alloc, operand) else {
-            drop((outer, left));
+        let Ok(parsed) = operand_tree(reader.alloc, operand) else {
+            drop(context);
             return Err(Halt::Memory);
         };
-        joint(alloc, symbols, next, outer, left, parsed)
+        joint(reader, next, context, parsed)
     }
 }
 
 /// Behind the `using` at that place.
 #[tactic(auto, unfolding(crate::specs::steps::Turns::using_turn))]
 fn using(
-    alloc: Global,
-    symbols: &[Placed],
+    reader: Reader<'_>,
     next: usize,
-    outer: Vec<Frame>,
-    left: Left,
+    context: Context,
     operand: Operand,
     at: usize,
 ) -> Result<(State, usize), Halt>
     ensures { Answers state_of result
-        (turns.using_turn (frames_of outer.items) (left_of left) operand.negation (primary_of operand.primary) operand.options at symbols.now next) }
+        (turns.using_turn (frames_of context.outer.items) (left_of context.left) operand.negation (primary_of operand.primary) operand.options at
+        reader.entry.symbols.now next) }
 {
-    if is_word(symbols, next, "thesaurus") {
-        thesaurus_first(alloc, symbols, next + 1, outer, left, operand, at)
-    } else if is_word(symbols, next, "stop") {
-        stop_words(alloc, symbols, next + 1, outer, left, operand, at)
+    if is_word(reader.symbols, next, "thesaurus") {
+        thesaurus_first(reader, next + 1, context, operand, at)
+    } else if is_word(reader.symbols, next, "stop") {
+        stop_words(reader, next + 1, context, operand, at)
     } else {
-        plain(alloc, symbols, next, outer, left, operand, at)
+        plain(reader, next, context, operand, at)
     }
 }
 
 /// Stop words behind their `stop`.
 fn stop_words(
-    alloc: Global,
-    symbols: &[Placed],
+    reader: Reader<'_>,
     next: usize,
-    outer: Vec<Frame>,
-    left: Left,
+    context: Context,
     operand: Operand,
     at: usize,
 ) -> Result<(State, usize), Halt>
     ensures { Answers state_of result (reading
         (keywords.key (codes "words")
-        (m.term_next (frames_of outer.items) (left_of left) operand.negation (primary_of operand.primary) operand.options at [] false))
-        symbols.now next) }
+        (m.term_next (frames_of context.outer.items) (left_of context.left) operand.negation (primary_of operand.primary) operand.options at [] false))
+        reader.entry.symbols.now next) }
 {
-    if is_word(symbols, next, "words") {
-        let terms = Items::new(alloc);
+    if is_word(reader.symbols, next, "words") {
+        let terms = Items::new(reader.alloc);
         let stops = Stops { operand, at, terms };
-        term(alloc, symbols, next + 1, outer, left, stops, false)
+        term(reader, next + 1, context, stops, false)
     } else {
-        drop((outer, left, operand));
+        drop((context, operand));
         Err(Halt::Stuck(next))
     }
 }
 
 /// An option without a list.
 fn plain(
-    alloc: Global,
-    symbols: &[Placed],
+    reader: Reader<'_>,
     next: usize,
-    outer: Vec<Frame>,
-    left: Left,
+    context: Context,
     operand: Operand,
     at: usize,
 ) -> Result<(State, usize), Halt>
-    ensures { Answers state_of result (further (reading (keywords.plain_option at) symbols.now next) (λ o k. Ok (
+    ensures { Answers state_of result (further (reading (keywords.plain_option at) reader.entry.symbols.now next) (λ o k. Ok (
       turns.stands
-          (frames_of outer.items) (left_of left) (m.given_options operand.negation (primary_of operand.primary) (operand.options ++ o ∷ [])),
+          (frames_of context.outer.items) (left_of context.left) (m.given_options operand.negation (primary_of operand.primary) (operand.options ++ o ∷ [])),
       k,
     ))) }
 {
-    match plain_option(alloc, symbols, next, at) {
+    match plain_option(reader, next, at) {
         Err(halt) => {
-            drop((outer, left, operand));
+            drop((context, operand));
             Err(halt)
         }
         Ok((option, end)) => {
             let Ok(more) = with_option(operand, option) else {
-                drop((outer, left));
+                drop(context);
                 return Err(Halt::Memory);
             };
             let stage = Stage::Given(more);
-            Ok((State { outer, left, stage }, end))
+            Ok((State { context, stage }, end))
         }
     }
 }
@@ -263,26 +257,24 @@ fn with_option(operand: Operand, option: PlacedOption) -> Result<Operand, Memory
 /// Behind stop words.
 #[tactic(auto, unfolding(crate::specs::steps::Turns::stop_terms_turn))]
 pub(crate) fn stop_terms(
-    alloc: Global,
-    symbols: &[Placed],
+    reader: Reader<'_>,
     next: usize,
-    outer: Vec<Frame>,
-    left: Left,
+    context: Context,
     stops: Stops,
 ) -> Result<(State, usize), Halt>
-    ensures { Answers state_of result (turns.stop_terms_turn (frames_of outer.items) (left_of left) stops.operand.negation
-        (primary_of stops.operand.primary) stops.operand.options stops.at stops.terms symbols.now next) }
+    ensures { Answers state_of result (turns.stop_terms_turn (frames_of context.outer.items) (left_of context.left) stops.operand.negation
+        (primary_of stops.operand.primary) stops.operand.options stops.at stops.terms reader.entry.symbols.now next) }
 {
-    if is_word(symbols, next, "union") {
-        term(alloc, symbols, next + 1, outer, left, stops, false)
-    } else if is_word(symbols, next, "except") {
-        term(alloc, symbols, next + 1, outer, left, stops, true)
+    if is_word(reader.symbols, next, "union") {
+        term(reader, next + 1, context, stops, false)
+    } else if is_word(reader.symbols, next, "except") {
+        term(reader, next + 1, context, stops, true)
     } else {
         let Ok(operand) = with_stops(stops) else {
-            drop((outer, left));
+            drop(context);
             return Err(Halt::Memory);
         };
-        given(alloc, symbols, next, outer, left, operand)
+        given(reader, next, context, operand)
     }
 }
 
@@ -298,115 +290,110 @@ pub(crate) fn with_stops(stops: Stops) -> Result<Operand, Memory>
 /// Behind a thesaurus outside parentheses.
 #[tactic(auto, unfolding(crate::specs::steps::Turns::thesaurus_turn))]
 pub(crate) fn thesaurus(
-    alloc: Global,
-    symbols: &[Placed],
+    reader: Reader<'_>,
     next: usize,
-    outer: Vec<Frame>,
-    left: Left,
+    context: Context,
     last: Uses,
 ) -> Result<(State, usize), Halt>
-    ensures { Answers state_of result (turns.thesaurus_turn (frames_of outer.items) (left_of left) last.operand.negation
-        (primary_of last.operand.primary) last.operand.options last.at last.name last.relationship symbols.now next) }
+    ensures { Answers state_of result (turns.thesaurus_turn (frames_of context.outer.items) (left_of context.left) last.operand.negation
+        (primary_of last.operand.primary) last.operand.options last.at last.name last.relationship reader.entry.symbols.now next) }
 {
-    if last.relationship.is_none() && is_word(symbols, next, "relationship") {
-        related(alloc, symbols, next + 1, outer, left, last)
+    if last.relationship.is_none() && is_word(reader.symbols, next, "relationship") {
+        related(reader, next + 1, context, last)
     } else {
-        behind_name(alloc, symbols, next, outer, left, last)
+        behind_name(reader, next, context, last)
     }
 }
 
 #[tactic(auto, unfolding(crate::specs::steps::Turns::thesaurus_rest_turn))]
 fn behind_name(
-    alloc: Global,
-    symbols: &[Placed],
+    reader: Reader<'_>,
     next: usize,
-    outer: Vec<Frame>,
-    left: Left,
+    context: Context,
     last: Uses,
 ) -> Result<(State, usize), Halt>
-    ensures { Answers state_of result (turns.thesaurus_rest_turn (frames_of outer.items) (left_of left) last.operand.negation
-        (primary_of last.operand.primary) last.operand.options last.at last.name last.relationship symbols.now next) }
+    ensures { Answers state_of result (turns.thesaurus_rest_turn (frames_of context.outer.items) (left_of context.left) last.operand.negation
+        (primary_of last.operand.primary) last.operand.options last.at last.name last.relationship reader.entry.symbols.now next) }
 {
-    if is_word(symbols, next, "at") {
-        behind_at(alloc, symbols, next + 1, outer, left, last)
-    } else if begins_range_without_at(symbols, next) {
+    if is_word(reader.symbols, next, "at") {
+        behind_at(reader, next + 1, context, last)
+    } else if begins_range_without_at(reader.symbols, next) {
         levels(
-            alloc,
-            symbols,
-            outer,
-            left,
+            reader,
+            context,
             last,
-            range_without_at(symbols, next),
+            range_without_at(reader.symbols, next),
         )
     } else {
-        behind_thesaurus(alloc, symbols, next, outer, left, last)
+        behind_thesaurus(reader, next, context, last)
     }
 }
 
 /// The rest of levels, whose range was read or not.
 fn levels(
-    alloc: Global,
-    symbols: &[Placed],
-    outer: Vec<Frame>,
-    left: Left,
+    reader: Reader<'_>,
+    context: Context,
     last: Uses,
     read: Result<(Range, usize), usize>,
 ) -> Result<(State, usize), Halt>
     ensures { Answers state_of result (turns.levels_turn
-        (turns.with_levels (frames_of outer.items) (left_of left) last.operand.negation (primary_of last.operand.primary)
-        last.operand.options last.at last.name last.relationship) symbols.now read) }
+        (turns.with_levels (frames_of context.outer.items) (left_of context.left) last.operand.negation (primary_of last.operand.primary)
+        last.operand.options last.at last.name last.relationship) reader.entry.symbols.now read) }
 {
     match read {
         Err(stuck) => {
-            drop((outer, left, last));
+            drop((context, last));
             Err(Halt::Stuck(stuck))
         }
-        Ok((range, end)) => levels_outside(alloc, symbols, end, outer, left, last, range),
+        Ok((range, end)) => levels_outside(reader, end, context, last, range),
     }
 }
 
 /// Behind an `at`, which begins levels or a filter.
 #[tactic(auto, unfolding(crate::specs::steps::Turns::behind_at_turn))]
 fn behind_at(
-    alloc: Global,
-    symbols: &[Placed],
+    reader: Reader<'_>,
     next: usize,
-    outer: Vec<Frame>,
-    left: Left,
+    context: Context,
     last: Uses,
 ) -> Result<(State, usize), Halt>
-    ensures { Answers state_of result (turns.behind_at_turn (frames_of outer.items) (left_of left) last.operand.negation
-        (primary_of last.operand.primary) last.operand.options last.at last.name last.relationship symbols.now next) }
+    ensures { Answers state_of result (turns.behind_at_turn (frames_of context.outer.items) (left_of context.left) last.operand.negation
+        (primary_of last.operand.primary) last.operand.options last.at last.name last.relationship reader.entry.symbols.now next) }
 {
-    if is_word(symbols, next, "least") || is_word(symbols, next, "most") {
-        levels(alloc, symbols, outer, left, last, bound(symbols, next))
+    if is_word(reader.symbols, next, "least") || is_word(reader.symbols, next, "most") {
+        levels(reader, context, last, bound(reader.symbols, next))
     } else {
-        let selection = thesaurus_ended(alloc, left, last)?;
-        behind_filter(alloc, outer, selection, side(symbols, next))
+        let Context { outer, left } = context;
+        let selection = thesaurus_ended(reader.alloc, left, last)?;
+        behind_filter(reader.alloc, outer, selection, side(reader.symbols, next))
     }
 }
 
 /// Behind a thesaurus that has no levels, but not at an `at`.
 #[tactic(auto, unfolding(crate::specs::steps::Turns::behind_thesaurus_turn))]
 fn behind_thesaurus(
-    alloc: Global,
-    symbols: &[Placed],
+    reader: Reader<'_>,
     next: usize,
-    outer: Vec<Frame>,
-    left: Left,
+    context: Context,
     last: Uses,
 ) -> Result<(State, usize), Halt>
-    ensures { Answers state_of result (turns.behind_thesaurus_turn (frames_of outer.items) (left_of left) last.operand.negation
-        (primary_of last.operand.primary) last.operand.options last.at last.name last.relationship symbols.now next) }
+    ensures { Answers state_of result (turns.behind_thesaurus_turn (frames_of context.outer.items) (left_of context.left) last.operand.negation
+        (primary_of last.operand.primary) last.operand.options last.at last.name last.relationship reader.entry.symbols.now next) }
 {
-    if begins_other_filter(symbols, next) {
-        let selection = thesaurus_ended(alloc, left, last)?;
-        behind_filter(alloc, outer, selection, other_filter(symbols, next))
+    if begins_other_filter(reader.symbols, next) {
+        let Context { outer, left } = context;
+        let selection = thesaurus_ended(reader.alloc, left, last)?;
+        behind_filter(
+            reader.alloc,
+            outer,
+            selection,
+            other_filter(reader.symbols, next),
+        )
     } else {
-        let Ok(operand) = with_one_use(alloc, last, None) else {
-            drop((outer, left));
+        let Ok(operand) = with_one_use(reader.alloc, last, None) else {
+            drop(context);
             return Err(Halt::Memory);
         };
-        unfiltered(alloc, symbols, next, outer, left, operand)
+        unfiltered(reader, next, context, operand)
     }
 }

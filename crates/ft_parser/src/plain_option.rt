@@ -9,10 +9,9 @@ ghost use Rattle.selection_grammar.specs.Shapes.{whole, nothing, text};
 ghost use Rattle.selection_grammar.specs.declared.parsed.MatchOption.TheVariants as O;
 
 use crate::heads::{is_word, text_at};
-use crate::state::Halt;
+use crate::state::{Halt, Reader};
 use ft_base::{Case, StopChoice, ThesaurusChoice};
 use selection_grammar::{MatchOption, Placed, PlacedOption};
-use std::alloc::Global;
 
 /// An option of one more keyword.
 fn given(option: MatchOption, at: usize, next: usize) -> Result<(PlacedOption, usize), Halt>
@@ -70,16 +69,11 @@ fn turned_off(symbols: &[Placed], next: usize, at: usize) -> Result<(PlacedOptio
     }
 }
 
-fn language(
-    alloc: Global,
-    symbols: &[Placed],
-    next: usize,
-    at: usize,
-) -> Result<(PlacedOption, usize), Halt>
-    ensures value { Answers (λ o. o) result (reading (text (λ p name. whole (keywords.given at (O.Language name))) nothing) symbols.now next) }
-    ensures within { IfOk result (λ r. r.1 ≤ length symbols.now) }
+fn language(reader: Reader<'_>, next: usize, at: usize) -> Result<(PlacedOption, usize), Halt>
+    ensures value { Answers (λ o. o) result (reading (text (λ p name. whole (keywords.given at (O.Language name))) nothing) reader.entry.symbols.now next) }
+    ensures within { IfOk result (λ r. r.1 ≤ length reader.entry.symbols.now) }
 {
-    match text_at(alloc, symbols, next)? {
+    match text_at(reader, next)? {
         Some(name) => given(MatchOption::Language(name), at, next),
         None => Err(Halt::Stuck(next)),
     }
@@ -87,14 +81,14 @@ fn language(
 
 /// An option behind the `using` at that place.
 pub(crate) fn plain_option(
-    alloc: Global,
-    symbols: &[Placed],
+    reader: Reader<'_>,
     next: usize,
     at: usize,
 ) -> Result<(PlacedOption, usize), Halt>
-    ensures value { Answers (λ o. o) result (reading (keywords.plain_option at) symbols.now next) }
-    ensures within { IfOk result (λ r. r.1 ≤ length symbols.now) }
+    ensures value { Answers (λ o. o) result (reading (keywords.plain_option at) reader.entry.symbols.now next) }
+    ensures within { IfOk result (λ r. r.1 ≤ length reader.entry.symbols.now) }
 {
+    let symbols = reader.symbols;
     if is_word(symbols, next, "case") {
         sensitivity(
             symbols,
@@ -120,7 +114,7 @@ pub(crate) fn plain_option(
     } else if is_word(symbols, next, "wildcards") {
         given(MatchOption::Wildcards(true), at, next)
     } else if is_word(symbols, next, "language") {
-        language(alloc, symbols, next + 1, at)
+        language(reader, next + 1, at)
     } else if is_word(symbols, next, "no") {
         turned_off(symbols, next + 1, at)
     } else {

@@ -12,7 +12,7 @@ use crate::finishing::finish;
 use crate::heads::place_at;
 use crate::limits::open_within;
 use crate::operand_turns::nothing_left_of;
-use crate::state::{Halt, Stage, State};
+use crate::state::{Context, Halt, Reader, Stage, State};
 use crate::turn::turn;
 use ft_base::QueryFault;
 use selection_grammar::{Parsed, Placed};
@@ -29,7 +29,7 @@ pub(crate) struct Scan {
     pub(crate) whole: Option<Parsed>,
 }
 
-/// Reads symbols up to the first one that can't stand there, or gives the fault of the first one that passes a limit. It reads them once, and of
+/// Reads symbols up to the first one that can't stand there, or gives the fault of the first one that exceeds a limit. It reads them once, and of
 /// those behind them the next one at most.
 pub(crate) fn scan_symbols(alloc: Global, symbols: &[Placed]) -> Result<Scan, QueryFault>
     ensures { spec.Scans symbols.now result }
@@ -43,7 +43,7 @@ pub(crate) fn scan_symbols(alloc: Global, symbols: &[Placed]) -> Result<Scan, Qu
             let at = place_at(symbols, next);
             return Err(QueryFault::Deep { at });
         }
-        match turn(alloc, symbols, next, state) {
+        match turn(Reader { alloc, symbols }, next, state) {
             Ok((there, end)) => match open_behind(symbols, next, end, depth) {
                 Ok(count) => {
                     state = there;
@@ -69,7 +69,7 @@ pub(crate) fn scan_symbols(alloc: Global, symbols: &[Placed]) -> Result<Scan, Qu
     }
 }
 
-/// How many parentheses are open behind the symbols from one number to another, or the fault of the first of them that passes a limit.
+/// How many parentheses are open behind the symbols from one number to another, or the fault of the first of them that exceeds a limit.
 fn open_behind(
     symbols: &[Placed],
     next: usize,
@@ -105,9 +105,10 @@ fn stopped(symbols: &[Placed], next: usize, end: usize, depth: usize) -> Result<
 fn start(alloc: Global) -> State
     ensures { state_of result ≡ m.start }
 {
-    State {
+    let context = Context {
         outer: Vec::new(alloc),
         left: nothing_left_of(alloc),
-        stage: Stage::Wanted(None),
-    }
+    };
+    let stage = Stage::Wanted(None);
+    State { context, stage }
 }

@@ -1,5 +1,13 @@
 use ft_base::{Items, Line, Memory, Mode, StopTerm, ThesaurusUse};
-use selection_grammar::{Parsed, PlacedOption, PlacedString, PlacedTimes};
+use selection_grammar::{Parsed, Placed, PlacedOption, PlacedString, PlacedTimes};
+use std::alloc::Global;
+
+/// What every function of the reader is handed: where it takes memory, and the symbols that it reads.
+#[derive(Clone, Copy)]
+pub(crate) struct Reader<'a> {
+    pub(crate) alloc: Global,
+    pub(crate) symbols: &'a [Placed],
+}
 
 /// What options stand behind: words, or a selection in parentheses.
 #[derive(Drop)]
@@ -30,6 +38,15 @@ pub(crate) struct Left {
 pub(crate) struct Frame {
     pub(crate) left: Left,
     pub(crate) negation: Option<usize>,
+}
+
+/// What stands around the operand under way.
+#[derive(Drop)]
+pub(crate) struct Context {
+    /// The open parentheses, the innermost last.
+    pub(crate) outer: Vec<Frame>,
+    /// What stands to the left of it inside the innermost.
+    pub(crate) left: Left,
 }
 
 /// A stop word option that has these terms.
@@ -83,9 +100,7 @@ pub(crate) enum Stage {
 /// Where the reader stands between two constructs.
 #[derive(Drop)]
 pub(crate) struct State {
-    /// The open parentheses, the innermost last.
-    pub(crate) outer: Vec<Frame>,
-    pub(crate) left: Left,
+    pub(crate) context: Context,
     pub(crate) stage: Stage,
 }
 

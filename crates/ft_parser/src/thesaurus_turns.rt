@@ -11,54 +11,52 @@ ghost use Rattle.selection_grammar.specs.steps.Reading.{reading};
 
 use crate::heads::{closes_parenthesis, is_comma, is_word, opens_parenthesis, text_at};
 use crate::parts::{begins_range_without_at, range};
-use crate::state::{Frame, Halt, Left, Operand, Stage, State, Uses};
+use crate::state::{Context, Halt, Operand, Reader, Stage, State, Uses};
 use ft_base::{Items, Memory, Range, ThesaurusChoice, ThesaurusUse, ThesaurusUses};
 use selection_grammar::{MatchOption, Placed, PlacedOption};
 use std::alloc::Global;
 
 /// The name of the first thesaurus, in parentheses or not.
 pub(crate) fn thesaurus_first(
-    alloc: Global,
-    symbols: &[Placed],
+    reader: Reader<'_>,
     next: usize,
-    outer: Vec<Frame>,
-    left: Left,
+    context: Context,
     operand: Operand,
     at: usize,
 ) -> Result<(State, usize), Halt>
     ensures { Answers state_of result
-        (reading (m.thesaurus_first (frames_of outer.items) (left_of left) operand.negation (primary_of operand.primary) operand.options at) symbols.now next) }
+        (reading (m.thesaurus_first (frames_of context.outer.items) (left_of context.left) operand.negation (primary_of operand.primary) operand.options at)
+        reader.entry.symbols.now next) }
 {
-    if is_word(symbols, next, "at") {
-        name_outside(alloc, symbols, next + 1, outer, left, operand, at)
-    } else if opens_parenthesis(symbols, next) {
-        let uses = Items::new(alloc);
-        named_inside(alloc, symbols, next + 1, outer, left, operand, at, uses)
+    if is_word(reader.symbols, next, "at") {
+        name_outside(reader, next + 1, context, operand, at)
+    } else if opens_parenthesis(reader.symbols, next) {
+        let uses = Items::new(reader.alloc);
+        named_inside(reader, next + 1, context, operand, at, uses)
     } else {
-        drop((outer, left, operand));
+        drop((context, operand));
         Err(Halt::Stuck(next))
     }
 }
 
 fn name_outside(
-    alloc: Global,
-    symbols: &[Placed],
+    reader: Reader<'_>,
     next: usize,
-    outer: Vec<Frame>,
-    left: Left,
+    context: Context,
     operand: Operand,
     at: usize,
 ) -> Result<(State, usize), Halt>
     ensures { Answers state_of result
-        (reading (m.thesaurus_name (frames_of outer.items) (left_of left) operand.negation (primary_of operand.primary) operand.options at) symbols.now next) }
+        (reading (m.thesaurus_name (frames_of context.outer.items) (left_of context.left) operand.negation (primary_of operand.primary) operand.options at)
+        reader.entry.symbols.now next) }
 {
-    match text_at(alloc, symbols, next) {
+    match text_at(reader, next) {
         Err(_) => {
-            drop((outer, left, operand));
+            drop((context, operand));
             Err(Halt::Memory)
         }
         Ok(None) => {
-            drop((outer, left, operand));
+            drop((context, operand));
             Err(Halt::Stuck(next))
         }
         Ok(Some(name)) => {
@@ -69,56 +67,52 @@ fn name_outside(
                 relationship: None,
             };
             let stage = Stage::Thesaurus(uses);
-            Ok((State { outer, left, stage }, next + 1))
+            Ok((State { context, stage }, next + 1))
         }
     }
 }
 
 /// `at` and the name of a thesaurus in parentheses.
 fn named_inside(
-    alloc: Global,
-    symbols: &[Placed],
+    reader: Reader<'_>,
     next: usize,
-    outer: Vec<Frame>,
-    left: Left,
+    context: Context,
     operand: Operand,
     at: usize,
     uses: ThesaurusUses,
 ) -> Result<(State, usize), Halt>
     ensures { Answers state_of result (reading
         (keywords.key (codes "at")
-        (m.thesaurus_name_in (frames_of outer.items) (left_of left) operand.negation (primary_of operand.primary) operand.options at uses))
-        symbols.now next) }
+        (m.thesaurus_name_in (frames_of context.outer.items) (left_of context.left) operand.negation (primary_of operand.primary) operand.options at uses))
+        reader.entry.symbols.now next) }
 {
-    if is_word(symbols, next, "at") {
-        name_inside(alloc, symbols, next + 1, outer, left, operand, at, uses)
+    if is_word(reader.symbols, next, "at") {
+        name_inside(reader, next + 1, context, operand, at, uses)
     } else {
-        drop((outer, left, operand, uses));
+        drop((context, operand, uses));
         Err(Halt::Stuck(next))
     }
 }
 
 fn name_inside(
-    alloc: Global,
-    symbols: &[Placed],
+    reader: Reader<'_>,
     next: usize,
-    outer: Vec<Frame>,
-    left: Left,
+    context: Context,
     operand: Operand,
     at: usize,
     uses: ThesaurusUses,
 ) -> Result<(State, usize), Halt>
     ensures { Answers state_of result (reading
-        (m.thesaurus_name_in (frames_of outer.items) (left_of left) operand.negation (primary_of operand.primary) operand.options at uses)
-        symbols.now next) }
+        (m.thesaurus_name_in (frames_of context.outer.items) (left_of context.left) operand.negation (primary_of operand.primary) operand.options at uses)
+        reader.entry.symbols.now next) }
 {
-    match text_at(alloc, symbols, next) {
+    match text_at(reader, next) {
         Err(_) => {
-            drop((outer, left, operand, uses));
+            drop((context, operand, uses));
             Err(Halt::Memory)
         }
         Ok(None) => {
-            drop((outer, left, operand, uses));
+            drop((context, operand, uses));
             Err(Halt::Stuck(next))
         }
         Ok(Some(name)) => {
@@ -129,37 +123,35 @@ fn name_inside(
                 relationship: None,
             };
             let stage = Stage::ThesaurusIn(last, uses);
-            Ok((State { outer, left, stage }, next + 1))
+            Ok((State { context, stage }, next + 1))
         }
     }
 }
 
 /// Behind whole thesauri in parentheses.
 pub(crate) fn thesauri_in(
-    alloc: Global,
-    symbols: &[Placed],
+    reader: Reader<'_>,
     next: usize,
-    outer: Vec<Frame>,
-    left: Left,
+    context: Context,
     operand: Operand,
     at: usize,
     uses: ThesaurusUses,
 ) -> Result<(State, usize), Halt>
     ensures { Answers state_of result (reading
-        (m.thesauri_next (frames_of outer.items) (left_of left) operand.negation (primary_of operand.primary) operand.options at uses)
-        symbols.now next) }
+        (m.thesauri_next (frames_of context.outer.items) (left_of context.left) operand.negation (primary_of operand.primary) operand.options at uses)
+        reader.entry.symbols.now next) }
 {
-    if is_comma(symbols, next) {
-        named_inside(alloc, symbols, next + 1, outer, left, operand, at, uses)
-    } else if closes_parenthesis(symbols, next) {
+    if is_comma(reader.symbols, next) {
+        named_inside(reader, next + 1, context, operand, at, uses)
+    } else if closes_parenthesis(reader.symbols, next) {
         let Ok(operand) = with_uses(operand, at, uses) else {
-            drop((outer, left));
+            drop(context);
             return Err(Halt::Memory);
         };
         let stage = Stage::Given(operand);
-        Ok((State { outer, left, stage }, next + 1))
+        Ok((State { context, stage }, next + 1))
     } else {
-        drop((outer, left, operand, uses));
+        drop((context, operand, uses));
         Err(Halt::Stuck(next))
     }
 }
@@ -189,45 +181,41 @@ pub(crate) fn with_uses(operand: Operand, at: usize, uses: ThesaurusUses) -> Res
 /// Behind the name of a thesaurus in parentheses.
 #[tactic(auto, unfolding(crate::specs::steps::Turns::thesaurus_in_turn))]
 pub(crate) fn thesaurus_in(
-    alloc: Global,
-    symbols: &[Placed],
+    reader: Reader<'_>,
     next: usize,
-    outer: Vec<Frame>,
-    left: Left,
+    context: Context,
     last: Uses,
     uses: ThesaurusUses,
 ) -> Result<(State, usize), Halt>
-    ensures { Answers state_of result (thesaurus_in_turn (frames_of outer.items) (left_of left) last.operand.negation
-        (primary_of last.operand.primary) last.operand.options last.at uses last.name last.relationship symbols.now next) }
+    ensures { Answers state_of result (thesaurus_in_turn (frames_of context.outer.items) (left_of context.left) last.operand.negation
+        (primary_of last.operand.primary) last.operand.options last.at uses last.name last.relationship reader.entry.symbols.now next) }
 {
-    if last.relationship.is_none() && is_word(symbols, next, "relationship") {
-        related_in(alloc, symbols, next + 1, outer, left, last, uses)
+    if last.relationship.is_none() && is_word(reader.symbols, next, "relationship") {
+        related_in(reader, next + 1, context, last, uses)
     } else {
-        behind_name_in(alloc, symbols, next, outer, left, last, uses)
+        behind_name_in(reader, next, context, last, uses)
     }
 }
 
 fn related_in(
-    alloc: Global,
-    symbols: &[Placed],
+    reader: Reader<'_>,
     next: usize,
-    outer: Vec<Frame>,
-    left: Left,
+    context: Context,
     last: Uses,
     uses: ThesaurusUses,
 ) -> Result<(State, usize), Halt>
     ensures { Answers state_of result (reading
-        (m.relationship_name (λ r. stands (frames_of outer.items) (left_of left)
+        (m.relationship_name (λ r. stands (frames_of context.outer.items) (left_of context.left)
         (m.thesaurus_in last.operand.negation (primary_of last.operand.primary) last.operand.options last.at uses last.name (Some r))))
-        symbols.now next) }
+        reader.entry.symbols.now next) }
 {
-    match text_at(alloc, symbols, next) {
+    match text_at(reader, next) {
         Err(_) => {
-            drop((outer, left, last, uses));
+            drop((context, last, uses));
             Err(Halt::Memory)
         }
         Ok(None) => {
-            drop((outer, left, last, uses));
+            drop((context, last, uses));
             Err(Halt::Stuck(next))
         }
         Ok(Some(text)) => {
@@ -238,48 +226,44 @@ fn related_in(
                 relationship: Some(text),
             };
             let stage = Stage::ThesaurusIn(last, uses);
-            Ok((State { outer, left, stage }, next + 1))
+            Ok((State { context, stage }, next + 1))
         }
     }
 }
 
 #[tactic(auto, unfolding(crate::specs::steps::Turns::thesaurus_in_rest_turn))]
 fn behind_name_in(
-    alloc: Global,
-    symbols: &[Placed],
+    reader: Reader<'_>,
     next: usize,
-    outer: Vec<Frame>,
-    left: Left,
+    context: Context,
     last: Uses,
     uses: ThesaurusUses,
 ) -> Result<(State, usize), Halt>
-    ensures { Answers state_of result (thesaurus_in_rest_turn (frames_of outer.items) (left_of left) last.operand.negation
-        (primary_of last.operand.primary) last.operand.options last.at uses last.name last.relationship symbols.now next) }
+    ensures { Answers state_of result (thesaurus_in_rest_turn (frames_of context.outer.items) (left_of context.left) last.operand.negation
+        (primary_of last.operand.primary) last.operand.options last.at uses last.name last.relationship reader.entry.symbols.now next) }
 {
-    if begins_range(symbols, next) {
-        levels_in(symbols, next, outer, left, last, uses)
+    if begins_range(reader.symbols, next) {
+        levels_in(reader, next, context, last, uses)
     } else {
-        without_levels(alloc, symbols, next, outer, left, last, uses)
+        without_levels(reader, next, context, last, uses)
     }
 }
 
 /// Behind a whole thesaurus in parentheses that has no levels.
 fn without_levels(
-    alloc: Global,
-    symbols: &[Placed],
+    reader: Reader<'_>,
     next: usize,
-    outer: Vec<Frame>,
-    left: Left,
+    context: Context,
     last: Uses,
     uses: ThesaurusUses,
 ) -> Result<(State, usize), Halt>
     ensures { Answers state_of result (reading
-        (m.thesauri_next (frames_of outer.items) (left_of left) last.operand.negation (primary_of last.operand.primary) last.operand.options
-        last.at (uses ++ m.thesaurus_use last.name last.relationship None ∷ [])) symbols.now next) }
+        (m.thesauri_next (frames_of context.outer.items) (left_of context.left) last.operand.negation (primary_of last.operand.primary) last.operand.options
+        last.at (uses ++ m.thesaurus_use last.name last.relationship None ∷ [])) reader.entry.symbols.now next) }
 {
     let at = last.at;
     let (operand, uses) = with_last(last, uses, None)?;
-    thesauri_in(alloc, symbols, next, outer, left, operand, at, uses)
+    thesauri_in(reader, next, context, operand, at, uses)
 }
 
 fn begins_range(symbols: &[Placed], next: usize) -> bool
@@ -316,59 +300,56 @@ fn with_last(
 }
 
 fn levels_in(
-    symbols: &[Placed],
+    reader: Reader<'_>,
     next: usize,
-    outer: Vec<Frame>,
-    left: Left,
+    context: Context,
     last: Uses,
     uses: ThesaurusUses,
 ) -> Result<(State, usize), Halt>
     ensures { Answers state_of result (levels_turn
-        (in_levels (frames_of outer.items) (left_of left) last.operand.negation (primary_of last.operand.primary) last.operand.options
-        last.at uses last.name last.relationship) symbols.now (reading keywords.range symbols.now next)) }
+        (in_levels (frames_of context.outer.items) (left_of context.left) last.operand.negation (primary_of last.operand.primary) last.operand.options
+        last.at uses last.name last.relationship) reader.entry.symbols.now (reading keywords.range reader.entry.symbols.now next)) }
 {
-    match range(symbols, next) {
+    match range(reader.symbols, next) {
         Err(stuck) => {
-            drop((outer, left, last, uses));
+            drop((context, last, uses));
             Err(Halt::Stuck(stuck))
         }
         Ok((range, end)) => {
-            if !is_word(symbols, end, "levels") {
-                drop((outer, left, last, uses));
+            if !is_word(reader.symbols, end, "levels") {
+                drop((context, last, uses));
                 return Err(Halt::Stuck(end));
             }
             let at = last.at;
             let Ok((operand, uses)) = with_last(last, uses, Some(range)) else {
-                drop((outer, left));
+                drop(context);
                 return Err(Halt::Memory);
             };
             let stage = Stage::ThesauriIn(operand, at, uses);
-            Ok((State { outer, left, stage }, end + 1))
+            Ok((State { context, stage }, end + 1))
         }
     }
 }
 
 /// Behind the name of a thesaurus outside parentheses: its relationship.
 pub(crate) fn related(
-    alloc: Global,
-    symbols: &[Placed],
+    reader: Reader<'_>,
     next: usize,
-    outer: Vec<Frame>,
-    left: Left,
+    context: Context,
     last: Uses,
 ) -> Result<(State, usize), Halt>
     ensures { Answers state_of result (reading
-        (m.relationship_name (λ r. stands (frames_of outer.items) (left_of left)
+        (m.relationship_name (λ r. stands (frames_of context.outer.items) (left_of context.left)
         (m.thesaurus last.operand.negation (primary_of last.operand.primary) last.operand.options last.at last.name (Some r))))
-        symbols.now next) }
+        reader.entry.symbols.now next) }
 {
-    match text_at(alloc, symbols, next) {
+    match text_at(reader, next) {
         Err(_) => {
-            drop((outer, left, last));
+            drop((context, last));
             Err(Halt::Memory)
         }
         Ok(None) => {
-            drop((outer, left, last));
+            drop((context, last));
             Err(Halt::Stuck(next))
         }
         Ok(Some(text)) => {
@@ -379,7 +360,7 @@ pub(crate) fn related(
                 relationship: Some(text),
             };
             let stage = Stage::Thesaurus(last);
-            Ok((State { outer, left, stage }, next + 1))
+            Ok((State { context, stage }, next + 1))
         }
     }
 }
@@ -399,26 +380,24 @@ pub(crate) fn with_one_use(
 
 /// Behind the range of its levels.
 pub(crate) fn levels_outside(
-    alloc: Global,
-    symbols: &[Placed],
+    reader: Reader<'_>,
     end: usize,
-    outer: Vec<Frame>,
-    left: Left,
+    context: Context,
     last: Uses,
     range: Range,
 ) -> Result<(State, usize), Halt>
     ensures { Answers state_of result (before_word (codes "levels")
-        (with_levels (frames_of outer.items) (left_of left) last.operand.negation (primary_of last.operand.primary) last.operand.options
-        last.at last.name last.relationship (Some range)) symbols.now end) }
+        (with_levels (frames_of context.outer.items) (left_of context.left) last.operand.negation (primary_of last.operand.primary) last.operand.options
+        last.at last.name last.relationship (Some range)) reader.entry.symbols.now end) }
 {
-    if !is_word(symbols, end, "levels") {
-        drop((outer, left, last));
+    if !is_word(reader.symbols, end, "levels") {
+        drop((context, last));
         return Err(Halt::Stuck(end));
     }
-    let Ok(operand) = with_one_use(alloc, last, Some(range)) else {
-        drop((outer, left));
+    let Ok(operand) = with_one_use(reader.alloc, last, Some(range)) else {
+        drop(context);
         return Err(Halt::Memory);
     };
     let stage = Stage::Given(operand);
-    Ok((State { outer, left, stage }, end + 1))
+    Ok((State { context, stage }, end + 1))
 }

@@ -12,7 +12,7 @@ use Rattle.path_grammar.specs.steps.Machine as m
 use Rattle.path_grammar.specs.steps.Machine.{Inner, stand}
 use Rattle.path_grammar.proofs.Begun.{read-append, begins_read}
 use Rattle.path_subset.specs.Answer.{behind_run, with_run, led_by, before_selection_at, before_selection, further, read_from}
-use Rattle.path_subset.specs.Limits.{passes}
+use Rattle.path_subset.specs.Limits.{exceeds}
 use Rattle.path_subset.specs.Paths.{PlacedForm, placed_form, PathForm}
 use Rattle.path_subset.specs.Refused as R
 use Rattle.path_subset.specs.Refused.{MayStand}
@@ -37,8 +37,8 @@ pub record Arrived (prefix rest : List Placed) (bad : Option ℕ) (size : ℕ) (
 arrived_as : (prefix rest : List Placed) (bad : Option ℕ) (size : ℕ) (x y : Result PathForm QueryFault) → x ≡ y → Arrived prefix rest bad size y → Arrived prefix rest bad size x
 arrived_as prefix rest bad size x y e h = record { s = h.s; real = h.real; all = h.all; found = h.found; stands = h.stands; each = h.each; reads = h.reads; is = e ∙ h.is }
 
--- a symbol that passes no limit leads on, and through a selection where one comes next
-pub one_read : (s t : m.State) (found : List PlacedForm) (p : Placed) (rest : List Placed) (bad : Option ℕ) (size : ℕ) (o : Option (List form.Step)) → passes (m.open_count s) p.symbol ≡ false → m.advance s p ≡ Some t → before_selection t ≡ o
+-- a symbol that exceeds no limit leads on, and through a selection where one comes next
+pub one_read : (s t : m.State) (found : List PlacedForm) (p : Placed) (rest : List Placed) (bad : Option ℕ) (size : ℕ) (o : Option (List form.Step)) → exceeds (m.open_count s) p.symbol ≡ false → m.advance s p ≡ Some t → before_selection t ≡ o
     → read_from s found 0 (p ∷ rest) bad size ≡ further (with_run t found o rest bad size) (λ l. read_from l.state l.selections l.count rest bad size)
 one_read s t found p rest bad size o l a b =
     first s found p rest bad size
@@ -61,8 +61,8 @@ module _ (bad : Option ℕ) (size : ℕ) (rest : List Placed) (p : Placed) (u : 
   abbrev There : Type 0
   There = Arrived (done ++ p ∷ u) rest bad size (read_from s found 0 (p ∷ u ++ rest) bad size)
 
-  below : passes (m.open_count s) p.symbol ≡ false
-  below = ap (λ n. passes n p.symbol) (open_same s real (p ∷ u ++ rest) all st) ∙ h.limits done p u real refl r (outside s real p (u ++ rest) all st)
+  below : exceeds (m.open_count s) p.symbol ≡ false
+  below = ap (λ n. exceeds n p.symbol) (open_same s real (p ∷ u ++ rest) all st) ∙ h.limits done p u real refl r (outside s real p (u ++ rest) all st)
 
   on : (count : ℕ) (t next : m.State) (these : List Inside) (those : List PlacedForm) → count ≤ length u → Stands t (drop count (u ++ rest)) these next → Each these those → m.read ((done ++ p ∷ []) ++ take count (u ++ rest)) ≡ Some next
       → read_from s found 0 (p ∷ u ++ rest) bad size ≡ read_from t those count (u ++ rest) bad size → There

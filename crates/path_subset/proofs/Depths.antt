@@ -22,7 +22,7 @@ use Rattle.path_grammar.proofs.Completed as completed
 use Rattle.path_grammar.proofs.Depths as depths
 use Rattle.path_grammar.proofs.Depths.{levels_most, begins_within, read_within, opened}
 use Rattle.path_grammar.proofs.Growing.{grows_by}
-use Rattle.path_subset.specs.Limits.{opens, passes, goes_on, goes_on_at, WithinFrom, Within, AreNumbersWithin}
+use Rattle.path_subset.specs.Limits.{opens, exceeds, goes_on, goes_on_at, WithinFrom, Within, AreNumbersWithin}
 
 -- what opens a bracket or a parenthesis outside of selections opens just one
 joint_none : (frames : List Frame) (joint : Joint) (c : form.Condition) (all : List Inside) (z : Symbol) → opens z ≡ true → m.joint_next frames joint c all z ≡ None
@@ -96,12 +96,12 @@ selecting_keeps (m.along root s) next p g e = by_stage s.stage refl
     by_stage other k = let two : true ≡ false = sym g ∙ ap (λ z. goes_on_at z p) k in cc
 
 -- the limits of one symbol
-opens_past : (depth : ℕ) (z : Symbol) → opens z ≡ true → passes depth z ≡ nat_le max_open depth
+opens_past : (depth : ℕ) (z : Symbol) → opens z ≡ true → exceeds depth z ≡ nat_le max_open depth
 opens_past depth S.OpenBracket h = refl
 opens_past depth S.OpenParenthesis h = refl
 opens_past depth other h = cc
 
-past_opens : (depth : ℕ) (z : Symbol) → passes depth z ≡ true → ((n : ℕ) → z ≡ S.Number n → n ≤ max_number) → (opens z ≡ true) × (max_open ≤ depth)
+past_opens : (depth : ℕ) (z : Symbol) → exceeds depth z ≡ true → ((n : ℕ) → z ≡ S.Number n → n ≤ max_number) → (opens z ≡ true) × (max_open ≤ depth)
 past_opens depth S.OpenBracket h few = (refl, leb-true max_open depth h)
 past_opens depth S.OpenParenthesis h few = (refl, leb-true max_open depth h)
 past_opens depth (S.Number n) h few = absurd (omega (arith, ltb-true max_number n h, few n refl))
@@ -112,7 +112,7 @@ grown_opens z (inl e) = ap opens e
 grown_opens z (inr e) = ap opens e
 
 -- not more are open than may be behind a symbol within the limits
-one_few : (s next : State) (p : Placed) → advance s p ≡ Some next → (goes_on s p ≡ false → passes (open_count s) p.symbol ≡ false) → open_count s ≤ max_open → open_count next ≤ max_open
+one_few : (s next : State) (p : Placed) → advance s p ≡ Some next → (goes_on s p ≡ false → exceeds (open_count s) p.symbol ≡ false) → open_count s ≤ max_open → open_count next ≤ max_open
 one_few s next p a l few = by_growth (leb (open_count next) (open_count s)) refl
   where
     by_opening : (open_count next ≡ suc (open_count s)) ⊎ (open_count s + open_count next ≡ 0) → open_count s < max_open → open_count next ≤ max_open
@@ -152,12 +152,12 @@ module _ (symbols : List Placed) (last : State) (r : read symbols ≡ Some last)
   Few = most_open symbols ≤ max_open
 
   number_within : Within symbols → AreNumbersWithin symbols
-  number_within w before p rest t n e k g is = ltb-false max_number n (sym (ap (passes (open_count t)) is) ∙ w before p rest t e k g)
+  number_within w before p rest t n e k g is = ltb-false max_number n (sym (ap (exceeds (open_count t)) is) ∙ w before p rest t e k g)
 
   few_within : Within symbols → Few × AreNumbersWithin symbols
   few_within w = (within_most symbols (m.at_root m.nothing) last w r (omega arith), number_within w)
 
-  -- where a symbol passes a limit
+  -- where a symbol exceeds a limit
   too_many : Few → (before : List Placed) (p : Placed) (rest : List Placed) (t next : State) → symbols ≡ before ++ p ∷ rest → read before ≡ Some t → goes_on t p ≡ false → opens p.symbol ≡ true → advance t p ≡ Some next → max_open ≤ open_count t → ⊥
   too_many few before p rest t next e k g h a deep = by (opens_one t next p h g a)
     where
@@ -171,13 +171,13 @@ module _ (symbols : List Placed) (last : State) (r : read symbols ≡ Some last)
       by (inr none) = absurd (omega (arith, none, deep))
 
   within_few : Few → AreNumbersWithin symbols → Within symbols
-  within_few few numbers before p rest t e k g = by_limit (passes (open_count t) p.symbol) refl
+  within_few few numbers before p rest t e k g = by_limit (exceeds (open_count t) p.symbol) refl
     where
       by_next : (o : Option State) → advance t p ≡ o → run_on o rest ≡ Some last → opens p.symbol ≡ true → max_open ≤ open_count t → ⊥
       by_next None a h o deep = cc
       by_next (Some next) a h o deep = too_many few before p rest t next e k g o a deep
 
-      by_limit : (b : Bool) → passes (open_count t) p.symbol ≡ b → b ≡ false
+      by_limit : (b : Bool) → exceeds (open_count t) p.symbol ≡ b → b ≡ false
       by_limit false h = refl
       by_limit true h =
           let opening = past_opens (open_count t) p.symbol h (λ n is. numbers before p rest t n e k g is) in
@@ -231,14 +231,14 @@ module _ (before : List Placed) (p : Placed) (s : State) (r : read before ≡ So
         let same : t ≡ next = cc in
         full (omega (arith, deep, ap open_count same)) one
 
-    too_deep : (passes (open_count s) p.symbol ≡ true) ↔ OpensTooDeep max_open before p
+    too_deep : (exceeds (open_count s) p.symbol ≡ true) ↔ OpensTooDeep max_open before p
     too_deep = (
       (λ l. opened max_open before p within (next, k, many (leb-true max_open (open_count s) (sym (opens_past (open_count s) p.symbol h) ∙ l)) one)),
       λ o. opens_past (open_count s) p.symbol h ∙ le-leb max_open (open_count s) (same_full (depths.opens max_open before p o)),
     )
 
-pub symbol_depth : (before : List Placed) (p : Placed) (s : State) → read before ≡ Some s → Within before → Begins (before ++ p ∷ []) → opens p.symbol ≡ true → goes_on s p ≡ false → (passes (open_count s) p.symbol ≡ true) ↔ OpensTooDeep max_open before p
+pub symbol_depth : (before : List Placed) (p : Placed) (s : State) → read before ≡ Some s → Within before → Begins (before ++ p ∷ []) → opens p.symbol ≡ true → goes_on s p ≡ false → (exceeds (open_count s) p.symbol ≡ true) ↔ OpensTooDeep max_open before p
 symbol_depth before p s r w begins h g = by (begins_read (before ++ p ∷ []) begins)
   where
-    by : (next : State) × (read (before ++ p ∷ []) ≡ Some next) → (passes (open_count s) p.symbol ≡ true) ↔ OpensTooDeep max_open before p
+    by : (next : State) × (read (before ++ p ∷ []) ≡ Some next) → (exceeds (open_count s) p.symbol ≡ true) ↔ OpensTooDeep max_open before p
     by (next, k) = too_deep before p s r w h g next k

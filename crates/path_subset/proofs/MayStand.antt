@@ -5,7 +5,7 @@ use Rattle.path_grammar.specs.steps.Machine.{State, at_root, nothing, advance, r
 use Rattle.path_grammar.proofs.Begun.{read-append, read_begins}
 use Rattle.path_grammar.specs.Form as form
 use Rattle.path_subset.specs.Answer.{before_selection}
-use Rattle.path_subset.specs.Limits.{passes, goes_on, Within, WithinFrom}
+use Rattle.path_subset.specs.Limits.{exceeds, goes_on, Within, WithinFrom}
 use Rattle.path_subset.specs.Refused as R
 use Rattle.path_subset.specs.Refused.{WantSelection, MayStand}
 use Rattle.path_subset.specs.Runs.{IsRun, EndsAmong}
@@ -50,13 +50,13 @@ module _ (done : List Placed) (p : Placed) (prefix rest : List Placed) (h : MayS
   reads_on : (v : List Placed) → read (done ++ p ∷ v) ≡ run_on (Some there) v
   reads_on v = read-append done (p ∷ v) ∙ ap (λ o. run_on o (p ∷ v)) r ∙ ap (λ o. run_on o v) a
 
-  module _ (l : passes (open_count real) p.symbol ≡ false) (w : WithinFrom there prefix) where
-    limit_before : (before : List Placed) (q : Placed) (z : List Placed) (t : State) (c : List Placed) → done ≡ before ++ c → q ∷ z ≡ c ++ p ∷ prefix → read before ≡ Some t → goes_on t q ≡ false → passes (open_count t) q.symbol ≡ false
+  module _ (l : exceeds (open_count real) p.symbol ≡ false) (w : WithinFrom there prefix) where
+    limit_before : (before : List Placed) (q : Placed) (z : List Placed) (t : State) (c : List Placed) → done ≡ before ++ c → q ∷ z ≡ c ++ p ∷ prefix → read before ≡ Some t → goes_on t q ≡ false → exceeds (open_count t) q.symbol ≡ false
     limit_before before q z t [] i j k g =
         let head : q ≡ p = cc in
         let two : Some t ≡ Some real = sym k ∙ ap read (sym (i ∙ append-nil before)) ∙ r in
         let same : t ≡ real = cc in
-        ap (λ (x : State). passes (open_count x) q.symbol) same ∙ ap (λ (x : Placed). passes (open_count real) x.symbol) head ∙ l
+        ap (λ (x : State). exceeds (open_count x) q.symbol) same ∙ ap (λ (x : Placed). exceeds (open_count real) x.symbol) head ∙ l
     limit_before before q z t (d ∷ c) i j k g =
         let head : q ≡ d = cc in
         h.limits before q c t (i ∙ ap (λ x. before ++ x ∷ c) (sym head)) k g

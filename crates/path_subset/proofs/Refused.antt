@@ -20,7 +20,7 @@ use Rattle.path_grammar.specs.steps.Machine.{Joint, Frame, Stage, Inner, stand}
 use Rattle.path_grammar.proofs.Begun.{read-append, refused_begins}
 use Rattle.path_grammar.proofs.Completed as completed
 use Rattle.path_subset.specs.Answer.{Led, behind_run, with_run, led_by, before_selection_at, before_selection, with_condition, turned, further, ended_by, finished_path, read_from, path_read}
-use Rattle.path_subset.specs.Limits.{passes, limit_fault, WithinFrom}
+use Rattle.path_subset.specs.Limits.{exceeds, limit_fault, WithinFrom}
 use Rattle.path_subset.specs.Paths.{PlacedForm, placed_form, PathForm}
 use Rattle.path_subset.specs.Refused as R
 use Rattle.path_subset.specs.Refused.{WantSelection, MayStand, Refuses, IsFaultOf}
@@ -67,8 +67,8 @@ module _ (bad : Option ℕ) (size : ℕ) (fault : QueryFault) (p : Placed) (rest
   abbrev on : Led → Result PathForm QueryFault
   on l = read_from l.state l.selections l.count rest bad size
 
-  stays : (b : Bool) → passes (m.open_count s) p.symbol ≡ b → passes (m.open_count real) p.symbol ≡ b
-  stays b l = ap (λ n. passes n p.symbol) (sym (open_same s real (p ∷ rest) all st)) ∙ l
+  stays : (b : Bool) → exceeds (m.open_count s) p.symbol ≡ b → exceeds (m.open_count real) p.symbol ≡ b
+  stays b l = ap (λ n. exceeds n p.symbol) (sym (open_same s real (p ∷ rest) all st)) ∙ l
 
   -- the machine with the selections, one symbol on
   one_on : (o : Option m.State) → m.advance s p ≡ o → m.advance real p ≡ option_map (with_state all) o
@@ -120,7 +120,7 @@ module _ (bad : Option ℕ) (size : ℕ) (fault : QueryFault) (p : Placed) (rest
     }
     ends_among (q ∷ c) d j want = absurd (within_none q c d (selection.run_on (Some (Shape.whole selection.start)) (q ∷ c)) j refl want)
 
-    through : passes (m.open_count s) p.symbol ≡ false → read_from (with_condition (m.along root i) (form.contains (steps before) (length found))) (found ++ placed_form x (take n rest) ∷ []) n rest bad size ≡ Err fault → Refuses (done ++ p ∷ rest) bad size fault
+    through : exceeds (m.open_count s) p.symbol ≡ false → read_from (with_condition (m.along root i) (form.contains (steps before) (length found))) (found ++ placed_form x (take n rest) ∷ []) n rest bad size ≡ Err fault → Refuses (done ++ p ∷ rest) bad size fault
     through l e =
         next n (m.along root (stand i.frames i.joint i.selections (m.ended (form.contains (steps before) (length all))))) (into (take n rest) run.shape) (all ++ inside (take n rest) run.selects.tree ∷ []) (found ++ placed_form x (take n rest) ∷ [])
         (Stands.ended root i.frames i.joint i.selections all before (take n rest) run.selects.tree run.shape (drop n rest) run.ends run.stops)
@@ -130,7 +130,7 @@ module _ (bad : Option ℕ) (size : ℕ) (fault : QueryFault) (p : Placed) (rest
         (into (take n rest) run.shape) runs ends_among)
         (ap (λ c. read_from (m.along root (stand i.frames i.joint i.selections (m.ended (form.contains (steps before) c)))) (found ++ placed_form x (take n rest) ∷ []) n rest bad size) (sym (counted each)) ∙ e)
 
-  by_run : (t : m.State) (before : List form.Step) (o : Result (Form × ℕ) QueryFault) → run_read rest bad size ≡ o → passes (m.open_count s) p.symbol ≡ false → m.advance s p ≡ Some t → before_selection t ≡ Some before
+  by_run : (t : m.State) (before : List form.Step) (o : Result (Form × ℕ) QueryFault) → run_read rest bad size ≡ o → exceeds (m.open_count s) p.symbol ≡ false → m.advance s p ≡ Some t → before_selection t ≡ Some before
       → further (behind_run t found before rest o) on ≡ Err fault → Refuses (done ++ p ∷ rest) bad size fault
   by_run (m.at_root stage) before (Err f) k l a b e = cc
   by_run (m.along root i) before (Err f) k l a b e =
@@ -143,25 +143,25 @@ module _ (bad : Option ℕ) (size : ℕ) (fault : QueryFault) (p : Placed) (rest
   none_begins t b a [] d j want = absurd (wants (done ++ p ∷ []) (with_state all t) (reads_on (Some (with_state all t)) [] (one_on (Some t) a)) (fresh_before all t ∙ b) want)
   none_begins t b a (q ∷ c) d j want = cc
 
-  by_selection : (t : m.State) (o : Option (List form.Step)) → before_selection t ≡ o → passes (m.open_count s) p.symbol ≡ false → m.advance s p ≡ Some t → further (with_run t found o rest bad size) on ≡ Err fault → Refuses (done ++ p ∷ rest) bad size fault
+  by_selection : (t : m.State) (o : Option (List form.Step)) → before_selection t ≡ o → exceeds (m.open_count s) p.symbol ≡ false → m.advance s p ≡ Some t → further (with_run t found o rest bad size) on ≡ Err fault → Refuses (done ++ p ∷ rest) bad size fault
   by_selection t None b l a e =
       next 0 t (with_state all t) all found (next_stands s real t p rest all st a b) each (reads_on (Some (with_state all t)) [] (one_on (Some t) a))
       (stands_on done p [] rest h real (with_state all t) r (one_on (Some t) a) (stays false l) (none_within (with_state all t)) (with_state all t) refl (none_begins t b a)) e
   by_selection t (Some before) b l a e = by_run t before (run_read rest bad size) refl l a b e
 
-  by_state : (o : Option m.State) → m.advance s p ≡ o → passes (m.open_count s) p.symbol ≡ false → further (led_by p o found rest bad size) on ≡ Err fault → Refuses (done ++ p ∷ rest) bad size fault
+  by_state : (o : Option m.State) → m.advance s p ≡ o → exceeds (m.open_count s) p.symbol ≡ false → further (led_by p o found rest bad size) on ≡ Err fault → Refuses (done ++ p ∷ rest) bad size fault
   by_state None a l e =
       let same : Q.Syntax p.from ≡ fault = cc in
       subst (Refuses (done ++ p ∷ rest) bad size) same (Refuses.symbol done p rest real refl h r (stays false l) (refused_begins (done ++ p ∷ []) (reads_on None [] (one_on None a))))
   by_state (Some t) a l e = by_selection t (before_selection t) refl l a e
 
-  by_limit : (b : Bool) → passes (m.open_count s) p.symbol ≡ b → further (cond b (Err (limit_fault p)) (led_by p (m.advance s p) found rest bad size)) on ≡ Err fault → Refuses (done ++ p ∷ rest) bad size fault
+  by_limit : (b : Bool) → exceeds (m.open_count s) p.symbol ≡ b → further (cond b (Err (limit_fault p)) (led_by p (m.advance s p) found rest bad size)) on ≡ Err fault → Refuses (done ++ p ∷ rest) bad size fault
   by_limit true l e = let same : limit_fault p ≡ fault = cc in subst (Refuses (done ++ p ∷ rest) bad size) same (Refuses.limit done p rest real refl h r (stays true l))
   by_limit false l e = by_state (m.advance s p) refl l e
 
   pub one_stops : further (turned s found p rest bad size) on ≡ Err fault → Refuses (done ++ p ∷ rest) bad size fault
   unfolding turned
-  one_stops e = by_limit (passes (m.open_count s) p.symbol) refl e
+  one_stops e = by_limit (exceeds (m.open_count s) p.symbol) refl e
 
 stops : (bad : Option ℕ) (size : ℕ) (fault : QueryFault) (u : List Placed) → Stops bad size fault u
 unfolding read_from

@@ -17,7 +17,7 @@ use Rattle.path_grammar.proofs.Begun.{read-append, not_begun}
 use Rattle.path_grammar.proofs.Rooted as rooted
 use Rattle.path_grammar.proofs.Standing as standing
 use Rattle.path_subset.specs.Answer.{Led, behind_run, led_by, before_selection_at, before_selection, further, ended_by, finished_path, read_from}
-use Rattle.path_subset.specs.Limits.{passes, limit_fault, goes_on}
+use Rattle.path_subset.specs.Limits.{exceeds, limit_fault, goes_on}
 use Rattle.path_subset.specs.Paths.{PlacedForm, PathForm}
 use Rattle.path_subset.specs.Refused as R
 use Rattle.path_subset.specs.Refused.{WantSelection, MayStand, Refuses}
@@ -63,10 +63,10 @@ last_same (r ∷ []) [] p q e = cc
 last_same (r ∷ t ∷ u) [] p q e = cc
 last_same (r ∷ u) (t ∷ prefix) p q e = let tail : u ++ p ∷ [] ≡ prefix ++ q ∷ [] = cc in last_same u prefix p q tail
 
-text_passes_none : (before : List Placed) (p : Placed) (depth : ℕ) → WantSelection (before ++ p ∷ []) → passes depth p.symbol ≡ false
-text_passes_none before p depth (R.behind_text root frames joint insides steps r) =
+text_exceeds_none : (before : List Placed) (p : Placed) (depth : ℕ) → WantSelection (before ++ p ∷ []) → exceeds depth p.symbol ≡ false
+text_exceeds_none before p depth (R.behind_text root frames joint insides steps r) =
     let h = state_ends (rooted.reads (before ++ p ∷ []) (m.along root (stand frames joint insides (m.selecting steps [] (Shape.whole selection.start)))) r) steps refl in
-    ap (λ (q : Placed). passes depth q.symbol) (last_same before h.prefix p (name h.at (codes "text")) h.is)
+    ap (λ (q : Placed). exceeds depth q.symbol) (last_same before h.prefix p (name h.at (codes "text")) h.is)
 
 -- a selection comes next for the reader where it does for the machine
 fresh_at : (stage : Stage) → before_selection_at (fresh stage) ≡ before_selection_at stage
@@ -103,17 +103,17 @@ module _ (bad : Option ℕ) (size : ℕ) (p : Placed) (rest : List Placed) (befo
   abbrev on : Led → Result PathForm QueryFault
   on l = read_from l.state l.selections l.count rest bad size
 
-  limited : (s : m.State) → m.read before ≡ Some s → (b : Bool) → passes (m.open_count s) p.symbol ≡ b → passes (m.open_count a.s) p.symbol ≡ b
+  limited : (s : m.State) → m.read before ≡ Some s → (b : Bool) → exceeds (m.open_count s) p.symbol ≡ b → exceeds (m.open_count a.s) p.symbol ≡ b
   limited s r b l =
-      ap (λ n. passes n p.symbol) (open_same a.s a.real (p ∷ rest) a.all a.stands) ∙ ap (λ (x : m.State). passes (m.open_count x) p.symbol) (same_there before a.real s a.reads r) ∙ l
+      ap (λ n. exceeds n p.symbol) (open_same a.s a.real (p ∷ rest) a.all a.stands) ∙ ap (λ (x : m.State). exceeds (m.open_count x) p.symbol) (same_there before a.real s a.reads r) ∙ l
 
   one_on : m.read (before ++ p ∷ []) ≡ m.run_on (option_map (with_state a.all) (m.advance a.s p)) []
   one_on = read-append before (p ∷ []) ∙ ap (λ o. m.run_on o (p ∷ [])) a.reads ∙ ap (λ o. m.run_on o []) (step_same a.s a.real p rest a.all a.stands)
 
-  pub past_limit : (s : m.State) → m.read before ≡ Some s → passes (m.open_count s) p.symbol ≡ true → expected ≡ Err (limit_fault p)
+  pub past_limit : (s : m.State) → m.read before ≡ Some s → exceeds (m.open_count s) p.symbol ≡ true → expected ≡ Err (limit_fault p)
   past_limit s r l = a.is ∙ first a.s a.found p rest bad size ∙ ap (λ z. further z on) (turned_past a.s a.found p rest bad size (limited s r true l))
 
-  pub at_symbol : (s : m.State) → m.read before ≡ Some s → passes (m.open_count s) p.symbol ≡ false → m.read (before ++ p ∷ []) ≡ None → expected ≡ Err (Q.Syntax p.from)
+  pub at_symbol : (s : m.State) → m.read before ≡ Some s → exceeds (m.open_count s) p.symbol ≡ false → m.read (before ++ p ∷ []) ≡ None → expected ≡ Err (Q.Syntax p.from)
   at_symbol s r l none =
       a.is ∙ first a.s a.found p rest bad size
       ∙ ap (λ z. further z on) (sym (turned_within a.s a.found p rest bad size (limited s r false l)) ∙ ap (λ o. led_by p o a.found rest bad size) (stuck (m.advance a.s p) (sym one_on ∙ none)))
@@ -130,7 +130,7 @@ module _ (bad : Option ℕ) (size : ℕ) (p : Placed) (rest : List Placed) (befo
       by (Some t) e f =
           let same : with_state a.all t ≡ m.along root (stand frames joint insides (m.selecting steps [] (Shape.whole selection.start))) = cc in
           a.is
-          ∙ one_read a.s t a.found p rest bad size (Some steps) (text_passes_none before p (m.open_count a.s) (R.behind_text root frames joint insides steps r)) e (sym (fresh_before a.all t) ∙ ap before_selection same)
+          ∙ one_read a.s t a.found p rest bad size (Some steps) (text_exceeds_none before p (m.open_count a.s) (R.behind_text root frames joint insides steps r)) e (sym (fresh_before a.all t) ∙ ap before_selection same)
           ∙ ap (λ z. further (behind_run t a.found steps rest z) on) k
 
 -- behind all symbols

@@ -7,7 +7,7 @@ use Rattle.ft_parser.specs.Answer.{Answered}
 use Rattle.selection_grammar.specs.declared.symbol.Placed.{Placed}
 use Rattle.path_grammar.specs.steps.Machine.{State, advance, open_count}
 use Rattle.path_subset.specs.Answer.{Led, led_by, turned, further, read_from, ended_by, finished_path}
-use Rattle.path_subset.specs.Limits.{passes, limit_fault}
+use Rattle.path_subset.specs.Limits.{exceeds, limit_fault}
 use Rattle.path_subset.specs.Paths.{PlacedForm}
 
 pub skipped : (s : State) (found : List PlacedForm) (count : ℕ) (symbols : List Placed) (bad : Option ℕ) (size : ℕ)
@@ -61,13 +61,13 @@ pub at_end : (s : State) (found : List PlacedForm) (symbols : List Placed) (n : 
 at_end s found symbols n bad size e = ap (λ u. read_from s found 0 u bad size) e ∙ nothing_left s found bad size
 
 -- where no limit is passed
-pub turned_within : (s : State) (found : List PlacedForm) (p : Placed) (rest : List Placed) (bad : Option ℕ) (size : ℕ) → passes (open_count s) p.symbol ≡ false
+pub turned_within : (s : State) (found : List PlacedForm) (p : Placed) (rest : List Placed) (bad : Option ℕ) (size : ℕ) → exceeds (open_count s) p.symbol ≡ false
     → led_by p (advance s p) found rest bad size ≡ turned s found p rest bad size
 unfolding turned
 turned_within s found p rest bad size h = sym (ap (λ b. cond b (Err (limit_fault p)) (led_by p (advance s p) found rest bad size)) h)
 
 -- and where one is
-pub turned_past : (s : State) (found : List PlacedForm) (p : Placed) (rest : List Placed) (bad : Option ℕ) (size : ℕ) → passes (open_count s) p.symbol ≡ true
+pub turned_past : (s : State) (found : List PlacedForm) (p : Placed) (rest : List Placed) (bad : Option ℕ) (size : ℕ) → exceeds (open_count s) p.symbol ≡ true
     → turned s found p rest bad size ≡ Err (limit_fault p)
 unfolding turned
 turned_past s found p rest bad size h = ap (λ b. cond b (Err (limit_fault p)) (led_by p (advance s p) found rest bad size)) h

@@ -22,7 +22,7 @@ use Rattle.path_grammar.specs.steps.Machine.{Joint, Frame, Stage, Inner, stand}
 use Rattle.path_grammar.proofs.Begun.{run_on-append}
 use Rattle.path_grammar.proofs.Rooted.{read_path}
 use Rattle.path_subset.specs.Answer.{Led, behind_run, with_run, led_by, before_selection_at, before_selection, with_condition, turned, further, ended_by, finished_path, read_from, path_read}
-use Rattle.path_subset.specs.Limits.{passes, limit_fault, goes_on, goes_on_at, WithinFrom}
+use Rattle.path_subset.specs.Limits.{exceeds, limit_fault, goes_on, goes_on_at, WithinFrom}
 use Rattle.path_subset.specs.Paths.{PlacedForm, placed_form, PathForm, path_form}
 use Rattle.path_subset.specs.Spelled as E
 use Rattle.path_subset.specs.Spelled.{Each, SpellsPath}
@@ -145,11 +145,11 @@ pub none_within : (s : m.State) → WithinFrom s []
 none_within s [] p rest t e r g = cc
 none_within s (q ∷ before) p rest t e r g = cc
 
-one_within : (s t : m.State) (p : Placed) (rest : List Placed) → m.advance s p ≡ Some t → (goes_on s p ≡ false → passes (m.open_count s) p.symbol ≡ false) → WithinFrom t rest → WithinFrom s (p ∷ rest)
+one_within : (s t : m.State) (p : Placed) (rest : List Placed) → m.advance s p ≡ Some t → (goes_on s p ≡ false → exceeds (m.open_count s) p.symbol ≡ false) → WithinFrom t rest → WithinFrom s (p ∷ rest)
 one_within s t p rest a l within [] q z there e r g =
     let first : p ≡ q = cc in
     let same : s ≡ there = cc in
-    subst (λ x. passes (m.open_count x) q.symbol ≡ false) same (subst (λ x. passes (m.open_count s) x.symbol ≡ false) first (l (ap (λ x. goes_on s x) first ∙ ap (λ x. goes_on x q) same ∙ g)))
+    subst (λ x. exceeds (m.open_count x) q.symbol ≡ false) same (subst (λ x. exceeds (m.open_count s) x.symbol ≡ false) first (l (ap (λ x. goes_on s x) first ∙ ap (λ x. goes_on x q) same ∙ g)))
 one_within s t p rest a l within (b ∷ before) q z there e r g =
     let first : b ≡ p = cc in
     let further : rest ≡ before ++ q ∷ z = cc in
@@ -226,8 +226,8 @@ module _ (bad : Option ℕ) (size : ℕ) (value : PathForm) (p : Placed) (rest :
   abbrev on : Led → Result PathForm QueryFault
   on l = read_from l.state l.selections l.count rest bad size
 
-  stays_within : passes (m.open_count s) p.symbol ≡ false → goes_on real p ≡ false → passes (m.open_count real) p.symbol ≡ false
-  stays_within l g = ap (λ n. passes n p.symbol) (sym (open_same s real (p ∷ rest) all st)) ∙ l
+  stays_within : exceeds (m.open_count s) p.symbol ≡ false → goes_on real p ≡ false → exceeds (m.open_count real) p.symbol ≡ false
+  stays_within l g = ap (λ n. exceeds n p.symbol) (sym (open_same s real (p ∷ rest) all st)) ∙ l
 
   -- the machine with the selections, one symbol on
   advances : (t : m.State) → m.advance s p ≡ Some t → m.advance real p ≡ Some (with_state all t)
@@ -237,7 +237,7 @@ module _ (bad : Option ℕ) (size : ℕ) (value : PathForm) (p : Placed) (rest :
   one_on t a = ap (λ o. m.run_on o rest) (advances t a)
 
   -- through a selection
-  through : (root : PathRoot) (i : Inner) (before : List form.Step) (x : Form) (n : ℕ) → passes (m.open_count s) p.symbol ≡ false → m.advance s p ≡ Some (m.along root i) → before_selection_at i.stage ≡ Some before → Whole rest x n
+  through : (root : PathRoot) (i : Inner) (before : List form.Step) (x : Form) (n : ℕ) → exceeds (m.open_count s) p.symbol ≡ false → m.advance s p ≡ Some (m.along root i) → before_selection_at i.stage ≡ Some before → Whole rest x n
       → read_from (with_condition (m.along root i) (form.contains (steps before) (length found))) (found ++ placed_form x (take n rest) ∷ []) n rest bad size ≡ Ok value → Sound real (p ∷ rest) bad value
   through root i before x n l a k run e =
       let fresh_is : fresh i.stage ≡ m.selecting before [] (Shape.whole selection.start) = fresh_selecting i.stage before k in
@@ -258,27 +258,27 @@ module _ (bad : Option ℕ) (size : ℕ) (value : PathForm) (p : Placed) (rest :
       (again n (m.along root (stand i.frames i.joint i.selections (m.ended (form.contains (steps before) (length all))))) (m.along root (stand i.frames i.joint all (m.selecting before (take n rest) run.shape)))
       (all ++ inside (take n rest) run.selects.tree ∷ []) (found ++ placed_form x (take n rest) ∷ []) stands (E.further each (inside (take n rest) run.selects.tree) x run.selects) reads)
 
-  by_run : (t : m.State) (before : List form.Step) (r : Result (Form × ℕ) QueryFault) → run_read rest bad size ≡ r → passes (m.open_count s) p.symbol ≡ false → m.advance s p ≡ Some t → before_selection t ≡ Some before
+  by_run : (t : m.State) (before : List form.Step) (r : Result (Form × ℕ) QueryFault) → run_read rest bad size ≡ r → exceeds (m.open_count s) p.symbol ≡ false → m.advance s p ≡ Some t → before_selection t ≡ Some before
       → further (behind_run t found before rest r) on ≡ Ok value → Sound real (p ∷ rest) bad value
   by_run t before (Err fault) k l a b e = cc
   by_run (m.at_root r) before (Ok (x, n)) k l a b e = cc
   by_run (m.along root i) before (Ok (x, n)) k l a b e = through root i before x n l a b (whole_read rest bad size x n k) e
 
-  by_selection : (t : m.State) (o : Option (List form.Step)) → before_selection t ≡ o → passes (m.open_count s) p.symbol ≡ false → m.advance s p ≡ Some t → further (with_run t found o rest bad size) on ≡ Ok value → Sound real (p ∷ rest) bad value
+  by_selection : (t : m.State) (o : Option (List form.Step)) → before_selection t ≡ o → exceeds (m.open_count s) p.symbol ≡ false → m.advance s p ≡ Some t → further (with_run t found o rest bad size) on ≡ Ok value → Sound real (p ∷ rest) bad value
   by_selection t None b l a e = sound_before real (with_state all t) (p ∷ rest) rest bad value (one_on t a) (one_within real (with_state all t) p rest (advances t a) (stays_within l)) (again 0 t (with_state all t) all found (next_stands s real t p rest all st a b) each e)
   by_selection t (Some before) b l a e = by_run t before (run_read rest bad size) refl l a b e
 
-  by_state : (o : Option m.State) → m.advance s p ≡ o → passes (m.open_count s) p.symbol ≡ false → further (led_by p o found rest bad size) on ≡ Ok value → Sound real (p ∷ rest) bad value
+  by_state : (o : Option m.State) → m.advance s p ≡ o → exceeds (m.open_count s) p.symbol ≡ false → further (led_by p o found rest bad size) on ≡ Ok value → Sound real (p ∷ rest) bad value
   by_state None a l e = cc
   by_state (Some t) a l e = by_selection t (before_selection t) refl l a e
 
-  by_limit : (b : Bool) → passes (m.open_count s) p.symbol ≡ b → further (cond b (Err (limit_fault p)) (led_by p (m.advance s p) found rest bad size)) on ≡ Ok value → Sound real (p ∷ rest) bad value
+  by_limit : (b : Bool) → exceeds (m.open_count s) p.symbol ≡ b → further (cond b (Err (limit_fault p)) (led_by p (m.advance s p) found rest bad size)) on ≡ Ok value → Sound real (p ∷ rest) bad value
   by_limit true l e = cc
   by_limit false l e = by_state (m.advance s p) refl l e
 
   pub one_sound : further (turned s found p rest bad size) on ≡ Ok value → Sound real (p ∷ rest) bad value
   unfolding turned
-  one_sound e = by_limit (passes (m.open_count s) p.symbol) refl e
+  one_sound e = by_limit (exceeds (m.open_count s) p.symbol) refl e
 
 sound : (bad : Option ℕ) (size : ℕ) (value : PathForm) (u : List Placed) → Reads bad size value u
 unfolding read_from

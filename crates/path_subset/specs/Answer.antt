@@ -9,7 +9,7 @@ use Rattle.ft_parser.specs.Prefix.{run_read}
 use Rattle.query_symbols.specs.Symbols.{symbols_of}
 use Rattle.path_grammar.specs.Form as form
 use Rattle.path_grammar.specs.steps.Machine.{State, Stage, nothing, at_root, along, stand, ended, selecting, advance, finished, open_count}
-use Rattle.path_subset.specs.Limits.{passes, limit_fault}
+use Rattle.path_subset.specs.Limits.{exceeds, limit_fault}
 use Rattle.path_subset.specs.Paths.{PlacedForm, placed_form, PathForm, path_form}
 
 -- the steps before `contains text`, where a selection comes next
@@ -53,7 +53,7 @@ led_by p (Some s) selections rest bad size = with_run s selections (before_selec
 -- Where a symbol leads that has these symbols behind it, in a text of so many bytes, which has a character behind them all that begins
 -- no symbol, or none. Behind `contains text` it leads through a selection.
 unfoldable pub turned : State → List PlacedForm → Placed → List Placed → Option ℕ → ℕ → Result Led QueryFault
-turned s selections p rest bad size = if passes (open_count s) p.symbol then Err (limit_fault p) else led_by p (advance s p) selections rest bad size
+turned s selections p rest bad size = if exceeds (open_count s) p.symbol then Err (limit_fault p) else led_by p (advance s p) selections rest bad size
 
 -- behind all symbols: a character that begins none, or the end of the text, which is too soon for a path that isn't whole
 abbrev pub ended_by : Option ℕ → ℕ → List PlacedForm → Option form.Path → Result PathForm QueryFault
@@ -69,7 +69,7 @@ abbrev pub further : Result Led QueryFault → (Led → Result PathForm QueryFau
 further (Err fault) on = Err fault
 further (Ok there) on = on there
 
--- What symbols are read as from where the machine stands, behind so many of them that are read already. The first one that passes a
+-- What symbols are read as from where the machine stands, behind so many of them that are read already. The first one that exceeds a
 -- limit or can't stand there, or the first fault of a selection, whichever comes first, is their fault.
 unfoldable pub read_from : State → List PlacedForm → ℕ → List Placed → Option ℕ → ℕ → Result PathForm QueryFault
 read_from s selections count [] bad size = ended_by bad size selections (finished_path s)

@@ -15,13 +15,13 @@ opens S.OpenBracket = true
 opens S.OpenParenthesis = true
 opens other = false
 
--- Whether a symbol passes a limit where so many brackets and parentheses are open: it opens one more than may be, or is a number
+-- Whether a symbol exceeds a limit where so many brackets and parentheses are open: it opens one more than may be, or is a number
 -- that is too great.
-abbrev pub passes : ℕ → Symbol → Bool
-passes depth S.OpenBracket = nat_le max_open depth
-passes depth S.OpenParenthesis = nat_le max_open depth
-passes depth (S.Number n) = nat_lt max_number n
-passes depth other = false
+abbrev pub exceeds : ℕ → Symbol → Bool
+exceeds depth S.OpenBracket = nat_le max_open depth
+exceeds depth S.OpenParenthesis = nat_le max_open depth
+exceeds depth (S.Number n) = nat_lt max_number n
+exceeds depth other = false
 
 abbrev pub limit_fault : Placed → QueryFault
 limit_fault p = if opens p.symbol then Q.Deep p.from else Q.Number p.from
@@ -35,14 +35,14 @@ abbrev pub goes_on : State → Placed → Bool
 goes_on (at_root stage) p = false
 goes_on (along root s) p = goes_on_at s.stage p
 
--- Outside of all selections none of the symbols passes a limit, from where the machine stands.
+-- Outside of all selections none of the symbols exceeds a limit, from where the machine stands.
 abbrev pub WithinFrom : State → List Placed → Type 0
 WithinFrom s symbols = (before : List Placed) (p : Placed) (rest : List Placed) (t : State) → symbols ≡ before ++ p ∷ rest
-    → run_on (Some s) before ≡ Some t → goes_on t p ≡ false → passes (open_count t) p.symbol ≡ false
+    → run_on (Some s) before ≡ Some t → goes_on t p ≡ false → exceeds (open_count t) p.symbol ≡ false
 
 abbrev pub Within : List Placed → Type 0
 Within symbols = (before : List Placed) (p : Placed) (rest : List Placed) (t : State) → symbols ≡ before ++ p ∷ rest → read before ≡ Some t
-    → goes_on t p ≡ false → passes (open_count t) p.symbol ≡ false
+    → goes_on t p ≡ false → exceeds (open_count t) p.symbol ≡ false
 
 -- Outside of all selections no number is too great.
 abbrev pub AreNumbersWithin : List Placed → Type 0

@@ -10,7 +10,7 @@ use Rattle.path_grammar.specs.declared.path.PathRoot.{PathRoot}
 use Rattle.path_grammar.specs.Form as form
 use Rattle.path_grammar.specs.Grammar.{Inside, Path, Begins}
 use Rattle.path_grammar.specs.steps.Machine.{State, Frame, Joint, along, stand, selecting, read, open_count}
-use Rattle.path_subset.specs.Limits.{passes, limit_fault, Within}
+use Rattle.path_subset.specs.Limits.{exceeds, limit_fault, Within}
 use Rattle.path_subset.specs.Runs.{EndsAmong, Misread}
 
 -- The symbols before a place end with `contains text`.
@@ -18,7 +18,7 @@ pub data WantSelection (before : List Placed) : Type 0 where
   behind_text : (root : PathRoot) (frames : List Frame) (joint : Joint) (insides : List Inside) (steps : List form.Step)
       → read before ≡ Some (along root (stand frames joint insides (selecting steps [] (whole selection.start)))) → WantSelection before
 
--- Nothing is wrong with some symbols before others: they begin a path; outside of all selections none of them passes a limit; and each selection that
+-- Nothing is wrong with some symbols before others: they begin a path; outside of all selections none of them exceeds a limit; and each selection that
 -- begins among them is within the limits and without a fault, and ends among them.
 pub record MayStand (before rest : List Placed) : Type 0 where
   pub begins : Begins before
@@ -31,10 +31,10 @@ pub record MayStand (before rest : List Placed) : Type 0 where
 pub data Refuses (symbols : List Placed) (bad : Option ℕ) (size : ℕ) : QueryFault → Type 0 where
   -- a number is too great, or a bracket or parenthesis opens where as many are open as may be
   limit : (before : List Placed) (p : Placed) (rest : List Placed) (s : State) → symbols ≡ before ++ p ∷ rest → MayStand before (p ∷ rest)
-      → read before ≡ Some s → passes (open_count s) p.symbol ≡ true → Refuses symbols bad size (limit_fault p)
-  -- with the symbol there, which passes no limit, they begin no path
+      → read before ≡ Some s → exceeds (open_count s) p.symbol ≡ true → Refuses symbols bad size (limit_fault p)
+  -- with the symbol there, which exceeds no limit, they begin no path
   symbol : (before : List Placed) (p : Placed) (rest : List Placed) (s : State) → symbols ≡ before ++ p ∷ rest → MayStand before (p ∷ rest)
-      → read before ≡ Some s → passes (open_count s) p.symbol ≡ false → (Begins (before ++ p ∷ []) → ⊥)
+      → read before ≡ Some s → exceeds (open_count s) p.symbol ≡ false → (Begins (before ++ p ∷ []) → ⊥)
       → Refuses symbols bad size (Q.Syntax p.from)
   -- behind `contains text`, of which that symbol is the last, no selection is read
   misread : (before : List Placed) (p : Placed) (rest : List Placed) (fault : QueryFault) → symbols ≡ before ++ p ∷ rest

@@ -1,7 +1,7 @@
 //! Steps of the reader behind a whole condition: what closes, `and`, `or`.
 #![tactic(auto, using(
 // the frames that are left
-crate::proofs::Frames::frames_pushed, crate::proofs::Turns::joint_next_by,
+ft_parser::proofs::Frames::pushed_first, crate::proofs::Turns::joint_next_by,
 // what a predicate stands for
 path_grammar::proofs::Views::view_number, path_grammar::proofs::Views::view_holds))]
 

@@ -20,9 +20,9 @@ pub(crate) fn open_count(state: &State) -> usize
     }
 }
 
-/// Whether the symbol passes a limit where so many are open.
-pub(crate) fn passes(depth: usize, symbol: &Symbol) -> bool
-    ensures { result ≡ spec.passes depth symbol.now }
+/// Whether the symbol exceeds a limit where so many are open.
+pub(crate) fn exceeds(depth: usize, symbol: &Symbol) -> bool
+    ensures { result ≡ spec.exceeds depth symbol.now }
 {
     match symbol {
         Symbol::OpenBracket => depth >= MAX_OPEN,
@@ -32,7 +32,7 @@ pub(crate) fn passes(depth: usize, symbol: &Symbol) -> bool
     }
 }
 
-/// The fault of a symbol that passes a limit.
+/// The fault of a symbol that exceeds a limit.
 pub(crate) fn limit_fault(placed: &Placed) -> QueryFault
     ensures { result ≡ spec.limit_fault placed.now }
 {

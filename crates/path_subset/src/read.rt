@@ -14,9 +14,9 @@ ghost use Rattle.selection_grammar.specs.declared.symbol.Placed.{Placed};
 
 use crate::building::all_steps;
 use crate::closing::stand;
-use crate::limits::{limit_fault, open_count, passes};
+use crate::limits::{exceeds, limit_fault, open_count};
 use crate::path::{Extent, Found, ReadPath};
-use crate::state::{Frame, Inner, Joint, LastStep, Reading, RootStage, Stage, State, Way};
+use crate::state::{Frame, Inner, Joint, LastStep, ReadSoFar, RootStage, Stage, State, Way};
 use crate::turn::{inner_turn, root_turn};
 use ft_base::{Items, Memory, QueryFault};
 use ft_parser::{read_run, symbols};
@@ -74,11 +74,11 @@ fn read_placed(
 }
 
 /// Before the first symbol.
-fn start(alloc: Global) -> Reading
+fn start(alloc: Global) -> ReadSoFar
     ensures state { state_of result.state ≡ m.at_root m.nothing }
     ensures found { result.found ≡ [] }
 {
-    Reading {
+    ReadSoFar {
         state: State::AtRoot(RootStage::Nothing),
         found: Items::new(alloc),
     }
@@ -90,14 +90,14 @@ fn turn(
     alloc: Global,
     placed: &Placed,
     rest: &Rest<'_>,
-    reading: Reading,
-) -> Result<(Reading, usize), QueryFault>
+    reading: ReadSoFar,
+) -> Result<(ReadSoFar, usize), QueryFault>
     ensures value { Answered led_of
         (spec.turned (state_of reading.state) (map found_form reading.found) placed.now rest.now.symbols.now rest.now.bad rest.now.size) result }
     ensures within { IfOk result (λ there. there.1 ≤ length rest.now.symbols.now) }
 {
-    let Reading { state, found } = reading;
-    if passes(open_count(&state), &placed.symbol) {
+    let ReadSoFar { state, found } = reading;
+    if exceeds(open_count(&state), &placed.symbol) {
         drop((state, found));
         return Err(limit_fault(placed));
     }
@@ -112,13 +112,13 @@ fn at_root(
     placed: &Placed,
     stage: RootStage,
     found: Items<Found>,
-) -> Result<(Reading, usize), QueryFault>
+) -> Result<(ReadSoFar, usize), QueryFault>
     ensures value { (rest : List Placed) (bad : Option ℕ) (size : ℕ)
         → Answered led_of (spec.led_by placed.now (m.root_next (root_stage_of stage) placed.now.symbol) (map found_form found) rest bad size) result }
     ensures within { IfOk result (λ there. there.1 ≡ 0) }
 {
     match root_turn(alloc, stage, &placed.symbol) {
-        Ok(Some(state)) => Ok((Reading { state, found }, 0)),
+        Ok(Some(state)) => Ok((ReadSoFar { state, found }, 0)),
         Ok(None) => Err(QueryFault::Syntax { at: placed.from }),
         Err(_) => Err(QueryFault::Memory),
     }
@@ -131,7 +131,7 @@ fn along(
     root: PathRoot,
     inner: Inner,
     found: Items<Found>,
-) -> Result<(Reading, usize), QueryFault>
+) -> Result<(ReadSoFar, usize), QueryFault>
     ensures value { Answered led_of
         (spec.led_by placed.now (m.along_to root (m.advance_inner (inner_of inner) placed.now)) (map found_form found) rest.now.symbols.now
         rest.now.bad rest.now.size) result }
@@ -157,14 +157,14 @@ fn gone(
     root: PathRoot,
     way: Way,
     found: Items<Found>,
-) -> Result<(Reading, usize), QueryFault>
+) -> Result<(ReadSoFar, usize), QueryFault>
     ensures value { Answered led_of (way_led root (way_of way) (map found_form found) rest.now.symbols.now rest.now.bad rest.now.size) result }
     ensures within { IfOk result (λ there. there.1 ≤ length rest.now.symbols.now) }
 {
     match way {
         Way::On(inner) => {
             let state = State::Along(root, inner);
-            Ok((Reading { state, found }, 0))
+            Ok((ReadSoFar { state, found }, 0))
         }
         Way::Selection(frames, joint, before) => {
             selection(alloc, rest, root, frames, joint, before, found)
@@ -181,7 +181,7 @@ fn selection(
     joint: Joint,
     before: Vec<Step>,
     found: Items<Found>,
-) -> Result<(Reading, usize), QueryFault>
+) -> Result<(ReadSoFar, usize), QueryFault>
     ensures value { Answered led_of
         (run_led root (frames_of frames.items) (joint_of joint) (steps_of before.items) (map found_form found) rest.now.symbols.now
         (run_read rest.now.symbols.now rest.now.bad rest.now.size)) result }
@@ -197,7 +197,7 @@ fn selection(
             let inner = stand(frames, joint, Stage::Ended(whole));
             let state = State::Along(root, inner);
             match with_found(found, Found { selection, extent }) {
-                Ok(found) => Ok((Reading { state, found }, count)),
+                Ok(found) => Ok((ReadSoFar { state, found }, count)),
                 Err(_) => {
                     drop(state);
                     Err(QueryFault::Memory)
@@ -248,14 +248,14 @@ fn end(symbols: &[Placed]) -> usize
 }
 
 /// Behind all symbols: a character that begins none, or the end of the text.
-fn ended(bad: Option<usize>, size: usize, reading: Reading) -> Result<ReadPath, QueryFault>
+fn ended(bad: Option<usize>, size: usize, reading: ReadSoFar) -> Result<ReadPath, QueryFault>
     ensures { Answered read_form (spec.ended_by bad size (map found_form reading.found) (spec.finished_path (state_of reading.state))) result }
 {
     if let Some(at) = bad {
         drop(reading);
         return Err(QueryFault::Syntax { at });
     }
-    let Reading { state, found } = reading;
+    let ReadSoFar { state, found } = reading;
     match whole(state) {
         Ok(Some(path)) => Ok(ReadPath {
             path,

@@ -88,7 +88,7 @@ pub(crate) enum State {
 
 /// Where the reader stands, and the selections that it has read.
 #[derive(Drop)]
-pub(crate) struct Reading {
+pub(crate) struct ReadSoFar {
     pub(crate) state: State,
     pub(crate) found: Items<Found>,
 }

@@ -13,9 +13,6 @@ use Rattle.selection_faults.specs.Strings.{strings_of, phrases_past, bad_wildcar
 use Rattle.selection_faults.specs.declared.placed_fault.PlacedFault.{PlacedFault}
 use Rattle.selection_faults.proofs.LeastLemmas.{least_append, least_option}
 
-place : PlacedFault → ℕ
-place f = f.at
-
 placed_cond : (kind : ℕ → QueryFault) (first : Bool) (a b : ℕ) → option_map (placed kind) (cond first (Some a) (Some b)) ≡ cond first (Some (placed kind a)) (Some (placed kind b))
 placed_cond kind true a b = refl
 placed_cond kind false a b = refl

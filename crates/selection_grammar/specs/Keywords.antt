@@ -20,10 +20,6 @@ use Rattle.selection_grammar.specs.Shapes.{Shape, whole, nothing, word, number, 
 abbrev pub key : {A : Type 0} → List ℕ → Shape A → Shape A
 key name to = word name (λ at. to) nothing
 
--- a number and a keyword
-abbrev pub counted : {A : Type 0} → List ℕ → (ℕ → A) → Shape A
-counted name made = number (λ n. key name (whole (made n))) nothing
-
 -- Unit ::= "words" | "sentences" | "paragraphs"
 abbrev pub unit : Shape TextUnit
 unit = word (codes "words") (λ at. whole Words) (word (codes "sentences") (λ at. whole Sentences) (word (codes "paragraphs") (λ at. whole Paragraphs) nothing))

@@ -1,8 +1,8 @@
--- Symbols that are printed: each can be printed, none passes a limit where so many parentheses are open before, and all that open are closed.
+-- Symbols that are printed: each can be printed, none exceeds a limit where so many parentheses are open before, and all that open are closed.
 use Rattle.std.proofs.Common.{◌≡◌, ◌≤◌, ◌+◌, ◌-◌, ℕ, true, false, ◌&&◌, List, [], ◌∷◌, ◌++◌, refl, sym, ◌∙◌, ap, subst, arith}
 use Rattle.std.proofs.lemmas.Bool.{and_left, and_right, le-ltb, or_from}
 use Rattle.std.specs.Prelude.{nat_le, nat_lt}
-use Rattle.ft_parser.specs.Limits.{open_behind, passes}
+use Rattle.ft_parser.specs.Limits.{open_behind, exceeds}
 use Rattle.ft_parser.specs.Selected.{open_after}
 use Rattle.ft_parser.proofs.SelectedLaws.{open_on}
 use Rattle.ft_base.specs.Limits.{max_number, max_open}
@@ -14,7 +14,7 @@ use Rattle.selection_round_trip.proofs.Fits.{Room}
 
 abbrev pub Within : ℕ → List Placed → Type 0
 Within d [] = Unit {0}
-Within d (p ∷ rest) = Printable p.symbol × (passes d p.symbol ≡ false) × Within (open_behind d p.symbol) rest
+Within d (p ∷ rest) = Printable p.symbol × (exceeds d p.symbol ≡ false) × Within (open_behind d p.symbol) rest
 
 pub record Good (d : ℕ) (u : List Placed) : Type 0 where
   pub within : Within d u

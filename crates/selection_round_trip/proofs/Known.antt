@@ -2,7 +2,7 @@
 use Rattle.std.proofs.Common.{◌≡◌, ◌≤◌, ◌+◌, ◌-◌, ℕ, Bool, true, false, cond, ◌||◌, ◌&&◌, List, [], ◌∷◌, ◌++◌, Option, Some, None, refl, ◌∙◌, ap, subst, arith}
 use Rattle.std.proofs.lemmas.Bool.{ltb-false, or_parts}
 use Rattle.std.specs.Prelude.{nat_le, nat_lt}
-use Rattle.ft_parser.specs.Limits.{open_behind, passes}
+use Rattle.ft_parser.specs.Limits.{open_behind, exceeds}
 use Rattle.ft_parser.specs.Selected.{open_after}
 use Rattle.ft_parser.proofs.SelectedLaws.{open_on}
 use Rattle.ft_base.specs.Limits.{max_number, max_open}
@@ -22,7 +22,7 @@ Content other = Unit {0}
 -- where so many parentheses are open before them
 abbrev pub Known : ℕ → List Placed → Type 0
 Known d [] = Unit {0}
-Known d (p ∷ rest) = Content p.symbol × (passes d p.symbol ≡ false) × Known (open_behind d p.symbol) rest
+Known d (p ∷ rest) = Content p.symbol × (exceeds d p.symbol ≡ false) × Known (open_behind d p.symbol) rest
 
 -- what follows of symbols that are known, with all parentheses closed behind them
 abbrev pub Kept : (ℕ → Type 0) → List Placed → Type 0
@@ -98,7 +98,7 @@ by_word : {A : Type 0} (P : A → Type 0) (d : ℕ) (key : List ℕ) (symbol : S
 by_word P d key symbol true e to rest h k = (h, word_open key symbol d e)
 by_word P d key symbol false e to rest h k = k
 
-by_number : {A : Type 0} (P : A → Type 0) (d : ℕ) (symbol : Symbol) → passes d symbol ≡ false → (to : ℕ → Shape A) (rest : Option (Shape A)) → ((n : ℕ) → n ≤ max_number → Ends P (to n)) → StepEnds P d symbol rest → StepEnds P d symbol (number_leads to rest (number_of symbol))
+by_number : {A : Type 0} (P : A → Type 0) (d : ℕ) (symbol : Symbol) → exceeds d symbol ≡ false → (to : ℕ → Shape A) (rest : Option (Shape A)) → ((n : ℕ) → n ≤ max_number → Ends P (to n)) → StepEnds P d symbol rest → StepEnds P d symbol (number_leads to rest (number_of symbol))
 by_number P d (S.Number n) e to rest h k = (h n (ltb-false max_number n (or_parts (nat_lt max_number n) (nat_le max_open d && false) e).0), refl)
 by_number P d other e to rest h k = k
 
@@ -106,7 +106,7 @@ by_text : {A : Type 0} (P : A → Type 0) (d : ℕ) (symbol : Symbol) → Conten
 by_text P d (S.Text t) e to rest h k = (h t e, refl)
 by_text P d other e to rest h k = k
 
-step_ends : {A : Type 0} (P : A → Type 0) (d : ℕ) (p : Placed) → Content p.symbol → passes d p.symbol ≡ false → (x : Shape A) → Ends P x → StepEnds P d p.symbol (step x p)
+step_ends : {A : Type 0} (P : A → Type 0) (d : ℕ) (p : Placed) → Content p.symbol → exceeds d p.symbol ≡ false → (x : Shape A) → Ends P x → StepEnds P d p.symbol (step x p)
 step_ends P d p c e (s.whole a) h = tt
 step_ends P d p c e s.nothing h = tt
 step_ends P d p c e (s.word key to rest) h = by_word P d key p.symbol (is_word key p.symbol) refl (to p.from) (step rest p) (h.0 p.from) (step_ends P d p c e rest h.1)

@@ -4,7 +4,7 @@ use Rattle.std.specs.Prelude.{chars}
 use Rattle.ft_base.specs.Selection.{Form}
 use Rattle.ft_syntax.specs.Symbols.{symbols}
 use Rattle.ft_parser.specs.Answer.{selection_read}
-use Rattle.ft_parser.specs.Limits.{open_behind, passes}
+use Rattle.ft_parser.specs.Limits.{open_behind, exceeds}
 use Rattle.ft_parser.specs.Selected.{Selects, IsWhole, open_after}
 use Rattle.query_symbols.specs.Symbols.{symbols_of}
 use Rattle.ft_parser.proofs.SelectedLaws.{Outcome, all_read}
@@ -24,9 +24,9 @@ use Rattle.selection_round_trip.proofs.Known.{Known}
 use Rattle.selection_round_trip.proofs.KnownTrees.{selection_kept}
 use Rattle.selection_round_trip.proofs.Levels.{Again}
 
--- no symbol passes a limit where so many parentheses are open before all of them
+-- no symbol exceeds a limit where so many parentheses are open before all of them
 abbrev pub Limited : ℕ → List Placed → Type 0
-Limited d u = (before : List Placed) (p : Placed) (rest : List Placed) → u ≡ before ++ p ∷ rest → passes (open_after d before) p.symbol ≡ false
+Limited d u = (before : List Placed) (p : Placed) (rest : List Placed) → u ≡ before ++ p ∷ rest → exceeds (open_after d before) p.symbol ≡ false
 
 known : (u : List Placed) (d : ℕ) → AllContent u → Limited d u → Known d u
 known [] d h k = tt
@@ -41,13 +41,13 @@ limited (q ∷ u) [] d h e before p rest k = cc
 limited (q ∷ u) (r ∷ v) d h e [] p rest k =
     let same : r.symbol ≡ q.symbol = cc in
     let one : p ≡ r = cc in
-    ap (λ (x : Placed). passes d x.symbol) one ∙ ap (passes d) same ∙ h.1
+    ap (λ (x : Placed). exceeds d x.symbol) one ∙ ap (exceeds d) same ∙ h.1
 limited (q ∷ u) (r ∷ v) d h e (s ∷ before) p rest k =
     let same : r.symbol ≡ q.symbol = cc in
     let others : symbols_in v ≡ symbols_in u = cc in
     let one : s ≡ r = cc in
     let left : v ≡ before ++ p ∷ rest = cc in
-    ap (λ n. passes (open_after n before) p.symbol) (ap (λ (x : Placed). open_behind d x.symbol) one ∙ ap (open_behind d) same) ∙ limited u v (open_behind d q.symbol) h.2 others before p rest left
+    ap (λ n. exceeds (open_after n before) p.symbol) (ap (λ (x : Placed). open_behind d x.symbol) one ∙ ap (open_behind d) same) ∙ limited u v (open_behind d q.symbol) h.2 others before p rest left
 
 -- a selection that is printed within the limits
 pub record Printing (t : Tree) : Type 0 where

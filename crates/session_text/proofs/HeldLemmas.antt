@@ -85,11 +85,6 @@ whole_block line number held bytes p view none =
     let left : drop n bytes ≡ [] = ap (λ (q : OpenLines). q.rest) view ∙ none in
     sym (ap (λ (q : OpenLines). q.opened.block) view) ∙ (sym (append-nil (take n bytes)) ∙ (ap (λ d. take n bytes ++ d) (sym left) ∙ take-append-drop n bytes))
 
--- the place behind a line, whose opened block holds nothing of the next
-pub behind_line : (lines : ℕ) (o : Option Opened) → place_of lines [] (option_map (λ o. record { opened = o; rest = [] }) o) ≡ record { lines = lines; rest = []; opened = o }
-behind_line lines None = refl
-behind_line lines (Some o) = refl
-
 -- outside a block the line that hasn't ended stands by itself
 pub outside_rest : (lines : ℕ) (rest : List ℕ) (opened : Option OpenLines) (p : Place) → place_of lines rest opened ≡ p → p.opened ≡ None → rest ≡ [] → p.rest ≡ []
 outside_rest lines rest None p view none empty = sym (ap (λ (q : Place). q.rest) view) ∙ empty

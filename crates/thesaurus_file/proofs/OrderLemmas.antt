@@ -10,7 +10,7 @@ use Rattle.std.specs.List.Sorted.{IsStrictlySortedBy}
 use Rattle.std.specs.BTreeSet.{insert_key}
 use Rattle.std.specs.FinMap.{slice_cmp-IsAntisymmetric, nat_cmp-IsAntisymmetric}
 use Rattle.std.specs.FinMap.Entries.{below_all, by_order, put, find, is_sorted, is_some-find, is_sorted-put, same_entries}
-use Rattle.std.proofs.Math.Bool.{or-false, or_self_left, or_assoc}
+use Rattle.std.proofs.Math.Bool.{or-false, or_self_left, or_assoc, or_comm}
 use Rattle.std.proofs.Math.Facts.{and_yes}
 use Rattle.thesaurus_file.specs.Phrases.{Phrase, in_order, phrase_cmp, phrase_eq}
 
@@ -25,18 +25,13 @@ same_from_eq x y h = same_phrase x y ((Equal-is (phrase_cmp x y)).0 h)
 
 -- ---- what is among them
 
-or_swap : (a b c : Bool) → (a || (b || c)) ≡ (b || (a || c))
-or_swap true true c = refl
-or_swap true false c = refl
-or_swap false b c = refl
-
 pub any_insert_key : (t : Phrase → Bool) (k : Phrase) (ks : List Phrase) → list_any t (insert_key phrase_cmp ks k) ≡ (t k || list_any t ks)
 any_insert_key t k [] = refl
 any_insert_key t k (x ∷ xs) =
     elim (phrase_cmp k x) as (λ r. phrase_cmp k x ≡ r → list_any t (match_ordering r (k ∷ x ∷ xs) (x ∷ xs) (x ∷ insert_key phrase_cmp xs k)) ≡ (t k || (t x || list_any t xs))) [
       | Less ↦ λ p. refl
       | Equal ↦ λ p. sym (or_self_left (t x) (list_any t xs)) ∙ ap (λ y. t y || (t x || list_any t xs)) (sym (same_phrase k x p))
-      | Greater ↦ λ p. ap (λ b. t x || b) (any_insert_key t k xs) ∙ or_swap (t x) (t k) (list_any t xs)
+      | Greater ↦ λ p. ap (λ b. t x || b) (any_insert_key t k xs) ∙ sym (or_assoc (t x) (t k) (list_any t xs)) ∙ ap (λ b. b || list_any t xs) (or_comm (t x) (t k)) ∙ or_assoc (t k) (t x) (list_any t xs)
     ] refl
 
 pub any_fold : (t : Phrase → Bool) (ks seen : List Phrase) → list_any t (fold (insert_key phrase_cmp) seen ks) ≡ (list_any t ks || list_any t seen)
@@ -44,7 +39,7 @@ any_fold t [] seen = refl
 any_fold t (k ∷ ks) seen =
     any_fold t ks (insert_key phrase_cmp seen k)
     ∙ ap (λ b. list_any t ks || b) (any_insert_key t k seen)
-    ∙ or_swap (list_any t ks) (t k) (list_any t seen) ∙ sym (or_assoc (t k) (list_any t ks) (list_any t seen))
+    ∙ sym (or_assoc (list_any t ks) (t k) (list_any t seen)) ∙ ap (λ b. b || list_any t seen) (or_comm (list_any t ks) (t k))
 
 pub any_in_order : (t : Phrase → Bool) (ks : List Phrase) → list_any t (in_order ks) ≡ list_any t ks
 any_in_order t ks = any_fold t ks [] ∙ or-false (list_any t ks)

@@ -1,11 +1,12 @@
 -- Where a selection ends that stands in no parentheses.
 use Rattle.std.specs.Prelude.{Bool, true, false, ◌&&◌, ◌||◌, not, List, [], ◌∷◌, codes}
+use Rattle.std.specs.Option.{is_none}
 use Rattle.selection_grammar.specs.declared.symbol.Placed.{Placed}
 use Rattle.selection_grammar.specs.steps.Machine as m
 use Rattle.selection_grammar.specs.steps.Machine.{Frame, Stage, State}
 use Rattle.selection_grammar.specs.steps.Reading.{first_is}
 use Rattle.ft_parser.specs.steps.Parts.{begins_filter}
-use Rattle.ft_parser.specs.steps.Turns.{is_none, begins_range_without_at}
+use Rattle.ft_parser.specs.steps.Turns.{begins_range_without_at}
 
 -- whether the first of symbols joins a whole operand with another
 abbrev pub joins : List Placed → Bool

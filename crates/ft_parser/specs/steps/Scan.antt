@@ -1,5 +1,6 @@
 -- What going through symbols comes to, as data.
 use Rattle.std.specs.Prelude.{◌≡◌, ◌≤◌, ℕ, Bool, true, false, ◌&&◌, List, [], ◌∷◌, length, drop, Option, Some, None, option_map, Result, Ok, Err}
+use Rattle.std.specs.Option.{is_none}
 use Rattle.ft_base.specs.Lists.{is_empty}
 use Rattle.ft_base.specs.Selection.{Form}
 use Rattle.ft_base.specs.declared.fault.QueryFault.{QueryFault}
@@ -14,7 +15,6 @@ use Rattle.ft_parser.specs.declared.scan.Scan.{Scan}
 use Rattle.ft_parser.specs.Answer.{Answered, ended, faultless, symbols_read, symbols_with}
 use Rattle.ft_parser.specs.Limits.{is_deep_filter, symbol_fault}
 use Rattle.ft_parser.specs.Prefix.{numbered_form, run_read, with_number}
-use Rattle.ft_parser.specs.steps.Turns.{is_none}
 
 -- whether nothing stands to the left of an operand
 abbrev pub stands_first : Left → Bool
@@ -35,7 +35,7 @@ abbrev pub read_alone : ℕ → List Placed → Option ℕ → ℕ → Option Tr
 read_alone depth left bad size None = read_to_end depth left bad size None
 read_alone depth left bad size (Some t) = faultless t (fault_of t)
 
--- So many symbols are the run, and this selection or none. None of them passes a limit, and so many parentheses are open behind them.
+-- So many symbols are the run, and this selection or none. None of them exceeds a limit, and so many parentheses are open behind them.
 pub record Stops (symbols : List Placed) (count depth : ℕ) (o : Option Tree) : Type 0 where
   pub within : count ≤ length symbols
   pub to_end : (bad : Option ℕ) (size : ℕ) → symbols_read (symbols_with symbols bad) size ≡ read_to_end depth (drop count symbols) bad size o

@@ -44,7 +44,7 @@ stage_of (ThesauriIn o at uses) = m.thesauri_in o.negation (primary_of o.primary
 stage_of (WithFilter parsed) = m.with_filter (tree parsed)
 
 abbrev pub state_of : State → m.State
-state_of s = record { outer = frames_of s.outer.items; left = left_of s.left; stage = stage_of s.stage }
+state_of s = record { outer = frames_of s.context.outer.items; left = left_of s.context.left; stage = stage_of s.stage }
 
 -- What is answered is what is read; want of memory is free
 abbrev pub Answers : {A B : Type 0} → (A → B) → Result (A × ℕ) Halt → Result (B × ℕ) ℕ → Type 0

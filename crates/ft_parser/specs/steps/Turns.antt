@@ -1,5 +1,6 @@
 -- Where one construct leads the machine, each step by itself.
 use Rattle.std.specs.Prelude.{ℕ, ◌+◌, Bool, false, true, ◌&&◌, ◌||◌, if◌then◌else◌, List, [], ◌∷◌, ◌++◌, drop, codes, Option, Some, None, Result, Ok, Err}
+use Rattle.std.specs.Option.{is_none}
 use Rattle.ft_base.specs.declared.filter.Filter.{Filter}
 use Rattle.ft_base.specs.declared.range.Range.{Range}
 use Rattle.ft_base.specs.declared.words.Mode.{Mode}
@@ -89,10 +90,6 @@ unfoldable pub thesaurus_in_rest_turn : List Frame → Left → Option ℕ → P
 thesaurus_in_rest_turn outer left n x os at us s r w i =
     if begins_range (drop i w) then levels_turn (in_levels outer left n x os at us s r) w (reading range w i)
     else reading (m.thesauri_next outer left n x os at (us ++ m.thesaurus_use s r None ∷ [])) w i
-
-abbrev pub is_none : {A : Type 0} → Option A → Bool
-is_none None = true
-is_none (Some a) = false
 
 unfoldable pub thesaurus_in_turn : List Frame → Left → Option ℕ → Primary → List PlacedOption → ℕ → List ThesaurusUse → List ℕ
     → Option (List ℕ) → List Placed → ℕ → Turn

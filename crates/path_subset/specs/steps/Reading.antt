@@ -11,9 +11,9 @@ use Rattle.path_grammar.specs.declared.path.PathRoot.{PathRoot}
 use Rattle.path_subset.specs.Answer.{Led, led, before_selection, behind_run, with_run}
 use Rattle.path_subset.specs.Paths.{PlacedForm, found_form}
 use Rattle.path_subset.specs.steps.State.{state_of, stands}
-use Rattle.path_subset.specs.declared.state.Reading.{Reading}
+use Rattle.path_subset.specs.declared.state.ReadSoFar.{ReadSoFar}
 
-abbrev pub led_of : Reading × ℕ → Led
+abbrev pub led_of : ReadSoFar × ℕ → Led
 led_of (reading, count) = led (state_of reading.state) (map found_form reading.found) count
 
 -- behind the root, and through a selection where one comes next
