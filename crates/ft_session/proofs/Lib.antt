@@ -1,6 +1,7 @@
 pub mod AnswerLemmas
 pub mod FileLemmas
 pub mod NamedLemmas
+pub mod NumberingLemmas
 pub mod PathLemmas
 pub mod QueryLemmas
 pub mod ProgressLemmas

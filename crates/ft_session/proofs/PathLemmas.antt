@@ -1,8 +1,9 @@
 -- Which elements plans select, and when a path is refused.
-use Rattle.std.proofs.Common.{◌≡◌, ◌∙◌, sym, ap, refl, ℕ, zero, suc, ◌+◌, ◌<◌, Bool, true, cond, List, [], ◌∷◌, length, map, drop, get_or, arith}
-use Rattle.std.specs.Prelude.{Option, Some, None, Ok, flat_map}
+use Rattle.std.proofs.Common.{◌≡◌, ◌∙◌, sym, ap, refl, ℕ, zero, suc, ◌+◌, ◌<◌, Bool, true, cond, List, [], ◌∷◌, ◌++◌, length, map, take, drop, get_or}
+use Rattle.std.specs.Prelude.{Option, Some, None, flat_map}
 use Rattle.std.specs.Option.{option_or}
-use Rattle.std.proofs.lemmas.List.{at_drop_more}
+use Rattle.std.proofs.lemmas.List.{at_drop_more, map-append, take_more}
+use Rattle.std.proofs.lemmas.Simd.{map-map}
 use Rattle.std.specs.List.{list_all}
 use Rattle.all_matches.specs.Meaning.{sat}
 use Rattle.element_lines.specs.Lines.{element_line, printed_line}
@@ -20,27 +21,21 @@ use Rattle.path_nodes.specs.References.{element_of}
 use Rattle.path_subset.specs.Paths.{PathForm}
 use Rattle.plan_compiler.specs.Decided.{is_decided}
 use Rattle.plan_compiler.specs.Lexicon.{lexicon}
-use Rattle.plan_compiler.specs.Missing.{first_missing, names}
+use Rattle.plan_compiler.specs.Missing.{first_missing, names, IsMissing}
 use Rattle.plan_compiler.proofs.MissingLemmas.{missing_append}
 use Rattle.plan_compiler.specs.NamedLists.{NamedLists}
+use Rattle.plan_compiler.specs.declared.fault.CompileFault.{CompileFault}
+use Rattle.plan_compiler.specs.declared.fault.CompileFault.TheVariants as Fault
 use Rattle.plan_compiler.specs.declared.plan.Plan.{Plan}
 use Rattle.session_text.specs.declared.reply.Refusal.TheVariants.{NotYet}
 use Rattle.session_text.specs.declared.reply.Reply.TheVariants.{Refused}
 use Rattle.tokenizer.specs.Tokens.{tokens}
-use Rattle.ft_session.specs.Paths.{answer_listed, answer_read, answer_rooted, lines_for, lines_of, missing_document, missing_list, reply_with, satisfies, selections_of}
+use Rattle.ft_session.specs.Paths.{answer_listed, lines_for, lines_of, missing_document, missing_list, reply_with, satisfies, selections_of}
 use Rattle.ft_session.specs.PlannedPaths.{is_planned, meant, planned_lines, under, IsPlanOf}
 use Rattle.ft_session.specs.State.{State, has_name}
 use Rattle.ft_session.specs.declared.planned.PlannedPath.{PlannedPath}
 use Rattle.ft_session.specs.declared.shown.Shown.{Shown}
 use Rattle.ft_session.specs.declared.shown.Shown.TheVariants.{Names, Texts}
-
-first-none : {A : Type 0} (a b : Option A) → option_or a b ≡ None → a ≡ None
-first-none None b h = refl
-first-none (Some x) b h = h
-
-second-none : {A : Type 0} (a b : Option A) → option_or a b ≡ None → b ≡ None
-second-none None b h = h
-second-none (Some x) b h = let no : ⊥ = cc in absurd no
 
 -- the document with which a path begins is there or missing
 pub missing-document : (root : PathRoot) (name : List ℕ) (documents : List Named) (there : Bool) → root ≡ Doc name → has_name name documents ≡ there → missing_document root documents ≡ cond there None (Some name)
@@ -96,24 +91,26 @@ module _ (forms : List Form) (k : ℕ) (form : Form) (within : k < length forms)
       at_drop_more (missing_list lists) forms k form within
       ∙ (ap (λ f. missing_list lists (f ∷ drop (k + 1) forms)) (sym is) ∙ missing_append lists (names form) (flat_map names (drop (k + 1) forms)))
 
-pub none-missing : (lists : NamedLists) (forms : List Form) (k : ℕ) (form : Form) → k < length forms → form ≡ get_or forms k form → missing_list lists forms ≡ None → first_missing lists form ≡ None
-none-missing lists [] k form within is none = absurd (omega (arith, within))
-none-missing lists (f ∷ forms) zero form within is none =
-    ap (first_missing lists) is ∙ first-none (first_missing lists f) (missing_list lists forms) (sym (missing_append lists (names f) (flat_map names forms)) ∙ none)
-none-missing lists (f ∷ forms) (suc k) form within is none =
-    none-missing lists forms k form (omega (arith, within)) is (second-none (first_missing lists f) (missing_list lists forms) (sym (missing_append lists (names f) (flat_map names forms)) ∙ none))
+  pub planned-more : (lists : NamedLists) (plans : List Plan) (plan : Plan) → map meant plans ≡ map (under lists) (take k forms) → meant plan ≡ under lists form
+      → map meant (plans ++ plan ∷ []) ≡ map (under lists) (take (k + 1) forms)
+  planned-more lists plans plan so_far one =
+      map-append meant plans (plan ∷ [])
+      ∙ ((λ i. so_far i ++ one i ∷ [])
+      ∙ (ap (λ f. map (under lists) (take k forms) ++ under lists f ∷ []) is
+      ∙ (sym (map-append (under lists) (take k forms) (get_or forms k form ∷ [])) ∙ ap (map (under lists)) (sym (take_more forms k form within)))))
 
-map-map : {A B C : Type 0} (xs : List A) (f : A → B) (g : B → C) → map (λ x. g (f x)) xs ≡ map g (map f xs)
-map-map [] f g = refl
-map-map (x ∷ xs) f g = ap (λ ys. g (f x) ∷ ys) (map-map xs f g)
+-- the fault of a selection, where lists that others behind it name may be missing too
+pub missing-first : (fault : CompileFault) (a b all : Option (List ℕ)) → all ≡ option_or a b → IsMissing fault a → IsMissing fault all
+missing-first (Fault.NoSuchList name) a b all is found = is ∙ ap (λ o. option_or o b) found
+missing-first Fault.Memory a b all is found = tt
 
 -- the lines of elements, by their references
 module _ (document : List ℕ) (root : Numbered) (found : List NodeRef) (elements : List Element) (is : map (element_of root) found ≡ elements) where
   pub lines-of-names : map (λ r. element_line document (plain root) (element_of root r)) found ≡ lines_of Names document (plain root) elements
-  lines-of-names = map-map found (element_of root) (element_line document (plain root)) ∙ ap (map (element_line document (plain root))) is
+  lines-of-names = sym (map-map (element_line document (plain root)) (element_of root) found) ∙ ap (map (element_line document (plain root))) is
 
   pub lines-of-texts : map (λ r. printed_line (element_of root r).node) found ≡ lines_of Texts document (plain root) elements
-  lines-of-texts = map-map found (element_of root) (λ (e : Element). printed_line e.node) ∙ ap (map (λ (e : Element). printed_line e.node)) is
+  lines-of-texts = sym (map-map (λ (e : Element). printed_line e.node) (element_of root) found) ∙ ap (map (λ (e : Element). printed_line e.node)) is
 
 -- what plans select is what the path selects
 pub planned-lines : (lists : NamedLists) (all : List Named) (p : PathForm) (planned : PlannedPath) (shown : Shown) → IsPlanOf lists p planned
@@ -121,8 +118,7 @@ pub planned-lines : (lists : NamedLists) (all : List Named) (p : PathForm) (plan
 planned-lines lists all p planned shown plan =
     (λ i. flat_map (λ d. lines_of shown d.name d.root (selected (planned-as lists planned.plans.items (selections_of p) plan.plans i) (plan.steps i) d.root)) (documents (plan.root i) all))
 
--- the reply to a path whose document and lists are there, and which plans decide
-pub answer-lines : (shown : Shown) (state : State) (p : PathForm) → missing_document p.path.root state.documents ≡ None → missing_list state.lists (selections_of p) ≡ None
-    → list_all is_decided (selections_of p) ≡ true → answer_read shown state (Ok p) ≡ reply_with shown (lines_for shown state p)
-answer-lines shown state p document lists decided =
-    ap (answer_rooted shown state p) document ∙ (ap (answer_listed shown state p) lists ∙ ap (λ t. cond t (reply_with shown (lines_for shown state p)) (Refused NotYet)) decided)
+-- the reply to a path whose lists are there, and which plans decide
+pub answer-lines : (shown : Shown) (state : State) (p : PathForm) → missing_list state.lists (selections_of p) ≡ None → list_all is_decided (selections_of p) ≡ true
+    → answer_listed shown state p (missing_list state.lists (selections_of p)) ≡ reply_with shown (lines_for shown state p)
+answer-lines shown state p lists decided = ap (answer_listed shown state p) lists ∙ ap (λ t. cond t (reply_with shown (lines_for shown state p)) (Refused NotYet)) decided

@@ -1,7 +1,6 @@
 -- When a document is loaded or taken out, and when that is refused.
-use Rattle.std.proofs.Common.{◌≡◌, ◌≢◌, ◌∙◌, sym, ap, refl, ℕ, ◌<◌, ◌≤◌, arith, Bool, true, false, cond, ◌||◌, List, [], ◌∷◌, length, map}
+use Rattle.std.proofs.Common.{◌≡◌, ◌≢◌, ◌∙◌, sym, ap, refl, ℕ, ◌<◌, ◌≤◌, Bool, true, false, cond, ◌||◌, List, [], ◌∷◌, length, map}
 use Rattle.std.specs.Prelude.{Some, Result, Ok, Err, is_some, nat_le}
-use Rattle.std.proofs.lemmas.Bool.Decides.{nat_tests}
 use Rattle.std.specs.Map.{lookup, remove_entry}
 use Rattle.std.specs.Str.{bytes_eq}
 use Rattle.std.proofs.lemmas.Bool.{lt-ltb, le-ltb}
@@ -25,7 +24,7 @@ use Rattle.doc_profile.specs.Readings.{Faults, document_of}
 use Rattle.ft_session.specs.declared.loaded.Loaded.{Loaded}
 use Rattle.ft_base.specs.Limits.{max_documents, max_tokens}
 use Rattle.ft_session.specs.State.{has_name, to_document}
-use Rattle.ft_session.specs.Step.{added, dropped, loadable, loaded, with_few_tokens, without}
+use Rattle.ft_session.specs.Step.{added, dropped, loadable, loaded, tokens_loaded, with_few_tokens, without}
 
 -- a name is taken where a look-up finds it
 pub has_name-lookup : (name : List ℕ) (entries : List (List ℕ × Loaded)) → has_name name (map to_document entries) ≡ is_some (lookup (bytes_eq name) entries)
@@ -44,6 +43,11 @@ loaded-tests documents name read taken full has long =
 pub dropped-test : (documents : List Named) (name : List ℕ) (there : Bool) → has_name name documents ≡ there
     → dropped documents name ≡ cond there (without name documents, Done) (documents, Refused (NoSuchName name))
 dropped-test documents name there has = ap (λ t. cond t (without name documents, Done) (documents, Refused (NoSuchName name))) has
+
+-- the tokens of a document that comes
+pub tokens-loaded : (documents : List Named) (name : List ℕ) (root : Node) → has_name name documents ≡ false → nat_le max_documents (length documents) ≡ false → tokens_loaded documents name (Ok root) ≡ length (tokens root)
+tokens-loaded documents name root has long =
+    ap (λ t. cond (t || nat_le max_documents (length documents)) 0 (length (tokens root))) has ∙ ap (λ t. cond t 0 (length (tokens root))) long
 
 -- the entries without the first of the name
 pub without-removed : (name : List ℕ) (entries : List (List ℕ × Loaded)) → map to_document (remove_entry (bytes_eq name) entries) ≡ without name (map to_document entries)
@@ -79,13 +83,6 @@ module _ (block : List ℕ) where
   loadable-refused (faults.Depth at) why h other is = ap Err is ∙ sym (loadable-fault (faults.Depth at) h)
   loadable-refused (faults.Nodes at) why h other is = ap Err is ∙ sym (loadable-fault (faults.Nodes at) h)
   loadable-refused faults.Memory why h other is = absurd (other refl)
-
--- what a test of two numbers says
-pub at-most : {a b : ℕ} (test : Bool) → test ≡ nat_le a b → test ≡ true → a ≤ b
-at-most {a = a} {b = b} test is holds = grind (arith, nat_tests)
-
-pub greater : {a b : ℕ} (test : Bool) → test ≡ nat_le a b → test ≡ false → b < a
-greater {a = a} {b = b} test is fails = grind (arith, nat_tests)
 
 -- the document of a tree that was made of it
 pub tree-is : (tree : Stored) (document : Node) → tree ≡ record { root = numbered 0 document; slots = node_count document } → plain tree.root ≡ document

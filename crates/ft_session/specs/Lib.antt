@@ -1,6 +1,8 @@
 pub mod Status
 pub mod State
 pub mod StateView
+pub mod Indexed
+pub mod Held
 pub mod Paths
 pub mod PlannedPaths
 pub mod SelectionTests

@@ -7,5 +7,5 @@ use Rattle.ft_session.specs.declared.loading.Outcome.{Outcome}
 use Rattle.ft_session.specs.declared.loading.Outcome.TheVariants as outcomes
 
 abbrev pub outcome : Outcome → Result Node Refusal
-outcome (outcomes.Document loaded) = Ok (plain loaded.tree.root)
+outcome (outcomes.Document document) = Ok (plain document.read.tree.root)
 outcome (outcomes.Refused why) = Err why

@@ -1,5 +1,5 @@
 -- What a command does to what a session holds.
-use Rattle.std.specs.Prelude.{ℕ, nat_le, nat_lt, if◌then◌else◌, List, [], ◌∷◌, ◌++◌, length, Result, Ok, Err}
+use Rattle.std.specs.Prelude.{ℕ, ◌||◌, nat_le, nat_lt, if◌then◌else◌, List, [], ◌∷◌, ◌++◌, length, Result, Ok, Err}
 use Rattle.std.specs.Str.{bytes_eq}
 use Rattle.plan_compiler.specs.NamedLists.{NamedLists}
 use Rattle.doc_profile.specs.declared.fault.DocFault.{DocFault}
@@ -73,6 +73,27 @@ step state (command.Print path) = (state, answer Texts state path)
 step state (command.BadCommand line) = (state, Refused (refusal.BadCommand line))
 step state (command.BadName line) = (state, Refused (refusal.BadName line))
 step state _ = (state, Refused refusal.NotYet)
+
+-- ---- the rows of the index
+
+-- how many tokens the document has that a load puts in; none, where it is refused
+abbrev pub tokens_loaded : List Named → List ℕ → Result Node Refusal → ℕ
+tokens_loaded documents name (Err why) = 0
+tokens_loaded documents name (Ok root) =
+    if has_name name documents || nat_le max_documents (length documents) then 0 else length (tokens root)
+
+-- how many tokens the document of a name has; none, where there is no such document
+abbrev pub tokens_named : List Named → List ℕ → ℕ
+tokens_named [] name = 0
+tokens_named (d ∷ ds) name = if bytes_eq name d.name then length (tokens d.root) else tokens_named ds name
+
+-- how many rows a command may put or take: one for each token of a document that is loaded or taken out
+unfoldable pub rows_for : State → Command → ℕ
+rows_for state (command.Load name block) = tokens_loaded state.documents name (loadable block)
+rows_for state (command.Drop name) = tokens_named state.documents name
+rows_for state _ = 0
+
+-- ---- commands one after the other
 
 -- the replies to commands, in order
 abbrev pub replies : State → List Command → List Reply

@@ -50,10 +50,10 @@ pub(crate) fn answer<K: Sink, L: Ledger, M: Ledger>(
     rows: &mut Steps<L>,
 ) -> Result<bool, AnswerError>
     requires { K.faults sink.old + 1 < 2 ^ 64 }
-    ensures state { OnOk result (session.new ≡ (step session.old command.now).0) }
-    ensures refused { IfOk result (λ refused. refused ≡ is_refusal (step session.old command.now).1) }
-    ensures written { OnOk result (K.written sink.new ≡ with_text (K.written sink.old) (reply_text (step session.old command.now).1)) }
-    ensures prefix { OnErr result (TookPrefix (K.written sink.old) (K.written sink.new) (reply_text (step session.old command.now).1)) }
+    ensures state { OnOk result (session.new.state ≡ (step session.old.state command.now).0) }
+    ensures refused { IfOk result (λ refused. refused ≡ is_refusal (step session.old.state command.now).1) }
+    ensures written { OnOk result (K.written sink.new ≡ with_text (K.written sink.old) (reply_text (step session.old.state command.now).1)) }
+    ensures prefix { OnErr result (TookPrefix (K.written sink.old) (K.written sink.new) (reply_text (step session.old.state command.now).1)) }
     ensures faults { OnOk result (K.faults sink.new ≡ K.faults sink.old) }
     ensures cause { IsErrOf result AnswerError.Fault → K.faults sink.old < K.faults sink.new }
 {
@@ -87,10 +87,10 @@ pub(crate) fn answer_all<K: Sink, L: Ledger, M: Ledger>(
     rows: &mut Steps<L>,
 ) -> Result<bool, AnswerError>
     requires { K.faults sink.old + 1 < 2 ^ 64 }
-    ensures state { OnOk result (session.new ≡ state_after session.old commands.now) }
-    ensures refused { IfOk result (λ refused. refused ≡ list_any is_refusal (replies session.old commands.now)) }
-    ensures written { OnOk result (K.written sink.new ≡ with_text (K.written sink.old) (texts_of (replies session.old commands.now))) }
-    ensures prefix { OnErr result (TookPrefix (K.written sink.old) (K.written sink.new) (texts_of (replies session.old commands.now))) }
+    ensures state { OnOk result (session.new.state ≡ state_after session.old.state commands.now) }
+    ensures refused { IfOk result (λ refused. refused ≡ list_any is_refusal (replies session.old.state commands.now)) }
+    ensures written { OnOk result (K.written sink.new ≡ with_text (K.written sink.old) (texts_of (replies session.old.state commands.now))) }
+    ensures prefix { OnErr result (TookPrefix (K.written sink.old) (K.written sink.new) (texts_of (replies session.old.state commands.now))) }
     ensures faults { OnOk result (K.faults sink.new ≡ K.faults sink.old) }
     ensures cause { IsErrOf result AnswerError.Fault → K.faults sink.old < K.faults sink.new }
 {

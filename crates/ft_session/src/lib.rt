@@ -4,6 +4,7 @@
 
 mod answering;
 mod asked_plans;
+mod collection;
 pub mod laws;
 mod lists;
 mod loaded;

@@ -1,23 +1,21 @@
-ghost use Rattle.std.specs.Prelude.{◌≡◌, ◌≢◌, IfOk, Ok, OnOk, length, nat_le};
+ghost use Rattle.std.specs.Prelude.{◌≡◌, ◌≢◌, IfOk, Ok, OnOk};
 ghost use Rattle.doc_profile.specs.Faults.{IsWithin};
-ghost use Rattle.tokenizer.specs.Tokens.{tokens};
-ghost use Rattle.ft_base.specs.Limits.{max_tokens};
 ghost use Rattle.ft_session.specs.Step.{loadable, with_few_tokens};
 ghost use Rattle.ft_session.specs.LoadView.{outcome};
 
-use crate::loaded::Loaded;
+use crate::loaded::Loadable;
 use doc_profile::{DocFault, read_doc};
 use ft_base::Memory;
-use ordered_tree::DocTree;
+use ordered_tree::load_doc;
 use plain_tree::PlainDoc;
 use session_text::Refusal;
 use std::alloc::Global;
-use tokenizer::{TokenFault, tokens_of};
+use tokenizer::TokenFault;
 
 /// What a block is: a document that can be loaded, or why none can.
 #[derive(Drop)]
 pub(crate) enum Outcome {
-    Document(Loaded),
+    Document(Loadable),
     Refused(Refusal),
 }
 
@@ -32,39 +30,24 @@ fn refuse(fault: DocFault) -> Result<Refusal, Memory>
     }
 }
 
-/// Reads the block as a document and counts its tokens.
+/// Reads the block as a document with references.
 pub(crate) fn read_document(alloc: Global, block: &[u8]) -> Result<Outcome, Memory>
     ensures { IfOk result (λ read. outcome read ≡ loadable block.now) }
 {
     match read_doc(alloc, block) {
-        Ok(document) => {
-            let outcome = load(alloc, &document);
-            drop(document);
-            outcome
-        }
+        Ok(document) => load(alloc, document),
         Err(fault) => Ok(Outcome::Refused(refuse(fault)?)),
     }
 }
 
 /// The document with references, unless it has too many tokens.
-fn load(alloc: Global, document: &PlainDoc) -> Result<Outcome, Memory>
-    requires { IsWithin document.now }
-    ensures { IfOk result (λ read. outcome read ≡ with_few_tokens (Ok document.now)) }
+fn load(alloc: Global, document: PlainDoc) -> Result<Outcome, Memory>
+    requires { IsWithin document }
+    ensures { IfOk result (λ read. outcome read ≡ with_few_tokens (Ok document)) }
 {
-    if !has_few_tokens(alloc, document)? {
-        return Ok(Outcome::Refused(Refusal::TooManyTokens));
-    }
-    let tree = DocTree::from_doc(alloc, document)?;
-    Ok(Outcome::Document(Loaded { tree }))
-}
-
-/// Whether the document has no more tokens than a document may have.
-fn has_few_tokens(alloc: Global, document: &PlainDoc) -> Result<bool, Memory>
-    ensures { IfOk result (λ few. few ≡ nat_le (length (tokens document.now)) max_tokens) }
-{
-    match tokens_of(alloc, document) {
-        Ok(_) => Ok(true),
-        Err(TokenFault::Tokens) => Ok(false),
+    match load_doc(alloc, document) {
+        Ok(read) => Ok(Outcome::Document(Loadable { read })),
+        Err(TokenFault::Tokens) => Ok(Outcome::Refused(Refusal::TooManyTokens)),
         Err(TokenFault::Memory) => Err(Memory),
     }
 }

@@ -1,24 +1,25 @@
 //! The reply to a path: the elements that it selects, or why it is refused.
 
-ghost use Rattle.std.specs.Prelude.{◌≡◌, ◌≢◌, IfOk, Ok, OnOk, length, map};
+ghost use Rattle.std.specs.Prelude.{◌≡◌, ◌≢◌, IfOk, IsTrue, Ok, OnOk, flat_map, length, map};
 ghost use Rattle.std.specs.List.{list_all};
 ghost use Rattle.std.specs.Option.{option_copied};
+ghost use Rattle.path_meaning.specs.Collection.{documents as documents_of};
 ghost use Rattle.plan_compiler.specs.Decided.{is_decided};
 ghost use Rattle.path_subset.specs.Paths.{read_form};
 ghost use Rattle.ft_session.specs.Paths as paths;
-ghost use Rattle.ft_session.specs.PlannedPaths.{AskBelow};
+ghost use Rattle.ft_session.specs.PlannedPaths.{planned_lines, AskBelow, HasItsPlans};
 ghost use Rattle.ft_session.specs.State.{to_document};
 ghost use Rattle.ft_session.specs.StateView.{state_of};
 
 use crate::loaded::Loaded;
-use crate::planned::compile_path;
+use crate::planned::{PlannedPath, compile_path};
 use crate::selected::collect_lines;
 use crate::shown::{Shown, reply_with};
 use ft_base::{Line, Memory, QueryFault};
 use indexmap::IndexMap;
 use path_grammar::PathRoot;
 use path_subset::{ReadPath, read_path};
-use plan_compiler::{Lists, is_decided, missing_list};
+use plan_compiler::{CompileFault, Lists, is_decided, missing_list};
 use session_text::{Refusal, Reply};
 use std::alloc::Global;
 
@@ -64,15 +65,50 @@ fn answer_read(
         let name = Line::read(alloc, name)?;
         return Ok(Reply::Refused(Refusal::NoSuchDoc { name }));
     }
+    if are_decided(path) {
+        return answer_decided(alloc, documents, lists, shown, path);
+    }
+    // Nothing is compiled where plans don't decide each selection, so that the lists are looked for here.
     if let Some(name) = missing_list_of(path, lists) {
         let name = Line::read(alloc, name)?;
         return Ok(Reply::Refused(Refusal::NoSuchList { name }));
     }
-    if !are_decided(path) {
-        return Ok(Reply::Refused(Refusal::NotYet));
+    Ok(Reply::Refused(Refusal::NotYet))
+}
+
+/// The reply to a path whose document is there and whose selections plans decide. All of them are compiled before one is asked.
+fn answer_decided(
+    alloc: Global,
+    documents: &IndexMap<Line, Loaded>,
+    lists: &Lists,
+    shown: Shown,
+    path: &ReadPath,
+) -> Result<Reply, Memory>
+    requires decided { IsTrue (list_all is_decided (paths.selections_of (read_form path.now))) }
+    requires numbered { AskBelow (length (read_form path.now).selections) (read_form path.now).path.steps }
+    ensures { IfOk result (λ reply. reply
+        ≡ paths.answer_listed shown (state_of documents.now lists.now) (read_form path.now)
+        (paths.missing_list lists.now (paths.selections_of (read_form path.now)))) }
+{
+    match compile_path(alloc, path, lists) {
+        Ok(planned) => answer_planned(alloc, documents, shown, &planned),
+        Err(CompileFault::NoSuchList { name }) => Ok(Reply::Refused(Refusal::NoSuchList { name })),
+        Err(CompileFault::Memory) => Err(Memory),
     }
-    let planned = compile_path(alloc, path, lists)?;
-    let lines = collect_lines(alloc, documents, shown, &planned)?;
+}
+
+/// The reply to a path by its plans.
+fn answer_planned(
+    alloc: Global,
+    documents: &IndexMap<Line, Loaded>,
+    shown: Shown,
+    planned: &PlannedPath<'_>,
+) -> Result<Reply, Memory>
+    requires { HasItsPlans planned.now }
+    ensures { IfOk result (λ reply. reply
+        ≡ paths.reply_with shown (flat_map (planned_lines shown planned.now) (documents_of planned.now.root.now (map to_document documents.now.entries)))) }
+{
+    let lines = collect_lines(alloc, documents, shown, planned)?;
     Ok(reply_with(shown, lines))
 }
 

@@ -79,10 +79,10 @@ fn answer_piece<K: Sink, L: Ledger, M: Ledger>(
     requires countable { K.faults sink.old + 1 < 2 ^ 64 }
     requires room { answering.old.lines.bytes + length piece.now < 2 ^ 63 }
     ensures answered { IfOk result (λ refused.
-        Answered answering.old.lines answering.new.lines answering.old.session answering.new.session piece.now refused (K.written sink.old)
+        Answered answering.old.lines answering.new.lines answering.old.session.state answering.new.session.state piece.now refused (K.written sink.old)
         (K.written sink.new)) }
     ensures prefix { OnErr result ((more : List ℕ) → TookPrefix (K.written sink.old) (K.written sink.new)
-        (texts_of (replies answering.old.session (commands_left answering.old.lines (piece.now ++ more))))) }
+        (texts_of (replies answering.old.session.state (commands_left answering.old.lines (piece.now ++ more))))) }
     ensures bytes { answering.new.lines.bytes ≡ answering.old.lines.bytes + length piece.now }
     ensures faults { OnOk result (K.faults sink.new ≡ K.faults sink.old) }
     ensures cause { IsErrOf result AnswerError.Fault → K.faults sink.old < K.faults sink.new }
@@ -107,11 +107,11 @@ fn answer_end<K: Sink, L: Ledger, M: Ledger>(
     rows: &mut Steps<L>,
 ) -> Result<bool, AnswerError>
     requires { K.faults sink.old + 1 < 2 ^ 64 }
-    ensures refused { IfOk result (λ refused. refused ≡ list_any is_refusal (replies answering.old.session (commands_left answering.old.lines []))) }
+    ensures refused { IfOk result (λ refused. refused ≡ list_any is_refusal (replies answering.old.session.state (commands_left answering.old.lines []))) }
     ensures written { OnOk result (K.written sink.new
-        ≡ with_text (K.written sink.old) (texts_of (replies answering.old.session (commands_left answering.old.lines [])))) }
+        ≡ with_text (K.written sink.old) (texts_of (replies answering.old.session.state (commands_left answering.old.lines [])))) }
     ensures prefix { OnErr result (TookPrefix (K.written sink.old) (K.written sink.new)
-        (texts_of (replies answering.old.session (commands_left answering.old.lines [])))) }
+        (texts_of (replies answering.old.session.state (commands_left answering.old.lines [])))) }
     ensures faults { OnOk result (K.faults sink.new ≡ K.faults sink.old) }
     ensures cause { IsErrOf result AnswerError.Fault → K.faults sink.old < K.faults sink.new }
 {
@@ -172,7 +172,7 @@ fn answer_pieces<S: Shelf, K: Sink, L: Ledger, M: Ledger>(
     rows: &mut Steps<L>,
 ) -> Result<bool, Stopped>
     requires reading { answering.old.lines ≡ new_reading }
-    requires opening { answering.old.session ≡ opening }
+    requires opening { answering.old.session.state ≡ opening }
     requires fresh { S.reached shelf.old (string_bytes name.now) ≡ 0 }
     requires shelf_countable { S.faults shelf.old (string_bytes name.now) + 1 < 2 ^ 64 }
     requires sink_countable { K.faults sink.old + 1 < 2 ^ 64 }

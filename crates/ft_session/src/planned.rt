@@ -1,9 +1,10 @@
 //! Paths with a plan for each of their selections.
 
-ghost use Rattle.std.specs.Prelude.{◌≡◌, IfOk, IsTrue, None, length, map};
+ghost use Rattle.std.specs.Prelude.{◌≡◌, ◌++◌, ◌∷◌, [], IfErr, IfOk, IsTrue, None, length, map};
 ghost use Rattle.std.specs.List.{list_all};
 ghost use Rattle.path_subset.specs.Paths.{read_form};
 ghost use Rattle.plan_compiler.specs.Decided.{is_decided};
+ghost use Rattle.plan_compiler.specs.Missing.{IsMissing};
 ghost use Rattle.ft_session.specs.Paths.{missing_list, selections_of};
 ghost use Rattle.ft_session.specs.PlannedPaths.{meant, under, AskBelow, HasItsPlans, IsPlanOf};
 
@@ -21,39 +22,55 @@ pub(crate) struct PlannedPath<'a> {
     pub(crate) plans: Vec<Plan>,
 }
 
-/// Compiles the selections of a path under the lists.
+/// Compiles the selections of a path under the lists. A list that they name and that isn't there is a fault: the first one, in the order of the
+/// selections and of what each is printed as.
 pub(crate) fn compile_path<'a>(
     alloc: Global,
     path: &'a ReadPath,
     lists: &Lists,
-) -> Result<PlannedPath<'a>, Memory>
+) -> Result<PlannedPath<'a>, CompileFault>
     requires decided { IsTrue (list_all is_decided (selections_of (read_form path.now))) }
-    requires lists { missing_list lists.now (selections_of (read_form path.now)) ≡ None }
     requires numbered { AskBelow (length (read_form path.now).selections) (read_form path.now).path.steps }
     ensures plans { IfOk result (IsPlanOf lists.now (read_form path.now)) }
     ensures numbered { IfOk result HasItsPlans }
+    ensures there { IfOk result (λ _. missing_list lists.now (selections_of (read_form path.now)) ≡ None) }
+    ensures missing { IfErr result (λ fault. IsMissing fault (missing_list lists.now (selections_of (read_form path.now)))) }
 {
-    let plans = compile_all(alloc, path, lists)?;
-    Ok(PlannedPath {
-        root: path.root(),
-        steps: path.steps(),
-        plans,
-    })
+    match compile_all(alloc, path, lists) {
+        Ok(plans) => Ok(PlannedPath {
+            root: path.root(),
+            steps: path.steps(),
+            plans,
+        }),
+        Err(fault) => Err(fault),
+    }
 }
 
 /// A plan for each selection of a path.
-fn compile_all(alloc: Global, path: &ReadPath, lists: &Lists) -> Result<Vec<Plan>, Memory>
-    requires decided { IsTrue (list_all is_decided (selections_of (read_form path.now))) }
-    requires lists { missing_list lists.now (selections_of (read_form path.now)) ≡ None }
-    ensures { IfOk result (λ plans. map meant plans.items ≡ map (under lists.now) (selections_of (read_form path.now))) }
+fn compile_all(alloc: Global, path: &ReadPath, lists: &Lists) -> Result<Vec<Plan>, CompileFault>
+    requires { IsTrue (list_all is_decided (selections_of (read_form path.now))) }
+    ensures plans { IfOk result (λ plans. map meant plans.items ≡ map (under lists.now) (selections_of (read_form path.now))) }
+    ensures there { IfOk result (λ _. missing_list lists.now (selections_of (read_form path.now)) ≡ None) }
+    ensures missing { IfErr result (λ fault. IsMissing fault (missing_list lists.now (selections_of (read_form path.now)))) }
 {
     let mut plans = Vec::new(alloc);
     for number in 0..path.selection_count() {
         match Plan::compile(alloc, path.selection(number), lists) {
-            Ok(plan) => plans.push(plan)?,
-            Err(CompileFault::NoSuchList { .. }) => unreachable!(),
-            Err(CompileFault::Memory) => return Err(Memory),
+            Ok(plan) => {
+                let more = with_plan(plans, plan)?;
+                plans = more;
+            }
+            Err(fault) => return Err(fault),
         }
     }
     Ok(plans)
+}
+
+/// The plans with one more behind them.
+fn with_plan(plans: Vec<Plan>, plan: Plan) -> Result<Vec<Plan>, Memory>
+    ensures { IfOk result (λ all. all.items ≡ plans.items ++ plan ∷ []) }
+{
+    let mut all = plans;
+    all.push(plan)?;
+    Ok(all)
 }

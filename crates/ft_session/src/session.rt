@@ -1,70 +1,91 @@
-ghost use Rattle.std.specs.Prelude.{◌≡◌, map, IfOk, OnErr};
+ghost use Rattle.std.specs.Prelude.{◌≡◌, ◌≤◌, ◌+◌, IfOk, OnErr};
+ghost use Rattle.ft_session.specs.Held.{nothing_held};
+ghost use Rattle.ft_session.specs.Indexed.{IsIndexOf};
 ghost use Rattle.ft_session.specs.Paths.{answer};
-ghost use Rattle.ft_session.specs.State.{opening, to_document};
-ghost use Rattle.ft_session.specs.Step.{dropped, loadable, loaded, step, with_documents};
+ghost use Rattle.ft_session.specs.Step.{dropped, loadable, loaded, rows_for, step, tokens_loaded, tokens_named, with_documents};
 
+use crate::collection::Collection;
 use crate::lists::{put_stems, put_stop_list, put_thesaurus};
-use crate::loaded::Loaded;
-use crate::loading::{Outcome, read_document};
 use crate::paths::answer_path;
 use crate::shown::Shown;
-use ft_base::{Line, MAX_DOCUMENTS, Memory, Steps};
-use indexmap::IndexMap;
+use ft_base::{Line, Memory, Steps};
 use plan_compiler::Lists;
-use session_text::{Command, FullOf, Refusal, Reply};
+use session_text::{Command, Refusal, Reply};
 use std::alloc::Global;
 use std::marker::Model;
 use std::sync::ledger::Ledger;
 
-/// The documents of a session by their names, in the order in which they were loaded, and the lists that selections name.
+/// The documents of a session by their names, in the order in which they were loaded, with their index; and the lists that
+/// selections name.
 #[derive(Drop)]
 pub struct Session {
     alloc: Global,
-    documents: IndexMap<Line, Loaded>,
+    collection: Collection,
     lists: Lists,
 }
 
 impl Model for Session {
-    ghost use Rattle.std.specs.Prelude.{map};
-    ghost use Rattle.ft_session.specs.StoredState.{state_code};
-    ghost use Rattle.ft_session.specs.State.{State, to_document};
+    ghost use Rattle.ft_session.specs.Held.{Held};
+    ghost use Rattle.ft_session.specs.StoredState.{held_code};
 
-    ghost Value = { State };
+    ghost Value = { Held };
 
-    ghost coded = { state_code };
+    ghost coded = { held_code };
 
-    ghost view = { λ session. record { documents = map to_document session.documents.entries; lists = session.lists } };
+    ghost view = { λ session. record {
+      state = record { documents = session.collection.documents; lists = session.lists };
+      version = session.collection.version;
+    } };
 }
 
 impl Session {
     /// A session that holds nothing.
     pub fn new(alloc: Global) -> Result<Session, Memory>
-        ensures { IfOk result (λ session. session ≡ opening) }
+        ensures { IfOk result (λ session. session ≡ nothing_held) }
     {
         Ok(Session {
             alloc,
-            documents: IndexMap::new(alloc),
+            collection: Collection::new(alloc),
             lists: Lists::new(alloc),
         })
     }
 
     /// Does what the command says, and answers it. A refused command changes nothing, nor does one for which memory runs
-    /// out. `moves` counts steps of cursors and `rows` rows of an index; there is no index yet.
-    #[tactic(auto, unfolding(crate::specs::Step::step))]
+    /// out. Whatever the answer, the version that the session holds is then the index of its documents.
+    ///
+    /// `moves` counts steps of cursors, which no command makes yet, and `rows` the rows of the index that are put and taken.
     pub fn step<L: Ledger, M: Ledger>(
         &mut self,
         command: &Command,
         moves: &mut Steps<M>,
         rows: &mut Steps<L>,
     ) -> Result<Reply, Memory>
-        ensures answer { IfOk result (λ reply. (self.new, reply) ≡ step self.old command.now) }
+        ensures answer { IfOk result (λ reply. (self.new.state, reply) ≡ step self.old.state command.now) }
         ensures err { OnErr result (self.new ≡ self.old) }
+        ensures indexed { IsIndexOf self.new.state.documents self.new.version }
         ensures moves { moves.new ≡ moves.old }
-        ensures rows { rows.new ≡ rows.old }
+        ensures rows { rows.new ≤ rows.old + rows_for self.old.state command.now }
+    {
+        let reply = self.carry_out(command, rows);
+        // The version is the index of the documents, as the clauses of `documents` say.
+        let _documents = self.collection.documents();
+        reply
+    }
+
+    /// Does what the command says, and answers it.
+    #[tactic(auto, unfolding(crate::specs::Step::step, crate::specs::Step::rows_for))]
+    fn carry_out<L: Ledger>(
+        &mut self,
+        command: &Command,
+        rows: &mut Steps<L>,
+    ) -> Result<Reply, Memory>
+        ensures answer { IfOk result (λ reply. (self.new.state, reply) ≡ step self.old.state command.now) }
+        ensures err { OnErr result (self.new ≡ self.old) }
+        ensures rows { rows.new ≤ rows.old + rows_for self.old.state command.now }
     {
         match command {
-            Command::Load { name, block } => self.load(name, block.as_slice()),
-            Command::Drop { name } => self.remove(name),
+            Command::Load { name, block } => self.load(name, block.as_slice(), rows),
+            Command::Drop { name } => self.remove(name, rows),
             Command::Stop { name, block } => {
                 put_stop_list(self.alloc, &mut self.lists, name.as_str(), block.as_slice())
             }
@@ -83,71 +104,34 @@ impl Session {
     }
 
     /// Loads the block as a document under the name.
-    fn load(&mut self, name: &Line, block: &[u8]) -> Result<Reply, Memory>
-        ensures answer { IfOk result (λ reply. (self.new, reply) ≡ with_documents self.old (loaded self.old.documents name.now (loadable block.now))) }
+    fn load<L: Ledger>(
+        &mut self,
+        name: &Line,
+        block: &[u8],
+        rows: &mut Steps<L>,
+    ) -> Result<Reply, Memory>
+        ensures answer { IfOk result (λ reply. (self.new.state, reply)
+            ≡ with_documents self.old.state (loaded self.old.state.documents name.now (loadable block.now))) }
         ensures err { OnErr result (self.new ≡ self.old) }
+        ensures rows { rows.new ≤ rows.old + tokens_loaded self.old.state.documents name.now (loadable block.now) }
     {
-        load_document(self.alloc, &mut self.documents, name, block)
+        self.collection.load(name, block, rows)
+    }
+
+    /// Takes the document of the name out.
+    fn remove<L: Ledger>(&mut self, name: &Line, rows: &mut Steps<L>) -> Result<Reply, Memory>
+        ensures answer { IfOk result (λ reply. (self.new.state, reply) ≡ with_documents self.old.state (dropped self.old.state.documents name.now)) }
+        ensures err { OnErr result (self.new ≡ self.old) }
+        ensures rows { rows.new ≤ rows.old + tokens_named self.old.state.documents name.now }
+    {
+        self.collection.remove(name, rows)
     }
 
     /// The reply to a path, of whose elements this is shown.
     fn show(&self, shown: Shown, path: &str) -> Result<Reply, Memory>
-        ensures { IfOk result (λ reply. reply ≡ answer shown self.now path.now) }
+        ensures { IfOk result (λ reply. reply ≡ answer shown self.now.state path.now) }
     {
-        answer_path(self.alloc, &self.documents, &self.lists, shown, path)
-    }
-
-    /// Takes the document of the name out.
-    fn remove(&mut self, name: &Line) -> Result<Reply, Memory>
-        ensures answer { IfOk result (λ reply. (self.new, reply) ≡ with_documents self.old (dropped self.old.documents name.now)) }
-        ensures err { OnErr result (self.new ≡ self.old) }
-    {
-        drop_document(self.alloc, &mut self.documents, name)
-    }
-}
-
-/// Puts the document that the block is behind those that are there, unless its name is taken, there are as many as there
-/// may be, or the block is none that can be loaded.
-fn load_document(
-    alloc: Global,
-    documents: &mut IndexMap<Line, Loaded>,
-    name: &Line,
-    block: &[u8],
-) -> Result<Reply, Memory>
-    ensures answer { IfOk result (λ reply.
-        (map to_document documents.new.entries, reply) ≡ loaded (map to_document documents.old.entries) name.now (loadable block.now)) }
-    ensures err { OnErr result (documents.new.entries ≡ documents.old.entries) }
-{
-    let name = Line::read(alloc, name.as_str())?;
-    if documents.contains_key(&name) {
-        return Ok(Reply::Refused(Refusal::NameTaken { name }));
-    }
-    if documents.len() >= MAX_DOCUMENTS {
-        let what = FullOf::Documents;
-        return Ok(Reply::Refused(Refusal::Full { what }));
-    }
-    match read_document(alloc, block)? {
-        Outcome::Refused(refusal) => Ok(Reply::Refused(refusal)),
-        Outcome::Document(document) => {
-            documents.insert(name, document)?;
-            Ok(Reply::Done)
-        }
-    }
-}
-
-/// Takes the document of the name out, unless there is none.
-fn drop_document(
-    alloc: Global,
-    documents: &mut IndexMap<Line, Loaded>,
-    name: &Line,
-) -> Result<Reply, Memory>
-    ensures answer { IfOk result (λ reply.
-        (map to_document documents.new.entries, reply) ≡ dropped (map to_document documents.old.entries) name.now) }
-    ensures err { OnErr result (documents.new.entries ≡ documents.old.entries) }
-{
-    let name = Line::read(alloc, name.as_str())?;
-    match documents.shift_remove(&name) {
-        Some(_) => Ok(Reply::Done),
-        None => Ok(Reply::Refused(Refusal::NoSuchName { name })),
+        let documents = self.collection.documents();
+        answer_path(self.alloc, documents, &self.lists, shown, path)
     }
 }

@@ -1,21 +1,28 @@
--- The count of the tokens, and the document with references.
+-- The document with references, which has few tokens, or too many, and what was found of it.
 use Rattle.std.proofs.Common.{◌∙◌, sym, ap, subst, ◌≤◌, length, Ok}
-use Rattle.tokenizer.specs.Tokens.{tokens}
+use Rattle.std.specs.Prelude.{Err}
+use Rattle.tokenizer.specs.Tokens.{tokens, paragraph_starts, sentence_starts}
+use Rattle.ordered_tree.specs.Leaves.{leaves}
+use Rattle.ordered_tree.specs.Numbered.{plain}
+use Rattle.ordered_tree.specs.Stored.{Stored}
 use Rattle.ft_base.specs.Limits.{max_tokens}
-use Rattle.ft_session.proofs.SessionLemmas.{at-most, greater, tree-is, with_few_tokens-few, with_few_tokens-many}
+use Rattle.ft_session.proofs.SessionLemmas.{tree-is, with_few_tokens-few, with_few_tokens-many}
 use Rattle.ft_session.proofs.loading.load.Goals as goal
-
-pub returns-then-not-branch : goal.returns-then-not-branch
-returns-then-not-branch c =
-    let many = greater c.in_ok-has_few_tokens.field-0 c.in_ok-has_few_tokens.ensures c.if-not-branch.true in
-    sym (with_few_tokens-many c.args.document.now many)
 
 pub invariant_of-result : goal.invariant_of-result
 invariant_of-result c =
-    let few = at-most c.in_ok-has_few_tokens.field-0 c.in_ok-has_few_tokens.ensures c.if-not-branch.false in
-    record { few = subst (λ n. length (tokens n) ≤ max_tokens) (sym (tree-is c.in_ok-tree.tree c.args.document.now c.in_ok-tree.ensures)) few }
+    let is = sym (tree-is c.in-Ok.read.tree c.args.document c.in-Ok.ensures.tree) in
+    record {
+      few = subst (λ n. length (tokens n) ≤ max_tokens) is c.in-Ok.ensures.few;
+      found = record {
+        leaves = c.in-Ok.ensures.leaves ∙ sym (ap (λ (t : Stored). leaves t.root) c.in-Ok.ensures.tree);
+        sentences = c.in-Ok.ensures.sentences ∙ ap (λ n. sentence_starts (tokens n)) is;
+        paragraphs = c.in-Ok.ensures.paragraphs ∙ ap (λ n. paragraph_starts (tokens n)) is;
+      };
+    }
 
-pub returns : goal.returns
-returns c =
-    let few = at-most c.in_ok-has_few_tokens.field-0 c.in_ok-has_few_tokens.ensures c.if-not-branch.false in
-    ap Ok (tree-is c.in_ok-tree.tree c.args.document.now c.in_ok-tree.ensures) ∙ sym (with_few_tokens-few c.args.document.now few)
+pub returns-in-Ok : goal.returns-in-Ok
+returns-in-Ok c = ap Ok (tree-is c.in-Ok.read.tree c.args.document c.in-Ok.ensures.tree) ∙ sym (with_few_tokens-few c.args.document c.in-Ok.ensures.few)
+
+pub returns-in-Err-Tokens : goal.returns-in-Err-Tokens
+returns-in-Err-Tokens c = sym (with_few_tokens-many c.args.document (c.in-Err-Tokens.ensures.full (ap Err c.in-Err-Tokens.field-0-is)))

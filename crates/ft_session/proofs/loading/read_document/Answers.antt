@@ -13,4 +13,4 @@ returns-in_ok-refuse-in-Err c =
 
 pub returns-in-Ok : goal.returns-in-Ok
 returns-in-Ok c =
-    subst (λ (said : Result Node Refusal). IfOk c.load-outcome.result (λ read. outcome read ≡ said)) (loadable-read c.args.block.now c.in-Ok.document c.in-Ok.ensures.answer_ok) c.load-outcome.ensures
+    subst (λ (said : Result Node Refusal). IfOk c.load.result (λ read. outcome read ≡ said)) (loadable-read c.args.block.now c.in-Ok.document c.in-Ok.ensures.answer_ok) c.load.ensures

@@ -1,0 +1,12 @@
+-- What a session holds: its state, and what the version of its index means.
+use Rattle.std.specs.Prelude.{List, []}
+use Rattle.index_meaning.specs.Documents.{Numbered}
+use Rattle.ft_session.specs.State.{State, opening}
+
+pub record Held : Type 0 where
+  pub state : State
+  pub version : List Numbered
+
+-- a session that holds nothing
+abbrev pub nothing_held : Held
+nothing_held = record { state = opening; version = [] }

@@ -1,0 +1,4 @@
+pub mod IndexLemmas
+pub mod LeavesLemmas
+pub mod VersionLemmas
+pub mod WordsLemmas

@@ -1,0 +1,14 @@
+//! Documents that come into an index and go out of it: each change gives a new version of the index, and leaves the one that
+//! it was lent as it is.
+//!
+//! `adding` puts the document of a tree in, `dropping` takes a document out. A version follows a tree where it has the
+//! tree's leaves, with their words and breaks.
+#![tactic(auto)]
+
+mod adding;
+mod dropping;
+pub mod examples;
+pub mod laws;
+
+pub use adding::{add_doc, add_loaded};
+pub use dropping::drop_doc;
