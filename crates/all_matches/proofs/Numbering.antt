@@ -1,5 +1,5 @@
 -- Whether a selection is satisfied doesn't depend on the numbers of its phrases.
-use Rattle.std.proofs.Common.{◌≡◌, refl, ap, sym, ◌∙◌, ℕ, ◌+◌, List, [], ◌∷◌, add_assoc, length}
+use Rattle.std.proofs.Common.{◌≡◌, refl, ap, sym, ◌∙◌, ℕ, ◌+◌, List, [], ◌∷◌, add_assoc}
 use Rattle.std.specs.Prelude.{map, cond}
 use Rattle.std.specs.List.{list_all}
 use Rattle.ft_base.specs.Lists.{is_empty}

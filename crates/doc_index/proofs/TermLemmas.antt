@@ -3,6 +3,7 @@ use Rattle.std.proofs.Common.{◌≡◌, ℕ, ◌<◌, ◌≤◌, suc, zero, Boo
 use Rattle.std.proofs.lemmas.Bool.{and_parts, and_from, or_cases, or_right, or_left, ltb-true, lt-ltb, eqb-true, eq-eqb, ne_eqb, cases_eq, cond_both, false_from_ne_true, eqb-false, ltb-false}
 use Rattle.std.proofs.lemmas.List.Folds.{list_any-append}
 use Rattle.ft_base.specs.Places.{is_ascending}
+use Rattle.ft_base.proofs.Truth.{or_swap, or_again}
 use Rattle.doc_index.specs.Terms.{has, with_term, terms_of}
 
 pub has-append : (t : ℕ) (xs ys : List ℕ) → has t (xs ++ ys) ≡ (has t xs || has t ys)
@@ -62,24 +63,14 @@ same_terms (x ∷ xs) (y ∷ ys) up₁ up₂ same =
     ] in
     ap (λ z. z ∷ xs) here ∙ ap (λ zs. y ∷ zs) (same_terms xs ys (rest-ascending x xs up₁) (rest-ascending y ys up₂) rest)
 
-or-same : (a b : Bool) → (a || b) ≡ (a || (a || b))
-or-same true b = refl
-or-same false b = refl
-
-or-swap : (a b c : Bool) → (a || (b || c)) ≡ (b || (a || c))
-or-swap true true c = refl
-or-swap true false c = refl
-or-swap false true c = refl
-or-swap false false c = refl
-
 pub has-with_term : (u t : ℕ) (xs : List ℕ) → has u (with_term t xs) ≡ ((t == u) || has u xs)
 has-with_term u t [] = refl
 has-with_term u t (x ∷ xs) =
     let goal = λ (ys : List ℕ). has u ys ≡ ((t == u) || has u (x ∷ xs)) in
     cond_both (nat_lt t x) (t ∷ x ∷ xs) (cond (t == x) (x ∷ xs) (x ∷ with_term t xs)) goal (λ below. refl)
     (λ above. cond_both (t == x) (x ∷ xs) (x ∷ with_term t xs) goal
-    (λ same. or-same (x == u) (has u xs) ∙ ap (λ z. (z == u) || has u (x ∷ xs)) (sym (eqb-true t x same)))
-    (λ other. ap (λ z. (x == u) || z) (has-with_term u t xs) ∙ or-swap (x == u) (t == u) (has u xs)))
+    (λ same. or_again (x == u) (has u xs) ∙ ap (λ z. (z == u) || has u (x ∷ xs)) (sym (eqb-true t x same)))
+    (λ other. ap (λ z. (x == u) || z) (has-with_term u t xs) ∙ or_swap (x == u) (t == u) (has u xs)))
 
 pub with_term-ascending : (t : ℕ) (xs : List ℕ) → is_ascending xs ≡ true → is_ascending (with_term t xs) ≡ true
 with_term-ascending t [] up = refl

@@ -1,5 +1,9 @@
 //! Where `ftnot` and `occurs` may stand, on small selections, by computation.
-#![tactic(auto, unfolding(crate::specs::Allowed::is_allowed, crate::specs::Allowed::without_times, crate::specs::Allowed::without_not, crate::specs::Allowed::has_plain_nots))]
+#![tactic(auto, unfolding(
+// where they may stand in a selection
+crate::specs::Allowed::is_allowed,
+// and under a filter or in `not in`
+crate::specs::Allowed::without_times, crate::specs::Allowed::without_not, crate::specs::Allowed::has_plain_nots))]
 
 ghost use Rattle.std.specs.Prelude.{◌≡◌, true, false};
 ghost use Rattle.ft_base.specs.declared.filter.Filter.TheVariants as F;

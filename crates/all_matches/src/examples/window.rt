@@ -5,8 +5,9 @@ ghost use Rattle.std.specs.Prelude.{◌≡◌, ◌++◌, ◌∷◌, [], true, fa
 ghost use Rattle.ft_base.specs.declared.filter.Filter.TheVariants as F;
 ghost use Rattle.ft_base.specs.declared.unit.TextUnit.TheVariants as U;
 ghost use Rattle.ft_base.specs.HitExamples.{word, phrase};
-ghost use Rattle.ft_base.specs.Selection.{filtered, not_of};
-ghost use Rattle.all_matches.specs.Examples.{plain, text, sentence, paragraph, quoted, two_and, three_and, but_not, word_a, word_b, word_c, word_x, in_sentences, window};
+ghost use Rattle.ft_base.specs.Selection.{filtered};
+ghost use Rattle.all_matches.specs.Examples.{plain, text, sentence, paragraph, in_sentences, quoted};
+ghost use Rattle.all_matches.specs.Examples.{two_and, three_and, but_not, word_a, word_b, word_c, window};
 ghost use Rattle.all_matches.specs.Meaning.{sat};
 ghost use Rattle.all_matches.specs.Window.{windows_round, lies_in_window};
 

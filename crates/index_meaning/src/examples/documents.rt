@@ -70,7 +70,8 @@ pub fn leaves_that_go()
     ensures first { leaf_ids ((without_leaf 4 greeting.document).leaves) ≡ 2 ∷ [] }
     ensures last { leaf_ids ((without_leaf 2 greeting.document).leaves) ≡ 4 ∷ [] }
     ensures breaks_kept { breaks_of (without_leaf 2 greeting.document) ≡ record { sentences = 1 ∷ []; paragraphs = 1 ∷ [] } }
-    ensures breaks { breaks_of (with_breaks (record { sentences = 1 ∷ 3 ∷ []; paragraphs = 2 ∷ [] }) greeting.document) ≡ record { sentences = 1 ∷ 3 ∷ []; paragraphs = 2 ∷ [] } }
+    ensures breaks { breaks_of (with_breaks (record { sentences = 1 ∷ 3 ∷ []; paragraphs = 2 ∷ [] }) greeting.document)
+        ≡ record { sentences = 1 ∷ 3 ∷ []; paragraphs = 2 ∷ [] } }
     ensures leaves { leaf_ids ((with_breaks (record { sentences = []; paragraphs = [] }) greeting.document).leaves) ≡ 4 ∷ 2 ∷ [] }
 {}
 

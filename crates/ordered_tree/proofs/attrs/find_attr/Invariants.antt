@@ -1,3 +1,4 @@
+-- The attributes from the next one on have the same value for the name as all of them.
 use Rattle.std.proofs.Common.{◌≡◌, drop}
 use Rattle.ordered_tree.specs.Numbered.{attribute}
 use Rattle.ordered_tree.proofs.attrs.find_attr.Given as goal

@@ -1,3 +1,4 @@
+-- What one more child, an element or a whole node adds: slots in document order, words, levels, and the texts that were read.
 use Rattle.std.proofs.Common.{◌≡◌, ℕ, List, ◌+◌, ◌-◌, ◌==◌, ◌++◌, ◌∷◌, [], Some, Err, length, map, refl, sym, ap, ap₂, ◌∙◌, arith, rules, append-nil, subst}
 use Rattle.std.specs.Vec.Iter.{into_iter_items}
 use Rattle.std.proofs.lemmas.List.{length_push}

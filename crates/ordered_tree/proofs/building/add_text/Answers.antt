@@ -1,3 +1,4 @@
+-- The new slot is that of the text where it stands, and what was read has the text's leaf and words.
 use Rattle.std.proofs.Common.{◌≡◌, ℕ, List, sym, ap, ◌∙◌, ◌+◌, ◌++◌, ◌∷◌, [], None, map, length, rules, arith, subst}
 use Rattle.unicode_segmentation.specs.Word.{word_bounds}
 use Rattle.tokenizer.specs.Parts.{part_of_segment}

@@ -1,3 +1,4 @@
+-- The numbers that lead to the parent come first, then the node's own; above the root there is none.
 use Rattle.std.proofs.Common.{◌≡◌, ◌-◌, ◌<◌, ◌++◌, ◌∷◌, [], length, sym, ap, ◌∙◌, arith, append_assoc, append-nil}
 use Rattle.ordered_tree.specs.steps.Climbing.{climbed}
 use Rattle.ordered_tree.specs.Slots.{slot_at}

@@ -1,3 +1,4 @@
+-- The slots up to the next one are copied.
 use Rattle.std.proofs.Common.{◌≡◌, take}
 use Rattle.ordered_tree.proofs.copying.copy_slots.Given as goal
 

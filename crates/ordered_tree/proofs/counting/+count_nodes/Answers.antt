@@ -1,3 +1,4 @@
+-- One child more is counted with all below it; the children that are left are fewer than the node has.
 use Rattle.std.proofs.Common.{◌≡◌, ◌+◌, map, drop, ap, ◌∙◌, arith}
 use Rattle.doc_grammar.specs.Limits.{node_count, nodes_count}
 use Rattle.plain_tree.specs.Document.{element, nodes}

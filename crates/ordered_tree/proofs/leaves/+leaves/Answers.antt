@@ -1,3 +1,4 @@
+-- A text has one leaf, an element has those of its children, and each link leads to the next sibling until there is none.
 use Rattle.std.proofs.Common.{◌≡◌, ℕ, [], ◌∷◌, ◌++◌, length, sym, ap, ap₂, ◌∙◌, subst, arith, append_assoc, append-nil, OnOk, IfOk}
 use Rattle.doc_grammar.specs.Limits.{nodes_count}
 use Rattle.tokenizer.specs.Words.{words}

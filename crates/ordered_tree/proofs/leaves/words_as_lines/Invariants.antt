@@ -1,3 +1,4 @@
+-- The lines so far are the bytes of the pieces up to the next one.
 use Rattle.std.proofs.Common.{◌≡◌, map, take}
 use Rattle.tokenizer.specs.Pieces.{bytes_at}
 use Rattle.ordered_tree.proofs.leaves.words_as_lines.Given as goal

@@ -1,3 +1,4 @@
+-- A text stays itself, an element gets its children as plain trees, and each link leads to the next of them.
 use Rattle.std.proofs.Common.{◌≡◌, [], ◌∷◌, ◌++◌, map, length, sym, ap, ap₂, ◌∙◌, subst, arith, append_assoc, append-nil}
 use Rattle.std.proofs.lemmas.List.{map-append}
 use Rattle.doc_grammar.specs.Limits.{nodes_count}

@@ -1,3 +1,4 @@
+-- An ASCII character is a lowercase letter if its general category says so.
 use Rattle.std.proofs.Common.{sym, ◌∙◌, ltb-true}
 use Rattle.text_forms.proofs.CasesLemmas.{is_ascii_lowercase-category}
 use Rattle.text_forms.proofs.cases.is_lower_or_title.Goals as goal

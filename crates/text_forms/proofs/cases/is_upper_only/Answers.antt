@@ -1,3 +1,4 @@
+-- All characters are looked at, and none of them may be a lowercase or titlecase letter.
 use Rattle.std.proofs.Common.{not, rules, tests}
 use Rattle.std.proofs.lemmas.Iterator.{YieldsList-from_chars}
 use Rattle.std.proofs.lemmas.Iterator.Search.{all_from_yields_List}

@@ -1,3 +1,4 @@
+-- ASCII text is its own decomposition; another is decomposed.
 use Rattle.std.proofs.Common.{◌∙◌}
 use Rattle.text_forms.specs.Forms.{exact_of}
 use Rattle.text_forms.proofs.FormsLemmas.{exact_of-ascii}

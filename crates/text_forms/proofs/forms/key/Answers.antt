@@ -1,3 +1,4 @@
+-- The key of ASCII text is the text in lowercase; of another it is the decomposition, with marks left out and case folded.
 use Rattle.std.proofs.Common.{not, Ok, ◌∙◌, ap, encode_utf8_all, rules, tests}
 use Rattle.std.specs.declared.alloc.AllocError.{AllocError}
 use Rattle.std.proofs.lemmas.Iterator.{YieldsList-from_chars, text_from_collect}

@@ -1,3 +1,4 @@
+-- ASCII text becomes lowercase; another is decomposed, folded, and decomposed again.
 use Rattle.std.proofs.Common.{◌∙◌, ap, encode_utf8_all}
 use Rattle.caseless.specs.Caseless.{default_case_fold}
 use Rattle.unicode_normalization.specs.Forms.{nfd}

@@ -1,3 +1,4 @@
+-- ASCII text has no marks and stays as it is; another is decomposed, and its nonspacing marks are left out.
 use Rattle.std.proofs.Common.{not, Ok, ◌∙◌, ap, encode_utf8_all, rules, tests}
 use Rattle.std.specs.declared.alloc.AllocError.{AllocError}
 use Rattle.std.proofs.lemmas.Iterator.{YieldsList-from_chars, text_from_collect}

@@ -1,3 +1,4 @@
+-- The name is among those from the next one on if it is among all, as none of the others was it.
 use Rattle.std.proofs.Common.{◌≡◌, drop, bytes_eq}
 use Rattle.std.specs.List.{list_any}
 use Rattle.tokenizer.proofs.blocks.is_among.Given as goal

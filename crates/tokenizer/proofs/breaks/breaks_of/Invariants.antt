@@ -1,3 +1,4 @@
+-- The starts that were seen, with those in the tags and texts that are left, are the document's; each step leaves fewer.
 use Rattle.std.proofs.Common.{◌≡◌, ◌+◌, flat_map, length}
 use Rattle.tokenizer.specs.Parts.{parts_of_event}
 use Rattle.tokenizer.specs.steps.StartsLeft.{sentences_in, paragraphs_in}

@@ -1,3 +1,4 @@
+-- The starts in the segments that are left, with those that were seen, are all; so are the words.
 use Rattle.std.proofs.Common.{◌≡◌, ◌+◌, List, ◌++◌, map, filter, length}
 use Rattle.unicode_segmentation.specs.Iter.{word_bounds_left}
 use Rattle.unicode_segmentation.specs.Word.{word_bounds}

@@ -1,3 +1,4 @@
+-- The last place is the new one, or is still the one that was below it.
 use Rattle.std.proofs.Common.{◌≡◌, Some, sym, ◌∙◌, ap, arith}
 use Rattle.ft_base.specs.Places.{last_place}
 use Rattle.ft_base.proofs.PlacesLemmas.{last_place-push}

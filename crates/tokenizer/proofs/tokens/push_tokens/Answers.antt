@@ -1,3 +1,4 @@
+-- Where there is no room for the token of a word, there are more tokens than a document may have.
 use Rattle.std.proofs.Common.{◌≡◌, Err, sym, ap}
 use Rattle.ft_base.specs.declared.limits.TheConstants.{MAX_TOKENS}
 use Rattle.tokenizer.specs.declared.tokens.TokenFault.TheVariants as Fault

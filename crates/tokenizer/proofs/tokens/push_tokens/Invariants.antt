@@ -1,3 +1,4 @@
+-- The tokens so far, then those of the segments that are left, are all; no number is greater than their count.
 use Rattle.std.proofs.Common.{◌≡◌, ◌≤◌, List, ◌++◌, map, length}
 use Rattle.ft_base.specs.declared.limits.TheConstants.{MAX_TOKENS}
 use Rattle.unicode_segmentation.specs.Iter.{word_bounds_left}

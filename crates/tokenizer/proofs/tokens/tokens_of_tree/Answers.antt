@@ -1,3 +1,4 @@
+-- At first all tokens are left, and in the end none.
 use Rattle.std.proofs.Common.{◌≡◌, ◌≤◌, ◌++◌, [], flat_map, length, sym, ap, ◌∙◌, append-nil, zero-le, subst}
 use Rattle.ft_base.specs.declared.limits.TheConstants.{MAX_TOKENS}
 use Rattle.plain_tree.specs.View.{node}

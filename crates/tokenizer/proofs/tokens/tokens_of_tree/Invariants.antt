@@ -1,3 +1,4 @@
+-- The tokens so far, then those in the tags and texts that are left, are all; each step leaves fewer of these.
 use Rattle.std.proofs.Common.{◌≡◌, ◌≤◌, ◌++◌, flat_map, length}
 use Rattle.ft_base.specs.declared.limits.TheConstants.{MAX_TOKENS}
 use Rattle.plain_tree.specs.View.{node}

@@ -1,3 +1,4 @@
+-- A text is the only thing in its tree; an element has its start tag first, and the rest is left on the stack.
 use Rattle.std.proofs.Common.{refl}
 use Rattle.tokenizer.proofs.WalksLemmas.{events-text, events-elem, stack_left-push}
 use Rattle.tokenizer.proofs.walk.begin.Goals as goal

@@ -1,3 +1,4 @@
+-- What is counted is the segments of the text that are words.
 use Rattle.std.proofs.Common.{Ok, length, ap, ◌∙◌, filter, rules, tests}
 use Rattle.std.proofs.lemmas.Iterator.Consumers.{count_from_yields_List, YieldsList-from_filter, YieldsList-at}
 use Rattle.unicode_segmentation.proofs.SegmentsLemmas.{YieldsList-from_gives}

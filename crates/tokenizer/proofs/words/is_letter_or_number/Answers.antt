@@ -1,3 +1,4 @@
+-- For ASCII the letters and digits are those of the general categories, and other characters are asked for theirs.
 use Rattle.std.proofs.Common.{sym, ◌∙◌, ltb-true, arith}
 use Rattle.tokenizer.specs.Words.{is_letter_or_number}
 use Rattle.tokenizer.proofs.WordsLemmas.{is_letter_or_number-ascii}

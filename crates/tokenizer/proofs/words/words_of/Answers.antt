@@ -1,3 +1,4 @@
+-- A segment that is a word becomes one piece more, another none, and the pieces cut the words out of the text.
 use Rattle.std.proofs.Common.{sym, ap, ◌∙◌, map, filter, ◌++◌, refl}
 use Rattle.std.proofs.lemmas.List.Elements.{All-rest, All-same}
 use Rattle.unicode_segmentation.specs.Word.{is_word_break}

@@ -1,3 +1,4 @@
+-- The pieces so far, then those of the words that are left, are all; each segment that is left is a piece of the text.
 use Rattle.std.proofs.Common.{◌≡◌, ◌++◌, map, filter}
 use Rattle.std.specs.List.{All}
 use Rattle.unicode_segmentation.specs.Iter.{word_bound_indices_left}

@@ -1,3 +1,4 @@
+-- The leaves of the root, behind none, are those of the document.
 use Rattle.std.proofs.Common.{◌++◌, None, ap, ◌∙◌}
 use Rattle.ordered_tree.specs.Leaves.{leaves, leaves_behind, texts}
 use Rattle.ordered_tree.specs.Slots.{root_of, node_at, root_ref}

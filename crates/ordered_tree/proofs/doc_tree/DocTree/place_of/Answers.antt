@@ -1,3 +1,4 @@
+-- A node stands under no more elements than the tree is deep, so the climb to the root gives its whole place.
 use Rattle.std.proofs.Common.{◌≡◌, ◌++◌, ◌≤◌, Some, sym, ap, ◌∙◌, subst, arith}
 use Rattle.std.specs.List.{Contains}
 use Rattle.std.proofs.lemmas.List.Elements.{All-contains}

@@ -1,3 +1,4 @@
+-- The slots of all nodes stand for the document, and what was read of its texts are its leaves and the starts in it.
 use Rattle.std.proofs.Common.{◌≡◌, ◌+◌, ◌++◌, [], None, Err, true, map, length, sym, ap, ap₂, ◌∙◌, subst, arith, append-nil}
 use Rattle.doc_grammar.specs.Limits.{node_count}
 use Rattle.plain_tree.specs.View.{node}

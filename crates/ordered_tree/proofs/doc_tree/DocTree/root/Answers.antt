@@ -1,3 +1,4 @@
+-- The first slot is the root's, its reference is one of the document's, and the root is an element.
 use Rattle.std.proofs.Common.{◌≡◌, true, sym, ap, ◌∙◌, subst}
 use Rattle.std.specs.List.{Contains}
 use Rattle.ordered_tree.specs.Numbered.{is_element, reference}

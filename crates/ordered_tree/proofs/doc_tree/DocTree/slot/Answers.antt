@@ -1,3 +1,4 @@
+-- The slot that a reference names is that of its node, and the links in it name nodes too.
 use Rattle.std.proofs.Common.{◌≡◌, ◌<◌, length, sym, ap, ◌∙◌, subst, arith}
 use Rattle.std.specs.List.{Contains}
 use Rattle.ordered_tree.specs.Slots.{root_of}

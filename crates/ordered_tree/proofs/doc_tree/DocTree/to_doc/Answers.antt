@@ -1,3 +1,4 @@
+-- The plain tree of the root is the document.
 use Rattle.std.proofs.Common.{IsTrue, sym, ap, ◌∙◌, subst}
 use Rattle.plain_tree.specs.Document.{is_document}
 use Rattle.ordered_tree.specs.Numbered.{plain}

@@ -1,3 +1,4 @@
+-- A tag brings no leaf, and the places of the starts are those that the tag leaves.
 use Rattle.std.proofs.Common.{◌++◌, refl, sym, ap, ◌∙◌, append-nil}
 use Rattle.ordered_tree.proofs.LeavesLemmas.{leaves_behind-nil, last_leaf-nil}
 use Rattle.ordered_tree.proofs.texts_read.TextsRead.pass_tag.Goals as goal

@@ -1,3 +1,4 @@
+-- The text gives one leaf more, behind the last one, and the starts in it are those that its words bring.
 use Rattle.std.proofs.Common.{[], ◌∷◌, ◌++◌, refl, ap, ◌∙◌}
 use Rattle.ordered_tree.specs.Leaves.{leaf_of, leaves_behind, last_leaf}
 use Rattle.ordered_tree.proofs.texts_read.TextsRead.pass_text.Goals as goal

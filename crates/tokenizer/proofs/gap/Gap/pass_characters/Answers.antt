@@ -1,3 +1,4 @@
+-- One byte more is seen, and the bytes of a text say the same of the gap as its characters.
 use Rattle.std.proofs.Common.{sym, ap, ◌∙◌, drop, ◌+◌, arith}
 use Rattle.tokenizer.specs.steps.GapSteps.{after_characters}
 use Rattle.tokenizer.proofs.GapLemmas.{after_characters-next, after_characters-done, after_characters-chars}

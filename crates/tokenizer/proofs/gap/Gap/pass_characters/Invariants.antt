@@ -1,3 +1,4 @@
+-- The bytes that are left bring the gap to where all of them do.
 use Rattle.std.proofs.Common.{◌≡◌, drop}
 use Rattle.tokenizer.specs.steps.GapSteps.{after_characters}
 use Rattle.tokenizer.proofs.gap.Gap.pass_characters.Given as goal

@@ -1,3 +1,4 @@
+-- Before the first token it is as if a paragraph had ended, so that the first token starts sentence 1 and paragraph 1.
 use Rattle.std.proofs.Common.{ap, ◌∙◌}
 use Rattle.tokenizer.specs.steps.Numbering.{tokens_left}
 use Rattle.tokenizer.proofs.NumberingLemmas.{tokens_left-new}

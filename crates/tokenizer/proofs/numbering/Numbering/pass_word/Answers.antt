@@ -1,3 +1,4 @@
+-- A word is the next token, with the numbers as the gap before it raises them.
 use Rattle.tokenizer.proofs.NumberingLemmas.{tokens_left-word}
 use Rattle.tokenizer.proofs.numbering.Numbering.pass_word.Goals as goal
 

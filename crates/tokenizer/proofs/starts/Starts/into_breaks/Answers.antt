@@ -1,3 +1,4 @@
+-- Where nothing is left, the places that were seen are all.
 use Rattle.tokenizer.proofs.StartsLemmas.{starts-ended}
 use Rattle.tokenizer.specs.steps.StartsLeft.{sentences_in, paragraphs_in}
 use Rattle.tokenizer.proofs.starts.Starts.into_breaks.Goals as goal

@@ -1,3 +1,4 @@
+-- Before the document no start was seen, and all tokens count from the first.
 use Rattle.std.proofs.Common.{refl}
 use Rattle.tokenizer.specs.steps.StartsLeft.{sentences_in, paragraphs_in}
 use Rattle.tokenizer.proofs.starts.Starts.new.Goals as goal

@@ -1,3 +1,4 @@
+-- Where a word no longer fits, the text has more words than may be seen.
 use Rattle.std.proofs.Common.{◌≡◌, Err, sym, ap, ◌∙◌, filter, length, arith}
 use Rattle.tokenizer.specs.Words.{is_word}
 use Rattle.tokenizer.specs.declared.tokens.TokenFault.TheVariants as Fault

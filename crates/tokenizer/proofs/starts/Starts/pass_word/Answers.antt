@@ -1,3 +1,4 @@
+-- A word is one token more, whose place is a start where its sentence or paragraph is a new one.
 use Rattle.std.proofs.Common.{sym, ap, ◌∙◌, ◌++◌, ◌+◌}
 use Rattle.tokenizer.specs.steps.Numbering.{tokens_left}
 use Rattle.tokenizer.specs.Tokens.{starts}

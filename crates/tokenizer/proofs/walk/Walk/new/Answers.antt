@@ -1,3 +1,4 @@
+-- With no element open, what is left is the whole tree.
 use Rattle.std.proofs.Common.{◌∙◌, append-nil}
 use Rattle.tokenizer.specs.steps.Walks.{stack_left, events_left}
 use Rattle.tokenizer.proofs.walk.Walk.new.Goals as goal

@@ -1,3 +1,4 @@
+-- Next comes the first of a tree, the end tag of an element with no child left, or the first of its next child.
 use Rattle.std.proofs.Common.{◌≡◌, sym, ap, ◌∙◌, ◌∷◌, ◌++◌, length, append_assoc, arith, rules, ◌≤◌, ◌<◌, refl}
 use Rattle.std.proofs.lemmas.List.{nil_from_length}
 use Rattle.plain_tree.specs.View.{node}
