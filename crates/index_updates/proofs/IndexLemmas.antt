@@ -1,6 +1,6 @@
 -- An index has of a document what it has of every other one with the same words and breaks.
 use Rattle.std.proofs.Common.{◌≡◌, ◌∙◌, sym, ap, ap₂, refl, ℕ, List, [], ◌∷◌, ◌++◌, map, flat_map, length}
-use Rattle.index_meaning.specs.Documents.{Document, Numbered, numbered, token_count, words_of}
+use Rattle.index_meaning.specs.Documents.{Numbered, words_of}
 use Rattle.index_meaning.specs.Index.{Counted, Index, IndexRow, counted, index, rows_from, sorted_rows}
 use Rattle.ordered_tree.specs.Numbered as tree
 use Rattle.ordered_tree.specs.Numbered.{plain}

@@ -1,6 +1,6 @@
 -- What a version has under a number, once a document came or went.
-use Rattle.std.proofs.Common.{◌≡◌, ◌≢◌, ◌∙◌, sym, ap, ap₂, refl, ℕ, Bool, true, false, cond, not, ◌||◌, ◌==◌, nat_lt, List, [], ◌∷◌, inl, inr}
-use Rattle.std.proofs.lemmas.Bool.{cases_Bool, cases_eq, cond-false, cond-true, eq-eqb, eqb-true, eqb-false, ne_eqb, or_from, or_left, or_right}
+use Rattle.std.proofs.Common.{◌≡◌, ◌≢◌, ◌∙◌, sym, ap, ap₂, refl, ℕ, true, false, cond, ◌||◌, ◌==◌, nat_lt, List, [], ◌∷◌, inl, inr}
+use Rattle.std.proofs.lemmas.Bool.{cases_Bool, cond-false, cond-true, eq-eqb, eqb-true, eqb-false, ne_eqb, or_from, or_left, or_right}
 use Rattle.ft_base.specs.declared.places.Breaks.{Breaks}
 use Rattle.index_meaning.specs.Documents.{Document, Leaf, Numbered, document_of, numbered, document_at, has_document, with_document, without_document}
 use Rattle.ordered_tree.specs.Leaves.{leaves}

@@ -3,14 +3,15 @@ use Rattle.std.proofs.Common.{◌≡◌, ◌∙◌, sym, ap, ap₂, refl, ℕ, L
 use Rattle.std.specs.Prelude.{Option, Some, None}
 use Rattle.std.proofs.lemmas.Bool.{cases_Bool}
 use Rattle.std.proofs.lemmas.List.{length-map}
-use Rattle.std.proofs.lemmas.List.Concat.{flat_map-append}
 use Rattle.ft_base.specs.declared.ids.LeafId.{LeafId}
 use Rattle.ft_base.specs.declared.ids.NodeRef.{NodeRef}
-use Rattle.index_meaning.specs.Documents.{Document, token_count, words_of}
+use Rattle.index_meaning.specs.Documents.{token_count, words_of}
 use Rattle.ordered_tree.specs.Leaves.{leaf_of, leaves_behind, texts, texts_of}
 use Rattle.ordered_tree.specs.Numbered.{Numbered, element_at, text_at, Children, no_children, child_then, plain, plain_children}
-use Rattle.plain_tree.specs.Document.{Node, element, text, Nodes, no_nodes, node_then}
-use Rattle.tokenizer.specs.Parts.{Part, word, gap_characters, gap_tag, events, events_of, parts, parts_of_event, part_of_segment}
+use Rattle.ordered_tree.specs.steps.Gathering.{parts_of}
+use Rattle.ordered_tree.proofs.ShiftLemmas.{parts-element, parts_of-then}
+use Rattle.plain_tree.specs.Document.{Node, element, text, no_nodes}
+use Rattle.tokenizer.specs.Parts.{Part, word, gap_characters, gap_tag, events, events_of, parts, part_of_segment}
 use Rattle.tokenizer.specs.Tokens.{tokens_from, tokens}
 use Rattle.tokenizer.specs.Words.{is_word, words}
 use Rattle.unicode_segmentation.specs.Word.{word_bounds}
@@ -58,18 +59,6 @@ words-leaves : (before : Option LeafId) (ts : List (NodeRef × List ℕ)) → fl
 unfolding leaves_behind
 words-leaves before [] = refl
 words-leaves before ((r, bytes) ∷ ts) = ap (λ ws. words bytes ++ ws) (words-leaves (Some (leaf_of r)) ts)
-
--- the parts of nodes side by side
-abbrev parts_of : Nodes → List Part
-parts_of nodes = flat_map parts_of_event (events_of nodes)
-
-parts-element : (name : List ℕ) (attrs : _) (kids : Nodes) → parts (element name attrs kids) ≡ gap_tag name ∷ (parts_of kids ++ gap_tag name ∷ [])
-unfolding events
-parts-element name attrs kids = ap (λ ps. gap_tag name ∷ ps) (flat_map-append parts_of_event (events_of kids) _)
-
-parts_of-then : (n : Node) (ns : Nodes) → parts_of (node_then n ns) ≡ parts n ++ parts_of ns
-unfolding events_of
-parts_of-then n ns = flat_map-append parts_of_event (events n) (events_of ns)
 
 part_words-text : (bytes : List ℕ) → part_words (parts (text bytes)) ≡ words bytes ++ []
 unfolding events

@@ -8,17 +8,18 @@ ghost use Rattle.tokenizer.specs.Tokens.{tokens};
 ghost use Rattle.index_updates.specs.Follows.{AreOf, Follows, breaks_in, tree_document, word_leaf, word_leaves};
 
 use ft_base::{Breaks, DocId, Memory, Steps};
-use index_versions::{Version, WordLeaf, WordLeaves};
+use index_versions::{Version, WordHints, WordLeaf, WordLeaves};
 use ordered_tree::{DocTree, LeafWords, Leaves};
 use std::alloc::Global;
 use std::sync::ledger::Ledger;
 use tokenizer::breaks_of;
 
-/// The version with the document of a tree more, under a number that it doesn't have. Counts a row for each of the tree's
-/// tokens; where memory runs out, no more than that.
+/// The version with the document of a tree more, under a number that it doesn't have. The hints may be of any version, and
+/// those of the new words are noted. Counts a row for each of the tree's tokens; where memory runs out, no more than that.
 pub fn add_doc<L: Ledger>(
     alloc: Global,
     version: &Version,
+    hints: &mut WordHints,
     doc: DocId,
     tree: &DocTree,
     rows: &mut Steps<L>,
@@ -34,7 +35,10 @@ pub fn add_doc<L: Ledger>(
 {
     let leaves = tree.all_leaves()?;
     match breaks_in(alloc, tree) {
-        Ok(breaks) => add_loaded(alloc, version, doc, tree, leaves, breaks, rows),
+        Ok(breaks) => {
+            let found = Found { leaves, breaks };
+            add_loaded(alloc, version, hints, doc, tree, found, rows)
+        }
         Err(memory) => {
             drop(leaves);
             Err(memory)
@@ -53,18 +57,25 @@ fn breaks_in(alloc: Global, tree: &DocTree) -> Result<Breaks, Memory>
     breaks
 }
 
+/// What was found of a tree: its leaves with their words, and where its sentences and paragraphs start.
+#[derive(Drop)]
+pub struct Found {
+    pub leaves: Leaves,
+    pub breaks: Breaks,
+}
+
 /// The same where the leaves of the tree and its breaks are known, as they are when it was just read.
 pub fn add_loaded<L: Ledger>(
     alloc: Global,
     version: &Version,
+    hints: &mut WordHints,
     doc: DocId,
     tree: &DocTree,
-    leaves: Leaves,
-    breaks: Breaks,
+    found: Found,
     rows: &mut Steps<L>,
 ) -> Result<Version, Memory>
     requires absent { has_document doc.0 version.now ≡ false }
-    requires found { AreOf tree.now.root leaves breaks }
+    requires found { AreOf tree.now.root found.leaves found.breaks }
     ensures documents { IfOk result (λ new. new ≡ with_document (numbered doc.0 (tree_document tree.now.root)) version.now) }
     ensures index { IfOk result (λ new. index key_of new ≡ index key_of (with_document (numbered doc.0 (tree_document tree.now.root)) version.now)) }
     ensures follows { IfOk result (λ new. Follows new doc.0 tree.now.root) }
@@ -74,14 +85,15 @@ pub fn add_loaded<L: Ledger>(
 {
     // No two nodes have one reference, as the clauses of `root` say.
     let _root = tree.root();
+    let Found { leaves, breaks } = found;
     let texts = match texts_of(alloc, leaves) {
-        Ok(found) => found,
+        Ok(made) => made,
         Err(memory) => {
             drop(breaks);
             return Err(memory);
         }
     };
-    let added = with_texts(version, doc, &texts, breaks, rows);
+    let added = with_texts(version, hints, doc, &texts, breaks, rows);
     drop(texts);
     added
 }
@@ -89,6 +101,7 @@ pub fn add_loaded<L: Ledger>(
 /// The version with a document of these leaves and breaks more.
 fn with_texts<L: Ledger>(
     version: &Version,
+    hints: &mut WordHints,
     doc: DocId,
     texts: &WordLeaves,
     breaks: Breaks,
@@ -107,7 +120,7 @@ fn with_texts<L: Ledger>(
             return Err(memory);
         }
     };
-    match next.put_document(doc, texts, breaks, rows) {
+    match next.put_document(doc, texts, breaks, hints, rows) {
         Ok(()) => Ok(next),
         Err(memory) => {
             drop(next);

@@ -10,5 +10,5 @@ mod dropping;
 pub mod examples;
 pub mod laws;
 
-pub use adding::{add_doc, add_loaded};
+pub use adding::{Found, add_doc, add_loaded};
 pub use dropping::drop_doc;

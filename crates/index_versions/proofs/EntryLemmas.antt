@@ -1,8 +1,7 @@
 -- Entries of a dictionary and their ids: the ids that are there are those of entries, and each entry has one.
-use Rattle.std.proofs.Common.{◌≡◌, ℕ, ◌<◌, ◌+◌, zero, suc, Bool, true, false, ◌&&◌, ◌||◌, ◌==◌, cond, not, List, [], ◌∷◌, length, map, Option, Some, None, refl, ap, sym, subst, ◌∙◌, arith, true≢false, inl, inr}
+use Rattle.std.proofs.Common.{◌≡◌, ℕ, ◌<◌, zero, suc, true, false, ◌||◌, ◌==◌, cond, List, [], ◌∷◌, length, Some, None, refl, ap, sym, subst, ◌∙◌, true≢false, inl, inr}
 use Rattle.std.specs.Prelude.{slice_get}
-use Rattle.std.specs.Option.{option_map, option_map_or}
-use Rattle.std.specs.List.{list_all}
+use Rattle.std.specs.Option.{option_map_or}
 use Rattle.std.specs.Ordering.{is_eq}
 use Rattle.std.specs.Cmp.{Equal-is}
 use Rattle.std.specs.FinMap.{slice_cmp-IsAntisymmetric, nat_cmp-IsAntisymmetric}
@@ -11,7 +10,7 @@ use Rattle.std.proofs.lemmas.Cmp.{eq_by_cmp_equiv}
 use Rattle.std.proofs.lemmas.Option.{same_Some, none-some, slice_get_within}
 use Rattle.text_forms.specs.Forms.{key_of}
 use Rattle.doc_index.specs.Terms.{has}
-use Rattle.index_meaning.specs.Entries.{Entry, entry, entry_cmp, text_cmp, has_entry, is_below, is_sorted, number_of, stands_at}
+use Rattle.index_meaning.specs.Entries.{Entry, entry, entry_cmp, text_cmp, has_entry, is_below, is_sorted, stands_at}
 use Rattle.index_meaning.specs.Dictionaries.{Term, entries, ids, id_of, are_given}
 use Rattle.index_meaning.specs.Index.{term_of}
 use Rattle.term_dict.proofs.OrderLemmas.{entry_total, same_entry}
@@ -125,30 +124,3 @@ one_id given ts a b sorted all keyed there₁ there₂ same =
     let entries_are : first.named ≡ second.named =
     keyed_at given a first.named keyed first.given_is ∙ ap (term_of key_of) words ∙ sym (keyed_at given b second.named keyed second.given_is) in
     same_Some a b (sym first.id_is ∙ ap (λ (e : Entry). id_of e ts) entries_are ∙ second.id_is)
-
--- ---- an entry is found by its number
-
-pub number_within : (e : Entry) (es : List Entry) (n : ℕ) → number_of e es ≡ Some n → n < length es
-number_within e [] n h = absurd (none-some n h)
-number_within e (f ∷ es) n h =
-    elim (is_eq (entry_cmp e f)) as (λ b. cond b (Some 0) (option_map (λ k. k + 1) (number_of e es)) ≡ Some n → n < length (f ∷ es)) [
-      | true ↦ λ first. omega (arith, same_Some 0 n first)
-      | false ↦ λ later. elim (number_of e es) as (λ o. number_of e es ≡ o → option_map (λ k. k + 1) o ≡ Some n → n < length (f ∷ es)) [
-        | None ↦ λ is found. absurd (none-some n found)
-        | Some m ↦ λ is found. omega (arith, number_within e es m is, same_Some (m + 1) n found)
-      ] refl later
-    ] h
-
-pub numbered_id : (e : Entry) (ts : List Term) (n id : ℕ) → number_of e (entries ts) ≡ Some n → slice_get (ids ts) n ≡ Some id → id_of e ts ≡ Some id
-numbered_id e [] n id h at = absurd (none-some n h)
-numbered_id e (t ∷ ts) n id h at =
-    elim (is_eq (entry_cmp e t.entry)) as (λ b. cond b (Some 0) (option_map (λ k. k + 1) (number_of e (entries ts))) ≡ Some n → cond b (Some t.id) (id_of e ts) ≡ Some id) [
-      | true ↦ λ first. subst (λ k. slice_get (ids (t ∷ ts)) k ≡ Some id) (sym (same_Some 0 n first)) at
-      | false ↦ λ later.
-          elim (number_of e (entries ts)) as (λ o. number_of e (entries ts) ≡ o → option_map (λ k. k + 1) o ≡ Some n → id_of e ts ≡ Some id) [
-            | None ↦ λ is found. absurd (none-some n found)
-            | Some m ↦ λ is found.
-                let next : n ≡ suc m = omega (arith, same_Some (m + 1) n found) in
-                numbered_id e ts m id is (subst (λ k. slice_get (ids (t ∷ ts)) k ≡ Some id) next at)
-          ] refl later
-    ] h

@@ -4,7 +4,7 @@ use Rattle.std.proofs.Common.{◌≡◌, ℕ, ◌<◌, ◌≤◌, ◌+◌, zero,
 use Rattle.std.specs.Prelude.{nat_lt, slice_get, filter, insert, remove, IfSome}
 use Rattle.std.specs.Option.{option_map_or}
 use Rattle.std.proofs.Math.Seq.{take-append_seam, drop-append_seam, set-append_seam, get_or-append_seam}
-use Rattle.std.proofs.lemmas.Bool.{or_cases, or_left, or_right, or_from, cases_order, lt-ltb, le-ltb, eq-eqb, ne_eqb, eqb-true, cond-true, cond-false, and_parts}
+use Rattle.std.proofs.lemmas.Bool.{or_cases, or_left, or_right, or_from, cases_order, lt-ltb, le-ltb, eq-eqb, ne_eqb, eqb-true, cond-true, cond-false}
 use Rattle.std.proofs.lemmas.List.{map-append}
 use Rattle.std.proofs.lemmas.List.Sums.{length-filter, sum_by-append}
 use Rattle.ft_base.specs.Places.{is_ascending}
@@ -12,7 +12,7 @@ use Rattle.doc_index.specs.Terms.{has}
 use Rattle.doc_index.proofs.TermLemmas.{rest-ascending, first-below, ascending-cons, has-head, has-append}
 use Rattle.index_cursors.specs.SpanHits.{below}
 use Rattle.index_meaning.specs.Entries.{Entry}
-use Rattle.index_meaning.specs.Documents.{Numbered, numbered, with_document, without_document}
+use Rattle.index_meaning.specs.Documents.{numbered, with_document, without_document}
 use Rattle.index_versions.specs.steps.Held.{Held, document_under, numbered_under, documents_under, numbers, held_ids, documents_with, held_at, nothing_held, listed}
 use Rattle.index_versions.specs.steps.Exchange.{in_front, of_number, in_back, exchanged}
 

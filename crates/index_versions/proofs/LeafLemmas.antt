@@ -1,10 +1,11 @@
 -- A leaf that comes into a document or goes out of it, by its place and by its number.
-use Rattle.std.proofs.Common.{◌≡◌, ℕ, ◌<◌, ◌≤◌, ◌+◌, zero, suc, Bool, true, false, ◌&&◌, ◌||◌, ◌==◌, cond, not, List, [], ◌∷◌, ◌++◌, length, map, take, drop, get_or, Option, Some, None, refl, ap, sym, ◌∙◌, arith, true≢false, inl, inr}
+use Rattle.std.proofs.Common.{◌≡◌, ℕ, ◌<◌, ◌+◌, zero, suc, true, false, ◌||◌, ◌==◌, cond, not, List, [], ◌∷◌, ◌++◌, length, map, take, drop, get_or, Option, Some, None, refl, ap, sym, ◌∙◌, arith, true≢false, inl, inr}
 use Rattle.std.specs.Prelude.{filter, insert, remove}
-use Rattle.std.proofs.lemmas.Bool.{and_parts, or_parts, or_cases, or_left, or_right, false_from_ne_true, not_from_false, eqb-true, eq-eqb, ne_eqb, cond-true, cond-false}
+use Rattle.std.proofs.lemmas.Bool.{and_parts, or_parts, or_cases, or_left, or_right, false_from_ne_true, eqb-true, eq-eqb, cond-true, cond-false}
 use Rattle.std.proofs.lemmas.List.{length-map, take-append-drop}
 use Rattle.std.proofs.lemmas.Grind.{flat_map-append}
 use Rattle.ft_base.specs.declared.ids.LeafId.{LeafId}
+use Rattle.ft_base.proofs.Truth.{or_swap}
 use Rattle.doc_index.specs.Terms as by_id
 use Rattle.doc_index.specs.Terms.{are_distinct, has}
 use Rattle.doc_index.proofs.TermLemmas.{has-append, has-at}
@@ -117,11 +118,6 @@ put_under given after new leaves =
 
 -- ---- which ids the document has then
 
-or_middle : (a b c : Bool) → (a || (b || c)) ≡ (b || (a || c))
-or_middle true true c = refl
-or_middle true false c = refl
-or_middle false b c = refl
-
 pub has_inserted : (t : ℕ) (leaves : List by_id.Leaf) (at : ℕ) (new : by_id.Leaf) → has t (by_id.words_of (insert leaves at new)) ≡ (has t new.words || has t (by_id.words_of leaves))
 has_inserted t leaves at new =
     let front = take at leaves in
@@ -129,7 +125,7 @@ has_inserted t leaves at new =
     ap (has t) (flat_map-append (λ (l : by_id.Leaf). l.words) front (new ∷ back))
     ∙ has-append t (by_id.words_of front) (new.words ++ by_id.words_of back)
     ∙ ap (λ b. has t (by_id.words_of front) || b) (has-append t new.words (by_id.words_of back))
-    ∙ or_middle (has t (by_id.words_of front)) (has t new.words) (has t (by_id.words_of back))
+    ∙ or_swap (has t (by_id.words_of front)) (has t new.words) (has t (by_id.words_of back))
     ∙ ap (λ b. has t new.words || b) (sym (has-append t (by_id.words_of front) (by_id.words_of back)))
     ∙ ap (λ ls. has t new.words || has t ls) (sym (flat_map-append (λ (l : by_id.Leaf). l.words) front back))
     ∙ ap (λ ls. has t new.words || has t (by_id.words_of ls)) (take-append-drop at leaves)

@@ -1,5 +1,5 @@
 pub mod ChangeLemmas
-pub mod CutLemmas
+pub mod WordLemmas
 pub mod DocumentLemmas
 pub mod EntryLemmas
 pub mod ExchangeLemmas

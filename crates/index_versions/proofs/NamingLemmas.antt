@@ -1,37 +1,25 @@
 -- Entries that come into a dictionary, and one that leaves it: which ids are there then, and what they name.
-use Rattle.std.proofs.Common.{◌≡◌, ℕ, ◌<◌, Bool, true, false, ◌&&◌, ◌||◌, ◌==◌, cond, not, List, [], ◌∷◌, ◌++◌, length, map, Option, Some, None, refl, ap, sym, subst, ◌∙◌, arith, true≢false, inl, inr}
-use Rattle.std.specs.Prelude.{slice_get, filter}
+use Rattle.std.proofs.Common.{◌≡◌, ℕ, ◌<◌, Bool, true, false, ◌&&◌, ◌||◌, ◌==◌, cond, not, List, [], ◌∷◌, length, map, Some, None, refl, ap, sym, ◌∙◌, true≢false, inl, inr}
+use Rattle.std.specs.Prelude.{slice_get}
 use Rattle.std.specs.Option.{option_map_or}
-use Rattle.std.specs.declared.cmp.Ordering.{Ordering}
 use Rattle.std.specs.declared.cmp.Ordering.TheVariants.{Less, Equal, Greater}
 use Rattle.std.specs.Ordering.{is_eq}
 use Rattle.std.specs.Cmp.{both_ways}
-use Rattle.std.proofs.Math.Option.{some-injective}
-use Rattle.std.proofs.lemmas.Bool.{and_parts, and_from, or_cases, or_left, or_right, or_from, cases_Bool, cases_eq, false_from_ne_true, not_from_false, eqb-true, ne_eqb, eq-eqb}
+use Rattle.std.proofs.lemmas.Bool.{and_parts, and_from, or_cases, or_left, or_right, or_from, cases_Bool, false_from_ne_true, not_from_false, eqb-true, ne_eqb, eq-eqb}
 use Rattle.std.proofs.lemmas.List.Folds.{list_all-append}
-use Rattle.std.proofs.lemmas.Option.{same_Some, none-some}
+use Rattle.std.proofs.lemmas.Option.{same_Some}
 use Rattle.text_forms.specs.Forms.{key_of}
+use Rattle.ft_base.proofs.Truth.{or_swap, or_again, or_turned}
 use Rattle.doc_index.specs.Terms.{has}
 use Rattle.index_meaning.specs.Entries.{Entry, entry_cmp, text_cmp, by_order, has_entry, is_sorted, with_entry, with_entries, without_entry}
-use Rattle.index_meaning.specs.Dictionaries.{Term, Dictionary, entries, ids, id_of, are_given, with_new, with_all_new, without_term}
-use Rattle.index_meaning.specs.Index.{term_of}
+use Rattle.index_meaning.specs.Dictionaries.{Dictionary, entries, ids, id_of, are_given, with_new, with_all_new, without_term}
 use Rattle.term_dict.proofs.TermLemmas.{entries_without, sorted_without, grown}
 use Rattle.term_dict.proofs.IdLemmas.{id_left}
 use Rattle.index_versions.specs.steps.Held.{word_of}
-use Rattle.index_versions.specs.steps.Naming.{are_keyed, entries_of, IsNamed}
-use Rattle.index_versions.proofs.EntryLemmas.{equal_is, equal_same, id_there, there_id, id_live, live_id, id_names, word_is, Names, names, live_below}
+use Rattle.index_versions.specs.steps.Naming.{are_keyed, IsNamed}
+use Rattle.index_versions.proofs.EntryLemmas.{equal_is, equal_same, id_there, id_live, live_id, id_names, word_is, names, live_below}
 
 -- ---- which entries are there
-
-or-move : (a b c : Bool) → (a || (b || c)) ≡ (b || (a || c))
-or-move true true c = refl
-or-move true false c = refl
-or-move false true c = refl
-or-move false false c = refl
-
-or-again : (a b : Bool) → (a || b) ≡ (a || (a || b))
-or-again true b = refl
-or-again false b = refl
 
 has_with_entry : (f e : Entry) (es : List Entry) → has_entry f (with_entry e es) ≡ (is_eq (entry_cmp f e) || has_entry f es)
 has_with_entry f e [] = refl
@@ -39,24 +27,18 @@ has_with_entry f e (g ∷ es) =
     elim (entry_cmp e g) as (λ o. entry_cmp e g ≡ o → has_entry f (by_order o (e ∷ g ∷ es) (g ∷ es) (g ∷ with_entry e es)) ≡ (is_eq (entry_cmp f e) || has_entry f (g ∷ es))) [
       | Less ↦ λ is. refl
       | Equal ↦ λ is.
-          or-again (is_eq (entry_cmp f g)) (has_entry f es)
+          or_again (is_eq (entry_cmp f g)) (has_entry f es)
           ∙ ap (λ (h : Entry). is_eq (entry_cmp f h) || has_entry f (g ∷ es)) (sym (equal_is e g (ap is_eq is)))
       | Greater ↦ λ is.
-          ap (λ b. is_eq (entry_cmp f g) || b) (has_with_entry f e es) ∙ or-move (is_eq (entry_cmp f g)) (is_eq (entry_cmp f e)) (has_entry f es)
+          ap (λ b. is_eq (entry_cmp f g) || b) (has_with_entry f e es) ∙ or_swap (is_eq (entry_cmp f g)) (is_eq (entry_cmp f e)) (has_entry f es)
     ] refl
-
-or-turned : (a b c : Bool) → (a || (b || c)) ≡ ((b || a) || c)
-or-turned true true c = refl
-or-turned true false c = refl
-or-turned false true c = refl
-or-turned false false c = refl
 
 pub has_with_entries : (f : Entry) (new es : List Entry) → has_entry f (with_entries new es) ≡ (has_entry f new || has_entry f es)
 has_with_entries f [] es = refl
 has_with_entries f (e ∷ new) es =
     has_with_entries f new (with_entry e es)
     ∙ ap (λ b. has_entry f new || b) (has_with_entry f e es)
-    ∙ or-turned (has_entry f new) (is_eq (entry_cmp f e)) (has_entry f es)
+    ∙ or_turned (has_entry f new) (is_eq (entry_cmp f e)) (has_entry f es)
 
 gone : (e : Entry) (es : List Entry) → has_entry e (without_entry e es) ≡ false
 gone e [] = refl

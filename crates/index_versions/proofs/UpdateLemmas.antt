@@ -1,9 +1,8 @@
 -- What each change of a document means, and that what always holds of a version holds before the document is exchanged.
-use Rattle.std.proofs.Common.{◌≡◌, ℕ, ◌<◌, ◌+◌, Bool, true, false, ◌||◌, ◌==◌, cond, not, List, [], ◌∷◌, ◌++◌, length, map, Option, Some, None, refl, ap, sym, subst, ◌∙◌, arith, true≢false, inl, inr}
-use Rattle.std.specs.Prelude.{nat_lt, filter, insert, IfSome}
-use Rattle.std.specs.List.{flat_map}
+use Rattle.std.proofs.Common.{◌≡◌, ℕ, Bool, true, false, ◌||◌, ◌==◌, cond, not, List, [], ◌∷◌, length, map, Option, Some, None, refl, ap, sym, ◌∙◌, arith, inl, inr}
+use Rattle.std.specs.Prelude.{nat_lt, filter, IfSome}
 use Rattle.std.specs.Ordering.{is_eq}
-use Rattle.std.proofs.lemmas.Bool.{and_from, or_left, eqb-true, cases_Bool}
+use Rattle.std.proofs.lemmas.Bool.{and_from, eqb-true, cases_Bool}
 use Rattle.std.proofs.lemmas.Cmp.{eq_by_cmp_equiv, nat_list_cmp_total}
 use Rattle.std.proofs.lemmas.List.{length-map}
 use Rattle.ft_base.specs.declared.ids.LeafId.{LeafId}
@@ -14,8 +13,8 @@ use Rattle.doc_index.specs.Terms as by_id
 use Rattle.doc_index.specs.Terms.{TermDocument, has}
 use Rattle.index_meaning.specs.Entries.{Entry, text_cmp}
 use Rattle.index_meaning.specs.Dictionaries.{Dictionary, ids}
-use Rattle.index_meaning.specs.Documents.{Leaf, Document, Numbered, leaf_of, document_of, numbered, leaf_words, has_leaf, token_count, with_leaf, without_leaf, with_breaks}
-use Rattle.index_meaning.specs.Documents.{document_at, with_document, without_document, breaks_of, leaves_with}
+use Rattle.index_meaning.specs.Documents.{Leaf, Document, leaf_of, document_of, numbered, leaf_words, has_leaf, token_count, with_leaf, without_leaf, with_breaks}
+use Rattle.index_meaning.specs.Documents.{document_at, with_document, leaves_with}
 use Rattle.document_counts.specs.Counts.{count_of}
 use Rattle.index_versions.specs.declared.parts.Parts.{Parts}
 use Rattle.index_versions.specs.steps.Held.{Held, held_of, word_of, leaf_under, document_under, documents_under, numbers, held_ids, documents_with, held_at, listed, ids_of_leaf, place_behind}
@@ -23,9 +22,9 @@ use Rattle.index_versions.specs.steps.Exchange.{of_number, exchanged}
 use Rattle.index_versions.specs.steps.Naming.{are_keyed, entries_of, all_words, IsNamed}
 use Rattle.index_versions.specs.steps.Sound.{IsSound, IsSoundFor, meaning}
 use Rattle.index_versions.proofs.ChangeLemmas.{once}
-use Rattle.index_versions.proofs.CutLemmas.{words_of_entries}
+use Rattle.index_versions.proofs.WordLemmas.{words_of_entries}
 use Rattle.index_versions.proofs.DocumentLemmas.{all_ids, used_has, used_at, at_under, words_under, Agree, same_leaves, same_under}
-use Rattle.index_versions.proofs.ExchangeLemmas.{Absent, Present, where_is, whole, counts_exchanged, ascending_exchanged, HasNumber, with_under, without_under}
+use Rattle.index_versions.proofs.ExchangeLemmas.{where_is, whole, counts_exchanged, ascending_exchanged, HasNumber, with_under}
 use Rattle.index_versions.proofs.LeafLemmas.{put_under, taken_under, words_under_leaf, has_inserted, has_taken}
 
 abbrev pub parts_with : Parts → Dictionary → Parts

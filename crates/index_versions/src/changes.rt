@@ -11,7 +11,7 @@ use crate::exchange::exchange;
 use crate::held::HeldDocument;
 use crate::parts::Parts;
 use document_counts::DocumentCounts;
-use ft_base::{DocId, Memory};
+use ft_base::{DocId, Line, Memory};
 use std::alloc::Global;
 use std::mem;
 use term_dict::TermDict;
@@ -33,7 +33,7 @@ pub(crate) fn change(
     raise(alloc, &mut parts.counts, &next)?;
     let old = exchange(&mut parts.documents, doc, next)?;
     let fallen = lower(alloc, &mut parts.counts, old)?;
-    drop_terms(&mut parts.dictionary, &fallen)?;
+    drop_terms(alloc, &mut parts.dictionary, &fallen)?;
     Ok(())
 }
 
@@ -79,26 +79,28 @@ fn lower(
 }
 
 /// Takes the terms of these ids, which are all there, out of the dictionary.
-fn drop_terms(dictionary: &mut TermDict, fallen: &Vec<u32>) -> Result<(), Memory>
+fn drop_terms(alloc: Global, dictionary: &mut TermDict, fallen: &Vec<u32>) -> Result<(), Memory>
     requires distinct { are_distinct fallen.now.items ≡ true }
     requires there { (id : ℕ) → has id fallen.now.items ≡ true → has id (ids dictionary.old.terms) ≡ true }
     ensures left { OnOk result ((id : ℕ) → has id (ids dictionary.new.terms) ≡ (not (has id fallen.now.items) && has id (ids dictionary.old.terms))) }
     ensures given { OnOk result (dictionary.new.given ≡ dictionary.old.given) }
 {
     for id in fallen {
-        *dictionary = without_term(dictionary, *id)?;
+        drop_term(alloc, dictionary, *id)?;
     }
     Ok(())
 }
 
-/// The dictionary without the term of that id, which is there.
-fn without_term(dictionary: &TermDict, id: u32) -> Result<TermDict, Memory>
-    requires { has id (ids dictionary.now.terms) ≡ true }
-    ensures left { IfOk result (λ new. (other : ℕ) → has other (ids new.terms) ≡ (not (id == other) && has other (ids dictionary.now.terms))) }
-    ensures given { IfOk result (λ new. new.given ≡ dictionary.now.given) }
+/// Takes the term of that id, which is there, out of the dictionary.
+fn drop_term(alloc: Global, dictionary: &mut TermDict, id: u32) -> Result<(), Memory>
+    requires { has id (ids dictionary.old.terms) ≡ true }
+    ensures left { OnOk result ((other : ℕ) → has other (ids dictionary.new.terms) ≡ (not (id == other) && has other (ids dictionary.old.terms))) }
+    ensures given { OnOk result (dictionary.new.given ≡ dictionary.old.given) }
 {
     let _terms = dictionary.len();
     let term = dictionary.entry(id);
-    let new = dictionary.without(term.key, term.word)?;
-    Ok(new)
+    let key = Line::read(alloc, term.key)?;
+    let word = Line::read(alloc, term.word)?;
+    dictionary.take(key.as_str(), word.as_str())?;
+    Ok(())
 }

@@ -6,7 +6,7 @@ ghost use Rattle.index_versions.specs.steps.Naming.{all_words};
 
 use crate::parts::Parts;
 use crate::version::Version;
-use crate::{WordLeaves, leaves};
+use crate::{WordHints, WordLeaves, leaves};
 use ft_base::{Breaks, DocId, LeafId, Lines, Memory, Steps};
 use std::mem;
 use std::sync::ledger::Ledger;
@@ -71,13 +71,15 @@ impl Version {
         }
     }
 
-    /// Puts a document in that isn't there, with all its leaves, whose numbers are different, and its breaks. Counts a
-    /// row for each word; where memory runs out, no more than that, and the version is to be given up.
+    /// Puts a document in that isn't there, with all its leaves, whose numbers are different, and its breaks. The hints
+    /// may be of any version, and those of the new words are noted. Counts a row for each word; where memory runs out, no
+    /// more than that, and the version is to be given up.
     pub fn put_document<L: Ledger>(
         &mut self,
         doc: DocId,
         leaves: &WordLeaves,
         breaks: Breaks,
+        hints: &mut WordHints,
         rows: &mut Steps<L>,
     ) -> Result<(), Memory>
         requires new { has_document doc.0 self.old ≡ false }
@@ -88,7 +90,7 @@ impl Version {
     {
         let alloc = self.alloc;
         let mut parts = mem::replace(&mut self.parts, Parts::empty(alloc));
-        match leaves::put_document(alloc, &mut parts, doc, leaves, breaks, rows) {
+        match leaves::put_document(alloc, &mut parts, doc, leaves, breaks, hints, rows) {
             Ok(()) => {
                 self.parts = parts;
                 Ok(())

@@ -13,13 +13,13 @@ use crate::changes::change;
 use crate::documents::{document, document_or_new};
 use crate::exchange::exchange;
 use crate::held::HeldDocument;
+use crate::hints::WordHints;
 use crate::parts::Parts;
-use crate::words::{entries_of_leaves, entries_of_words, leaves_of_ids, name_entries};
-use doc_index::{DocIndex, TermLeaf};
+use crate::words::{name_leaves, name_words};
+use doc_index::DocIndex;
 use ft_base::{Breaks, DocId, LeafId, Lines, Memory, Steps};
 use std::alloc::Global;
 use std::sync::ledger::Ledger;
-use term_dict::TermDict;
 
 /// Puts a leaf with these words into the document, directly behind another leaf or in front of all.
 pub(crate) fn put_leaf<L: Ledger>(
@@ -40,20 +40,12 @@ pub(crate) fn put_leaf<L: Ledger>(
     ensures counted { OnOk result (rows.new ≡ rows.old + length words.now) }
     ensures at_most { rows.new ≤ rows.old + length words.now }
 {
-    let ids = name_words(alloc, &mut parts.dictionary, words)?;
+    let ids = name_words(alloc, &mut parts.dictionary, &parts.counts, words)?;
     let held = document_or_new(alloc, &parts.documents, doc)?;
     let index = index_with_leaf(held.index(), after, leaf, ids, rows)?;
     let next = held.with_index(alloc, index)?;
     change(alloc, parts, doc, Some(next))?;
     Ok(())
-}
-
-/// Puts the words into the dictionary, where they aren't there, and hands out the id of each.
-fn name_words(alloc: Global, dictionary: &mut TermDict, words: &Lines) -> Result<Vec<u32>, Memory>
-    ensures { IfOk result (λ ids. IsNamed dictionary.old (entries_of words.now) dictionary.new ids.items) }
-{
-    let entries = entries_of_words(alloc, words)?;
-    name_entries(alloc, dictionary, &entries)
 }
 
 /// The index of the document with that leaf.
@@ -145,6 +137,7 @@ pub(crate) fn put_document<L: Ledger>(
     doc: DocId,
     leaves: &WordLeaves,
     breaks: Breaks,
+    hints: &mut WordHints,
     rows: &mut Steps<L>,
 ) -> Result<(), Memory>
     requires sound { IsSound parts.old }
@@ -155,26 +148,11 @@ pub(crate) fn put_document<L: Ledger>(
     ensures counted { OnOk result (rows.new ≡ rows.old + length (all_words leaves.now)) }
     ensures at_most { rows.new ≤ rows.old + length (all_words leaves.now) }
 {
-    let made = name_leaves(alloc, &mut parts.dictionary, leaves)?;
+    let made = name_leaves(alloc, &mut parts.dictionary, &parts.counts, hints, leaves)?;
     let index = DocIndex::from_leaves(alloc, doc, made, rows)?;
     let next = HeldDocument::new(alloc, index, breaks)?;
     change(alloc, parts, doc, Some(next))?;
     Ok(())
-}
-
-/// Puts the words of the leaves into the dictionary, where they aren't there, and hands out the leaves with their ids.
-fn name_leaves(
-    alloc: Global,
-    dictionary: &mut TermDict,
-    leaves: &WordLeaves,
-) -> Result<Vec<TermLeaf>, Memory>
-    ensures named { IfOk result (λ made. IsNamed dictionary.old (entries_of (all_words leaves.now)) dictionary.new (by_id.words_of made.items)) }
-    ensures leaves { IfOk result (λ made. map (leaf_under dictionary.new.given) made.items ≡ leaves.now) }
-{
-    let entries = entries_of_leaves(alloc, leaves)?;
-    let ids = name_entries(alloc, dictionary, &entries)?;
-    let made = leaves_of_ids(alloc, leaves, &ids)?;
-    Ok(made)
 }
 
 /// Takes the document with all its leaves out.

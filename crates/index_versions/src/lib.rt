@@ -3,8 +3,8 @@
 //!
 //! `version` is the type with its terms, `reading` has the calls that read a document, `changing` those that change one.
 //! `word_leaf` is a text that comes in. Inside, `parts` is what a version is made of, `held` one of its documents,
-//! `documents` finds one, and `terms` has the terms and their ids; `words` makes words into ids, `leaves` puts leaves in
-//! and takes them out, `exchange` puts a document in the place of another, and `changes` keeps the dictionary and the
+//! `documents` finds one, and `terms` has the terms and their ids; `words` makes words into ids, `hints` says where to look
+//! for one first, `leaves` puts leaves in and takes them out, `exchange` puts a document in the place of another, and `changes` keeps the dictionary and the
 //! counts with it.
 #![tactic(auto)]
 
@@ -14,6 +14,7 @@ mod documents;
 pub mod examples;
 mod exchange;
 mod held;
+mod hints;
 mod leaves;
 mod parts;
 mod reading;
@@ -24,6 +25,7 @@ mod version;
 mod word_leaf;
 mod words;
 
+pub use hints::WordHints;
 pub use index_cursors::{BreakView, Cursor, Every};
 pub use term_dict::Term;
 pub use version::Version;

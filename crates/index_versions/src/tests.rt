@@ -3,7 +3,7 @@
 ghost use Rattle.std.specs.Prelude.{◌≡◌, ◌<◌, ◌∷◌, [], IfOk};
 ghost use Rattle.index_meaning.specs.Documents.{leaf_ids};
 
-use crate::{Version, WordLeaf, WordLeaves};
+use crate::{Version, WordHints, WordLeaf, WordLeaves};
 use ft_base::{Breaks, DocId, Hits, LeafId, Line, Lines, Memory, Places, Span, Steps};
 use std::alloc::Global;
 use std::marker::Brand;
@@ -51,6 +51,7 @@ fn put<L: Ledger>(
     alloc: Global,
     version: &mut Version,
     doc: DocId,
+    hints: &mut WordHints,
     rows: &mut Steps<L>,
 ) -> Result<(), Memory> {
     if version.has_doc(doc) {
@@ -58,7 +59,7 @@ fn put<L: Ledger>(
     }
     let leaves = two_leaves(alloc)?;
     let breaks = breaks(alloc)?;
-    version.put_document(doc, &leaves, breaks, rows)
+    version.put_document(doc, &leaves, breaks, hints, rows)
 }
 
 // Puts one leaf in as a document, where it isn't there.
@@ -193,9 +194,10 @@ fn leaves_leave<L: Ledger>(version: &mut Version, steps: &mut Steps<L>) -> Resul
 fn leaves_go<L: Ledger>(
     alloc: Global,
     version: &mut Version,
+    hints: &mut WordHints,
     steps: &mut Steps<L>,
 ) -> Result<bool, Memory> {
-    put(alloc, version, SECOND, steps)?;
+    put(alloc, version, SECOND, hints, steps)?;
     let kept = version.clone_version()?;
     let gone = leaves_leave(version, steps);
     let both = has_both(&kept, SECOND, steps);
@@ -210,9 +212,10 @@ fn leaves_go<L: Ledger>(
 fn documents_go<L: Ledger>(
     alloc: Global,
     version: &mut Version,
+    hints: &mut WordHints,
     steps: &mut Steps<L>,
 ) -> Result<bool, Memory> {
-    put(alloc, version, SECOND, steps)?;
+    put(alloc, version, SECOND, hints, steps)?;
     put_one(alloc, version, FIRST, "hello", steps)?;
     let shared = is_term(version, 0, "Hello", 1) & is_term(version, 1, "hello", 2);
     let first = stands_at(version, 1, FIRST, 1, steps) & stands_at(version, 1, SECOND, 2, steps);
@@ -223,7 +226,7 @@ fn documents_go<L: Ledger>(
     Ok(shared & first & one & left & has_terms(version, 0, 0, None))
 }
 
-// Both of these, one after the other.
+// Both of these, one after the other. The hints of the first are those of terms that are gone.
 fn all_work<L: Ledger>(alloc: Global, blank: Blank) -> bool
     requires name { blank.name ≡ L.name }
     requires parts { blank.parts ≡ L.parts }
@@ -231,9 +234,10 @@ fn all_work<L: Ledger>(alloc: Global, blank: Blank) -> bool
 {
     let mut steps = Steps::<L>::new(blank);
     let mut version = Version::empty(alloc);
-    let leaves = leaves_go(alloc, &mut version, &mut steps);
-    let documents = documents_go(alloc, &mut version, &mut steps);
-    drop(version);
+    let mut hints = WordHints::new(alloc);
+    let leaves = leaves_go(alloc, &mut version, &mut hints, &mut steps);
+    let documents = documents_go(alloc, &mut version, &mut hints, &mut steps);
+    drop((version, hints));
     (leaves == Ok(true)) & (documents == Ok(true))
 }
 

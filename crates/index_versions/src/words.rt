@@ -1,114 +1,148 @@
-//! Words, the entries that they are in a dictionary, and the ids under which it has these.
-ghost use Rattle.std.specs.Prelude.{◌≡◌, ◌+◌, ◌++◌, ◌≤◌, Some, length, map, take, drop, IfOk, OnOk};
-ghost use Rattle.index_meaning.specs.Dictionaries.{id_of};
-ghost use Rattle.index_meaning.specs.Documents.{leaf_ids};
+//! Words, and the ids under which a dictionary has them.
+ghost use Rattle.std.specs.Prelude.{◌≡◌, ◌≤◌, ◌<◌, ◌||◌, ◌∷◌, [], ℕ, nat_le, nat_lt, map, length, true, IfOk, IfSome, OnOk};
+ghost use Rattle.index_meaning.specs.Dictionaries.{ids};
 ghost use Rattle.doc_index.specs.Terms as by_id;
-ghost use Rattle.index_versions.specs.steps.Naming.{entries_of, all_words, IsNamed, IsCut};
+ghost use Rattle.doc_index.specs.Terms.{has};
+ghost use Rattle.document_counts.specs.Counts.{count_of};
+ghost use Rattle.index_versions.specs.steps.Held.{leaf_under, word_of};
+ghost use Rattle.index_versions.specs.steps.Naming.{all_words, entries_of, IsKnown, IsNamed};
 
-use crate::{WordLeaf, WordLeaves};
+use crate::WordLeaves;
+use crate::hints::{WordHints, hash_of};
 use doc_index::TermLeaf;
+use document_counts::DocumentCounts;
 use ft_base::{Lines, Memory};
 use std::alloc::Global;
-use term_dict::{Entries, OwnedTerm, TermDict};
+use std::mem;
+use term_dict::TermDict;
 use text_forms::key;
 
-/// The words as entries.
-pub(crate) fn entries_of_words(alloc: Global, words: &Lines) -> Result<Entries, Memory>
-    ensures { IfOk result (λ entries. entries ≡ entries_of words.now) }
-{
-    let mut entries = Entries::new(alloc);
-    add_entries(&mut entries, alloc, words)?;
-    Ok(entries)
-}
-
-/// The words of the leaves as entries, one leaf behind the other.
-pub(crate) fn entries_of_leaves(alloc: Global, leaves: &WordLeaves) -> Result<Entries, Memory>
-    ensures { IfOk result (λ entries. entries ≡ entries_of (all_words leaves.now)) }
-{
-    let mut entries = Entries::new(alloc);
-    for leaf in leaves.as_slice() {
-        add_entries(&mut entries, alloc, leaf.words())?;
-    }
-    Ok(entries)
-}
-
-/// Puts the words behind the others.
-fn add_entries(entries: &mut Entries, alloc: Global, words: &Lines) -> Result<(), Memory>
-    ensures { OnOk result (entries.new ≡ entries.old ++ entries_of words.now) }
-{
-    for word in words.as_slice() {
-        let key = key(alloc, word.as_str())?;
-        entries.push(OwnedTerm::new(alloc, key.as_str(), word.as_str())?)?;
-    }
-    Ok(())
-}
-
-/// Puts the entries into the dictionary, where they aren't there, and hands out the id of each.
-pub(crate) fn name_entries(
+/// Puts the words of the leaves into the dictionary, where they aren't there, and hands out the leaves with their ids.
+pub(crate) fn name_leaves(
     alloc: Global,
     dictionary: &mut TermDict,
-    entries: &Entries,
-) -> Result<Vec<u32>, Memory>
-    ensures { IfOk result (λ ids. IsNamed dictionary.old entries.now dictionary.new ids.items) }
-{
-    let _terms = dictionary.len();
-    let all = dictionary.with_all(entries)?;
-    let _all_terms = all.len();
-    let ids = ids_of(alloc, &all, entries)?;
-    *dictionary = all;
-    Ok(ids)
-}
-
-/// The ids of entries that are all in the dictionary.
-fn ids_of(alloc: Global, dictionary: &TermDict, entries: &Entries) -> Result<Vec<u32>, Memory>
-    ensures { IfOk result (λ ids. map (λ id. Some id) ids.items ≡ map (λ e. id_of e dictionary.now.terms) entries.now) }
-{
-    let mut ids = Vec::with_capacity(alloc, entries.len())?;
-    for entry in entries.as_slice() {
-        ids.push(id_of_entry(dictionary, entry)?)?;
-    }
-    Ok(ids)
-}
-
-/// The id of an entry that is in the dictionary.
-fn id_of_entry(dictionary: &TermDict, entry: &OwnedTerm) -> Result<u32, Memory>
-    ensures { IfOk result (λ id. id_of entry.now dictionary.now.terms ≡ Some id) }
-{
-    match dictionary.find_word(entry.key(), entry.word()) {
-        Some(number) => Ok(dictionary.id(number)),
-        None => Err(Memory),
-    }
-}
-
-/// The leaves with the ids of their words, which are given one leaf behind the other.
-pub(crate) fn leaves_of_ids(
-    alloc: Global,
+    counts: &DocumentCounts,
+    hints: &mut WordHints,
     leaves: &WordLeaves,
-    ids: &Vec<u32>,
 ) -> Result<Vec<TermLeaf>, Memory>
-    requires { length ids.now.items ≡ length (all_words leaves.now) }
-    ensures { IfOk result (λ made. IsCut leaves.now ids.now.items made.items) }
+    requires { (id : ℕ) → 0 < count_of counts.now id → has id (ids dictionary.old.terms) ≡ true }
+    ensures named { IfOk result (λ made. IsNamed dictionary.old (entries_of (all_words leaves.now)) dictionary.new (by_id.words_of made.items)) }
+    ensures leaves { IfOk result (λ made. map (leaf_under dictionary.new.given) made.items ≡ leaves.now) }
 {
+    let first = dictionary.given_count();
     let mut made = Vec::with_capacity(alloc, leaves.len())?;
-    let mut at = 0;
     for leaf in leaves.as_slice() {
-        made.push(leaf_of_ids(alloc, leaf, ids, at)?)?;
-        at += leaf.words().len();
+        let ids = ids_of(alloc, dictionary, counts, first, hints, leaf.words())?;
+        made.push(TermLeaf::new(leaf.leaf(), ids)?)?;
     }
     Ok(made)
 }
 
-/// The leaf with as many of the ids as it has words, from that place on.
-fn leaf_of_ids(
+/// Puts the words into the dictionary, where they aren't there, and hands out the id of each.
+pub(crate) fn name_words(
     alloc: Global,
-    leaf: &WordLeaf,
-    ids: &Vec<u32>,
-    at: usize,
-) -> Result<TermLeaf, Memory>
-    requires { at + length leaf.now.words ≤ length ids.now.items }
-    ensures { IfOk result (λ made. made ≡ by_id.leaf_of leaf.now.id (take (length leaf.now.words) (drop at ids.now.items))) }
+    dictionary: &mut TermDict,
+    counts: &DocumentCounts,
+    words: &Lines,
+) -> Result<Vec<u32>, Memory>
+    requires { (id : ℕ) → 0 < count_of counts.now id → has id (ids dictionary.old.terms) ≡ true }
+    ensures { IfOk result (λ named. IsNamed dictionary.old (entries_of words.now) dictionary.new named.items) }
 {
-    let end = at + leaf.words().len();
-    let ids = Vec::from_slice(alloc, &ids.as_slice()[at..end])?;
-    TermLeaf::new(leaf.leaf(), ids)
+    let first = dictionary.given_count();
+    let mut hints = WordHints::new(alloc);
+    let named = ids_of(alloc, dictionary, counts, first, &mut hints, words);
+    drop(hints);
+    named
+}
+
+/// The same with hints, where ids from `first` on were given for words that are to come.
+fn ids_of(
+    alloc: Global,
+    dictionary: &mut TermDict,
+    counts: &DocumentCounts,
+    first: usize,
+    hints: &mut WordHints,
+    words: &Lines,
+) -> Result<Vec<u32>, Memory>
+    requires { IsKnown counts.now first dictionary.old }
+    ensures named { IfOk result (λ named. IsNamed dictionary.old (entries_of words.now) dictionary.new named.items) }
+    ensures known { OnOk result (IsKnown counts.now first dictionary.new) }
+{
+    let mut named = Vec::with_capacity(alloc, words.len())?;
+    for word in words.as_slice() {
+        named.push(id_of(alloc, dictionary, counts, first, hints, word.as_str())?)?;
+    }
+    Ok(named)
+}
+
+/// The id of the word, which comes into the dictionary where it isn't there.
+fn id_of(
+    alloc: Global,
+    dictionary: &mut TermDict,
+    counts: &DocumentCounts,
+    first: usize,
+    hints: &mut WordHints,
+    word: &str,
+) -> Result<u32, Memory>
+    requires { IsKnown counts.now first dictionary.old }
+    ensures named { IfOk result (λ id. IsNamed dictionary.old (entries_of (word.now ∷ [])) dictionary.new (id ∷ [])) }
+    ensures known { OnOk result (IsKnown counts.now first dictionary.new) }
+{
+    let hash = hash_of(word);
+    match checked(dictionary, counts, first, hints.find(hash), word) {
+        Some(id) => Ok(id),
+        None => {
+            let id = put_word(alloc, dictionary, word)?;
+            hints.note(hash, id)?;
+            Ok(id)
+        }
+    }
+}
+
+/// The hint, where the dictionary has the word under that id.
+fn checked(
+    dictionary: &TermDict,
+    counts: &DocumentCounts,
+    first: usize,
+    hint: Option<u32>,
+    word: &str,
+) -> Option<u32>
+    requires { IsKnown counts.now first dictionary.now }
+    ensures { IfSome result (λ id. IsNamed dictionary.now (entries_of (word.now ∷ [])) dictionary.now (id ∷ [])) }
+{
+    let id = hint?;
+    if id as usize >= dictionary.given_count() {
+        return None;
+    }
+    if dictionary.entry(id).word != word {
+        return None;
+    }
+    if is_known(counts, first, id) {
+        return Some(id);
+    }
+    None
+}
+
+/// Whether the id, which was given, is known to be in the dictionary: it was given last, or a document has it.
+fn is_known(counts: &DocumentCounts, first: usize, id: u32) -> bool
+    ensures { result ≡ (nat_le first id || nat_lt 0 (count_of counts.now id)) }
+{
+    if id as usize >= first {
+        return true;
+    }
+    counts.count(id) > 0
+}
+
+/// Puts the word into the dictionary, where it isn't there, and hands out its id: the only one that is given now.
+fn put_word(alloc: Global, dictionary: &mut TermDict, word: &str) -> Result<u32, Memory>
+    ensures named { IfOk result (λ id. IsNamed dictionary.old (entries_of (word.now ∷ [])) dictionary.new (id ∷ [])) }
+    ensures given { IfOk result (λ id. (other : ℕ) → length dictionary.old.given ≤ other → other < length dictionary.new.given → other ≡ id) }
+{
+    let key = key(alloc, word)?;
+    let _terms = dictionary.len();
+    let before = mem::replace(dictionary, TermDict::empty(alloc));
+    let (after, id) = before.put(key.as_str(), word)?;
+    let _all_terms = after.len();
+    *dictionary = after;
+    Ok(id)
 }

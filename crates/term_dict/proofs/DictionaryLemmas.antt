@@ -1,11 +1,11 @@
 -- What holds of a dictionary where a term comes in or goes out.
-use Rattle.std.proofs.Common.{◌≡◌, ℕ, ◌+◌, ◌-◌, ◌<◌, ◌≤◌, ◌^◌, Bool, true, false, cond, List, [], ◌∷◌, ◌++◌, length, get_or, Some, None, refl, ap, sym, subst, ◌∙◌, arith, inl, inr, length-append}
+use Rattle.std.proofs.Common.{◌≡◌, ℕ, ◌+◌, ◌-◌, ◌<◌, ◌≤◌, ◌^◌, Bool, true, false, cond, List, [], ◌∷◌, ◌++◌, length, get_or, Some, None, ap, sym, subst, ◌∙◌, arith, inl, inr, length-append}
 use Rattle.std.specs.Prelude.{insert, remove}
 use Rattle.std.proofs.lemmas.Bool.{cases_Bool}
 use Rattle.std.proofs.lemmas.List.{length-map}
 use Rattle.std.proofs.lemmas.List.Edits.{length-insert, length-remove}
-use Rattle.index_meaning.specs.Entries.{Entry, is_sorted, has_entry, stands_at, number_of, with_entry, with_entries, key_count}
-use Rattle.index_meaning.specs.Dictionaries.{Term, term, entries, Dictionary, dictionary, with_new, with_all_new, without_term, are_given}
+use Rattle.index_meaning.specs.Entries.{Entry, is_sorted, has_entry, stands_at, number_of, with_entry, key_count}
+use Rattle.index_meaning.specs.Dictionaries.{Term, term, entries, Dictionary, dictionary, with_new, without_term, are_given}
 use Rattle.term_dict.specs.Places.{count_before, brings_key}
 use Rattle.term_dict.specs.Sound.{IsSound}
 use Rattle.term_dict.specs.declared.places.Place.TheVariants.{AtEntry}
@@ -89,12 +89,6 @@ new_entries e d sorted = elim (cases_Bool (has_entry e (entries d.terms))) [
   | inl there ↦ ap (λ (f : Dictionary). entries f.terms) (sym (kept_is d e there)) ∙ sym (nothing_new e (entries d.terms) sorted there)
   | inr none ↦ ap (λ b. entries (cond b d (grown e d)).terms) none ∙ entries_with (term e (length d.given)) d.terms
 ]
-
-pub all_entries : (new : List Entry) (d : Dictionary) → is_sorted (entries d.terms) ≡ true → entries (with_all_new new d).terms ≡ with_entries new (entries d.terms)
-all_entries [] d sorted = refl
-all_entries (e ∷ new) d sorted =
-    let one = new_entries e d sorted in
-    all_entries new (with_new e d) (ap is_sorted one ∙ sorted_with e (entries d.terms) sorted) ∙ ap (with_entries new) one
 
 -- ---- a term goes out
 

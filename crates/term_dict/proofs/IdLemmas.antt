@@ -1,13 +1,15 @@
 -- That an entry keeps its id where others come in and go out, and an id its entry.
-use Rattle.std.proofs.Common.{◌≡◌, ℕ, ◌<◌, ◌≤◌, zero, suc, true, false, ◌||◌, cond, not, List, [], ◌∷◌, ◌++◌, length, Some, None, refl, ap, sym, ◌∙◌, arith, true≢false, inl, inr, length-append}
+use Rattle.std.proofs.Common.{◌≡◌, ℕ, ◌+◌, ◌<◌, ◌≤◌, zero, suc, true, false, ◌||◌, cond, not, List, [], ◌∷◌, ◌++◌, length, Some, None, refl, ap, sym, subst, ◌∙◌, arith, true≢false, inl, inr, length-append}
 use Rattle.std.specs.Prelude.{slice_get}
 use Rattle.std.specs.declared.cmp.Ordering.TheVariants.{Less, Equal, Greater}
+use Rattle.std.specs.Option.{option_map}
 use Rattle.std.specs.Ordering.{is_eq}
 use Rattle.std.specs.Cmp.{Equal-is}
-use Rattle.std.proofs.lemmas.Bool.{cases_Bool, or_right}
+use Rattle.std.proofs.lemmas.Bool.{cases_Bool}
 use Rattle.std.proofs.lemmas.Cmp.{eq_by_cmp_equiv}
-use Rattle.index_meaning.specs.Entries.{Entry, entry_cmp, by_order, has_entry}
-use Rattle.index_meaning.specs.Dictionaries.{Term, term, entries, Dictionary, id_of, with_term, with_new, with_all_new}
+use Rattle.std.proofs.lemmas.Option.{same_Some, none-some}
+use Rattle.index_meaning.specs.Entries.{Entry, entry_cmp, by_order, has_entry, number_of}
+use Rattle.index_meaning.specs.Dictionaries.{Term, term, entries, ids, Dictionary, id_of, with_term, with_new}
 use Rattle.term_dict.proofs.OrderLemmas.{entry_total, same_entry}
 use Rattle.term_dict.proofs.TermLemmas.{others, grown}
 
@@ -31,28 +33,6 @@ id_kept f e d there = elim (cases_Bool (has_entry e (entries d.terms))) [
       ]
 ]
 
-has_with : (f : Entry) (t : Term) (ts : List Term) → has_entry f (entries ts) ≡ true → has_entry f (entries (with_term t ts)) ≡ true
-has_with f t [] there = absurd (true≢false (sym there))
-has_with f t (u ∷ ts) there =
-    elim (entry_cmp t.entry u.entry) as (λ o. has_entry f (entries (by_order o (t ∷ u ∷ ts) (u ∷ ts) (u ∷ with_term t ts))) ≡ true) [
-      | Less ↦ or_right (is_eq (entry_cmp f t.entry)) (has_entry f (entries (u ∷ ts))) there
-      | Equal ↦ there
-      | Greater ↦ elim (is_eq (entry_cmp f u.entry)) as (λ b. (b || has_entry f (entries ts)) ≡ true → (b || has_entry f (entries (with_term t ts))) ≡ true) [
-        | true ↦ λ h. refl
-        | false ↦ λ h. has_with f t ts h
-      ] there
-    ]
-
-has_new : (f e : Entry) (d : Dictionary) → has_entry f (entries d.terms) ≡ true → has_entry f (entries (with_new e d).terms) ≡ true
-has_new f e d there = elim (has_entry e (entries d.terms)) as (λ b. has_entry f (entries (cond b d (grown e d)).terms) ≡ true) [
-  | true ↦ there
-  | false ↦ has_with f (term e (length d.given)) d.terms there
-]
-
-pub id_kept_by_all : (f : Entry) (new : List Entry) (d : Dictionary) → has_entry f (entries d.terms) ≡ true → id_of f (with_all_new new d).terms ≡ id_of f d.terms
-id_kept_by_all f [] d there = refl
-id_kept_by_all f (e ∷ new) d there = id_kept_by_all f new (with_new e d) (has_new f e d there) ∙ id_kept f e d there
-
 -- an entry keeps its id where another goes out
 pub id_left : (f e : Entry) (ts : List Term) → is_eq (entry_cmp e f) ≡ false → id_of f (others e ts) ≡ id_of f ts
 id_left f e [] other = refl
@@ -68,6 +48,47 @@ id_left f e (u ∷ ts) other = elim (cases_Bool (is_eq (entry_cmp e u.entry))) [
       ∙ ap (λ o. cond (is_eq (entry_cmp f u.entry)) (Some u.id) o) (id_left f e ts other)
 ]
 
+-- ---- the id of an entry that comes in, and of one that is there
+
+id_with_own : (t : Term) (ts : List Term) → has_entry t.entry (entries ts) ≡ false → id_of t.entry (with_term t ts) ≡ Some t.id
+id_with_own t [] none = ap (λ b. cond b (Some t.id) None) ((eq_by_cmp_equiv entry_total).refl t.entry)
+id_with_own t (u ∷ ts) none =
+    elim (entry_cmp t.entry u.entry) as (λ o. entry_cmp t.entry u.entry ≡ o → (is_eq o || has_entry t.entry (entries ts)) ≡ false →
+    id_of t.entry (by_order o (t ∷ u ∷ ts) (u ∷ ts) (u ∷ with_term t ts)) ≡ Some t.id) [
+      | Less ↦ λ is h. ap (λ b. cond b (Some t.id) (id_of t.entry (u ∷ ts))) ((eq_by_cmp_equiv entry_total).refl t.entry)
+      | Equal ↦ λ is h. absurd (true≢false h)
+      | Greater ↦ λ is h. ap (λ o. cond (is_eq o) (Some u.id) (id_of t.entry (with_term t ts))) is ∙ id_with_own t ts h
+    ] refl none
+
+pub new_id : (e : Entry) (d : Dictionary) → has_entry e (entries d.terms) ≡ false → id_of e (with_new e d).terms ≡ Some (length d.given)
+new_id e d new = ap (λ b. id_of e (cond b d (grown e d)).terms) new ∙ id_with_own (term e (length d.given)) d.terms new
+
+-- the only id that is given then is the entry's
+pub last_id : (e : Entry) (d : Dictionary) (n id : ℕ) → id_of e (with_new e d).terms ≡ Some n → length d.given ≤ id → id < length (with_new e d).given → id ≡ n
+last_id e d n id is from to = elim (cases_Bool (has_entry e (entries d.terms))) [
+  | inl there ↦
+      let size : length (with_new e d).given ≡ length d.given = ap (λ b. length (cond b d (grown e d)).given) there in
+      absurd (omega (arith, size, from, to))
+  | inr new ↦
+      let size : length (with_new e d).given ≡ length (d.given ++ e ∷ []) = ap (λ b. length (cond b d (grown e d)).given) new in
+      let number : length d.given ≡ n = same_Some (length d.given) n (sym (new_id e d new) ∙ is) in
+      omega (arith, size, from, to, number, length-append d.given (e ∷ []))
+]
+
+pub numbered_id : (e : Entry) (ts : List Term) (n id : ℕ) → number_of e (entries ts) ≡ Some n → slice_get (ids ts) n ≡ Some id → id_of e ts ≡ Some id
+numbered_id e [] n id h at = absurd (none-some n h)
+numbered_id e (t ∷ ts) n id h at =
+    elim (is_eq (entry_cmp e t.entry)) as (λ b. cond b (Some 0) (option_map (λ k. k + 1) (number_of e (entries ts))) ≡ Some n → cond b (Some t.id) (id_of e ts) ≡ Some id) [
+      | true ↦ λ first. subst (λ k. slice_get (ids (t ∷ ts)) k ≡ Some id) (sym (same_Some 0 n first)) at
+      | false ↦ λ later.
+          elim (number_of e (entries ts)) as (λ o. number_of e (entries ts) ≡ o → option_map (λ k. k + 1) o ≡ Some n → id_of e ts ≡ Some id) [
+            | None ↦ λ is found. absurd (none-some n found)
+            | Some m ↦ λ is found.
+                let next : n ≡ suc m = omega (arith, same_Some (m + 1) n found) in
+                numbered_id e ts m id is (subst (λ k. slice_get (ids (t ∷ ts)) k ≡ Some id) next at)
+          ] refl later
+    ] h
+
 -- ---- an id that was given names what it named
 
 get_front : (es fs : List Entry) (n : ℕ) → n < length es → slice_get (es ++ fs) n ≡ slice_get es n
@@ -80,13 +101,3 @@ named_still e d id within = elim (has_entry e (entries d.terms)) as (λ b. slice
   | true ↦ refl
   | false ↦ get_front d.given (e ∷ []) id within
 ]
-
-given_longer : (e : Entry) (d : Dictionary) → length d.given ≤ length (with_new e d).given
-given_longer e d = elim (has_entry e (entries d.terms)) as (λ b. length d.given ≤ length (cond b d (grown e d)).given) [
-  | true ↦ omega arith
-  | false ↦ omega (arith, length-append d.given (e ∷ []))
-]
-
-pub named_by_all : (new : List Entry) (d : Dictionary) (id : ℕ) → id < length d.given → slice_get (with_all_new new d).given id ≡ slice_get d.given id
-named_by_all [] d id within = refl
-named_by_all (e ∷ new) d id within = named_by_all new (with_new e d) id (omega (arith, within, given_longer e d)) ∙ named_still e d id within

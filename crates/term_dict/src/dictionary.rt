@@ -1,14 +1,14 @@
-ghost use Rattle.std.specs.Prelude.{◌≡◌, ◌≤◌, ◌<◌, ◌+◌, ◌^◌, ◌++◌, ◌∷◌, [], ℕ, insert, length, slice_get, true, false, Some, IfOk, OnErr, OnOk};
+ghost use Rattle.std.specs.Prelude.{◌≡◌, ◌≤◌, ◌<◌, ◌+◌, ◌^◌, ◌++◌, ◌∷◌, [], ℕ, insert, length, slice_get, slice_index_or, true, false, Some, IfOk, OnErr, OnOk};
 ghost use Rattle.std.specs.Ordering.{is_eq};
 ghost use Rattle.index_meaning.specs.Entries.{Entry, entry, entry_cmp, has_entry, found, number_of, is_sorted};
-ghost use Rattle.index_meaning.specs.Entries.{key_count, with_entry, with_entries, without_entry};
+ghost use Rattle.index_meaning.specs.Entries.{key_count, with_entry, without_entry};
 ghost use Rattle.index_meaning.specs.Dictionaries.{term, entries, ids, id_of, are_apart, are_given, ids_below};
-ghost use Rattle.index_meaning.specs.Dictionaries.{dictionary, with_new, with_all_new, without_term};
+ghost use Rattle.index_meaning.specs.Dictionaries.{dictionary, with_new, without_term};
 
+use crate::Term;
 use crate::kept::Kept;
 use crate::places::{Place, Terms, brought_keys, count_before, stands_at};
 use crate::texts::Texts;
-use crate::{Entries, Term};
 use ft_base::{Memory, Span};
 use shared_list::SharedList;
 use std::alloc::Global;
@@ -123,7 +123,7 @@ impl TermDict {
         requires { id < length self.now.given }
         ensures { slice_get self.now.given id ≡ Some (entry result.key.now result.word.now) }
     {
-        let texts = self.given.get(id as usize);
+        let texts = texts_of(&self.given, id as usize);
         Term {
             key: texts.key(),
             word: texts.word(),
@@ -156,74 +156,47 @@ impl TermDict {
         None
     }
 
-    /// The dictionary with that term. Nothing changes where it is there; a new one gets an id that none had before,
-    /// and `Memory` is answered where there is none left. An id that was given names what it named.
-    pub fn with(&self, key: &str, word: &str) -> Result<TermDict, Memory>
-        ensures becomes { IfOk result (λ new. new ≡ with_new (entry key.now word.now) self.now) }
-        ensures listed { IfOk result (λ new. entries new.terms ≡ with_entry (entry key.now word.now) (entries self.now.terms)) }
-        ensures kept { IfOk result (λ new. (e : Entry) → has_entry e (entries self.now.terms) ≡ true → id_of e new.terms ≡ id_of e self.now.terms) }
-        ensures named { IfOk result (λ new. (id : ℕ) → id < length self.now.given → slice_get new.given id ≡ slice_get self.now.given id) }
+    /// The dictionary with that term, in the memory of this one, and the term's id. Nothing changes where it is there; a
+    /// new one gets an id that none had before, and `Memory` is answered where there is none left. An id that was given
+    /// names what it named. Where memory runs out, the dictionary is dropped.
+    pub fn put(self, key: &str, word: &str) -> Result<(TermDict, u32), Memory>
+        ensures becomes { IfOk result (λ put. put.0 ≡ with_new (entry key.now word.now) self) }
+        ensures id { IfOk result (λ put. id_of (entry key.now word.now) put.0.terms ≡ Some put.1) }
+        ensures listed { IfOk result (λ put. entries put.0.terms ≡ with_entry (entry key.now word.now) (entries self.terms)) }
+        ensures kept { IfOk result (λ put. (e : Entry) → has_entry e (entries self.terms) ≡ true → id_of e put.0.terms ≡ id_of e self.terms) }
+        ensures named { IfOk result (λ put. (id : ℕ) → id < length self.given → slice_get put.0.given id ≡ slice_get self.given id) }
     {
         let _ = &self.terms;
-        let copy = self.copy()?;
-        match copy.put(key, word) {
-            Ok(new) => Ok(new),
+        match self.placed(key, word) {
+            Ok(put) => Ok(put),
             Err(_) => Err(Memory),
         }
     }
 
-    /// The dictionary without that term. Its id still names it and is not given again, so that it gets another one
-    /// where it comes again.
-    pub fn without(&self, key: &str, word: &str) -> Result<TermDict, Memory>
-        ensures becomes { IfOk result (λ new. new ≡ without_term (entry key.now word.now) self.now) }
-        ensures listed { IfOk result (λ new. entries new.terms ≡ without_entry (entry key.now word.now) (entries self.now.terms)) }
-        ensures kept { IfOk result (λ new. (e : Entry) → is_eq (entry_cmp (entry key.now word.now) e) ≡ false → id_of e new.terms ≡ id_of e self.now.terms) }
-    {
-        let mut new = self.copy()?;
-        match new.take(key, word) {
-            Ok(()) => Ok(new),
-            Err(_) => {
-                drop(new);
-                Err(Memory)
-            }
-        }
-    }
-
-    /// The dictionary with all of these terms, as `with` makes it with one after the other. Each block is copied once
-    /// at most, and one that gets no term is shared.
-    pub fn with_all(&self, new: &Entries) -> Result<TermDict, Memory>
-        ensures becomes { IfOk result (λ all. all ≡ with_all_new new.now self.now) }
-        ensures listed { IfOk result (λ all. entries all.terms ≡ with_entries new.now (entries self.now.terms)) }
-        ensures kept { IfOk result (λ all. (e : Entry) → has_entry e (entries self.now.terms) ≡ true → id_of e all.terms ≡ id_of e self.now.terms) }
-        ensures named { IfOk result (λ all. (id : ℕ) → id < length self.now.given → slice_get all.given id ≡ slice_get self.now.given id) }
-    {
-        let _ = &self.terms;
-        let copy = self.copy()?;
-        match put_all(copy, new) {
-            Ok(all) => Ok(all),
-            Err(_) => Err(Memory),
-        }
-    }
-
-    /// The dictionary with the term, where it isn't there.
-    fn put(self, key: &str, word: &str) -> Result<TermDict, Memory>
-        ensures { IfOk result (λ new. new ≡ with_new (entry key.now word.now) self) }
+    /// The same, where it is said in one clause what becomes of the dictionary.
+    fn placed(self, key: &str, word: &str) -> Result<(TermDict, u32), Memory>
+        ensures becomes { IfOk result (λ put. put.0 ≡ with_new (entry key.now word.now) self) }
+        ensures id { IfOk result (λ put. id_of (entry key.now word.now) put.0.terms ≡ Some put.1) }
     {
         let number = count_before(&self.terms, Place::AtEntry, key, word);
         if stands_at(&self.terms, number, key, word) {
-            return Ok(self);
+            let id = self.id(number);
+            return Ok((self, id));
         }
         let keys = self.keys + brought_keys(&self.terms, number, key);
         let alloc = self.alloc;
         let mut terms = self.terms;
         let mut given = self.given;
         match put_new(alloc, &mut terms, &mut given, number, key, word) {
-            Ok(()) => Ok(TermDict {
-                alloc,
-                terms,
-                given,
-                keys,
-            }),
+            Ok(id) => {
+                let new = TermDict {
+                    alloc,
+                    terms,
+                    given,
+                    keys,
+                };
+                Ok((new, id))
+            }
             Err(_) => {
                 drop((terms, given));
                 Err(Memory)
@@ -231,8 +204,20 @@ impl TermDict {
         }
     }
 
-    /// Takes the term out, where it is there.
-    fn take(&mut self, key: &str, word: &str) -> Result<(), Memory>
+    /// Takes that term out, where it is there. Its id still names it and is not given again, so that it gets another one
+    /// where it comes again. Where memory runs out, the dictionary stays as it was.
+    pub fn take(&mut self, key: &str, word: &str) -> Result<(), Memory>
+        ensures becomes { OnOk result (self.new ≡ without_term (entry key.now word.now) self.old) }
+        ensures listed { OnOk result (entries self.new.terms ≡ without_entry (entry key.now word.now) (entries self.old.terms)) }
+        ensures kept { OnOk result ((e : Entry) → is_eq (entry_cmp (entry key.now word.now) e) ≡ false → id_of e self.new.terms ≡ id_of e self.old.terms) }
+        ensures err { OnErr result (self.new ≡ self.old) }
+    {
+        self.take_out(key, word)?;
+        Ok(())
+    }
+
+    /// The same, where it is said in one clause what becomes of the dictionary.
+    fn take_out(&mut self, key: &str, word: &str) -> Result<(), Memory>
         ensures ok { OnOk result (self.new ≡ without_term (entry key.now word.now) self.old) }
         ensures err { OnErr result (self.new ≡ self.old) }
     {
@@ -246,18 +231,7 @@ impl TermDict {
     }
 }
 
-/// The dictionary with all of the terms, one after the other.
-fn put_all(dict: TermDict, new: &Entries) -> Result<TermDict, Memory>
-    ensures { IfOk result (λ all. all ≡ with_all_new new.now dict) }
-{
-    let mut all = dict;
-    for term in new.as_slice() {
-        all = all.put(term.key(), term.word())?;
-    }
-    Ok(all)
-}
-
-/// Puts a term that isn't there among the others at that number, under the next id.
+/// Puts a term that isn't there among the others at that number, under the next id, which it hands out.
 fn put_new(
     alloc: Global,
     terms: &mut Terms,
@@ -265,8 +239,9 @@ fn put_new(
     number: usize,
     key: &str,
     word: &str,
-) -> Result<(), Memory>
+) -> Result<u32, Memory>
     requires { number ≤ length terms.old }
+    ensures id { IfOk result (λ id. id ≡ length given.old) }
     ensures terms { OnOk result (terms.new ≡ insert terms.old number (term (entry key.now word.now) (length given.old))) }
     ensures given { OnOk result (given.new ≡ given.old ++ entry key.now word.now ∷ []) }
     ensures fits { OnOk result (length given.new < 2 ^ 32) }
@@ -276,7 +251,22 @@ fn put_new(
     let named = texts.share()?;
     terms.insert(number, Kept::new(texts, id))?;
     given.push(named)?;
-    Ok(())
+    Ok(id)
+}
+
+/// The texts of that id. Ids are given one after the other, so that the blocks in front of it are full.
+fn texts_of(given: &Given, id: usize) -> &Texts
+    requires { id < length given.now }
+    ensures { result.now ≡ slice_index_or given.now id result.now }
+{
+    if let Some((start, items)) = given.block(id / BLOCK_GIVEN) {
+        if let Some(offset) = id.checked_sub(start) {
+            if offset < items.len() {
+                return &items[offset];
+            }
+        }
+    }
+    given.get(id)
 }
 
 /// The id that the next new term gets, where there is one left.

@@ -17,8 +17,4 @@ mod tests;
 mod texts;
 
 pub use dictionary::TermDict;
-pub use owned::OwnedTerm;
 pub use term::Term;
-
-/// A list of terms that are to come into a dictionary.
-pub type Entries = ft_base::Items<OwnedTerm>;

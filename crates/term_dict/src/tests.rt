@@ -1,6 +1,7 @@
 // What no contract says: that memory suffices. The calls run on terms that fill several blocks, and their answers are
 // those that follow from the order in which the terms were made.
-use crate::{Entries, OwnedTerm, TermDict};
+use crate::TermDict;
+use crate::owned::OwnedTerm;
 use ft_base::{Memory, Span};
 use std::alloc::Global;
 use std::process::Abort;
@@ -29,18 +30,29 @@ fn filled(alloc: Global, turns: usize) -> Result<TermDict, Memory> {
     let mut dict = TermDict::empty(alloc);
     for turn in 0..turns {
         let term = term_of(alloc, shuffled(turn))?;
-        dict = dict.with(term.key(), term.word())?;
+        let (new, _) = dict.put(term.key(), term.word())?;
+        dict = new;
     }
     Ok(dict)
 }
 
-// The terms from one turn up to another as a list.
-fn batch(alloc: Global, from: usize, to: usize) -> Result<Entries, Memory> {
-    let mut terms = Entries::new(alloc);
+// The dictionary with the terms of the turns from one on up to another more, each under the id of its turn.
+fn put_all(
+    rt: &impl Abort,
+    alloc: Global,
+    dict: TermDict,
+    from: usize,
+    to: usize,
+) -> Result<TermDict, Memory> {
+    let mut all = dict;
     for turn in from..to {
-        terms.push(term_of(alloc, shuffled(turn))?)?;
+        assert!(rt; turn < COUNT);
+        let term = term_of(alloc, shuffled(turn))?;
+        let (new, id) = all.put(term.key(), term.word())?;
+        assert!(rt; id == turn as u32, "{turn}");
+        all = new;
     }
-    Ok(terms)
+    Ok(all)
 }
 
 // The term stands at its number, under the id of its turn, and is found there.
@@ -93,8 +105,8 @@ fn emptied(rt: &impl Abort, alloc: Global, all: &TermDict) -> Result<TermDict, M
     let mut dict = all.copy()?;
     for turn in 0..COUNT {
         let term = term_of(alloc, shuffled(COUNT - 1 - turn))?;
-        dict = dict.without(term.key(), term.word())?;
-        dict = dict.without(term.key(), term.word())?;
+        dict.take(term.key(), term.word())?;
+        dict.take(term.key(), term.word())?;
         assert!(rt; dict.len() == COUNT - 1 - turn);
         assert!(rt; dict.find_word(term.key(), term.word()).is_none(), "{turn}");
     }
@@ -111,10 +123,10 @@ fn terms_come_in_at_their_places(rt: HostRuntime) -> Result<(), Fail> {
 }
 
 #[test]
-fn a_batch_does_what_one_by_one_does(rt: HostRuntime) -> Result<(), Fail> {
+fn terms_that_are_put_have_the_next_ids(rt: HostRuntime) -> Result<(), Fail> {
     let half = filled(rt.alloc(), COUNT / 2)?;
-    let new = batch(rt.alloc(), COUNT / 4, COUNT)?;
-    expect_all(&rt, rt.alloc(), &half.with_all(&new)?)?;
+    let all = put_all(&rt, rt.alloc(), half.copy()?, COUNT / 4, COUNT)?;
+    expect_all(&rt, rt.alloc(), &all)?;
     assert!(rt; half.len() == COUNT / 2);
     Ok(())
 }
@@ -124,7 +136,7 @@ fn terms_go_out_and_copies_keep_theirs(rt: HostRuntime) -> Result<(), Fail> {
     let all = filled(rt.alloc(), COUNT)?;
     let none = emptied(&rt, rt.alloc(), &all)?;
     assert!(rt; none.keys() == 0 && none.given_count() == COUNT);
-    let one = none.with("key", "word")?;
+    let (one, _) = none.put("key", "word")?;
     assert!(rt; one.len() > 0 && one.id(0) == COUNT as u32);
     expect_named(&rt, rt.alloc(), &one)?;
     expect_all(&rt, rt.alloc(), &all)?;

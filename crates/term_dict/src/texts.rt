@@ -1,7 +1,7 @@
 ghost use Rattle.std.specs.Prelude.{◌≡◌, IfOk};
 ghost use Rattle.index_meaning.specs.Entries.{entry};
 
-use crate::OwnedTerm;
+use crate::owned::OwnedTerm;
 use ft_base::Memory;
 use shared_list::Share;
 use std::alloc::Global;

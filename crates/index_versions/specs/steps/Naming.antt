@@ -1,13 +1,13 @@
 -- Words as entries of a dictionary, and the ids under which it has them.
-use Rattle.std.specs.Prelude.{◌≡◌, ◌||◌, ℕ, Bool, true, List, length, map}
+use Rattle.std.specs.Prelude.{◌≡◌, ◌≤◌, ◌<◌, ◌||◌, ℕ, Bool, true, List, length, map}
 use Rattle.std.specs.List.{flat_map, list_all}
 use Rattle.std.specs.Ordering.{is_eq}
 use Rattle.text_forms.specs.Forms.{key_of}
-use Rattle.doc_index.specs.Terms as by_id
 use Rattle.doc_index.specs.Terms.{has}
+use Rattle.document_counts.specs.Counts.{count_of}
 use Rattle.index_meaning.specs.Entries.{Entry, text_cmp}
 use Rattle.index_meaning.specs.Dictionaries.{Dictionary, ids}
-use Rattle.index_meaning.specs.Documents.{Leaf, leaf_ids}
+use Rattle.index_meaning.specs.Documents.{Leaf}
 use Rattle.index_meaning.specs.Index.{term_of}
 use Rattle.index_versions.specs.steps.Held.{word_of}
 
@@ -30,8 +30,7 @@ pub record IsNamed (old : Dictionary) (entries : List Entry) (new : Dictionary) 
   pub members : (id : ℕ) → has id (ids new.terms) ≡ (has id named || has id (ids old.terms))
   pub keyed : are_keyed old.given ≡ true → are_keyed entries ≡ true → are_keyed new.given ≡ true
 
--- leaves with ids, which are as many for each as the leaf has words, and those of all leaves one behind the other
-pub record IsCut (leaves : List Leaf) (named : List ℕ) (made : List by_id.Leaf) : Type 0 where
-  pub numbers : by_id.leaf_ids made ≡ leaf_ids leaves
-  pub lengths : map (λ leaf. length leaf.words) made ≡ map (λ leaf. length leaf.words) leaves
-  pub words : by_id.words_of made ≡ named
+-- ids that the dictionary has: those that were given from this number on, and those of which documents are counted
+pub record IsKnown (counts : List ℕ) (first : ℕ) (d : Dictionary) : Type 0 where
+  pub given : (id : ℕ) → first ≤ id → id < length d.given → has id (ids d.terms) ≡ true
+  pub counted : (id : ℕ) → 0 < count_of counts id → has id (ids d.terms) ≡ true

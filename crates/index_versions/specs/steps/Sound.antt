@@ -1,5 +1,5 @@
 -- What always holds of a version, and what its parts mean.
-use Rattle.std.specs.Prelude.{◌≡◌, ◌||◌, ℕ, true, nat_lt, List, [], Option}
+use Rattle.std.specs.Prelude.{◌≡◌, ◌||◌, ℕ, true, nat_lt, List, []}
 use Rattle.ft_base.specs.Places.{is_ascending}
 use Rattle.doc_index.specs.Terms.{has}
 use Rattle.index_meaning.specs.Dictionaries.{ids}

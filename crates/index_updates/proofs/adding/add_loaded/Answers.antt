@@ -1,12 +1,10 @@
 -- What was found of the tree is its document.
-use Rattle.std.proofs.Common.{◌≡◌, ◌∙◌, sym, ap, subst, arith, ◌+◌, ◌≢◌, List, ℕ, length}
+use Rattle.std.proofs.Common.{◌≡◌, ◌∙◌, ap, subst, arith, ◌+◌, ◌≢◌, List, ℕ}
 use Rattle.std.specs.Prelude.{IfOk, OnOk}
-use Rattle.std.proofs.lemmas.Result.{IfOk-weaker, IfOk-equal}
+use Rattle.std.proofs.lemmas.Result.{IfOk-weaker}
 use Rattle.index_meaning.specs.Documents.{Document, Numbered, document_at, leaf_ids, numbered, token_count, with_document}
 use Rattle.index_meaning.specs.Index.{index}
-use Rattle.ordered_tree.specs.Numbered.{plain}
 use Rattle.text_forms.specs.Forms.{key_of}
-use Rattle.tokenizer.specs.Tokens.{tokens}
 use Rattle.doc_index.specs.Terms.{are_distinct}
 use Rattle.index_updates.specs.Follows.{Follows, tree_document, word_leaves}
 use Rattle.index_updates.proofs.LeavesLemmas.{distinct-leaves}
@@ -22,7 +20,7 @@ with_texts-added-requires-clause-distinct g c =
 pub returns-clause-documents : goal.returns-clause-documents
 returns-clause-documents g c =
     let root = c.args.tree.now.root in
-    let document = found-document root c.args.leaves c.args.breaks c.in-Ok.found c.requires.found c.in-Ok.ensures in
+    let document = found-document root c.args.found.leaves c.args.found.breaks c.in-Ok.made c.requires.found c.in-Ok.ensures in
     subst (λ (d : Document). IfOk c.with_texts-added.result (λ new. new ≡ with_document (numbered c.args.doc.0 d) c.args.version.now)) document c.with_texts-added.ensures.documents
 
 pub returns-clause-index : goal.returns-clause-index
@@ -47,11 +45,11 @@ returns-clause-others g c =
 pub returns-clause-counted : goal.returns-clause-counted
 returns-clause-counted g c =
     let root = c.args.tree.now.root in
-    let document = found-document root c.args.leaves c.args.breaks c.in-Ok.found c.requires.found c.in-Ok.ensures in
+    let document = found-document root c.args.found.leaves c.args.found.breaks c.in-Ok.made c.requires.found c.in-Ok.ensures in
     subst (λ (n : ℕ). OnOk c.with_texts-added.result (c.with_texts-added.new.rows ≡ c.args.rows.now + n)) (ap token_count document ∙ count-tree root) c.with_texts-added.ensures.counted
 
 pub returns-clause-at_most : goal.returns-clause-at_most
 returns-clause-at_most g c =
     let root = c.args.tree.now.root in
-    let count = ap token_count (found-document root c.args.leaves c.args.breaks c.in-Ok.found c.requires.found c.in-Ok.ensures) ∙ count-tree root in
+    let count = ap token_count (found-document root c.args.found.leaves c.args.found.breaks c.in-Ok.made c.requires.found c.in-Ok.ensures) ∙ count-tree root in
     omega (arith, count, c.with_texts-added.ensures.at_most)

@@ -1,5 +1,5 @@
 -- What the version has under other numbers, and how many rows went.
-use Rattle.std.proofs.Common.{◌≡◌, ◌∙◌, ap, arith, ◌+◌, ◌≤◌, length}
+use Rattle.std.proofs.Common.{◌∙◌, ap, arith}
 use Rattle.index_meaning.specs.Documents.{document_at, has_document, token_count, without_document}
 use Rattle.index_updates.proofs.VersionLemmas.{has-without, others-without}
 use Rattle.index_updates.proofs.WordsLemmas.{count-tree}

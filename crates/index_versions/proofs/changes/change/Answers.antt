@@ -1,4 +1,5 @@
-use Rattle.std.proofs.Common.{◌<◌, ◌≡◌, true, not, ap, sym, ◌∙◌, arith}
+-- The ids of the document that goes are counted, those that fall are there, and the parts are sound then.
+use Rattle.std.proofs.Common.{not, sym, ◌∙◌, arith}
 use Rattle.std.specs.Prelude.{nat_lt}
 use Rattle.std.proofs.lemmas.Bool.{and_parts, or_right, lt-ltb}
 use Rattle.doc_index.specs.Terms.{has}

@@ -1,4 +1,5 @@
-use Rattle.std.proofs.Common.{◌≡◌, ◌<◌, ◌+◌, ℕ, ◌&&◌, ◌==◌, ◌∷◌, List, not, true, length, drop, get_or, ap, sym, ◌∙◌, arith}
+-- Each id that leaves is there, and the others stay.
+use Rattle.std.proofs.Common.{◌≡◌, ◌+◌, ℕ, ◌&&◌, ◌==◌, ◌∷◌, List, not, true, drop, get_or, ap, sym, ◌∙◌, arith}
 use Rattle.std.proofs.lemmas.List.{drop_more}
 use Rattle.doc_index.specs.Terms.{are_distinct, has}
 use Rattle.index_meaning.specs.Dictionaries.{ids}
@@ -14,13 +15,13 @@ loop-id-preserved c =
     let inv = c.loop-id.invariant in
     let before = ids c.loop-id.dictionary.terms in
     let split : drop at gone ≡ x ∷ rest = drop_more gone at 0 (omega (arith, c.loop-id-test.true)) in
-    let step = leaves x rest before (ids c.in_ok-dictionary.field-0.terms)
+    let step = leaves x rest before (ids c.drop_term.new.dictionary.terms)
     (ap are_distinct (sym split) ∙ inv.distinct)
     (λ id member. inv.there id (ap (has id) split ∙ member))
-    (λ id. c.in_ok-dictionary.ensures.left id ∙ ap (λ (xs : List ℕ). not (get_or xs at 0 == id) && has id before) c.deref-id-items.ensures.value) in
+    (λ id. c.in_ok-drop_term.ensures.left id ∙ ap (λ (xs : List ℕ). not (get_or xs at 0 == id) && has id before) c.deref-id-items.ensures.value) in
     record {
       distinct = step.distinct;
       there = step.there;
       left = λ id. step.left id ∙ ap (λ (xs : List ℕ). not (has id xs) && has id before) (sym split) ∙ inv.left id;
-      given = c.in_ok-dictionary.ensures.given ∙ inv.given;
+      given = c.in_ok-drop_term.ensures.given ∙ inv.given;
     }

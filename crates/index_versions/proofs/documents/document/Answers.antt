@@ -1,3 +1,4 @@
+-- A document that is there stands at its place.
 use Rattle.std.proofs.Common.{refl, ◌∙◌, arith}
 use Rattle.index_versions.proofs.ExchangeLemmas.{stands, stands_has, within, read_held}
 use Rattle.index_versions.proofs.documents.document.Goals as goal

@@ -1,3 +1,4 @@
+-- Where no document has the number, the one in which nothing is stands for it.
 use Rattle.std.proofs.Common.{sym, ◌∙◌}
 use Rattle.index_versions.specs.steps.Held.{held_of}
 use Rattle.index_versions.proofs.ExchangeLemmas.{none_held}

@@ -1,3 +1,4 @@
+-- A document is there where it stands at its place.
 use Rattle.std.proofs.Common.{◌∙◌}
 use Rattle.index_versions.proofs.ExchangeLemmas.{stands_has}
 use Rattle.index_versions.proofs.documents.has_document.Goals as goal

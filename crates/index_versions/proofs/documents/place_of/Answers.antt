@@ -1,4 +1,5 @@
-use Rattle.std.proofs.Common.{◌<◌, ◌≤◌, ◌+◌, ◌-◌, ◌/◌, ◌≡◌, ℕ, length, get_or, ap, sym, ◌∙◌, subst, arith}
+-- What the number in the middle says of the place.
+use Rattle.std.proofs.Common.{◌<◌, ◌≤◌, ◌+◌, ◌-◌, ◌/◌, ℕ, length, get_or, arith}
 use Rattle.std.proofs.lemmas.List.{length-map}
 use Rattle.index_cursors.proofs.AscendingLemmas.{below-holds, below-fails}
 use Rattle.index_versions.specs.steps.Held.{Held, numbers}

@@ -1,3 +1,4 @@
+-- The place is between two numbers.
 use Rattle.std.proofs.Common.{◌≤◌, ◌-◌, length}
 use Rattle.index_cursors.specs.SpanHits.{below}
 use Rattle.index_versions.specs.steps.Held.{numbers}

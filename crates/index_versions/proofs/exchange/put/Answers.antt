@@ -1,3 +1,4 @@
+-- The document comes to its place, or in the place of the one with its number.
 use Rattle.std.proofs.Common.{◌∷◌, [], ap, sym, ◌∙◌, arith}
 use Rattle.index_versions.proofs.ExchangeLemmas.{absent, present, inserted, within, read, replaced}
 use Rattle.index_versions.proofs.exchange.put.Goals as goal

@@ -1,3 +1,4 @@
+-- The document goes from its place, where it is there.
 use Rattle.std.proofs.Common.{◌∷◌, [], ap, sym, ◌∙◌, arith}
 use Rattle.index_versions.proofs.ExchangeLemmas.{absent, present, nothing_taken, within, read, removed}
 use Rattle.index_versions.proofs.exchange.take.Goals as goal

@@ -1,4 +1,5 @@
-use Rattle.std.proofs.Common.{◌≡◌, None, refl, ap, ◌∙◌}
+-- A document without leaves uses no id, so that all is sound without it.
+use Rattle.std.proofs.Common.{None, refl, ap, ◌∙◌}
 use Rattle.index_versions.specs.steps.Held.{documents_under}
 use Rattle.index_versions.proofs.ExchangeLemmas.{without_under}
 use Rattle.index_versions.proofs.UpdateLemmas.{same_sound, bare_counted}

@@ -1,7 +1,7 @@
-use Rattle.std.proofs.Common.{◌≡◌, ◌≤◌, ◌+◌, ℕ, [], length, get_or, ap, ◌∙◌, sym, arith}
+-- The leaf is found at its place, and the others stay.
+use Rattle.std.proofs.Common.{◌+◌, [], length, get_or, ap, ◌∙◌, arith}
 use Rattle.doc_index.specs.Terms as by_id
 use Rattle.doc_index.specs.Terms.{TermDocument}
-use Rattle.index_versions.specs.steps.Held.{ids_of_leaf}
 use Rattle.index_versions.proofs.LeafLemmas.{taken, taken_words}
 use Rattle.index_versions.proofs.leaves.index_without_leaf.Goals as goal
 

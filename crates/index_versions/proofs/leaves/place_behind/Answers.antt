@@ -1,3 +1,4 @@
+-- A leaf is found at its place, and the next place is the one directly behind it.
 use Rattle.std.proofs.Common.{ap, ◌∙◌, sym, arith}
 use Rattle.std.proofs.lemmas.List.{length-map}
 use Rattle.doc_index.specs.Terms as by_id

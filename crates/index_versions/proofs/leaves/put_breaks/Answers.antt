@@ -1,4 +1,5 @@
-use Rattle.std.proofs.Common.{◌≡◌, Some, refl, ap, sym, ◌∙◌}
+-- Other breaks change no id that is used.
+use Rattle.std.proofs.Common.{Some, refl, ap, ◌∙◌}
 use Rattle.index_versions.specs.steps.Held.{Held, documents_under}
 use Rattle.index_versions.specs.steps.Held.{held_of}
 use Rattle.index_versions.proofs.UpdateLemmas.{held_number, same_sound, breaks_means, breaks_counted}

@@ -1,11 +1,15 @@
-use Rattle.std.proofs.Common.{◌≡◌, ◌+◌, length, true, ap, sym, ◌∙◌, arith}
-use Rattle.doc_index.specs.Terms as by_id
+-- The leaves are different under their ids too, and the document means these leaves.
+use Rattle.std.proofs.Common.{◌+◌, ap, sym, ◌∙◌, arith}
 use Rattle.doc_index.specs.Terms.{are_distinct}
-use Rattle.index_meaning.specs.Documents.{Leaf, leaf_ids}
+use Rattle.index_meaning.specs.Documents.{leaf_ids}
 use Rattle.index_versions.specs.steps.Held.{held_of, documents_under}
 use Rattle.index_versions.proofs.LeafLemmas.{ids_under_leaves}
-use Rattle.index_versions.proofs.UpdateLemmas.{comes_number, comes_ready, comes_means, comes_size}
+use Rattle.index_versions.proofs.UpdateLemmas.{comes_ready, comes_means, comes_size}
+use Rattle.index_versions.proofs.WordLemmas.{counted_there}
 use Rattle.index_versions.proofs.leaves.put_document.Goals as goal
+
+pub name_leaves-requires : goal.name_leaves-requires
+name_leaves-requires g c = counted_there c.args.parts.now c.requires.sound
 
 pub from_leaves-requires : goal.from_leaves-requires
 from_leaves-requires g c =

@@ -1,12 +1,14 @@
-use Rattle.std.proofs.Common.{◌≡◌, ◌+◌, length, false, true, ap, sym, ◌∙◌, arith}
-use Rattle.std.specs.Prelude.{IfSome}
-use Rattle.ft_base.specs.declared.ids.LeafId.{LeafId}
+-- The leaf is a new one, and the document with it means what it meant, with the leaf.
+use Rattle.std.proofs.Common.{◌+◌, ap, sym, ◌∙◌, arith}
 use Rattle.doc_index.specs.Terms as by_id
 use Rattle.doc_index.specs.Terms.{TermDocument, has}
-use Rattle.index_versions.specs.steps.Held.{Held, held_of, held_at, documents_under, place_behind}
-use Rattle.index_versions.proofs.CutLemmas.{named_size}
-use Rattle.index_versions.proofs.UpdateLemmas.{IsPut, has_leaf_under, leaf_after_under, put_number, put_ready, put_means, put_next}
+use Rattle.index_versions.specs.steps.Held.{Held, documents_under}
+use Rattle.index_versions.proofs.WordLemmas.{counted_there, named_size}
+use Rattle.index_versions.proofs.UpdateLemmas.{has_leaf_under, leaf_after_under, put_number, put_ready, put_means, put_next}
 use Rattle.index_versions.proofs.leaves.put_leaf.Goals as goal
+
+pub name_words-requires : goal.name_words-requires
+name_words-requires g c = counted_there c.args.parts.now c.requires.sound
 
 pub index_with_leaf-requires-clause-new : goal.index_with_leaf-requires-clause-new
 index_with_leaf-requires-clause-new g c =

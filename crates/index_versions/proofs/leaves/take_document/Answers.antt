@@ -1,7 +1,8 @@
-use Rattle.std.proofs.Common.{◌≡◌, ◌+◌, [], length, true, ap, sym, ◌∙◌, arith}
+-- The document is counted as it stands, and the others mean what they did.
+use Rattle.std.proofs.Common.{◌+◌, length, ap, sym, ◌∙◌}
 use Rattle.doc_index.specs.Terms as by_id
 use Rattle.doc_index.specs.Terms.{TermDocument}
-use Rattle.index_versions.specs.steps.Held.{Held, documents_under, held_at}
+use Rattle.index_versions.specs.steps.Held.{Held, documents_under}
 use Rattle.index_versions.proofs.DocumentLemmas.{has_under}
 use Rattle.index_versions.proofs.ExchangeLemmas.{without_under}
 use Rattle.index_versions.proofs.UpdateLemmas.{token_size}

@@ -1,4 +1,5 @@
-use Rattle.std.proofs.Common.{◌≡◌, ◌+◌, length, true, ap, sym, ◌∙◌, arith}
+-- The leaf is there, and the document without it means what it meant, without the leaf.
+use Rattle.std.proofs.Common.{◌+◌, ap, sym, ◌∙◌, arith}
 use Rattle.doc_index.specs.Terms as by_id
 use Rattle.doc_index.specs.Terms.{TermDocument, has}
 use Rattle.index_versions.specs.steps.Held.{Held, documents_under}

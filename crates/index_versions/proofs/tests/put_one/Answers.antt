@@ -1,3 +1,4 @@
+-- A document that is not there has no leaf.
 use Rattle.std.proofs.Common.{ap, sym, ◌∙◌}
 use Rattle.index_meaning.specs.Documents.{has_leaf}
 use Rattle.index_versions.proofs.DocumentLemmas.{none_at}

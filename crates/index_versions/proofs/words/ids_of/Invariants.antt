@@ -1,8 +1,10 @@
--- The ids up to the next entry are there.
-use Rattle.std.proofs.Common.{◌≡◌, ℕ, Some, map, take}
-use Rattle.index_meaning.specs.Entries.{Entry}
-use Rattle.index_meaning.specs.Dictionaries.{id_of}
+-- The words up to the next one have their ids.
+use Rattle.std.proofs.Common.{take}
+use Rattle.index_versions.specs.steps.Naming.{entries_of, IsKnown, IsNamed}
 use Rattle.index_versions.proofs.words.ids_of.Given as goal
 
-abbrev pub invariant-loop-entry : goal.invariant-loop-entry
-invariant-loop-entry l = map (λ (id : ℕ). Some id) l.ids.items ≡ map (λ (e : Entry). id_of e l.dictionary.terms) (take l.entry-index l.entries)
+abbrev pub invariant-loop-word : goal.invariant-loop-word
+invariant-loop-word l = record {
+  named : IsNamed l.fn.dictionary (entries_of (take l.word-index l.words)) l.dictionary l.named.items;
+  known : IsKnown l.counts l.first l.dictionary;
+}

@@ -1,3 +1,4 @@
+-- The documents up to the next one are copied.
 use Rattle.std.proofs.Common.{◌≡◌, take}
 use Rattle.index_versions.proofs.held.HeldDocumentShare.copies.Given as goal
 

@@ -1,43 +1,17 @@
--- A term that is not there changes nothing; one that is goes from its place.
-use Rattle.std.proofs.Common.{◌≡◌, subst, ap, sym, ◌∙◌, arith}
+-- What the terms and the ids of others become without a term.
+use Rattle.std.proofs.Common.{ap, ◌∙◌}
 use Rattle.index_meaning.specs.Entries.{entry}
-use Rattle.index_meaning.specs.Dictionaries.{Dictionary, dictionary, without_term}
-use Rattle.term_dict.proofs.DictionaryLemmas.{told, left_is, at_place, take_whole, take_bounded, take_sound}
+use Rattle.index_meaning.specs.Dictionaries.{Dictionary, entries, id_of}
+use Rattle.term_dict.proofs.TermLemmas.{entries_without}
+use Rattle.term_dict.proofs.IdLemmas.{id_left}
 use Rattle.term_dict.proofs.dictionary.TermDict.take.Goals as goal
 
-pub returns-then-not-stands_at-clause-ok : goal.returns-then-not-stands_at-clause-ok
-returns-then-not-stands_at-clause-ok c =
+pub returns-clause-listed : goal.returns-clause-listed
+returns-clause-listed c =
     let e = entry c.args.key.now c.args.word.now in
-    let inside = c.self.inside in
-    let none = told e inside.terms c.count_before-number.result c.stands_at.result c.self.invariant.sorted c.count_before-number.ensures.count c.stands_at.ensures ∙ c.if-not-stands_at.true in
-    subst (λ (d : Dictionary). d ≡ without_term e d) c.self.view_is (left_is (dictionary inside.terms inside.given) e none)
+    ap (λ (d : Dictionary). entries d.terms) c.in_ok-take_out.ensures.ok ∙ entries_without e c.args.self.now.terms
 
-pub remove-requires : goal.remove-requires
-remove-requires c =
+pub returns-clause-kept : goal.returns-clause-kept
+returns-clause-kept c = λ f there.
     let e = entry c.args.key.now c.args.word.now in
-    (omega arith, (at_place e c.count_before-number.result c.self.inside.terms (sym c.stands_at.ensures ∙ c.if-not-stands_at.false)).0)
-
-pub overflow_sub-self : goal.overflow_sub-self
-overflow_sub-self c =
-    let e = entry c.args.key.now c.args.word.now in
-    let inside = c.self.inside in
-    let number = c.count_before-number.result in
-    let there = told e inside.terms number c.stands_at.result c.self.invariant.sorted c.count_before-number.ensures.count c.stands_at.ensures ∙ c.if-not-stands_at.false in
-    take_bounded inside.terms c.remove.new.self inside.keys number c.brought_keys.result inside.given e c.count_before-number.ensures.count c.in_ok-remove.ensures.ok c.self.invariant there c.brought_keys.ensures
-
-pub invariant_of-self-2 : goal.invariant_of-self-2
-invariant_of-self-2 c =
-    let e = entry c.args.key.now c.args.word.now in
-    let inside = c.self.inside in
-    let number = c.count_before-number.result in
-    let there = told e inside.terms number c.stands_at.result c.self.invariant.sorted c.count_before-number.ensures.count c.stands_at.ensures ∙ c.if-not-stands_at.false in
-    take_sound inside.terms c.remove.new.self inside.keys number c.brought_keys.result inside.given e c.count_before-number.ensures.count c.in_ok-remove.ensures.ok c.self.invariant there c.brought_keys.ensures
-
-pub returns-clause-ok : goal.returns-clause-ok
-returns-clause-ok c =
-    let e = entry c.args.key.now c.args.word.now in
-    let inside = c.self.inside in
-    let number = c.count_before-number.result in
-    let there = told e inside.terms number c.stands_at.result c.self.invariant.sorted c.count_before-number.ensures.count c.stands_at.ensures ∙ c.if-not-stands_at.false in
-    take_whole inside.terms c.remove.new.self inside.keys number c.brought_keys.result inside.given e c.count_before-number.ensures.count c.in_ok-remove.ensures.ok c.self.invariant.sorted there
-    ∙ ap (without_term e) c.self.view_is
+    ap (λ (d : Dictionary). id_of f d.terms) c.in_ok-take_out.ensures.ok ∙ id_left f e c.args.self.now.terms there
