@@ -1,0 +1,179 @@
+-- The items of a variant, one after the other, from a place on.
+use Rattle.std.proofs.Common.{◌≡◌, ℕ, zero, suc, ◌+◌, ◌-◌, ◌<◌, ◌≤◌, Bool, true, false, ◌&&◌, nat_le, List, [], ◌∷◌, map, length, get_or, set, drop, refl, sym, ap, ◌∙◌, arith, length-set, drop-set-lt, drop-drop, Vec, Global}
+use Rattle.std.proofs.lemmas.Bool.{and_left, and_right, and_from, le-leb, lt-leb}
+use Rattle.std.proofs.lemmas.List.{drop_more, drop_all, length-map}
+use Rattle.ft_base.specs.Hits.{HitPlace}
+use Rattle.place_merges.specs.declared.item.Item.{Item}
+use Rattle.place_merges.specs.declared.item.Item.TheVariants.{Of}
+use Rattle.place_merges.specs.Places.{Wanted, fits, stands_at, stands_before}
+use Rattle.place_merges.specs.Sources.{places_left}
+use Rattle.place_merges.specs.steps.Searching.{Shown, Leads, SameFrom, Moved, shown_all, has, some_has, item_fits}
+use Rattle.place_merges.proofs.MoveLemmas.{unmoved, moved_on, moved_in, same_on, any_map}
+
+-- an item for which any word does leads nowhere else
+pub any_leads : (place limit : ℕ) → place < limit → Leads (λ other. true) place limit place
+any_leads place limit h = record { from = omega arith; to = omega arith; there = λ e. refl; none = λ other a b. absurd (omega arith) }
+
+-- an item of sources leads where they lead
+module _ {H : Type 0} (stands : H → HitPlace) where
+  sources_fit : (sources : Vec H Global) (place : ℕ) → item_fits stands (Of sources) place ≡ some_has stands sources.items place
+  sources_fit sources place = any_map (λ places. has places place) (λ source. places_left (stands source)) sources.items
+
+  pub sources_lead : (item : Item H) (sources : Vec H Global) → item ≡ Of sources → (place limit result : ℕ)
+      → Leads (some_has stands sources.items) place limit result → Leads (item_fits stands item) place limit result
+  sources_lead item sources e place limit result leads =
+      let is : (other : ℕ) → item_fits stands item other ≡ some_has stands sources.items other = λ other. ap (λ i. item_fits stands i other) e ∙ sources_fit sources other in
+      record {
+        from = leads.from;
+        to = leads.to;
+        there = λ at. is place ∙ leads.there at;
+        none = λ other a b. is other ∙ leads.none other a b;
+      }
+
+  pub sources_same : (item : Item H) (sources after : Vec H Global) → item ≡ Of sources → (place : ℕ)
+      → SameFrom place (some_has stands after.items) (some_has stands sources.items) → SameFrom place (item_fits stands (Of after)) (item_fits stands item)
+  sources_same item sources after e place same = record {
+    same = λ other h. sources_fit after other ∙ same.same other h ∙ sym (sources_fit sources other) ∙ ap (λ i. item_fits stands i other) (sym e);
+  }
+
+module _ {A : Type 0} (want : A → Wanted) where
+  -- whether some items stand from the place on
+  abbrev pub stand : List A → ℕ → Bool
+  stand xs place = stands_at place (map want xs)
+
+  stand_set : (xs : List A) (i place : ℕ) (x y : A) → i < length xs → x ≡ get_or xs i x → fits (place + i) (want y) ≡ fits (place + i) (want x) → stand (set xs i y) place ≡ stand xs place
+  stand_set [] i place x y h e same = absurd (omega arith)
+  stand_set (z ∷ xs) zero place x y h e same =
+      let at : place ≡ place + 0 = omega arith in
+      let one : fits place (want y) ≡ fits place (want z) = ap (λ p. fits p (want y)) at ∙ same ∙ ap (λ p. fits p (want x)) (sym at) ∙ ap (λ a. fits place (want a)) e in
+      ap (λ b. b && stand xs (place + 1)) one
+  stand_set (z ∷ xs) (suc i) place x y h e same =
+      let at : place + 1 + i ≡ place + suc i = omega arith in
+      let one : fits (place + 1 + i) (want y) ≡ fits (place + 1 + i) (want x) = ap (λ p. fits p (want y)) at ∙ same ∙ ap (λ p. fits p (want x)) (sym at) in
+      ap (λ b. fits place (want z) && b) (stand_set xs i (place + 1) x y (omega arith) e one)
+
+  -- where an item doesn't fit, its variant doesn't stand
+  unfit : (xs : List A) (i place : ℕ) (x : A) → i < length xs → x ≡ get_or xs i x → fits (place + i) (want x) ≡ false → stand xs place ≡ false
+  unfit [] i place x h e wrong = absurd (omega arith)
+  unfit (z ∷ xs) zero place x h e wrong =
+      let at : place ≡ place + 0 = omega arith in
+      and_left (fits place (want z)) (stand xs (place + 1)) (ap (λ a. fits place (want a)) (sym e) ∙ ap (λ p. fits p (want x)) at ∙ wrong)
+  unfit (z ∷ xs) (suc i) place x h e wrong =
+      let at : place + 1 + i ≡ place + suc i = omega arith in
+      and_right (fits place (want z)) (stand xs (place + 1)) (unfit xs i (place + 1) x (omega arith) e (ap (λ p. fits p (want x)) at ∙ wrong))
+
+-- the items in front of the number fit the words from the place on
+pub record Fitted {A L : Type 0} (want : A → Wanted) (shown : A → Shown L) (old now : List A) (place number start end : ℕ) : Type 0 where
+  pub long : length now ≡ length old
+  pub left : stand want old place ≡ stand want (drop number old) (place + number)
+  pub rest : drop number now ≡ drop number old
+  pub same : SameFrom place (stand want now) (stand want old)
+  pub moved : Moved (shown_all shown old) (shown_all shown now) start end
+
+-- an item doesn't fit, and the place jumps
+pub record Unfitted {A L : Type 0} (want : A → Wanted) (shown : A → Shown L) (old now : List A) (place limit result start end : ℕ) : Type 0 where
+  pub leads : Leads (stand want old) place limit result
+  pub same : SameFrom place (stand want now) (stand want old)
+  pub moved : Moved (shown_all shown old) (shown_all shown now) start end
+
+module _ {A L : Type 0} (want : A → Wanted) (shown : A → Shown L) where
+  pub fit_starts : (xs : List A) (place steps : ℕ) → Fitted want shown xs xs place 0 steps steps
+  fit_starts xs place steps = record {
+    long = refl;
+    left = let at : place ≡ place + 0 = omega arith in ap (stand want xs) at;
+    rest = refl;
+    same = record { same = λ other a. refl };
+    moved = unmoved (shown_all shown xs) steps;
+  }
+
+  module _ (old now : List A) (place limit number start middle end : ℕ) (so_far : Fitted want shown old now place number start middle)
+      (x y : A) (within : number < length now) (read : x ≡ get_or now number x) (next : ℕ) (leads : Leads (λ other. fits other (want x)) (place + number) (limit + number) next)
+      (same : SameFrom (place + number) (λ other. fits other (want y)) (λ other. fits other (want x))) (moved : Moved (shown x) (shown y) middle end) where
+    fit_same : SameFrom place (stand want (set now number y)) (stand want old)
+    fit_same = same_on place (stand want old) (stand want now) (stand want (set now number y)) so_far.same
+        (record { same = λ other a. stand_set want now number other x y within read (same.same (other + number) (omega arith)) })
+
+    fit_moved : Moved (shown_all shown old) (shown_all shown (set now number y)) start end
+    fit_moved = moved_on (shown_all shown old) (shown_all shown now) (shown_all shown (set now number y)) start middle end so_far.moved (moved_in shown now number x y middle end within read moved)
+
+    behind : drop (number + 1) now ≡ drop (number + 1) old
+    behind = sym (drop-drop 1 number now) ∙ ap (drop 1) so_far.rest ∙ drop-drop 1 number old
+
+    here : drop number old ≡ x ∷ drop (number + 1) old
+    here = sym so_far.rest ∙ drop_more now number x within ∙ (λ i. sym read i ∷ behind i)
+
+    pub fit_goes_on : next ≡ place + number → Fitted want shown old (set now number y) place (number + 1) start end
+    fit_goes_on at_place =
+        let at : place + number + 1 ≡ place + (number + 1) = omega arith in
+        record {
+          long = length-set now number y ∙ so_far.long;
+          left = so_far.left
+              ∙ ap (λ l. stand want l (place + number)) here
+              ∙ ap (λ b. b && stand want (drop (number + 1) old) (place + number + 1)) (leads.there at_place)
+              ∙ ap (stand want (drop (number + 1) old)) at;
+          rest = drop-set-lt (number + 1) now number y (omega arith) ∙ behind;
+          same = fit_same;
+          moved = fit_moved;
+        }
+
+    pub fit_jumps : (next ≡ place + number → ⊥) → Unfitted want shown old (set now number y) place limit (next - number) start end
+    fit_jumps other_place =
+        let from = leads.from in
+        let to = leads.to in
+        record {
+          leads = record {
+            from = omega arith;
+            to = omega arith;
+            there = λ e. absurd (omega (arith, e, other_place));
+            none = λ other a b.
+                sym (so_far.same.same other a) ∙ unfit want now number other x within read (leads.none (other + number) (omega arith) (omega arith));
+          };
+          same = fit_same;
+          moved = fit_moved;
+        }
+
+  pub fit_ends : (old now : List A) (place limit number start end : ℕ) → place < limit → Fitted want shown old now place number start end → length now ≤ number → Leads (stand want old) place limit place
+  fit_ends old now place limit number start end order so_far h =
+      let long = so_far.long in
+      record {
+        from = omega arith;
+        to = omega arith;
+        there = λ e. so_far.left ∙ ap (λ l. stand want l (place + number)) (drop_all number old (omega arith));
+        none = λ other a b. absurd (omega arith);
+      }
+
+-- ---- variants that end in front of the end
+
+module _ {A : Type 0} (want : A → Wanted) (to : ℕ) where
+  abbrev stand_in : List A → ℕ → Bool
+  stand_in xs place = stands_before to place (map want xs)
+
+  too_long : (xs : List A) (other : ℕ) → to < other + length xs → stand_in xs other ≡ false
+  too_long xs other h =
+      let size = length-map xs want in
+      and_left (nat_le (other + length (map want xs)) to) (stand want xs other) (lt-leb (other + length (map want xs)) to (omega (arith, size)))
+
+  pub long_leads : (xs : List A) (place : ℕ) → place < to → to - place < length xs → Leads (stand_in xs) place to to
+  long_leads xs place order h = record {
+    from = omega arith;
+    to = omega arith;
+    there = λ e. absurd (omega (arith, e));
+    none = λ other a b. too_long xs other (omega arith);
+  }
+
+  pub short_leads : (xs : List A) (place limit result : ℕ) → place < to → length xs ≤ to - place → limit ≡ to - (length xs - 1)
+      → Leads (stand want xs) place limit result → Leads (stand_in xs) place to result
+  short_leads xs place limit result order h e leads =
+      let size = length-map xs want in
+      let most = leads.to in
+      record {
+        from = leads.from;
+        to = omega (arith, most, e);
+        there = λ at. and_from (nat_le (place + length (map want xs)) to) (stand want xs place) (le-leb (place + length (map want xs)) to (omega (arith, size))) (leads.there at);
+        none = λ other a b. and_right (nat_le (other + length (map want xs)) to) (stand want xs other) (leads.none other a b);
+      }
+
+  pub variant_same : (xs ys : List A) (place : ℕ) → length ys ≡ length xs → SameFrom place (stand want ys) (stand want xs) → SameFrom place (stand_in ys) (stand_in xs)
+  variant_same xs ys place long same =
+      let size : length (map want ys) ≡ length (map want xs) = length-map ys want ∙ long ∙ sym (length-map xs want) in
+      record { same = λ other a. λ i. nat_le (other + size i) to && same.same other a i }

@@ -1,0 +1,23 @@
+//! The places of phrases, found by going through the hits of their words.
+//!
+//! A phrase has variants, and a variant has items, one for each of its words: any word, or a word at which one of some
+//! sources has a hit. `count_places` says at how many places of a span one of the variants stands, without a look at the
+//! words of the text.
+//!
+//! Each search begins at a place and ends there, or leads to a later place in front of which there is nothing to be
+//! found: a source leads to its next hit (`source`), a variant to where the first of its items that doesn't fit leads
+//! (`variant`), and several sources or variants to the first of the places of each. So a frequent word is sought only at
+//! the places where a rare one has hits, the sources go forward only, and no memory is taken.
+#![tactic(auto)]
+
+mod counting;
+pub mod examples;
+mod item;
+pub mod laws;
+mod source;
+#[cfg(test)]
+mod tests;
+mod variant;
+
+pub use counting::count_places;
+pub use item::Item;

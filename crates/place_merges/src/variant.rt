@@ -1,0 +1,72 @@
+//! Where the words of one variant stand, one after the other.
+
+ghost use Rattle.std.specs.Prelude.{◌≡◌, ◌+◌, ◌<◌, ◌≤◌, ◌^◌, vec_len};
+ghost use Rattle.place_merges.specs.steps.Searching.{Leads, Moved, SameFrom, item_fits, items_stand, shown_item, shown_items, variant_stands};
+
+use crate::Item;
+use crate::source::lead_of_sources;
+use ft_base::{Hits, Steps};
+use std::sync::ledger::Ledger;
+
+/// The place, where the item fits the word there; or else a later one, up to the limit, in front of which it fits none.
+fn lead_of_item<H: Hits, L: Ledger>(
+    item: &mut Item<H>,
+    place: u32,
+    limit: u32,
+    steps: &mut Steps<L>,
+) -> u32
+    requires { place < limit }
+    ensures leads { Leads (item_fits H.stand item.old) place limit result }
+    ensures same { SameFrom place (item_fits H.stand item.new) (item_fits H.stand item.old) }
+    ensures moved { Moved (shown_item H.stand H.plain item.old) (shown_item H.stand H.plain item.new) steps.old steps.new }
+{
+    match item {
+        Item::Any => place,
+        Item::Of(sources) => lead_of_sources(sources, place, limit, steps),
+    }
+}
+
+/// The place, where the items fit the words from it on; or else a later one, up to the limit, in front of which they fit
+/// nowhere: the first item that doesn't fit says how far the place may jump.
+fn lead_of_items<H: Hits, L: Ledger>(
+    variant: &mut Vec<Item<H>>,
+    place: u32,
+    limit: u32,
+    steps: &mut Steps<L>,
+) -> u32
+    requires order { place < limit }
+    requires within { limit + vec_len variant.old ≤ 2 ^ 32 }
+    ensures leads { Leads (items_stand H.stand variant.old.items) place limit result }
+    ensures same { SameFrom place (items_stand H.stand variant.new.items) (items_stand H.stand variant.old.items) }
+    ensures moved { Moved (shown_items H.stand H.plain variant.old) (shown_items H.stand H.plain variant.new) steps.old steps.new }
+    ensures length { vec_len variant.new ≡ vec_len variant.old }
+{
+    for number in 0..variant.len() {
+        let offset = number as u32;
+        let next = lead_of_item(&mut variant[number], place + offset, limit + offset, steps);
+        if next != place + offset {
+            return next - offset;
+        }
+    }
+    place
+}
+
+/// The place, where the variant begins there and ends in front of `to`; or else a later one, up to `to`, in front of
+/// which it doesn't.
+pub(crate) fn lead_of_variant<H: Hits, L: Ledger>(
+    variant: &mut Vec<Item<H>>,
+    place: u32,
+    to: u32,
+    steps: &mut Steps<L>,
+) -> u32
+    requires { place < to }
+    ensures leads { Leads (variant_stands H.stand to variant.old) place to result }
+    ensures same { SameFrom place (variant_stands H.stand to variant.new) (variant_stands H.stand to variant.old) }
+    ensures moved { Moved (shown_items H.stand H.plain variant.old) (shown_items H.stand H.plain variant.new) steps.old steps.new }
+{
+    if variant.len() > (to - place) as usize {
+        return to;
+    }
+    let behind_first = variant.len().saturating_sub(1) as u32;
+    lead_of_items(variant, place, to - behind_first, steps)
+}
