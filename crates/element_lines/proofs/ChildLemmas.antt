@@ -4,7 +4,7 @@ use Rattle.std.specs.List.{All, Contains}
 use Rattle.std.specs.Prelude.{count_by}
 use Rattle.std.proofs.Math.Seq.{take-append_seam}
 use Rattle.std.proofs.lemmas.List.{get_or_at, length_push}
-use Rattle.std.proofs.lemmas.List.Elements.{All-head, All-tail, All-nil}
+use Rattle.std.proofs.lemmas.List.Elements.{All-tail, All-nil}
 use Rattle.plain_tree.specs.Document.{Node, text}
 use Rattle.ordered_tree.specs.Numbered as numbered
 use Rattle.ordered_tree.specs.Numbered.{Numbered, element_at, text_at, Children, no_children, child_then, plain, plain_children, reference, first_of}
@@ -15,18 +15,10 @@ use Rattle.path_nodes.specs.References.{Spot, spots, child_spots, spots_in, spot
 use Rattle.path_nodes.proofs.PlaceLemmas.{element-is}
 use Rattle.path_nodes.proofs.SpotLemmas.{inside, element_of-is, spot-stand}
 use Rattle.path_nodes.proofs.WayLemmas.{Parent}
+use Rattle.path_nodes.proofs.ChildrenLemmas.{All-behind, head-spot}
 use Rattle.element_lines.specs.steps.Numbers.{number_of}
 use Rattle.element_lines.specs.LocationSteps.{listed, children, child, name_of, is_named}
 use Rattle.element_lines.proofs.StepLemmas.{children-plain, number-child}
-
-All-behind : {X : Type 0} (P : X → Type 0) (xs ys : List X) → All P (xs ++ ys) → All P ys
-All-behind P [] ys h = h
-All-behind P (x ∷ xs) ys h = All-behind P xs ys (All-tail P x (xs ++ ys) h)
-
-first-spot : (P : Spot → Type 0) (place : List ℕ) (a : Around) (n : Numbered) (rest : List Spot) → All P (spots place a n ++ rest) → P (record { place = place; stand = record { node = n; around = a } })
-unfolding spots
-first-spot P place a (element_at r name attrs kids) rest h = All-head P _ (child_spots place 1 (round_first a.before r) kids ++ rest) h
-first-spot P place a (text_at r bytes) rest h = All-head P _ rest h
 
 -- The children of an element in front of a link, and those behind it.
 pub record Parted (root : Numbered) (parent : NodeRef) (link : Option NodeRef) (prefix : List Node) : Type 0 where
@@ -72,7 +64,7 @@ module _ (root : Numbered) (parent : NodeRef) (prefix : List Node) where
 
     pub spot-among : Contains (spots_in root) spot
     unfolding child_spots
-    spot-among = first-spot (Contains (spots_in root)) spot.place spot.stand.around h.n (child_spots (element_of root parent).place (suc (length prefix) + 1) (round_next h.around h.n) h.ns) h.inside
+    spot-among = head-spot (Contains (spots_in root)) spot.place spot.stand.around h.n (child_spots (element_of root parent).place (suc (length prefix) + 1) (round_next h.around h.n) h.ns) h.inside
 
     -- what holds on the node holds of it
     pub on-child : (P : Stand → Type 0) → OnNode root c P → P spot.stand

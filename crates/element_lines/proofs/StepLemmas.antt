@@ -4,7 +4,7 @@ use Rattle.std.specs.Prelude.{option_and_then}
 use Rattle.std.proofs.lemmas.Option.{same_Some}
 use Rattle.plain_tree.specs.Document.{Node, text}
 use Rattle.ordered_tree.specs.Numbered as numbered
-use Rattle.ordered_tree.specs.Numbered.{Numbered, element_at, text_at, Children, no_children, child_then, plain, plain_children, is_element}
+use Rattle.ordered_tree.specs.Numbered.{Numbered, element_at, text_at, Children, no_children, child_then, plain, plain_children}
 use Rattle.ordered_tree.specs.Places as places
 use Rattle.ordered_tree.specs.Places.{at_place}
 use Rattle.ordered_tree.specs.Stands.{OnNode}

@@ -137,9 +137,6 @@ module _ (f g : ℕ → Element → Bool) (root : Node) (same : All (λ e. (k : 
     each-alike no_conditions e there = refl
     each-alike (condition_then c cs) e there = ap (λ b. b && each_true f (elements root) cs e) (true-alike c e there) ∙ ap (λ b. is_true g (elements root) c e && b) (each-alike cs e there)
 
-  pub led-from-alike : (s : Steps) (e : Element) → In root e → led f (elements root) s (e ∷ []) ≡ led g (elements root) s (e ∷ [])
-  led-from-alike s e there = led-alike s (e ∷ []) (one e there)
-
   pub selected-alike : (s : Steps) → selected f s root ≡ selected g s root
   unfolding selected
   selected-alike no_steps = refl

@@ -72,11 +72,11 @@ next-from root above child done number around (child_then n ns) first inside all
 pub next : (root : Numbered) (above : Element) (link : Option NodeRef) (child : NodeRef) (done : List NodeRef) → link ≡ Some child → Reading root above link done → Next root above child done
 next root above link child done is r = next-from root above child done r.number r.around r.rest (sym r.first ∙ is) r.inside r.all r.elements r.few
 
-All-behind : {X : Type 0} (P : X → Type 0) (xs ys : List X) → All P (xs ++ ys) → All P ys
+pub All-behind : {X : Type 0} (P : X → Type 0) (xs ys : List X) → All P (xs ++ ys) → All P ys
 All-behind P [] ys h = h
 All-behind P (x ∷ xs) ys h = All-behind P xs ys (All-tail P x (xs ++ ys) h)
 
-head-spot : (P : Spot → Type 0) (place : List ℕ) (a : Around) (n : Numbered) (rest : List Spot) → All P (spots place a n ++ rest) → P (record { place = place; stand = record { node = n; around = a } })
+pub head-spot : (P : Spot → Type 0) (place : List ℕ) (a : Around) (n : Numbered) (rest : List Spot) → All P (spots place a n ++ rest) → P (record { place = place; stand = record { node = n; around = a } })
 unfolding spots
 head-spot P place a (element_at r name attrs kids) rest h = All-head P (record { place = place; stand = record { node = element_at r name attrs kids; around = a } }) (child_spots place 1 (round_first a.before r) kids ++ rest) h
 head-spot P place a (text_at r bytes) rest h = All-head P (record { place = place; stand = record { node = text_at r bytes; around = a } }) rest h

@@ -1,4 +1,4 @@
--- What was spent on a part, and what the rest costs, is no more than what all cost.
+-- What was spent on a part, and the price of the rest, are no more than the price of all.
 use Rattle.std.proofs.Common.{◌≡◌, ◌+◌, ◌≤◌, ℕ, arith}
 
 -- one part, then the rest

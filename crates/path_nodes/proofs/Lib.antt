@@ -7,6 +7,8 @@ pub mod AttributeLemmas
 pub mod NumberLemmas
 pub mod FrontLemmas
 pub mod AskedLemmas
+pub mod LeadingLemmas
+pub mod KnownLemmas
 pub mod MeaningLemmas
 pub mod ChosenLemmas
 pub mod SelectedLemmas

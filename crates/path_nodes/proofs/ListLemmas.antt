@@ -25,12 +25,6 @@ pub any-more : {A B : Type 0} (f : A → B) (p : B → Bool) (xs : List A) (i : 
 any-more f p xs i d lt =
     ap (list_any p) (map-more f xs i d lt) ∙ list_any-append p (map f (take i xs)) (f (get_or xs i d) ∷ []) ∙ or-nothing (list_any p (map f (take i xs))) (p (f (get_or xs i d)))
 
-pub or-swap : (s a o : Bool) → (s || (a || o)) ≡ ((a || s) || o)
-or-swap true true o = refl
-or-swap true false o = refl
-or-swap false true o = refl
-or-swap false false o = refl
-
 pub flat-more : {A B : Type 0} (f : A → List B) (xs : List A) (x : A) → flat_map f (xs ++ x ∷ []) ≡ flat_map f xs ++ f x
 flat-more f xs x = flat_map-append f xs (x ∷ []) ∙ ap (λ l. flat_map f xs ++ l) (append-nil (f x))
 

@@ -1,5 +1,5 @@
 -- No two nodes of a document have the same place.
-use Rattle.std.proofs.Common.{◌≡◌, ◌+◌, ◌==◌, ℕ, suc, Bool, true, false, List, [], ◌∷◌, ◌++◌, Some, refl, sym, ap, ◌∙◌, arith, append_assoc, append-nil}
+use Rattle.std.proofs.Common.{◌≡◌, ◌+◌, ◌==◌, ℕ, suc, true, List, [], ◌∷◌, ◌++◌, Some, refl, sym, ap, ◌∙◌, arith, append_assoc, append-nil}
 use Rattle.std.specs.List.{All, Contains}
 use Rattle.std.specs.Prelude.{option_and_then}
 use Rattle.std.proofs.lemmas.Bool.Decides.{nat_tests}
@@ -14,6 +14,7 @@ use Rattle.ordered_tree.specs.Places.{at_place, child}
 use Rattle.ordered_tree.specs.Stands.{Stand, OnNode, round_root, round_first, round_next, stands_in}
 use Rattle.ordered_tree.specs.declared.around.Around.{Around}
 use Rattle.ft_base.specs.declared.ids.NodeRef.{NodeRef}
+use Rattle.ft_base.proofs.Truth.{same_tests}
 use Rattle.path_nodes.specs.Says.{reference_of, reference_or}
 use Rattle.path_nodes.specs.References.{Spot, spots, child_spots, spots_in, spot_element, element_of, IsElement}
 use Rattle.ordered_tree.proofs.LawsLemmas.{one-node}
@@ -68,16 +69,11 @@ one-reference root r q x y e =
     let same = one-place root x.spot y.spot x.among y.among (ap (λ z. z.place) (sym (element-is root r x)) ∙ e ∙ ap (λ z. z.place) (element-is root q y)) in
     sym x.refers ∙ ap reference same ∙ y.refers
 
-pub same-bools : (a b : Bool) → (a ≡ true → b ≡ true) → (b ≡ true → a ≡ true) → a ≡ b
-same-bools true b f g = sym (f refl)
-same-bools false true f g = g refl
-same-bools false false f g = refl
-
 pub same-element : (root : Numbered) (r q : NodeRef) → IsElement root r → IsElement root q → (r.0 == q.0) ≡ is_same (element_of root r) (element_of root q)
 same-element root r q x y =
     let p = (element_of root r).place in
     let t = (element_of root q).place in
-    same-bools (r.0 == q.0) (is_same (element_of root r) (element_of root q))
+    same_tests (r.0 == q.0) (is_same (element_of root r) (element_of root q))
     (λ h. let e : r.0 ≡ q.0 = grind (arith, nat_tests, h) in let same : r ≡ q = ap of_number e in (bytes_eq-Decides p t).1 (ap (λ n. (element_of root n).place) same))
     (λ h. let same : r ≡ q = one-reference root r q x y ((bytes_eq-Decides p t).0 h) in let e : r.0 ≡ q.0 = ap (λ n. n.0) same in grind (arith, nat_tests, e))
 

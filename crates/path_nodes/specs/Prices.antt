@@ -1,5 +1,5 @@
--- What the tests cost for which steps ask.
-use Rattle.std.specs.Prelude.{◌≤◌, ℕ, List, filter, sum_by}
+-- The prices of the tests for which steps ask.
+use Rattle.std.specs.Prelude.{ℕ, List, filter, sum_by}
 use Rattle.ordered_tree.specs.Numbered.{Numbered, plain}
 use Rattle.path_meaning.specs.Elements.{Element, elements, element_children}
 use Rattle.path_grammar.specs.Form.{Step, step, Steps, Predicates, Predicate, Condition, Conditions}
@@ -41,7 +41,3 @@ condition_price root m condition e = price_of root m (condition_tests (satisfied
 
 abbrev pub conditions_price : Numbered → Meaning → Conditions → Element → ℕ
 conditions_price root m conditions e = price_of root m (conditions_tests (satisfied root m) (elements (plain root)) conditions e)
-
--- The one list has no element more often than the other.
-abbrev pub AreAmong : List Element → List Element → Type 0
-AreAmong xs ys = (count : Element → ℕ) → sum_by count xs ≤ sum_by count ys

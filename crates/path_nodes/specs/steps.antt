@@ -1,4 +1,6 @@
 pub mod Kept
+pub mod Known
+pub mod Leading
 pub mod Listed
 pub mod Marks
 pub mod Regions

@@ -6,10 +6,11 @@ use ordered_tree::NodeRef;
 
 /// What answers `contains text`.
 pub trait TextTest {
-    /// For which pairs of a selection's number and a node it may be asked, what it says of each, and its price. It never changes.
+    /// For which pairs of a selection's number and a node it may be asked, what it says of each, its price, and what it is lent. It
+    /// never changes.
     ghost meaning: { Self → Meaning };
 
-    /// What the tests so far have cost.
+    /// What was spent on the tests so far.
     ghost cost: { Self → ℕ };
 
     /// Whether the node satisfies the selection of this number. The selections of a path are numbered from 0 in the

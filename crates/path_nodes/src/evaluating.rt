@@ -1,25 +1,28 @@
 //! What the steps, predicates and conditions of a path say of elements.
 
-ghost use Rattle.std.specs.Prelude.{◌≡◌, ◌≤◌, ◌+◌, ◌∷◌, [], ℕ, All, Bool, IfOk, filter, map, sum_by};
+ghost use Rattle.std.specs.Prelude.{◌≡◌, ◌≤◌, ◌+◌, ◌∷◌, [], All, IfOk, OnOk, filter, map, sum_by};
 ghost use Rattle.std.specs.List.{list_any};
 ghost use Rattle.ordered_tree.specs.Numbered.{plain};
-ghost use Rattle.path_meaning.specs.Elements.{Element, elements, is_in};
+ghost use Rattle.path_meaning.specs.Elements.{elements, is_in};
 ghost use Rattle.path_grammar.specs.Form as form;
 ghost use Rattle.path_meaning.specs.Meaning as meaning;
 ghost use Rattle.path_grammar.specs.View as view;
 ghost use Rattle.path_nodes.specs.Asked.{OfEach, OfStep, OfPredicate, OfCondition, OfConditions, MayAsk};
+ghost use Rattle.path_nodes.specs.steps.Known.{AreRight};
+ghost use Rattle.path_nodes.specs.steps.Leading.{StandFrom, in_path, in_step, in_steps, in_predicate, in_condition, in_conditions};
 ghost use Rattle.path_nodes.specs.steps.Kept as spec;
-ghost use Rattle.path_nodes.specs.steps.Listed.{HaveSame};
+ghost use Rattle.path_nodes.specs.steps.Listed.{AreAmong, HaveSame};
 ghost use Rattle.path_nodes.specs.Prices as price;
-ghost use Rattle.path_nodes.specs.Prices.{AreAmong};
 ghost use Rattle.path_nodes.specs.References.{IsElement, element_of};
-ghost use Rattle.path_nodes.specs.Says.{Agrees, satisfied};
+ghost use Rattle.path_nodes.specs.Says.{satisfied};
 ghost use Rattle.path_meaning.specs.Tests.{each_tested};
 ghost use Rattle.path_nodes.specs.steps.Within.{AtOrBelow};
 
 use crate::attributes::has_attribute;
 use crate::children::element_children;
 use crate::kept::push_if;
+use crate::known::Known;
+use crate::leading::{behind_condition, behind_predicate, behind_step, next};
 use crate::marks::{Marks, mark_kept};
 use crate::names::named;
 use crate::numbers::numbered;
@@ -33,28 +36,36 @@ use std::alloc::Global;
 /// The elements to which steps lead from elements at or below an element, one step behind the other.
 #[cycle(evaluate)]
 pub(crate) fn led<T: TextTest>(
-    alloc: Global,
     tree: &DocTree,
     steps: &[Step],
+    number: usize,
     base: NodeRef,
     from: Nodes,
     test: &mut T,
+    known: &mut Known,
 ) -> Result<Nodes, Memory>
     requires base { IsElement tree.now.root base }
     requires from { All (IsElement tree.now.root) from }
     requires inside { All (λ r. AtOrBelow (element_of tree.now.root base) (element_of tree.now.root r)) from }
     requires asked { OfEach (MayAsk tree.now.root (T.meaning test.old)) (form.steps (map view.step steps.now)) }
+    requires numbered { StandFrom (in_path known.old.path.now) number (in_steps (form.steps (map view.step steps.now))) }
+    requires known { AreRight tree.now.root (T.meaning test.old) (in_path known.old.path.now) known.old.truths }
     ensures elements { IfOk result (λ found. map (element_of tree.now.root) found
         ≡ meaning.led (satisfied tree.now.root (T.meaning test.old)) (elements (plain tree.now.root)) (form.steps (map view.step steps.now))
         (map (element_of tree.now.root) from)) }
     ensures there { IfOk result (All (IsElement tree.now.root)) }
     ensures meaning { T.meaning test.new ≡ T.meaning test.old }
+    ensures path { known.new.path ≡ known.old.path }
+    ensures known { OnOk result (AreRight tree.now.root (T.meaning test.old) (in_path known.old.path.now) known.new.truths) }
     ensures cost { T.cost test.new
         ≤ T.cost test.old + price.steps_price tree.now.root (T.meaning test.old) (form.steps (map view.step steps.now)) (map (element_of tree.now.root) from) }
 {
     let mut items = from;
+    let mut first = number;
     for step in steps {
-        items = stepped(alloc, tree, step, base, items, test)?;
+        let behind = behind_step(first, step)?;
+        items = stepped(tree, step, first, base, items, test, known)?;
+        first = behind;
     }
     Ok(items)
 }
@@ -62,29 +73,34 @@ pub(crate) fn led<T: TextTest>(
 /// The elements to which a step leads from elements at or below an element.
 #[cycle(evaluate)]
 pub(crate) fn stepped<T: TextTest>(
-    alloc: Global,
     tree: &DocTree,
     step: &Step,
+    number: usize,
     base: NodeRef,
     contexts: Nodes,
     test: &mut T,
+    known: &mut Known,
 ) -> Result<Nodes, Memory>
     requires base { IsElement tree.now.root base }
     requires contexts { All (IsElement tree.now.root) contexts }
     requires inside { All (λ r. AtOrBelow (element_of tree.now.root base) (element_of tree.now.root r)) contexts }
     requires asked { OfStep (MayAsk tree.now.root (T.meaning test.old)) (view.step step.now) }
+    requires numbered { StandFrom (in_path known.old.path.now) number (in_step (view.step step.now)) }
+    requires known { AreRight tree.now.root (T.meaning test.old) (in_path known.old.path.now) known.old.truths }
     ensures elements { IfOk result (λ found. map (element_of tree.now.root) found
         ≡ meaning.stepped (satisfied tree.now.root (T.meaning test.old)) (elements (plain tree.now.root)) (view.step step.now)
         (map meaning.item (map (element_of tree.now.root) contexts))) }
     ensures there { IfOk result (All (IsElement tree.now.root)) }
     ensures inside { IfOk result (All (λ r. AtOrBelow (element_of tree.now.root base) (element_of tree.now.root r))) }
     ensures meaning { T.meaning test.new ≡ T.meaning test.old }
+    ensures path { known.new.path ≡ known.old.path }
+    ensures known { OnOk result (AreRight tree.now.root (T.meaning test.old) (in_path known.old.path.now) known.new.truths) }
     ensures cost { T.cost test.new
         ≤ T.cost test.old
         + price.step_price tree.now.root (T.meaning test.old) (view.step step.now) (map meaning.item (map (element_of tree.now.root) contexts)) }
 {
-    let parents = parents_of(alloc, tree, step.deep, contexts)?;
-    chosen(alloc, tree, step, base, &parents, test)
+    let parents = parents_of(known.alloc, tree, step.deep, contexts)?;
+    chosen(tree, step, number, base, &parents, test, known)
 }
 
 /// The elements to whose children a step leads: the contexts or, where it is deep, they and all elements below them.
@@ -104,17 +120,20 @@ fn parents_of(alloc: Global, tree: &DocTree, deep: bool, contexts: Nodes) -> Res
 /// The elements that a step keeps of the children of each parent, in document order.
 #[cycle(evaluate)]
 fn chosen<T: TextTest>(
-    alloc: Global,
     tree: &DocTree,
     step: &Step,
+    number: usize,
     base: NodeRef,
     parents: &Nodes,
     test: &mut T,
+    known: &mut Known,
 ) -> Result<Nodes, Memory>
     requires base { IsElement tree.now.root base }
     requires parents { All (IsElement tree.now.root) parents.now }
     requires inside { All (λ r. AtOrBelow (element_of tree.now.root base) (element_of tree.now.root r)) parents.now }
     requires asked { OfStep (MayAsk tree.now.root (T.meaning test.old)) (view.step step.now) }
+    requires numbered { StandFrom (in_path known.old.path.now) number (in_step (view.step step.now)) }
+    requires known { AreRight tree.now.root (T.meaning test.old) (in_path known.old.path.now) known.old.truths }
     ensures elements { IfOk result (λ found. map (element_of tree.now.root) found
         ≡ filter
         (is_in (map (spec.kept_children tree.now.root (T.meaning test.old) (view.step step.now)) (map (element_of tree.now.root) parents.now)))
@@ -122,63 +141,78 @@ fn chosen<T: TextTest>(
     ensures there { IfOk result (All (IsElement tree.now.root)) }
     ensures inside { IfOk result (All (λ r. AtOrBelow (element_of tree.now.root base) (element_of tree.now.root r))) }
     ensures meaning { T.meaning test.new ≡ T.meaning test.old }
+    ensures path { known.new.path ≡ known.old.path }
+    ensures known { OnOk result (AreRight tree.now.root (T.meaning test.old) (in_path known.old.path.now) known.new.truths) }
     ensures cost { T.cost test.new
         ≤ T.cost test.old + sum_by (price.children_price tree.now.root (T.meaning test.old) (view.step step.now)) (map (element_of tree.now.root) parents.now) }
 {
-    let mut marks = Marks::new(alloc);
-    let mut ways = Marks::new(alloc);
+    let mut marks = Marks::new(known.alloc);
+    let mut ways = Marks::new(known.alloc);
     for parent in parents.as_slice() {
-        let kept = kept_children(alloc, tree, step, *parent, test)?;
+        let kept = kept_children(tree, step, number, *parent, test, known)?;
         mark_kept(tree, *parent, &kept, &mut marks, &mut ways)?;
     }
-    let mut found = Nodes::new(alloc);
-    add_marked(alloc, tree, base, &marks, &ways, &mut found)?;
+    let mut found = Nodes::new(known.alloc);
+    add_marked(known.alloc, tree, base, &marks, &ways, &mut found)?;
     Ok(found)
 }
 
 /// The elements that a step keeps of the children of an element.
 #[cycle(evaluate)]
 fn kept_children<T: TextTest>(
-    alloc: Global,
     tree: &DocTree,
     step: &Step,
+    number: usize,
     parent: NodeRef,
     test: &mut T,
+    known: &mut Known,
 ) -> Result<Nodes, Memory>
     requires parent { IsElement tree.now.root parent }
     requires asked { OfStep (MayAsk tree.now.root (T.meaning test.old)) (view.step step.now) }
+    requires numbered { StandFrom (in_path known.old.path.now) number (in_step (view.step step.now)) }
+    requires known { AreRight tree.now.root (T.meaning test.old) (in_path known.old.path.now) known.old.truths }
     ensures elements { IfOk result (λ kept. map (element_of tree.now.root) kept
         ≡ spec.kept_children tree.now.root (T.meaning test.old) (view.step step.now) (element_of tree.now.root parent)) }
     ensures there { IfOk result (All (IsElement tree.now.root)) }
     ensures meaning { T.meaning test.new ≡ T.meaning test.old }
+    ensures path { known.new.path ≡ known.old.path }
+    ensures known { OnOk result (AreRight tree.now.root (T.meaning test.old) (in_path known.old.path.now) known.new.truths) }
     ensures cost { T.cost test.new
         ≤ T.cost test.old + price.children_price tree.now.root (T.meaning test.old) (view.step step.now) (element_of tree.now.root parent) }
 {
-    let children = element_children(alloc, tree, parent)?;
-    kept(alloc, tree, step, &children, test)
+    let children = element_children(known.alloc, tree, parent)?;
+    kept(tree, step, number, &children, test, known)
 }
 
 /// The elements of a list that pass the step's test of names and then its predicates.
 #[cycle(evaluate)]
 pub(crate) fn kept<T: TextTest>(
-    alloc: Global,
     tree: &DocTree,
     step: &Step,
+    number: usize,
     items: &Nodes,
     test: &mut T,
+    known: &mut Known,
 ) -> Result<Nodes, Memory>
     requires items { All (IsElement tree.now.root) items.now }
     requires asked { OfStep (MayAsk tree.now.root (T.meaning test.old)) (view.step step.now) }
+    requires numbered { StandFrom (in_path known.old.path.now) number (in_step (view.step step.now)) }
+    requires known { AreRight tree.now.root (T.meaning test.old) (in_path known.old.path.now) known.old.truths }
     ensures elements { IfOk result (λ kept. map (element_of tree.now.root) kept
         ≡ spec.kept tree.now.root (T.meaning test.old) (view.step step.now) (map (element_of tree.now.root) items.now)) }
     ensures there { IfOk result (All (IsElement tree.now.root)) }
     ensures meaning { T.meaning test.new ≡ T.meaning test.old }
+    ensures path { known.new.path ≡ known.old.path }
+    ensures known { OnOk result (AreRight tree.now.root (T.meaning test.old) (in_path known.old.path.now) known.new.truths) }
     ensures cost { T.cost test.new
         ≤ T.cost test.old + price.list_price tree.now.root (T.meaning test.old) (view.step step.now) (map (element_of tree.now.root) items.now) }
 {
-    let mut kept = named(alloc, tree, &step.test, items)?;
+    let mut kept = named(known.alloc, tree, &step.test, items)?;
+    let mut first = number;
     for predicate in step.predicates.as_slice() {
-        kept = filtered(alloc, tree, predicate, kept, test)?;
+        let behind = behind_predicate(first, predicate)?;
+        kept = filtered(tree, predicate, first, kept, test, known)?;
+        first = behind;
     }
     Ok(kept)
 }
@@ -186,52 +220,62 @@ pub(crate) fn kept<T: TextTest>(
 /// The elements of a list that pass a predicate.
 #[cycle(evaluate)]
 fn filtered<T: TextTest>(
-    alloc: Global,
     tree: &DocTree,
     predicate: &Predicate,
+    number: usize,
     items: Nodes,
     test: &mut T,
+    known: &mut Known,
 ) -> Result<Nodes, Memory>
     requires items { All (IsElement tree.now.root) items }
     requires asked { OfPredicate (MayAsk tree.now.root (T.meaning test.old)) (view.predicate predicate.now) }
+    requires numbered { StandFrom (in_path known.old.path.now) number (in_predicate (view.predicate predicate.now)) }
+    requires known { AreRight tree.now.root (T.meaning test.old) (in_path known.old.path.now) known.old.truths }
     ensures elements { IfOk result (λ kept. map (element_of tree.now.root) kept
         ≡ meaning.filtered_by (satisfied tree.now.root (T.meaning test.old)) (elements (plain tree.now.root)) (view.predicate predicate.now)
         (map (element_of tree.now.root) items)) }
     ensures there { IfOk result (All (IsElement tree.now.root)) }
     ensures meaning { T.meaning test.new ≡ T.meaning test.old }
+    ensures path { known.new.path ≡ known.old.path }
+    ensures known { OnOk result (AreRight tree.now.root (T.meaning test.old) (in_path known.old.path.now) known.new.truths) }
     ensures cost { T.cost test.new
         ≤ T.cost test.old + price.predicate_price tree.now.root (T.meaning test.old) (view.predicate predicate.now) (map (element_of tree.now.root) items) }
 {
     match predicate {
-        Predicate::Number(number) => numbered(alloc, tree, *number, &items),
-        Predicate::Holds(condition) => satisfying(alloc, tree, condition, items, test),
+        Predicate::Number(place) => numbered(known.alloc, tree, *place, &items),
+        Predicate::Holds(condition) => satisfying(tree, condition, number, items, test, known),
     }
 }
 
 /// The elements of a list of which a condition is true.
 #[cycle(evaluate)]
 fn satisfying<T: TextTest>(
-    alloc: Global,
     tree: &DocTree,
     condition: &Condition,
+    number: usize,
     items: Nodes,
     test: &mut T,
+    known: &mut Known,
 ) -> Result<Nodes, Memory>
     requires items { All (IsElement tree.now.root) items }
     requires asked { OfCondition (MayAsk tree.now.root (T.meaning test.old)) (view.condition condition.now) }
+    requires numbered { StandFrom (in_path known.old.path.now) number (in_condition (view.condition condition.now)) }
+    requires known { AreRight tree.now.root (T.meaning test.old) (in_path known.old.path.now) known.old.truths }
     ensures elements { IfOk result (λ kept. map (element_of tree.now.root) kept
         ≡ filter
         (meaning.is_true (satisfied tree.now.root (T.meaning test.old)) (elements (plain tree.now.root)) (view.condition condition.now))
         (map (element_of tree.now.root) items)) }
     ensures there { IfOk result (All (IsElement tree.now.root)) }
     ensures meaning { T.meaning test.new ≡ T.meaning test.old }
+    ensures path { known.new.path ≡ known.old.path }
+    ensures known { OnOk result (AreRight tree.now.root (T.meaning test.old) (in_path known.old.path.now) known.new.truths) }
     ensures cost { T.cost test.new
         ≤ T.cost test.old
         + sum_by (price.condition_price tree.now.root (T.meaning test.old) (view.condition condition.now)) (map (element_of tree.now.root) items) }
 {
-    let mut kept = Nodes::new(alloc);
+    let mut kept = Nodes::new(known.alloc);
     for item in items.as_slice() {
-        let wanted = is_true(alloc, tree, condition, *item, test)?;
+        let wanted = is_true(tree, condition, number, *item, test, known)?;
         push_if(wanted, *item, &mut kept)?;
     }
     Ok(kept)
@@ -240,87 +284,102 @@ fn satisfying<T: TextTest>(
 /// Whether a condition is true of an element.
 #[cycle(evaluate)]
 fn is_true<T: TextTest>(
-    alloc: Global,
     tree: &DocTree,
     condition: &Condition,
+    number: usize,
     item: NodeRef,
     test: &mut T,
+    known: &mut Known,
 ) -> Result<bool, Memory>
     requires item { IsElement tree.now.root item }
     requires asked { OfCondition (MayAsk tree.now.root (T.meaning test.old)) (view.condition condition.now) }
+    requires numbered { StandFrom (in_path known.old.path.now) number (in_condition (view.condition condition.now)) }
+    requires known { AreRight tree.now.root (T.meaning test.old) (in_path known.old.path.now) known.old.truths }
     ensures truth { IfOk result (λ truth. truth
         ≡ meaning.is_true (satisfied tree.now.root (T.meaning test.old)) (elements (plain tree.now.root)) (view.condition condition.now)
         (element_of tree.now.root item)) }
     ensures meaning { T.meaning test.new ≡ T.meaning test.old }
+    ensures path { known.new.path ≡ known.old.path }
+    ensures known { OnOk result (AreRight tree.now.root (T.meaning test.old) (in_path known.old.path.now) known.new.truths) }
     ensures cost { T.cost test.new
         ≤ T.cost test.old + price.condition_price tree.now.root (T.meaning test.old) (view.condition condition.now) (element_of tree.now.root item) }
 {
     match condition {
-        Condition::Or(parts) => joined(alloc, tree, parts, true, item, test),
-        Condition::And(parts) => joined(alloc, tree, parts, false, item, test),
-        Condition::Not(operand) => Ok(!is_true(alloc, tree, operand, item, test)?),
+        Condition::Or(parts) => joined(tree, parts, number, true, item, test, known),
+        Condition::And(parts) => joined(tree, parts, number, false, item, test, known),
+        Condition::Not(operand) => Ok(!is_true(tree, operand, number, item, test, known)?),
         Condition::Attribute { name, value } => Ok(has_attribute(tree, item, name, value)),
-        Condition::Exists(steps) => exists(alloc, tree, steps, item, test),
+        Condition::Exists(steps) => exists(tree, steps, number, item, test, known),
         Condition::Contains { steps, selection } => {
-            contains_text(alloc, tree, steps, *selection, item, test)
+            contains_text(tree, steps, number, *selection, item, test, known)
         }
     }
 }
 
-/// The elements to which steps lead from an element, in document order, each once. `contains text` is answered by the
-/// test, which is asked only as long as the truth isn't known. Answers `Memory` for want of memory alone.
-///
-/// The meaning of steps is that of XQuery 3.0, section 3.3.
+/// The elements to which steps lead from an element, in document order, each once.
 #[cycle(evaluate)]
-pub fn led_from<T: TextTest>(
-    alloc: Global,
+fn led_from<T: TextTest>(
     tree: &DocTree,
     steps: &Items<Step>,
+    number: usize,
     item: NodeRef,
     test: &mut T,
+    known: &mut Known,
 ) -> Result<Nodes, Memory>
     requires item { IsElement tree.now.root item }
     requires asked { OfEach (MayAsk tree.now.root (T.meaning test.old)) (form.steps (map view.step steps.now)) }
+    requires numbered { StandFrom (in_path known.old.path.now) number (in_steps (form.steps (map view.step steps.now))) }
+    requires known { AreRight tree.now.root (T.meaning test.old) (in_path known.old.path.now) known.old.truths }
     ensures elements { IfOk result (λ found. map (element_of tree.now.root) found
         ≡ meaning.led (satisfied tree.now.root (T.meaning test.old)) (elements (plain tree.now.root)) (form.steps (map view.step steps.now))
         (element_of tree.now.root item ∷ [])) }
-    ensures agrees { (satisfies : ℕ → Element → Bool) → Agrees tree.now.root (T.meaning test.old) satisfies
-        → IfOk result (λ found. map (element_of tree.now.root) found
-        ≡ meaning.led satisfies (elements (plain tree.now.root)) (form.steps (map view.step steps.now)) (element_of tree.now.root item ∷ [])) }
     ensures there { IfOk result (All (IsElement tree.now.root)) }
     ensures meaning { T.meaning test.new ≡ T.meaning test.old }
+    ensures path { known.new.path ≡ known.old.path }
+    ensures known { OnOk result (AreRight tree.now.root (T.meaning test.old) (in_path known.old.path.now) known.new.truths) }
     ensures cost { T.cost test.new
         ≤ T.cost test.old + price.steps_price tree.now.root (T.meaning test.old) (form.steps (map view.step steps.now)) (element_of tree.now.root item ∷ []) }
 {
-    let from = Nodes::from_slice(alloc, &[item])?;
-    led(alloc, tree, steps.as_slice(), item, from, test)
+    let from = Nodes::from_slice(known.alloc, &[item])?;
+    let outer = known.set_inside(true);
+    let found = led(tree, steps.as_slice(), number, item, from, test, known)?;
+    known.set_inside(outer);
+    Ok(found)
 }
 
 /// The truth of conditions that are joined: by `or` where a true one decides it, by `and` where a false one does. Those behind
 /// the first one that decides aren't looked at.
 #[cycle(evaluate)]
 fn joined<T: TextTest>(
-    alloc: Global,
     tree: &DocTree,
     conditions: &Items<Condition>,
+    number: usize,
     deciding: bool,
     item: NodeRef,
     test: &mut T,
+    known: &mut Known,
 ) -> Result<bool, Memory>
     requires item { IsElement tree.now.root item }
     requires asked { OfConditions (MayAsk tree.now.root (T.meaning test.old)) (form.conditions (map view.condition conditions.now)) }
+    requires numbered { StandFrom (in_path known.old.path.now) number (in_conditions (form.conditions (map view.condition conditions.now))) }
+    requires known { AreRight tree.now.root (T.meaning test.old) (in_path known.old.path.now) known.old.truths }
     ensures truth { IfOk result (λ truth. truth
         ≡ spec.joined deciding (satisfied tree.now.root (T.meaning test.old)) (elements (plain tree.now.root))
         (form.conditions (map view.condition conditions.now)) (element_of tree.now.root item)) }
     ensures meaning { T.meaning test.new ≡ T.meaning test.old }
+    ensures path { known.new.path ≡ known.old.path }
+    ensures known { OnOk result (AreRight tree.now.root (T.meaning test.old) (in_path known.old.path.now) known.new.truths) }
     ensures cost { T.cost test.new
         ≤ T.cost test.old
         + price.conditions_price tree.now.root (T.meaning test.old) (form.conditions (map view.condition conditions.now)) (element_of tree.now.root item) }
 {
+    let mut first = number;
     for condition in conditions.as_slice() {
-        if is_true(alloc, tree, condition, item, test)? == deciding {
+        let behind = behind_condition(first, condition)?;
+        if is_true(tree, condition, first, item, test, known)? == deciding {
             return Ok(deciding);
         }
+        first = behind;
     }
     Ok(!deciding)
 }
@@ -328,42 +387,57 @@ fn joined<T: TextTest>(
 /// Whether steps lead from an element to some.
 #[cycle(evaluate)]
 fn exists<T: TextTest>(
-    alloc: Global,
     tree: &DocTree,
     steps: &Items<Step>,
+    number: usize,
     item: NodeRef,
     test: &mut T,
+    known: &mut Known,
 ) -> Result<bool, Memory>
     requires item { IsElement tree.now.root item }
     requires asked { OfEach (MayAsk tree.now.root (T.meaning test.old)) (form.steps (map view.step steps.now)) }
+    requires numbered { StandFrom (in_path known.old.path.now) number (in_condition (form.exists (form.steps (map view.step steps.now)))) }
+    requires known { AreRight tree.now.root (T.meaning test.old) (in_path known.old.path.now) known.old.truths }
     ensures truth { IfOk result (λ truth. truth
         ≡ meaning.some_element (meaning.led (satisfied tree.now.root (T.meaning test.old)) (elements (plain tree.now.root))
         (form.steps (map view.step steps.now)) (element_of tree.now.root item ∷ []))) }
     ensures meaning { T.meaning test.new ≡ T.meaning test.old }
+    ensures path { known.new.path ≡ known.old.path }
+    ensures known { OnOk result (AreRight tree.now.root (T.meaning test.old) (in_path known.old.path.now) known.new.truths) }
     ensures cost { T.cost test.new
         ≤ T.cost test.old + price.steps_price tree.now.root (T.meaning test.old) (form.steps (map view.step steps.now)) (element_of tree.now.root item ∷ []) }
 {
-    let nodes = led_from(alloc, tree, steps, item, test)?;
-    Ok(!nodes.is_empty())
+    if let Some(truth) = known.truth(number, item) {
+        return Ok(truth);
+    }
+    let nodes = led_from(tree, steps, next(number)?, item, test, known)?;
+    let truth = !nodes.is_empty();
+    known.keep(number, item, truth)?;
+    Ok(truth)
 }
 
 /// Whether one of the elements to which steps lead from an element satisfies a selection.
 #[cycle(evaluate)]
 fn contains_text<T: TextTest>(
-    alloc: Global,
     tree: &DocTree,
     steps: &Items<Step>,
+    number: usize,
     selection: usize,
     item: NodeRef,
     test: &mut T,
+    known: &mut Known,
 ) -> Result<bool, Memory>
     requires item { IsElement tree.now.root item }
     requires asked { OfEach (MayAsk tree.now.root (T.meaning test.old)) (form.steps (map view.step steps.now)) }
     requires text { MayAsk tree.now.root (T.meaning test.old) selection }
+    requires numbered { StandFrom (in_path known.old.path.now) number (in_condition (form.contains (form.steps (map view.step steps.now)) selection)) }
+    requires known { AreRight tree.now.root (T.meaning test.old) (in_path known.old.path.now) known.old.truths }
     ensures truth { IfOk result (λ truth. truth
         ≡ list_any (satisfied tree.now.root (T.meaning test.old) selection) (meaning.led (satisfied tree.now.root (T.meaning test.old))
         (elements (plain tree.now.root)) (form.steps (map view.step steps.now)) (element_of tree.now.root item ∷ []))) }
     ensures meaning { T.meaning test.new ≡ T.meaning test.old }
+    ensures path { known.new.path ≡ known.old.path }
+    ensures known { OnOk result (AreRight tree.now.root (T.meaning test.old) (in_path known.old.path.now) known.new.truths) }
     ensures cost { T.cost test.new
         ≤ T.cost test.old
         + (price.steps_price tree.now.root (T.meaning test.old) (form.steps (map view.step steps.now)) (element_of tree.now.root item ∷ [])
@@ -371,8 +445,13 @@ fn contains_text<T: TextTest>(
         (satisfied tree.now.root (T.meaning test.old)) (elements (plain tree.now.root)) (form.steps (map view.step steps.now))
         (element_of tree.now.root item ∷ [])))) }
 {
-    let nodes = led_from(alloc, tree, steps, item, test)?;
-    some_contains(tree, selection, &nodes, test)
+    if let Some(truth) = known.truth(number, item) {
+        return Ok(truth);
+    }
+    let nodes = led_from(tree, steps, next(number)?, item, test, known)?;
+    let truth = some_contains(tree, selection, &nodes, test)?;
+    known.keep(number, item, truth)?;
+    Ok(truth)
 }
 
 /// Whether one of the elements satisfies a selection; those behind it aren't asked for.

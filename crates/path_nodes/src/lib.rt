@@ -6,6 +6,8 @@ mod children;
 mod contains_text;
 mod evaluating;
 mod kept;
+mod known;
+mod leading;
 mod marks;
 mod names;
 mod numbers;
@@ -13,7 +15,6 @@ mod selected;
 mod walks;
 
 pub use contains_text::TextTest;
-pub use evaluating::led_from;
 use ft_base::Items;
 use ordered_tree::NodeRef;
 pub use selected::nodes;

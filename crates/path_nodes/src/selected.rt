@@ -1,10 +1,12 @@
-ghost use Rattle.std.specs.Prelude.{◌≡◌, ◌≤◌, ◌+◌, ◌∷◌, [], ℕ, All, Bool, IfOk, map, true};
+ghost use Rattle.std.specs.Prelude.{◌≡◌, ◌≤◌, ◌+◌, ◌∷◌, [], ℕ, All, Bool, IfOk, OnOk, map, true};
 ghost use Rattle.ordered_tree.specs.Numbered.{is_element, plain};
 ghost use Rattle.path_meaning.specs.Elements.{Element, elements, placed};
 ghost use Rattle.path_grammar.specs.Form as form;
 ghost use Rattle.path_meaning.specs.Meaning as meaning;
 ghost use Rattle.path_grammar.specs.View as view;
 ghost use Rattle.path_nodes.specs.Asked.{OfEach, OfStep, MayAsk};
+ghost use Rattle.path_nodes.specs.steps.Known.{AreRight};
+ghost use Rattle.path_nodes.specs.steps.Leading.{StandFrom, in_path, in_step};
 ghost use Rattle.path_nodes.specs.Prices.{price_of, step_price};
 ghost use Rattle.path_nodes.specs.References.{IsElement, element_of};
 ghost use Rattle.path_nodes.specs.Says.{Agrees, satisfied};
@@ -12,6 +14,8 @@ ghost use Rattle.path_meaning.specs.Tests.{selected_tests};
 
 use crate::evaluating::{kept, led, stepped};
 use crate::kept::append;
+use crate::known::Known;
+use crate::leading::behind_step;
 use crate::{Nodes, TextTest};
 use ft_base::Memory;
 use ordered_tree::{DocTree, NodeRef};
@@ -46,36 +50,51 @@ pub fn nodes<T: TextTest>(
     if steps.is_empty() {
         return Ok(Vec::new(alloc));
     }
-    let first = from_document(alloc, tree, steps.get(0), root, test)?;
-    let found = led(alloc, tree, &steps.as_slice()[1..], root, first, test)?;
+    let mut known = Known::new(alloc, steps);
+    let step = steps.get(0);
+    let number = behind_step(0, step)?;
+    let first = from_document(tree, step, root, test, &mut known)?;
+    let found = led(
+        tree,
+        &steps.as_slice()[1..],
+        number,
+        root,
+        first,
+        test,
+        &mut known,
+    )?;
     Ok(found.into_vec())
 }
 
 /// The elements to which a step leads from the document, whose only child is the root.
 fn from_document<T: TextTest>(
-    alloc: Global,
     tree: &DocTree,
     step: &Step,
     root: NodeRef,
     test: &mut T,
+    known: &mut Known,
 ) -> Result<Nodes, Memory>
     requires root { IsElement tree.now.root root }
     requires first { element_of tree.now.root root ≡ placed [] (plain tree.now.root) }
     requires asked { OfStep (MayAsk tree.now.root (T.meaning test.old)) (view.step step.now) }
+    requires numbered { StandFrom (in_path known.old.path.now) 0 (in_step (view.step step.now)) }
+    requires known { AreRight tree.now.root (T.meaning test.old) (in_path known.old.path.now) known.old.truths }
     ensures elements { IfOk result (λ found. map (element_of tree.now.root) found
         ≡ meaning.stepped (satisfied tree.now.root (T.meaning test.old)) (elements (plain tree.now.root)) (view.step step.now)
         (meaning.document (plain tree.now.root) ∷ [])) }
     ensures there { IfOk result (All (IsElement tree.now.root)) }
     ensures meaning { T.meaning test.new ≡ T.meaning test.old }
+    ensures path { known.new.path ≡ known.old.path }
+    ensures known { OnOk result (AreRight tree.now.root (T.meaning test.old) (in_path known.old.path.now) known.new.truths) }
     ensures cost { T.cost test.new
         ≤ T.cost test.old + step_price tree.now.root (T.meaning test.old) (view.step step.now) (meaning.document (plain tree.now.root) ∷ []) }
 {
-    let only = Nodes::from_slice(alloc, &[root])?;
-    let mut found = kept(alloc, tree, step, &only, test)?;
+    let only = Nodes::from_slice(known.alloc, &[root])?;
+    let mut found = kept(tree, step, 0, &only, test, known)?;
     if !step.deep {
         return Ok(found);
     }
-    let below = stepped(alloc, tree, step, root, only, test)?;
+    let below = stepped(tree, step, 0, root, only, test, known)?;
     append(&mut found, &below)?;
     Ok(found)
 }

@@ -2,9 +2,8 @@ ghost use Rattle.std.specs.Prelude.{◌≡◌, ◌≤◌, ◌+◌, ◌∷◌, []
 ghost use Rattle.std.specs.List.{list_any};
 ghost use Rattle.ft_base.specs.declared.ids.NodeRef.{NodeRef};
 ghost use Rattle.path_meaning.specs.Elements.{Element};
-ghost use Rattle.path_nodes.specs.steps.Listed.{AreListed, HaveSame};
+ghost use Rattle.path_nodes.specs.steps.Listed.{AreAmong, AreListed, HaveSame};
 ghost use Rattle.path_nodes.specs.steps.Marks.{is_marked};
-ghost use Rattle.path_nodes.specs.Prices.{AreAmong};
 ghost use Rattle.path_nodes.specs.References.{IsElement, element_of};
 ghost use Rattle.path_nodes.specs.steps.Regions.{at_or_below, below};
 ghost use Rattle.path_nodes.specs.steps.Ways.{LeadTo};

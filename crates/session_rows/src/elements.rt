@@ -3,7 +3,7 @@ ghost use Rattle.std.specs.Prelude.{◌≡◌, All, IfOk, true};
 ghost use Rattle.ordered_tree.specs.Numbered.{is_element};
 ghost use Rattle.path_nodes.specs.References.{IsElement};
 
-use crate::rows::{expect_output, joined};
+use crate::rows::{expect_output, joined, repeated};
 use doc_profile::read_doc;
 use element_lines::push_names;
 use ft_base::{Lines, Memory};
@@ -189,6 +189,43 @@ fn a_line_names_each_step_or_prints_all_below(rt: HostRuntime) -> Result<(), Fai
     Ok(())
 }
 
+/// How many elements `a` a document has, each the only child of the one before it, how many predicates `[.//a ..]` stand one inside the
+/// other behind `/a`, and the reply.
+type Chained = (usize, usize, &'static str);
+
+const CHAINS: [Chained; 5] = [
+    (9, 8, "ok\n= 1\ndoc(\"x\")/a[1]\n"),
+    (8, 8, "ok\n= 0\n"),
+    (40, 8, "ok\n= 1\ndoc(\"x\")/a[1]\n"),
+    (65, 64, "ok\n= 1\ndoc(\"x\")/a[1]\n"),
+    (64, 64, "ok\n= 0\n"),
+];
+
+fn expect_chained(rt: &impl Abort, alloc: Global, row: &Chained) -> Result<(), Fail> {
+    let (elements, levels, reply) = row;
+    let opened = repeated(alloc, "load x\n", *elements, "<a>", "")?;
+    let loaded = repeated(
+        alloc,
+        opened.as_str(),
+        *elements,
+        "</a>",
+        "\n.\nquery collection()/a",
+    )?;
+    let begun = repeated(alloc, loaded.as_str(), *levels, "[.//a", "")?;
+    let session = repeated(alloc, begun.as_str(), *levels, "]", "\n")?;
+    expect_output(rt, alloc, session.as_str(), &[*reply], Status::Done)
+}
+
+#[test]
+fn a_predicate_inside_others_is_worked_out_once_for_an_element(
+    rt: HostRuntime,
+) -> Result<(), Fail> {
+    for row in &CHAINS {
+        expect_chained(&rt, rt.alloc(), row)?;
+    }
+    Ok(())
+}
+
 /// A test that is true of the nodes of these numbers and counts how often it is asked; each time costs 1.
 #[derive(Drop)]
 struct Judge {
@@ -197,13 +234,14 @@ struct Judge {
 }
 
 impl TextTest for Judge {
-    ghost use Rattle.std.specs.Prelude.{◌==◌, true};
+    ghost use Rattle.std.specs.Prelude.{◌==◌, [], true};
     ghost use Rattle.std.specs.List.{list_any};
 
     ghost meaning = { λ test. record {
       may_ask = λ selection r. true;
       says = λ selection r. list_any (λ n. n == r.0) test.nodes.now;
       price = λ selection r. 1;
+      lent = [];
     } };
 
     ghost cost = { λ test. test.asked };
@@ -264,7 +302,9 @@ fn expect_asked(rt: &impl Abort, alloc: Global, row: &Judged) -> Result<(), Fail
     Ok(())
 }
 
-const ASKED: [Judged; 4] = [
+const THREE: &str = "<r><a><a><a><b/></a></a></a></r>";
+
+const ASKED: [Judged; 6] = [
     (
         LETTERS,
         "collection()//b[. contains text \"s\"][2]",
@@ -292,6 +332,21 @@ const ASKED: [Judged; 4] = [
         &[4, 10],
         &[4, 10],
         5,
+    ),
+    // the predicate inside is asked once for the third `a`, which is below the first and the second
+    (
+        THREE,
+        "collection()//a[.//a[.//b contains text \"s\"]]",
+        &[],
+        &[],
+        2,
+    ),
+    (
+        THREE,
+        "collection()//a[.//a[.//b contains text \"s\"]]",
+        &[4],
+        &[1, 2],
+        2,
     ),
 ];
 

@@ -15,19 +15,19 @@ use Rattle.path_meaning.specs.Tests.{condition_tests}
 use Rattle.path_nodes.specs.Asked.{OfPredicate, OfCondition, MayAsk}
 use Rattle.path_nodes.specs.steps.Kept as spec
 use Rattle.path_nodes.specs.steps.Marks.{is_marked}
+use Rattle.path_nodes.specs.steps.Leading.{StandFrom, in_path, in_steps, in_predicate, in_condition}
 use Rattle.path_nodes.specs.Prices as price
 use Rattle.path_nodes.specs.References.{IsElement, element_of}
 use Rattle.path_nodes.specs.steps.Regions.{below}
 use Rattle.path_nodes.specs.Says.{satisfied}
 use Rattle.path_nodes.specs.steps.Within.{AtOrBelow}
-use Rattle.path_nodes.proofs.AlikeLemmas.{led-from-alike}
 use Rattle.path_nodes.proofs.AskedLemmas.{step-is, of-step, nth-step, nth-predicate, nth-condition}
-use Rattle.path_nodes.proofs.ChosenLemmas.{within-base, chosen-inside, of-document, parents-inside, all-refs, stepped-is}
+use Rattle.path_nodes.proofs.ChosenLemmas.{within-base, chosen-inside, parents-inside, all-refs, stepped-is}
 use Rattle.path_nodes.proofs.FrontLemmas.{front-itself}
+use Rattle.path_nodes.proofs.LeadingLemmas.{in-step, steps-from, predicates-from, conditions-from, stand-first, stand-next, stand-itself, stand-inside}
 use Rattle.path_nodes.proofs.ListedLemmas.{or-cases, same-offered, same-inside}
 use Rattle.path_nodes.proofs.ListLemmas.{any-more-of, filter-more, more-there}
 use Rattle.path_nodes.proofs.MeaningLemmas.{led-next, filtered-next, decided, undecided, joined-none, emptied}
-use Rattle.path_nodes.proofs.NamedLemmas.{agrees-there}
 use Rattle.path_nodes.proofs.PriceLemmas.{sum-next, price-append, price-holds, steps-next, predicates-next, conditions-next, step-price}
 use Rattle.path_nodes.proofs.CostLemmas.{cost-next, cost-part, at-price, at-most, both-cost}
 use Rattle.path_nodes.proofs.SpotLemmas.{of_number}
@@ -37,8 +37,8 @@ use Rattle.path_nodes.proofs.evaluating.+evaluate.Goals as goal
 -- ---- filtered
 
 pub filtered-satisfying-requires : goal.filtered-satisfying-requires
-unfolding OfPredicate
-filtered-satisfying-requires g t c κs within = (search (rules, the_lemmas), (within, (c.requires.items, rw (c.in-Holds.is, view_holds) at c.requires.asked)))
+unfolding OfPredicate in_predicate
+filtered-satisfying-requires g t c κs within = (search (rules, the_lemmas), (within, (c.requires.items, (rw (c.in-Holds.is, view_holds) at c.requires.asked, (rw (c.in-Holds.is, view_holds) at c.requires.numbered, c.requires.known)))))
 
 pub filtered-returns-in-Number-clause-elements : goal.filtered-returns-in-Number-clause-elements
 unfolding meaning.filtered_by
@@ -52,38 +52,40 @@ filtered-returns-in-Holds g t c =
       elements = c.satisfying.ensures.elements;
       there = c.satisfying.ensures.there;
       meaning = c.satisfying.ensures.meaning;
+      path = c.satisfying.ensures.path;
+      known = c.satisfying.ensures.known;
       cost = at-price _ _ _ _ c.satisfying.ensures.cost own_price;
     })
 
 -- ---- is_true
 
 pub is_true-joined-requires : goal.is_true-joined-requires
-unfolding OfCondition
-is_true-joined-requires g t c κs within = (search (rules, the_lemmas), (within, (c.requires.item, rw (c.in-Or.is, view_or) at c.requires.asked)))
+unfolding OfCondition in_condition
+is_true-joined-requires g t c κs within = (search (rules, the_lemmas), (within, (c.requires.item, (rw (c.in-Or.is, view_or) at c.requires.asked, (rw (c.in-Or.is, view_or) at c.requires.numbered, c.requires.known)))))
 
 pub is_true-joined-requires-in-And : goal.is_true-joined-requires-in-And
-unfolding OfCondition
-is_true-joined-requires-in-And g t c κs within = (search (rules, the_lemmas), (within, (c.requires.item, rw (c.in-And.is, view_and) at c.requires.asked)))
+unfolding OfCondition in_condition
+is_true-joined-requires-in-And g t c κs within = (search (rules, the_lemmas), (within, (c.requires.item, (rw (c.in-And.is, view_and) at c.requires.asked, (rw (c.in-And.is, view_and) at c.requires.numbered, c.requires.known)))))
 
 pub is_true-is_true-requires : goal.is_true-is_true-requires
-unfolding OfCondition
-is_true-is_true-requires g t c κs within = (search (rules, the_lemmas), (within, (c.requires.item, rw c.deref.ensures (rw (c.in-Not.is, view_not) at c.requires.asked))))
+unfolding OfCondition in_condition
+is_true-is_true-requires g t c κs within = (search (rules, the_lemmas), (within, (c.requires.item, (rw c.deref.ensures (rw (c.in-Not.is, view_not) at c.requires.asked), (rw c.deref.ensures (rw (c.in-Not.is, view_not) at c.requires.numbered), c.requires.known)))))
 
 pub is_true-exists-requires : goal.is_true-exists-requires
-unfolding OfCondition
-is_true-exists-requires g t c κs within = (search (rules, the_lemmas), (within, (c.requires.item, rw (c.in-Exists.is, view_exists) at c.requires.asked)))
+unfolding OfCondition in_condition
+is_true-exists-requires g t c κs within = (search (rules, the_lemmas), (within, (c.requires.item, (rw (c.in-Exists.is, view_exists) at c.requires.asked, (rw (c.in-Exists.is, view_exists) at c.requires.numbered, c.requires.known)))))
 
 pub is_true-contains_text-requires : goal.is_true-contains_text-requires
-unfolding OfCondition
-is_true-contains_text-requires g t c κs within = let both = rw (c.in-Contains.is, view_contains) at c.requires.asked in (search (rules, the_lemmas), (within, (c.requires.item, (both.0, both.1))))
+unfolding OfCondition in_condition
+is_true-contains_text-requires g t c κs within = let both = rw (c.in-Contains.is, view_contains) at c.requires.asked in (search (rules, the_lemmas), (within, (c.requires.item, (both.0, (both.1, (rw (c.in-Contains.is, view_contains) at c.requires.numbered, c.requires.known))))))
 
 pub is_true-returns-in-Or : goal.is_true-returns-in-Or
 unfolding meaning.is_true condition_tests
-is_true-returns-in-Or g t c = rw (c.in-Or.is, view_or) (record { truth = c.joined.ensures.truth; meaning = c.joined.ensures.meaning; cost = c.joined.ensures.cost })
+is_true-returns-in-Or g t c = rw (c.in-Or.is, view_or) (record { truth = c.joined.ensures.truth; meaning = c.joined.ensures.meaning; path = c.joined.ensures.path; known = c.joined.ensures.known; cost = c.joined.ensures.cost })
 
 pub is_true-returns-in-And : goal.is_true-returns-in-And
 unfolding meaning.is_true condition_tests
-is_true-returns-in-And g t c = rw (c.in-And.is, view_and) (record { truth = c.joined-in-And.ensures.truth; meaning = c.joined-in-And.ensures.meaning; cost = c.joined-in-And.ensures.cost })
+is_true-returns-in-And g t c = rw (c.in-And.is, view_and) (record { truth = c.joined-in-And.ensures.truth; meaning = c.joined-in-And.ensures.meaning; path = c.joined-in-And.ensures.path; known = c.joined-in-And.ensures.known; cost = c.joined-in-And.ensures.cost })
 
 pub is_true-returns-in_err-is_true-in-Not-clause-cost : goal.is_true-returns-in_err-is_true-in-Not-clause-cost
 unfolding condition_tests
@@ -103,25 +105,69 @@ is_true-returns-in-Attribute-clause-truth g t c = rw (c.in-Attribute.is, view_at
 
 pub is_true-returns-in-Exists : goal.is_true-returns-in-Exists
 unfolding meaning.is_true condition_tests
-is_true-returns-in-Exists g t c = rw (c.in-Exists.is, view_exists) (record { truth = c.exists.ensures.truth; meaning = c.exists.ensures.meaning; cost = c.exists.ensures.cost })
+is_true-returns-in-Exists g t c = rw (c.in-Exists.is, view_exists) (record { truth = c.exists.ensures.truth; meaning = c.exists.ensures.meaning; path = c.exists.ensures.path; known = c.exists.ensures.known; cost = c.exists.ensures.cost })
 
 pub is_true-returns-in-Contains : goal.is_true-returns-in-Contains
 unfolding meaning.is_true condition_tests
 is_true-returns-in-Contains g t c =
-    rw (c.in-Contains.is, view_contains) (record { truth = c.contains_text.ensures.truth; meaning = c.contains_text.ensures.meaning; cost = rw price-append c.contains_text.ensures.cost })
+    rw (c.in-Contains.is, view_contains) (record { truth = c.contains_text.ensures.truth; meaning = c.contains_text.ensures.meaning; path = c.contains_text.ensures.path; known = c.contains_text.ensures.known; cost = rw price-append c.contains_text.ensures.cost })
 
 -- ---- exists and contains_text
 
+pub exists-led_from-requires : goal.exists-led_from-requires
+unfolding in_condition
+exists-led_from-requires g t c κs within =
+    let s = form.steps (map view.step c.args.steps.now) in
+    let inside = stand-inside (in_path c.args.known.now.path.now) c.args.number c.in_ok-next.field-0 (form.exists s) (in_steps s) c.requires.numbered c.in_ok-next.ensures in
+    (search (rules, the_lemmas), (within, (c.requires.item, (c.requires.asked, (inside, c.requires.known)))))
+
+pub exists-returns-in-Some-clause-truth : goal.exists-returns-in-Some-clause-truth
+unfolding in_condition meaning.is_true
+exists-returns-in-Some-clause-truth g t c =
+    let s = form.steps (map view.step c.args.steps.now) in
+    let itself = stand-itself (in_path c.args.known.now.path.now) c.args.number (form.exists s) (in_steps s) c.requires.numbered in
+    c.requires.known c.args.number (form.exists s) c.args.item c.in-Some.truth itself (sym c.truth.ensures ∙ c.in-Some.is)
+
 pub exists-returns-clause-truth : goal.exists-returns-clause-truth
 exists-returns-clause-truth g t c =
-    emptied (element_of c.args.tree.now.root) c.is_empty.result c.in_ok-nodes.nodes c.is_empty.ensures.0 c.is_empty.ensures.1 ∙ ap meaning.some_element c.in_ok-nodes.ensures.elements
+    emptied (element_of c.args.tree.now.root) c.is_empty-truth.result c.in_ok-nodes.nodes c.is_empty-truth.ensures.0 c.is_empty-truth.ensures.1 ∙ ap meaning.some_element c.in_ok-nodes.ensures.elements
+
+pub exists-returns-clause-known : goal.exists-returns-clause-known
+unfolding in_condition meaning.is_true
+exists-returns-clause-known g t c =
+    let s = form.steps (map view.step c.args.steps.now) in
+    let all = in_path c.args.known.now.path.now in
+    let itself = stand-itself all c.args.number (form.exists s) (in_steps s) c.requires.numbered in
+    c.in_ok-keep.ensures.right c.args.tree.now.root (g.T.TextTest.meaning c.args.test.now) all (form.exists s) c.in_ok-nodes.ensures.known itself (exists-returns-clause-truth g t c)
+
+pub contains_text-led_from-requires : goal.contains_text-led_from-requires
+unfolding in_condition
+contains_text-led_from-requires g t c κs within =
+    let s = form.steps (map view.step c.args.steps.now) in
+    let inside = stand-inside (in_path c.args.known.now.path.now) c.args.number c.in_ok-next.field-0 (form.contains s c.args.selection) (in_steps s) c.requires.numbered c.in_ok-next.ensures in
+    (search (rules, the_lemmas), (within, (c.requires.item, (c.requires.asked, (inside, c.requires.known)))))
+
+pub contains_text-returns-in-Some-clause-truth : goal.contains_text-returns-in-Some-clause-truth
+unfolding in_condition meaning.is_true
+contains_text-returns-in-Some-clause-truth g t c =
+    let s = form.steps (map view.step c.args.steps.now) in
+    let itself = stand-itself (in_path c.args.known.now.path.now) c.args.number (form.contains s c.args.selection) (in_steps s) c.requires.numbered in
+    c.requires.known c.args.number (form.contains s c.args.selection) c.args.item c.in-Some.truth itself (sym c.truth.ensures ∙ c.in-Some.is)
 
 pub contains_text-returns-clause-truth : goal.contains_text-returns-clause-truth
-contains_text-returns-clause-truth g t c = rw (c.in_ok-nodes.ensures.meaning, c.in_ok-nodes.ensures.elements) at c.some_contains.ensures.truth
+contains_text-returns-clause-truth g t c = rw (c.in_ok-nodes.ensures.meaning, c.in_ok-nodes.ensures.elements) at c.in_ok-truth.ensures.truth
+
+pub contains_text-returns-clause-known : goal.contains_text-returns-clause-known
+unfolding in_condition meaning.is_true
+contains_text-returns-clause-known g t c =
+    let s = form.steps (map view.step c.args.steps.now) in
+    let all = in_path c.args.known.now.path.now in
+    let itself = stand-itself all c.args.number (form.contains s c.args.selection) (in_steps s) c.requires.numbered in
+    c.in_ok-keep.ensures.right c.args.tree.now.root (g.T.TextTest.meaning c.args.test.now) all (form.contains s c.args.selection) c.in_ok-nodes.ensures.known itself (contains_text-returns-clause-truth g t c)
 
 pub contains_text-returns-clause-cost : goal.contains_text-returns-clause-cost
 contains_text-returns-clause-cost g t c =
-    both-cost _ _ _ _ _ _ c.in_ok-nodes.ensures.cost (rw (c.in_ok-nodes.ensures.meaning, c.in_ok-nodes.ensures.elements) at c.some_contains.ensures.cost) refl
+    both-cost _ _ _ _ _ _ c.in_ok-nodes.ensures.cost (rw (c.in_ok-nodes.ensures.meaning, c.in_ok-nodes.ensures.elements) at c.in_ok-truth.ensures.cost) refl
 
 -- ---- joined
 
@@ -129,8 +175,11 @@ pub joined-is_true-requires : goal.joined-is_true-requires
 joined-is_true-requires g t c κs within =
     let P = MayAsk c.args.tree.now.root (g.T.TextTest.meaning c.args.test.now) in
     let asked = rw (← c.as_slice-condition-items.ensures) at c.requires.asked in
-    let one = nth-condition P c.as_slice-condition-items.result.now c.loop-condition.condition-index c.condition-item.result c.loop-condition-test.true asked in
-    (search (rules, the_lemmas), (within, (c.requires.item, rw (c.loop-condition.invariant.meaning, c.condition-item.is) one)))
+    let items = c.as_slice-condition-items.result.now in
+    let i = c.loop-condition.condition-index in
+    let one = nth-condition P items i c.condition-item.result c.loop-condition-test.true asked in
+    let first = stand-first _ _ _ (conditions-from items i c.condition-item.result c.loop-condition-test.true) (in_path c.args.known.now.path.now) c.loop-condition.first c.loop-condition.invariant.numbered in
+    (search (rules, the_lemmas), (within, (c.requires.item, (rw (c.loop-condition.invariant.meaning, c.condition-item.is) one, (rw (c.loop-condition.invariant.path, c.condition-item.is) first, rw (c.loop-condition.invariant.meaning, c.loop-condition.invariant.path) c.loop-condition.invariant.known)))))
 
 pub joined-returns-then-branch-deciding-clause-truth : goal.joined-returns-then-branch-deciding-clause-truth
 joined-returns-then-branch-deciding-clause-truth g t c =
@@ -152,8 +201,14 @@ joined-loop-condition-preserved g t c =
     record {
       left = undecided (satisfied root m) (elements (plain root)) e c.args.deciding items i d c.loop-condition-test.true c.in_ok-is_true.field-0 says c.if-branch-deciding.false ∙ c.loop-condition.invariant.left;
       meaning = c.is_true.ensures.meaning ∙ c.loop-condition.invariant.meaning;
+      path = c.is_true.ensures.path ∙ c.loop-condition.invariant.path;
+      numbered = stand-next _ _ _ (conditions-from items i d c.loop-condition-test.true) _ _ c.loop-condition.invariant.numbered _ (rw c.condition-item.is at c.in_ok-behind.ensures);
+      known = rw (c.loop-condition.invariant.meaning, c.loop-condition.invariant.path) at c.in_ok-is_true.ensures.known;
       cost = cost-next _ _ _ _ _ _ (rw (c.loop-condition.invariant.meaning, c.condition-item.is) at c.is_true.ensures.cost) c.loop-condition.invariant.cost (conditions-next root m items i d c.loop-condition-test.true e);
     }
+
+pub joined-returns-then-branch-deciding-clause-known : goal.joined-returns-then-branch-deciding-clause-known
+joined-returns-then-branch-deciding-clause-known g t c = rw (c.loop-condition.invariant.meaning, c.loop-condition.invariant.path) at c.in_ok-is_true.ensures.known
 
 pub joined-returns-clause-truth : goal.joined-returns-clause-truth
 joined-returns-clause-truth g t c =
@@ -182,19 +237,12 @@ led_from-led-requires g t c κs within =
     let Q : NodeRef → Type 0 = λ r. AtOrBelow (element_of root item) (element_of root r) in
     let there = All-cons P item [] c.requires.item (All-nil P) in
     let inside = All-cons Q item [] (front-itself (element_of root item).place) (All-nil Q) in
-    (search (rules, the_lemmas), (within, (c.requires.item, (rw c.in_ok-from.ensures there, (rw c.in_ok-from.ensures inside, rw c.as_slice.ensures c.requires.asked)))))
+    (search (rules, the_lemmas), (within, (c.requires.item, (rw c.in_ok-from.ensures there, (rw c.in_ok-from.ensures inside, (rw c.as_slice.ensures c.requires.asked, (rw (c.as_slice.ensures, c.set_inside-outer.ensures.path) c.requires.numbered, rw (c.set_inside-outer.ensures.path, c.set_inside-outer.ensures.truths) c.requires.known)))))))
 
-pub led_from-returns-clause-agrees : goal.led_from-returns-clause-agrees
-led_from-returns-clause-agrees g t c = λ satisfies agree.
-    let root = c.args.tree.now.root in
-    let m = g.T.TextTest.meaning c.args.test.now in
-    let item = c.args.item in
-    let s = form.steps (map view.step c.args.steps.now) in
-    subst (λ es. IfOk c.led.result (λ found. map (element_of root) found ≡ es))
-    (ap (λ l. meaning.led (satisfied root m) (elements (plain root)) (form.steps (map view.step l)) (map (element_of root) c.in_ok-from.from)) c.as_slice.ensures
-    ∙ ap (λ l. meaning.led (satisfied root m) (elements (plain root)) s (map (element_of root) l)) c.in_ok-from.ensures
-    ∙ led-from-alike (satisfied root m) satisfies (plain root) (agrees-there root c.requires.item.apart m satisfies agree) s (element_of root item) (of-document root item c.requires.item))
-    c.led.ensures.elements
+pub led_from-returns-clause-known : goal.led_from-returns-clause-known
+led_from-returns-clause-known g t c =
+    let right = rw c.set_inside-outer.ensures.path at c.in_ok-found.ensures.known in
+    rw c.set_inside.ensures.truths right
 
 -- ---- stepped
 
@@ -207,7 +255,7 @@ stepped-chosen-requires g t c κs within =
     let deep = c.args.step.now.deep in
     let offered = parents-inside base deep contexts (All-map (AtOrBelow base) (element_of root) c.args.contexts c.requires.inside) in
     let inside = all-refs root (AtOrBelow base) parents (same-inside base (map (element_of root) parents) (spec.parents deep contexts) c.in_ok-parents.ensures.members offered) in
-    (search (rules, the_lemmas), (within, (c.requires.base, (c.in_ok-parents.ensures.there, (inside, c.requires.asked)))))
+    (search (rules, the_lemmas), (within, (c.requires.base, (c.in_ok-parents.ensures.there, (inside, (c.requires.asked, (c.requires.numbered, c.requires.known)))))))
 
 pub stepped-returns-clause-elements : goal.stepped-returns-clause-elements
 stepped-returns-clause-elements g t c =
@@ -234,7 +282,8 @@ pub led-stepped-requires : goal.led-stepped-requires
 led-stepped-requires g t c κs within =
     let P = MayAsk c.args.tree.now.root (g.T.TextTest.meaning c.args.test.now) in
     let one = nth-step P c.args.steps.now c.loop-step.step-index c.step-item.result c.loop-step-test.true c.requires.asked in
-    (search (rules, the_lemmas), (within, (c.requires.base, (c.loop-step.invariant.there, (c.loop-step.invariant.inside, rw (c.loop-step.invariant.meaning, c.step-item.is) one)))))
+    let first = stand-first _ _ _ (steps-from c.args.steps.now c.loop-step.step-index c.step-item.result c.loop-step-test.true) (in_path c.args.known.now.path.now) c.loop-step.first c.loop-step.invariant.numbered in
+    (search (rules, the_lemmas), (within, (c.requires.base, (c.loop-step.invariant.there, (c.loop-step.invariant.inside, (rw (c.loop-step.invariant.meaning, c.step-item.is) one, (rw (c.loop-step.invariant.path, c.step-item.is) first, rw (c.loop-step.invariant.meaning, c.loop-step.invariant.path) c.loop-step.invariant.known)))))))
 
 pub led-loop-step-preserved : goal.led-loop-step-preserved
 led-loop-step-preserved g t c =
@@ -251,6 +300,9 @@ led-loop-step-preserved g t c =
       there = c.in_ok-items.ensures.there;
       inside = c.in_ok-items.ensures.inside;
       meaning = c.stepped.ensures.meaning ∙ c.loop-step.invariant.meaning;
+      path = c.stepped.ensures.path ∙ c.loop-step.invariant.path;
+      numbered = stand-next _ _ _ (steps-from items i d c.loop-step-test.true) _ _ c.loop-step.invariant.numbered _ (rw c.step-item.is at c.in_ok-behind.ensures);
+      known = rw (c.loop-step.invariant.meaning, c.loop-step.invariant.path) at c.in_ok-items.ensures.known;
       cost = cost-next _ _ _ _ _ _ (rw (c.loop-step.invariant.meaning, c.step-item.is) at c.stepped.ensures.cost) c.loop-step.invariant.cost (steps-next root m items i d c.loop-step-test.true before after now);
     }
 
@@ -271,8 +323,25 @@ pub kept-filtered-requires : goal.kept-filtered-requires
 kept-filtered-requires g t c κs within =
     let P = MayAsk c.args.tree.now.root (g.T.TextTest.meaning c.args.test.now) in
     let asked = rw (← c.as_slice-predicate-items.ensures) at (of-step P c.args.step.now c.requires.asked) in
-    let one = nth-predicate P c.as_slice-predicate-items.result.now c.loop-predicate.predicate-index c.predicate-item.result c.loop-predicate-test.true asked in
-    (search (rules, the_lemmas), (within, (c.loop-predicate.invariant.there, rw (c.loop-predicate.invariant.meaning, c.predicate-item.is) one)))
+    let items = c.as_slice-predicate-items.result.now in
+    let i = c.loop-predicate.predicate-index in
+    let one = nth-predicate P items i c.predicate-item.result c.loop-predicate-test.true asked in
+    let first = stand-first _ _ _ (predicates-from items i c.predicate-item.result c.loop-predicate-test.true) (in_path c.args.known.now.path.now) c.loop-predicate.first c.loop-predicate.invariant.numbered in
+    (search (rules, the_lemmas), (within, (c.loop-predicate.invariant.there, (rw (c.loop-predicate.invariant.meaning, c.predicate-item.is) one, (rw (c.loop-predicate.invariant.path, c.predicate-item.is) first, rw (c.loop-predicate.invariant.meaning, c.loop-predicate.invariant.path) c.loop-predicate.invariant.known)))))
+
+pub kept-loop-predicate-init : goal.kept-loop-predicate-init
+kept-loop-predicate-init g t c =
+    let s = c.args.step.now in
+    let numbered = subst (StandFrom (in_path c.args.known.now.path.now) c.args.number) (in-step s) c.requires.numbered in
+    record {
+      left = rw (step-is s, c.as_slice-predicate-items.ensures, c.in_ok-kept.ensures.elements) refl;
+      there = c.in_ok-kept.ensures.there;
+      meaning = refl;
+      path = refl;
+      numbered = rw c.as_slice-predicate-items.ensures numbered;
+      known = c.requires.known;
+      cost = rw (step-is s, c.as_slice-predicate-items.ensures, c.in_ok-kept.ensures.elements) (omega arith);
+    }
 
 pub kept-loop-predicate-preserved : goal.kept-loop-predicate-preserved
 kept-loop-predicate-preserved g t c =
@@ -288,6 +357,9 @@ kept-loop-predicate-preserved g t c =
       left = filtered-next (satisfied root m) (elements (plain root)) items i d c.loop-predicate-test.true before after now ∙ c.loop-predicate.invariant.left;
       there = c.in_ok-kept-2.ensures.there;
       meaning = c.filtered.ensures.meaning ∙ c.loop-predicate.invariant.meaning;
+      path = c.filtered.ensures.path ∙ c.loop-predicate.invariant.path;
+      numbered = stand-next _ _ _ (predicates-from items i d c.loop-predicate-test.true) _ _ c.loop-predicate.invariant.numbered _ (rw c.predicate-item.is at c.in_ok-behind.ensures);
+      known = rw (c.loop-predicate.invariant.meaning, c.loop-predicate.invariant.path) at c.in_ok-kept-2.ensures.known;
       cost = cost-next _ _ _ _ _ _ (rw (c.loop-predicate.invariant.meaning, c.predicate-item.is) at c.filtered.ensures.cost) c.loop-predicate.invariant.cost (predicates-next root m items i d c.loop-predicate-test.true before after now);
     }
 
@@ -328,6 +400,8 @@ satisfying-loop-item-preserved g t c =
       done = filter-more (element_of root) true-of items i (of_number 0) c.loop-item-test.true c.loop-item.kept c.push_if.new.nodes c.in_ok-wanted.wanted c.loop-item.invariant.done c.in_ok-push_if.ensures (rw c.loop-item.invariant.meaning at c.in_ok-wanted.ensures.truth);
       there = more-there (IsElement root) c.loop-item.kept c.push_if.new.nodes q c.in_ok-wanted.wanted c.in_ok-push_if.ensures (All-get_or (IsElement root) items i (of_number 0) c.loop-item-test.true all) c.loop-item.invariant.there;
       meaning = c.is_true.ensures.meaning ∙ c.loop-item.invariant.meaning;
+      path = c.is_true.ensures.path ∙ c.loop-item.invariant.path;
+      known = rw (c.loop-item.invariant.meaning, c.loop-item.invariant.path) at c.in_ok-wanted.ensures.known;
       cost = cost-next _ _ _ _ _ _ (rw c.loop-item.invariant.meaning at c.is_true.ensures.cost) c.loop-item.invariant.cost
           (sum-next (price.condition_price root m (view.condition c.args.condition.now)) (element_of root) items i (of_number 0) c.loop-item-test.true);
     }
@@ -343,6 +417,14 @@ satisfying-returns-in_err-push_if-clause-cost g t c =
     (sum-next (price.condition_price c.args.tree.now.root (g.T.TextTest.meaning c.args.test.now) (view.condition c.args.condition.now)) (element_of c.args.tree.now.root) c.as_slice-item-items.result.now c.loop-item.item-index (of_number 0) c.loop-item-test.true)
 
 -- ---- chosen
+
+pub chosen-kept_children-requires : goal.chosen-kept_children-requires
+chosen-kept_children-requires g t c κs within =
+    let root = c.args.tree.now.root in
+    let items = c.as_slice-parent-items.result.now in
+    let all : All (IsElement root) items = subst (All (IsElement root)) (sym c.as_slice-parent-items.ensures) c.requires.parents in
+    let y = All-get_or (IsElement root) items c.loop-parent.parent-index (of_number 0) c.loop-parent-test.true all in
+    (search (rules, the_lemmas), (within, (y, (rw c.loop-parent.invariant.meaning c.requires.asked, (rw c.loop-parent.invariant.path c.requires.numbered, rw (c.loop-parent.invariant.meaning, c.loop-parent.invariant.path) c.loop-parent.invariant.known)))))
 
 pub chosen-loop-parent-preserved : goal.chosen-loop-parent-preserved
 chosen-loop-parent-preserved g t c =
@@ -371,6 +453,8 @@ chosen-loop-parent-preserved g t c =
           (lead-kept root m s q y c.mark_kept.new.ways c.in_ok-mark_kept.ensures.ways c.in_ok-kept.kept kept c.in_ok-mark_kept.ensures.there r x e h)
           (λ before. c.in_ok-mark_kept.ensures.more r (c.loop-parent.invariant.lead r x e h before));
       meaning = c.kept_children.ensures.meaning ∙ c.loop-parent.invariant.meaning;
+      path = c.kept_children.ensures.path ∙ c.loop-parent.invariant.path;
+      known = rw (c.loop-parent.invariant.meaning, c.loop-parent.invariant.path) at c.in_ok-kept.ensures.known;
       cost = cost-next _ _ _ _ _ _ (rw c.loop-parent.invariant.meaning at c.kept_children.ensures.cost) c.loop-parent.invariant.cost
           (sum-next (price.children_price root m s) (element_of root) items i (of_number 0) c.loop-parent-test.true);
     }

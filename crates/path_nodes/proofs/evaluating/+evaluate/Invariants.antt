@@ -1,5 +1,5 @@
--- What is done, then what is left, is all; the test means what it meant; what was spent, and what the rest costs, is no more than
--- what all cost.
+-- What is done, then what is left, is all; the test means what it meant; what is known is right; what was spent, and the price
+-- of the rest, are no more than the price of all.
 use Rattle.std.proofs.Common.{◌≡◌, ◌≤◌, ◌+◌, All, map, filter, take, drop}
 use Rattle.std.specs.Prelude.{sum_by}
 use Rattle.ordered_tree.specs.Numbered.{plain}
@@ -8,6 +8,8 @@ use Rattle.path_meaning.specs.Elements.{elements, is_in}
 use Rattle.path_grammar.specs.Form as form
 use Rattle.path_meaning.specs.Meaning as meaning
 use Rattle.path_grammar.specs.View as view
+use Rattle.path_nodes.specs.steps.Known.{AreRight}
+use Rattle.path_nodes.specs.steps.Leading.{StandFrom, in_path, in_steps, in_predicates, in_conditions}
 use Rattle.path_nodes.specs.steps.Kept.{kept, kept_children, joined}
 use Rattle.path_nodes.specs.steps.Marks.{is_marked}
 use Rattle.path_nodes.specs.Prices as price
@@ -24,6 +26,8 @@ invariant-chosen-loop-parent g l = record {
   ways : AreWays l.tree.root l.ways;
   lead : LeadTo l.tree.root l.ways (is_in (map (kept_children l.tree.root (g.T.TextTest.meaning l.fn.test) (view.step l.fn.step)) (map (element_of l.tree.root) (take l.parent-index l.parent-items))));
   meaning : g.T.TextTest.meaning l.test ≡ g.T.TextTest.meaning l.fn.test;
+  path : l.known.path ≡ l.fn.known.path;
+  known : AreRight l.tree.root (g.T.TextTest.meaning l.fn.test) (in_path l.fn.known.path.now) l.known.truths;
   cost : g.T.TextTest.cost l.test + sum_by (price.children_price l.tree.root (g.T.TextTest.meaning l.fn.test) (view.step l.fn.step)) (map (element_of l.tree.root) (drop l.parent-index l.parent-items))
       ≤ g.T.TextTest.cost l.fn.test + sum_by (price.children_price l.tree.root (g.T.TextTest.meaning l.fn.test) (view.step l.fn.step)) (map (element_of l.tree.root) l.fn.parents);
 }
@@ -34,6 +38,9 @@ invariant-kept-loop-predicate g l = record {
       ≡ kept l.tree.root (g.T.TextTest.meaning l.fn.test) (view.step l.fn.step) (map (element_of l.tree.root) l.fn.items);
   there : All (IsElement l.tree.root) l.kept;
   meaning : g.T.TextTest.meaning l.test ≡ g.T.TextTest.meaning l.fn.test;
+  path : l.known.path ≡ l.fn.known.path;
+  numbered : StandFrom (in_path l.fn.known.path.now) l.first (in_predicates (form.predicates (map view.predicate (drop l.predicate-index l.predicate-items))));
+  known : AreRight l.tree.root (g.T.TextTest.meaning l.fn.test) (in_path l.fn.known.path.now) l.known.truths;
   cost : g.T.TextTest.cost l.test + price.predicates_price l.tree.root (g.T.TextTest.meaning l.fn.test) (form.predicates (map view.predicate (drop l.predicate-index l.predicate-items))) (map (element_of l.tree.root) l.kept)
       ≤ g.T.TextTest.cost l.fn.test + price.list_price l.tree.root (g.T.TextTest.meaning l.fn.test) (view.step l.fn.step) (map (element_of l.tree.root) l.fn.items);
 }
@@ -45,6 +52,9 @@ invariant-led-loop-step g l = record {
   there : All (IsElement l.tree.root) l.items;
   inside : All (λ r. AtOrBelow (element_of l.tree.root l.base) (element_of l.tree.root r)) l.items;
   meaning : g.T.TextTest.meaning l.test ≡ g.T.TextTest.meaning l.fn.test;
+  path : l.known.path ≡ l.fn.known.path;
+  numbered : StandFrom (in_path l.fn.known.path.now) l.first (in_steps (form.steps (map view.step (drop l.step-index l.steps))));
+  known : AreRight l.tree.root (g.T.TextTest.meaning l.fn.test) (in_path l.fn.known.path.now) l.known.truths;
   cost : g.T.TextTest.cost l.test + price.steps_price l.tree.root (g.T.TextTest.meaning l.fn.test) (form.steps (map view.step (drop l.step-index l.steps))) (map (element_of l.tree.root) l.items)
       ≤ g.T.TextTest.cost l.fn.test + price.steps_price l.tree.root (g.T.TextTest.meaning l.fn.test) (form.steps (map view.step l.fn.steps)) (map (element_of l.tree.root) l.fn.from);
 }
@@ -54,6 +64,8 @@ invariant-satisfying-loop-item g l = record {
   done : map (element_of l.tree.root) l.kept ≡ filter (meaning.is_true (satisfied l.tree.root (g.T.TextTest.meaning l.fn.test)) (elements (plain l.tree.root)) (view.condition l.fn.condition)) (map (element_of l.tree.root) (take l.item-index l.item-items));
   there : All (IsElement l.tree.root) l.kept;
   meaning : g.T.TextTest.meaning l.test ≡ g.T.TextTest.meaning l.fn.test;
+  path : l.known.path ≡ l.fn.known.path;
+  known : AreRight l.tree.root (g.T.TextTest.meaning l.fn.test) (in_path l.fn.known.path.now) l.known.truths;
   cost : g.T.TextTest.cost l.test + sum_by (price.condition_price l.tree.root (g.T.TextTest.meaning l.fn.test) (view.condition l.fn.condition)) (map (element_of l.tree.root) (drop l.item-index l.item-items))
       ≤ g.T.TextTest.cost l.fn.test + sum_by (price.condition_price l.tree.root (g.T.TextTest.meaning l.fn.test) (view.condition l.fn.condition)) (map (element_of l.tree.root) l.fn.items);
 }
@@ -63,6 +75,9 @@ invariant-joined-loop-condition g l = record {
   left : joined l.deciding (satisfied l.tree.root (g.T.TextTest.meaning l.fn.test)) (elements (plain l.tree.root)) (form.conditions (map view.condition (drop l.condition-index l.condition-items))) (element_of l.tree.root l.item)
       ≡ joined l.deciding (satisfied l.tree.root (g.T.TextTest.meaning l.fn.test)) (elements (plain l.tree.root)) (form.conditions (map view.condition l.fn.conditions)) (element_of l.tree.root l.item);
   meaning : g.T.TextTest.meaning l.test ≡ g.T.TextTest.meaning l.fn.test;
+  path : l.known.path ≡ l.fn.known.path;
+  numbered : StandFrom (in_path l.fn.known.path.now) l.first (in_conditions (form.conditions (map view.condition (drop l.condition-index l.condition-items))));
+  known : AreRight l.tree.root (g.T.TextTest.meaning l.fn.test) (in_path l.fn.known.path.now) l.known.truths;
   cost : g.T.TextTest.cost l.test + price.conditions_price l.tree.root (g.T.TextTest.meaning l.fn.test) (form.conditions (map view.condition (drop l.condition-index l.condition-items))) (element_of l.tree.root l.item)
       ≤ g.T.TextTest.cost l.fn.test + price.conditions_price l.tree.root (g.T.TextTest.meaning l.fn.test) (form.conditions (map view.condition l.fn.conditions)) (element_of l.tree.root l.item);
 }

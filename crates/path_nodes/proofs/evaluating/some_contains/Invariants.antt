@@ -1,4 +1,4 @@
--- None of the first ones satisfies the selection; what was spent, and what the rest costs, is no more than what all cost.
+-- None of the first ones satisfies the selection; what was spent, and the price of the rest, are no more than the price of all.
 use Rattle.std.proofs.Common.{◌≡◌, ◌≤◌, ◌+◌, map, drop}
 use Rattle.std.specs.List.{list_any}
 use Rattle.path_nodes.specs.Prices.{price_of}

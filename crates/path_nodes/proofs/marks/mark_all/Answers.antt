@@ -5,7 +5,8 @@ use Rattle.std.proofs.lemmas.List.Elements.{All-get_or}
 use Rattle.path_meaning.specs.Elements.{is_same}
 use Rattle.path_nodes.specs.steps.Marks.{is_marked}
 use Rattle.path_nodes.specs.References.{IsElement, element_of}
-use Rattle.path_nodes.proofs.ListLemmas.{any-more, or-swap}
+use Rattle.ft_base.proofs.Truth.{or_turned}
+use Rattle.path_nodes.proofs.ListLemmas.{any-more}
 use Rattle.path_nodes.proofs.PlaceLemmas.{same-element}
 use Rattle.path_nodes.proofs.SpotLemmas.{of_number}
 use Rattle.path_nodes.proofs.marks.mark_all.Goals as goal
@@ -23,5 +24,5 @@ loop-node-preserved c = λ r x.
     c.in_ok-mark.ensures r
     ∙ ap (λ b. b || is_marked c.loop-node.marks r) (same-element root r q x y)
     ∙ ap (λ b. is_same (element_of root r) (element_of root q) || b) (c.loop-node.invariant r x)
-    ∙ or-swap (is_same (element_of root r) (element_of root q)) before old
+    ∙ or_turned (is_same (element_of root r) (element_of root q)) before old
     ∙ ap (λ b. b || old) (sym (any-more (element_of root) (is_same (element_of root r)) items i (of_number 0) c.loop-node-test.true))

@@ -3,8 +3,6 @@ use Rattle.std.proofs.Common.{◌∷◌, [], ◌++◌, map, refl, sym, ap, ◌�
 use Rattle.std.specs.List.{All}
 use Rattle.std.proofs.lemmas.List.{map-append}
 use Rattle.std.proofs.lemmas.List.Elements.{All-append}
-use Rattle.path_meaning.specs.Elements.{elements}
-use Rattle.path_meaning.specs.Meaning as meaning
 use Rattle.path_grammar.specs.View as view
 use Rattle.path_nodes.specs.steps.Kept as spec
 use Rattle.path_nodes.specs.References.{IsElement, element_of}

@@ -5,12 +5,14 @@ use Rattle.ordered_tree.specs.Numbered.{plain}
 use Rattle.path_grammar.specs.Form as form
 use Rattle.path_grammar.specs.View as view
 use Rattle.path_nodes.specs.Asked.{OfEach, OfStep, MayAsk}
+use Rattle.path_nodes.specs.steps.Leading.{in_path}
 use Rattle.path_nodes.specs.References.{element_of}
 use Rattle.path_nodes.specs.Says.{satisfied}
 use Rattle.path_nodes.specs.steps.Within.{AtOrBelow}
 use Rattle.path_nodes.proofs.AlikeLemmas.{selected-alike}
 use Rattle.path_nodes.proofs.AskedLemmas.{nth-step}
 use Rattle.path_nodes.proofs.ChosenLemmas.{all-refs}
+use Rattle.path_nodes.proofs.LeadingLemmas.{steps-from, stand-all, stand-first, stand-next}
 use Rattle.path_nodes.proofs.NamedLemmas.{agrees-there}
 use Rattle.path_nodes.proofs.PriceLemmas.{selected-price}
 use Rattle.path_nodes.proofs.SelectedLemmas.{root-there, root-placed, below-root, selected-none, selected-next, later-steps, not-empty}
@@ -41,7 +43,17 @@ pub from_document-requires-clause-asked : goal.from_document-requires-clause-ask
 from_document-requires-clause-asked g c =
     let P = MayAsk c.args.tree.now.root (g.T.TextTest.meaning c.args.test.now) in
     let some = not-empty c.args.steps.now c.is_empty.result c.is_empty.ensures.1 c.if-is_empty.false in
-    subst (λ s. OfStep P (view.step s)) (sym c.get.ensures) (nth-step P c.args.steps.now 0 c.get.result.now some c.requires.asked)
+    subst (λ s. OfStep P (view.step s)) (sym c.get-step.ensures) (nth-step P c.args.steps.now 0 c.get-step.result.now some c.requires.asked)
+
+pub from_document-requires-clause-numbered : goal.from_document-requires-clause-numbered
+from_document-requires-clause-numbered g c =
+    let steps = c.args.steps.now in
+    let some = not-empty steps c.is_empty.result c.is_empty.ensures.1 c.if-is_empty.false in
+    rw (c.new-known.ensures.path, c.get-step.ensures) (stand-first _ _ _ (steps-from steps 0 c.get-step.result.now some) (in_path steps) 0 (stand-all (in_path steps)))
+
+pub from_document-requires-clause-known : goal.from_document-requires-clause-known
+from_document-requires-clause-known g c =
+    c.new-known.ensures.right c.args.tree.now.root (g.T.TextTest.meaning c.args.test.now) (in_path c.new-known.result.path.now)
 
 pub led-requires-clause-base : goal.led-requires-clause-base
 led-requires-clause-base g c =
@@ -63,13 +75,24 @@ led-requires-clause-asked g c =
     (subst (λ l. OfEach P (form.steps (map view.step l))) (sym (take_rest steps 1))
     (later-steps P steps (subst (λ l. OfEach P (form.steps (map view.step l))) (sym c.as_slice.ensures) c.requires.asked)))
 
+pub led-requires-clause-numbered : goal.led-requires-clause-numbered
+led-requires-clause-numbered g c =
+    let steps = c.args.steps.now in
+    let some = not-empty steps c.is_empty.result c.is_empty.ensures.1 c.if-is_empty.false in
+    let behind = rw c.get-step.ensures at c.in_ok-number.ensures in
+    rw (c.in_ok-first.ensures.path, c.new-known.ensures.path, take_rest c.as_slice.result.now 1, c.as_slice.ensures)
+    (stand-next _ _ _ (steps-from steps 0 c.get-step.result.now some) (in_path steps) 0 (stand-all (in_path steps)) c.in_ok-number.number behind)
+
+pub led-requires-clause-known : goal.led-requires-clause-known
+led-requires-clause-known g c = rw (c.in_ok-first.ensures.meaning, c.in_ok-first.ensures.path) c.in_ok-first.ensures.known
+
 pub returns-clause-elements : goal.returns-clause-elements
 returns-clause-elements g c =
     let root = c.args.tree.now.root in
     let some = not-empty c.args.steps.now c.is_empty.result c.is_empty.ensures.1 c.if-is_empty.false in
     ap (map (element_of root)) c.into_vec.ensures
-    ∙ (rw (c.in_ok-first.ensures.meaning, take_rest c.as_slice.result.now 1, c.as_slice.ensures, c.in_ok-first.ensures.elements, c.get.ensures) at c.in_ok-found.ensures.elements)
-    ∙ selected-next (satisfied root (g.T.TextTest.meaning c.args.test.now)) (plain root) c.args.steps.now c.get.result.now some
+    ∙ (rw (c.in_ok-first.ensures.meaning, take_rest c.as_slice.result.now 1, c.as_slice.ensures, c.in_ok-first.ensures.elements, c.get-step.ensures) at c.in_ok-found.ensures.elements)
+    ∙ selected-next (satisfied root (g.T.TextTest.meaning c.args.test.now)) (plain root) c.args.steps.now c.get-step.result.now some
 
 pub returns-clause-agrees : goal.returns-clause-agrees
 returns-clause-agrees g c = λ satisfies agree.
@@ -81,19 +104,19 @@ returns-clause-agrees g c = λ satisfies agree.
 pub returns-in_err-first-clause-cost : goal.returns-in_err-first-clause-cost
 returns-in_err-first-clause-cost g c =
     let some = not-empty c.args.steps.now c.is_empty.result c.is_empty.ensures.1 c.if-is_empty.false in
-    first-part-cost _ _ _ _ _ (rw c.get.ensures at c.from_document.ensures.cost)
-    (selected-price c.args.tree.now.root (g.T.TextTest.meaning c.args.test.now) c.args.steps.now c.get.result.now some _ refl)
+    first-part-cost _ _ _ _ _ (rw c.get-step.ensures at c.from_document.ensures.cost)
+    (selected-price c.args.tree.now.root (g.T.TextTest.meaning c.args.test.now) c.args.steps.now c.get-step.result.now some _ refl)
 
 pub returns-in_err-found-clause-cost : goal.returns-in_err-found-clause-cost
 returns-in_err-found-clause-cost g c =
     let some = not-empty c.args.steps.now c.is_empty.result c.is_empty.ensures.1 c.if-is_empty.false in
-    both-cost _ _ _ _ _ _ (rw c.get.ensures at c.from_document.ensures.cost)
+    both-cost _ _ _ _ _ _ (rw c.get-step.ensures at c.from_document.ensures.cost)
     (rw (c.in_ok-first.ensures.meaning, take_rest c.as_slice.result.now 1, c.as_slice.ensures) at c.led.ensures.cost)
-    (selected-price c.args.tree.now.root (g.T.TextTest.meaning c.args.test.now) c.args.steps.now c.get.result.now some _ (rw c.get.ensures at c.in_ok-first.ensures.elements))
+    (selected-price c.args.tree.now.root (g.T.TextTest.meaning c.args.test.now) c.args.steps.now c.get-step.result.now some _ (rw c.get-step.ensures at c.in_ok-first.ensures.elements))
 
 pub returns-clause-cost : goal.returns-clause-cost
 returns-clause-cost g c =
     let some = not-empty c.args.steps.now c.is_empty.result c.is_empty.ensures.1 c.if-is_empty.false in
-    both-cost _ _ _ _ _ _ (rw c.get.ensures at c.from_document.ensures.cost)
+    both-cost _ _ _ _ _ _ (rw c.get-step.ensures at c.from_document.ensures.cost)
     (rw (c.in_ok-first.ensures.meaning, take_rest c.as_slice.result.now 1, c.as_slice.ensures) at c.led.ensures.cost)
-    (selected-price c.args.tree.now.root (g.T.TextTest.meaning c.args.test.now) c.args.steps.now c.get.result.now some _ (rw c.get.ensures at c.in_ok-first.ensures.elements))
+    (selected-price c.args.tree.now.root (g.T.TextTest.meaning c.args.test.now) c.args.steps.now c.get-step.result.now some _ (rw c.get-step.ensures at c.in_ok-first.ensures.elements))

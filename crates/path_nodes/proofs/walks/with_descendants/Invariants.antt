@@ -1,7 +1,6 @@
 -- What is at or below the first ones was found, nothing more often than it is there.
 use Rattle.std.proofs.Common.{All, flat_map, map, take}
-use Rattle.path_nodes.specs.steps.Listed.{AreListed, HaveSame}
-use Rattle.path_nodes.specs.Prices.{AreAmong}
+use Rattle.path_nodes.specs.steps.Listed.{AreAmong, AreListed, HaveSame}
 use Rattle.path_nodes.specs.References.{IsElement, element_of}
 use Rattle.path_nodes.specs.steps.Regions.{at_or_below}
 use Rattle.path_nodes.proofs.walks.with_descendants.Given as goal
