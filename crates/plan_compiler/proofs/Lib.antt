@@ -8,3 +8,12 @@ pub mod MissingLemmas
 pub mod ItemMeaning
 pub mod PhraseMeaning
 pub mod SelectionMeaning
+mod TermLaws
+mod RunViews
+mod PartLemmas
+mod GroupLaw
+mod OpenedLemmas
+mod RunLaw
+mod TellingLemmas
+mod ChoosingLemmas
+mod TreeLemmas

@@ -14,3 +14,5 @@ pub mod WordsMeaning
 pub mod CompiledWords
 pub mod NodeMeaning
 pub mod PlanMeaning
+pub mod RunMeaning
+pub mod steps

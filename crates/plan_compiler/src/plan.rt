@@ -11,6 +11,7 @@ ghost use Rattle.plan_compiler.specs.NodeMeaning.{truth};
 ghost use Rattle.plan_compiler.specs.Served.{is_served};
 ghost use Rattle.plan_compiler.specs.TextWords.{words_of_tokens};
 
+use crate::choosing::Opening;
 use crate::chosen::none_chosen;
 use crate::compiling::compile;
 use crate::decided::is_served;
@@ -20,9 +21,12 @@ use crate::lists::Lists;
 use crate::looks::Looks;
 use crate::missing::missing_list;
 use crate::node::Node;
+use crate::opening::open_node;
+use crate::run::Run;
 use crate::text_word::text_words;
 use ft_base::{Line, Memory, Token};
 use ft_syntax::{Selection, copy_selection};
+use index_versions::Version;
 use std::alloc::Global;
 
 /// A selection, compiled with the lists that it names. It decides by truth values and counts, in time linear in the text for each
@@ -31,15 +35,16 @@ use std::alloc::Global;
 pub struct Plan {
     alloc: Global,
     selection: Selection,
-    lists: Lists,
+    pub(crate) lists: Lists,
     /// What it looks at of the words of a text.
-    looks: Looks,
-    root: Node,
+    pub(crate) looks: Looks,
+    pub(crate) root: Node,
     ghost sound: { (tokens : List Token) → truth root (words_of_tokens looks lists.stems tokens) ≡ sat (lexicon lists) (form selection) tokens },
 }
 
 impl Plan {
     ghost use Rattle.plan_compiler.specs.PlanMeaning.{plan_form, plan_lists};
+    ghost use Rattle.plan_compiler.specs.RunMeaning.{run_of};
 
     /// The plan of a selection without filters and `not in`. A list that it names and that isn't there is a fault: the first one in the
     /// order of its printed form. The plan shares the lists.
@@ -73,6 +78,24 @@ impl Plan {
                 Err(CompileFault::Memory)
             }
         }
+    }
+
+    /// The plan over a version of the index: its words and patterns are resolved to terms of the version.
+    pub fn open<'v>(&'v self, version: &'v Version) -> Result<Run<'v>, Memory>
+        ensures { IfOk result (λ run. run ≡ run_of (plan_form self.now) (plan_lists self.now) version.now) }
+    {
+        let opening = Opening {
+            alloc: self.alloc,
+            version,
+            looks: self.looks,
+            lists: &self.lists,
+        };
+        let root = open_node(&opening, &self.root)?;
+        Ok(Run {
+            plan: self,
+            version,
+            root,
+        })
     }
 
     /// Whether a text with these tokens satisfies the plan's selection.

@@ -34,7 +34,12 @@ pub(crate) fn text_words(
     Ok(words)
 }
 
-fn text_word(alloc: Global, looks: Looks, lists: &Lists, word: &str) -> Result<TextWord, Memory>
+pub(crate) fn text_word(
+    alloc: Global,
+    looks: Looks,
+    lists: &Lists,
+    word: &str,
+) -> Result<TextWord, Memory>
     ensures { IfOk result (λ text. text ≡ word_as looks lists.now.stems word.now) }
 {
     let forms = forms_as(alloc, looks.all_forms, word)?;

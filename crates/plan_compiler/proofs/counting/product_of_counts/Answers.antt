@@ -9,4 +9,4 @@ pub loop-phrase-preserved : goal.loop-phrase-preserved
 loop-phrase-preserved c =
     c.saturating_mul-total.ensures
     ∙ ap (λ n. min (c.loop-phrase.total * n) (2 ^ 64 - 1)) c.count_phrase.ensures
-    ∙ product_more (λ (p : PhrasePlan). phrase_count p c.args.words.now) c.args.phrases.now c.loop-phrase.phrase-index c.phrase-item.result c.loop-phrase.total c.loop-phrase-test.true c.phrase-item.is c.loop-phrase.invariant
+    ∙ product_more (λ (p : PhrasePlan). phrase_count p c.args.words.now) (2 ^ 64 - 1) c.args.phrases.now c.loop-phrase.phrase-index c.phrase-item.result c.loop-phrase.total c.loop-phrase-test.true c.phrase-item.is c.loop-phrase.invariant

@@ -1,0 +1,22 @@
+-- The shape of each kind of a run's tree, and what it says.
+use Rattle.std.proofs.Common.{◌≡◌, map, Box, Global, rules}
+use Rattle.std.specs.declared.vec.Vec.{Vec}
+use Rattle.plan_compiler.specs.steps.RunShapes.{shape, shapes_of, words_shape, words, any_of, all_of, not_of}
+use Rattle.plan_compiler.specs.declared.run_node.RunWords.{RunWords}
+use Rattle.plan_compiler.specs.declared.run_node.RunNode.{RunNode, Words, Or, And, Not, the_lemmas}
+
+pub shape-Words : (run : RunWords) → shape (Words run) ≡ words (words_shape run)
+unfolding shape
+shape-Words run = search (rules, the_lemmas)
+
+pub shape-Or : (parts : Vec RunNode Global) → shape (Or parts) ≡ any_of (shapes_of (map shape parts.items))
+unfolding shape
+shape-Or parts = search (rules, the_lemmas)
+
+pub shape-And : (parts : Vec RunNode Global) → shape (And parts) ≡ all_of (shapes_of (map shape parts.items))
+unfolding shape
+shape-And parts = search (rules, the_lemmas)
+
+pub shape-Not : (part : Box RunNode Global) → shape (Not part) ≡ not_of (shape part.value)
+unfolding shape
+shape-Not part = search (rules, the_lemmas)

@@ -1,0 +1,127 @@
+-- What the kinds of a run's tree say, and when they fit.
+use Rattle.std.proofs.Common.{◌≡◌, sym, ap, subst, ◌∙◌, ℕ, ◌+◌, ◌<◌, ◌≤◌, true, false, not, ◌&&◌, ◌||◌, List, [], ◌∷◌, map, length, get_or, drop, suc, zero, arith, Box, Global}
+use Rattle.std.specs.declared.vec.Vec.{Vec}
+use Rattle.std.proofs.lemmas.List.{drop_all, drop_more}
+use Rattle.index_meaning.specs.Documents.{Numbered}
+use Rattle.plan_compiler.specs.steps.RunShapes.{Shape, Shapes, shape, shapes_of, words, any_of, all_of, not_of, none, more, words_shape}
+use Rattle.plan_compiler.specs.steps.RunTruth.{AreSound, IsSound, IsWords, all_true, run_truth, some_true, words_say}
+use Rattle.plan_compiler.specs.declared.run_node.RunWords.{RunWords}
+use Rattle.plan_compiler.specs.declared.run_node.RunNode.{RunNode}
+use Rattle.plan_compiler.specs.declared.run_node.RunNode as R
+use Rattle.plan_compiler.proofs.RunViews.{shape-Words, shape-Or, shape-And, shape-Not}
+
+module _ (version : List Numbered) (text : List (List ℕ)) (node : RunNode) where
+  -- ---- when they fit
+
+  pub sound-Words : (run : RunWords) → node ≡ R.Words run → IsSound version (shape node) → IsWords version (words_shape run)
+  unfolding IsSound
+  sound-Words run is h = subst (IsSound version) (ap shape is ∙ shape-Words run) h
+
+  pub sound-Or : (parts : Vec RunNode Global) → node ≡ R.Or parts → IsSound version (shape node) → AreSound version (shapes_of (map shape parts.items))
+  unfolding IsSound
+  sound-Or parts is h = subst (IsSound version) (ap shape is ∙ shape-Or parts) h
+
+  pub sound-And : (parts : Vec RunNode Global) → node ≡ R.And parts → IsSound version (shape node) → AreSound version (shapes_of (map shape parts.items))
+  unfolding IsSound
+  sound-And parts is h = subst (IsSound version) (ap shape is ∙ shape-And parts) h
+
+  pub sound-Not : (part : Box RunNode Global) → node ≡ R.Not part → IsSound version (shape node) → IsSound version (shape part.value)
+  unfolding IsSound
+  sound-Not part is h = subst (IsSound version) (ap shape is ∙ shape-Not part) h
+
+  -- ---- what they say
+
+  pub says-Words : (run : RunWords) → node ≡ R.Words run → words_say version (words_shape run) text ≡ run_truth version (shape node) text
+  unfolding run_truth
+  says-Words run is = sym (ap (λ s. run_truth version s text) (ap shape is ∙ shape-Words run))
+
+  pub says-Or : (parts : Vec RunNode Global) → node ≡ R.Or parts → some_true version (shapes_of (map shape parts.items)) text ≡ run_truth version (shape node) text
+  unfolding run_truth
+  says-Or parts is = sym (ap (λ s. run_truth version s text) (ap shape is ∙ shape-Or parts))
+
+  pub says-And : (parts : Vec RunNode Global) → node ≡ R.And parts → all_true version (shapes_of (map shape parts.items)) text ≡ run_truth version (shape node) text
+  unfolding run_truth
+  says-And parts is = sym (ap (λ s. run_truth version s text) (ap shape is ∙ shape-And parts))
+
+  pub says-Not : (part : Box RunNode Global) → node ≡ R.Not part → not (run_truth version (shape part.value) text) ≡ run_truth version (shape node) text
+  unfolding run_truth
+  says-Not part is = sym (ap (λ s. run_truth version s text) (ap shape is ∙ shape-Not part))
+
+-- ---- what they look like
+
+module _ (node : RunNode) where
+  pub same-Words : (old new : RunWords) → node ≡ R.Words old → words_shape new ≡ words_shape old → shape (R.Words new) ≡ shape node
+  same-Words old new is same = shape-Words new ∙ ap words same ∙ sym (ap shape is ∙ shape-Words old)
+
+  pub same-Or : (old new : Vec RunNode Global) → node ≡ R.Or old → map shape new.items ≡ map shape old.items → shape (R.Or new) ≡ shape node
+  same-Or old new is same = shape-Or new ∙ ap (λ ss. any_of (shapes_of ss)) same ∙ sym (ap shape is ∙ shape-Or old)
+
+  pub same-And : (old new : Vec RunNode Global) → node ≡ R.And old → map shape new.items ≡ map shape old.items → shape (R.And new) ≡ shape node
+  same-And old new is same = shape-And new ∙ ap (λ ss. all_of (shapes_of ss)) same ∙ sym (ap shape is ∙ shape-And old)
+
+  pub same-Not : (old new : Box RunNode Global) → node ≡ R.Not old → shape new.value ≡ shape old.value → shape (R.Not new) ≡ shape node
+  same-Not old new is same = shape-Not new ∙ ap not_of same ∙ sym (ap shape is ∙ shape-Not old)
+
+-- ---- lists of parts
+
+module _ (version : List Numbered) where
+  pub each_sound : (shapes : List Shape) → AreSound version (shapes_of shapes) → (k : ℕ) (d : Shape) → k < length shapes → IsSound version (get_or shapes k d)
+  unfolding AreSound
+  each_sound [] h k d lt = absurd (omega arith)
+  each_sound (first ∷ rest) h zero d lt = h.0
+  each_sound (first ∷ rest) h (suc k) d lt = each_sound rest h.1 k d (omega arith)
+
+  module _ (text : List (List ℕ)) (shapes : List Shape) (i : ℕ) where
+    pub some_more : (s : Shape) → i < length shapes → s ≡ get_or shapes i s
+        → some_true version (shapes_of (drop i shapes)) text ≡ (run_truth version s text || some_true version (shapes_of (drop (i + 1) shapes)) text)
+    unfolding some_true
+    some_more s h is =
+        ap (λ ss. some_true version (shapes_of ss) text) (drop_more shapes i s h)
+        ∙ ap (λ p. run_truth version p text || some_true version (shapes_of (drop (i + 1) shapes)) text) (sym is)
+
+    pub some_end : length shapes ≤ i → some_true version (shapes_of (drop i shapes)) text ≡ false
+    unfolding some_true
+    some_end h = ap (λ ss. some_true version (shapes_of ss) text) (drop_all i shapes h)
+
+    pub all_more : (s : Shape) → i < length shapes → s ≡ get_or shapes i s
+        → all_true version (shapes_of (drop i shapes)) text ≡ (run_truth version s text && all_true version (shapes_of (drop (i + 1) shapes)) text)
+    unfolding all_true
+    all_more s h is =
+        ap (λ ss. all_true version (shapes_of ss) text) (drop_more shapes i s h)
+        ∙ ap (λ p. run_truth version p text && all_true version (shapes_of (drop (i + 1) shapes)) text) (sym is)
+
+    pub all_end : length shapes ≤ i → all_true version (shapes_of (drop i shapes)) text ≡ true
+    unfolding all_true
+    all_end h = ap (λ ss. all_true version (shapes_of ss) text) (drop_all i shapes h)
+
+-- ---- how deep tests go
+
+unfoldable mutual
+  pub weight : Shape → ℕ
+  weight (words run) = 1
+  weight (any_of parts) = 1 + weights parts
+  weight (all_of parts) = 1 + weights parts
+  weight (not_of part) = 1 + weight part
+
+  pub weights : Shapes → ℕ
+  weights none = 0
+  weights (more part rest) = weight part + weights rest
+
+pub weight_at : (shapes : List Shape) (i : ℕ) (s : Shape) → i < length shapes → s ≡ get_or shapes i s → weight s ≤ weights (shapes_of shapes)
+unfolding weights
+weight_at [] i s h is = absurd (omega arith)
+weight_at (first ∷ rest) zero s h is = let e = ap weight is in omega arith
+weight_at (first ∷ rest) (suc i) s h is = let e = weight_at rest i s (omega arith) is in omega arith
+
+module _ (node : RunNode) where
+  pub weight-Or : (parts : Vec RunNode Global) → node ≡ R.Or parts → weight (shape node) ≡ 1 + weights (shapes_of (map shape parts.items))
+  unfolding weight
+  weight-Or parts is = ap weight (ap shape is ∙ shape-Or parts)
+
+  pub weight-And : (parts : Vec RunNode Global) → node ≡ R.And parts → weight (shape node) ≡ 1 + weights (shapes_of (map shape parts.items))
+  unfolding weight
+  weight-And parts is = ap weight (ap shape is ∙ shape-And parts)
+
+  pub weight-Not : (part : Box RunNode Global) → node ≡ R.Not part → weight (shape node) ≡ 1 + weight (shape part.value)
+  unfolding weight
+  weight-Not part is = ap weight (ap shape is ∙ shape-Not part)

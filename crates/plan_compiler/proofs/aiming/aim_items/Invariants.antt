@@ -1,0 +1,13 @@
+-- The cursors of the first words were aimed.
+use Rattle.std.proofs.Common.{◌≡◌, ◌≤◌, map, take}
+use Rattle.place_merges.specs.Sources.{wanted}
+use Rattle.plan_compiler.specs.steps.RunShapes.{size_of, wanted_size}
+use Rattle.plan_compiler.specs.steps.TestPlaces.{wanted_at}
+use Rattle.plan_compiler.proofs.aiming.aim_items.Given as goal
+
+abbrev pub invariant-loop-number : goal.invariant-loop-number
+invariant-loop-number g l = record {
+  sized : map size_of l.items.items ≡ map wanted_size l.terms;
+  done : map (wanted (λ cursor. cursor)) (take l.number l.items.items) ≡ map (wanted_at l.place) (take l.number l.terms);
+  grown : l.fn.moves ≤ l.moves;
+}

@@ -1,0 +1,21 @@
+-- The words of the span are those of the tokens.
+use Rattle.std.proofs.Common.{◌∙◌, List, sym, ap, subst}
+use Rattle.all_matches.specs.Meaning.{sat}
+use Rattle.index_meaning.specs.Documents.{Numbered, document_at}
+use Rattle.plan_compiler.specs.Lexicon.{lexicon}
+use Rattle.plan_compiler.specs.RunMeaning.{RunMeaning, words_at}
+use Rattle.plan_compiler.specs.steps.RunShapes.{shape}
+use Rattle.plan_compiler.proofs.RunLaw.{IsSpan, run_law}
+use Rattle.plan_compiler.proofs.run.Run.test.Goals as goal
+
+pub returns-clause-says : goal.returns-clause-says
+returns-clause-says g c tokens is =
+    let inside = c.self.inside in
+    let same = ap (λ (run : RunMeaning). run.version) c.self.view_is in
+    let asked : IsSpan c.args.self.now.version c.args.doc.0 c.args.span =
+    record { there = c.requires.there; first = c.requires.inside.0; order = c.requires.inside.1; last = c.requires.inside.2 } in
+    let words = is ∙ sym (ap (λ (version : List Numbered). words_at c.args.span (document_at c.args.doc.0 version)) same) in
+    c.node_holds.ensures.says
+    ∙ run_law inside.version.now c.args.doc.0 c.args.span (subst (λ (version : List Numbered). IsSpan version c.args.doc.0 c.args.span) (sym same) asked)
+    inside.plan.now (shape inside.root) tokens c.self.invariant words
+    ∙ ap (λ (run : RunMeaning). sat (lexicon run.lists) run.form tokens) c.self.view_is

@@ -1,0 +1,9 @@
+pub mod RunCode
+pub mod ChosenTerms
+pub mod AskedKeys
+pub mod RunShapes
+pub mod RunTruth
+pub mod OpenedWords
+pub mod CursorPlace
+pub mod TestPlaces
+pub mod Telling

@@ -1,0 +1,188 @@
+//! Plans opened over a version of the index.
+
+ghost use Rattle.std.specs.Prelude.{◌≡◌, map, length, IfOk};
+ghost use Rattle.plan_compiler.specs.steps.AskedKeys as keys;
+ghost use Rattle.plan_compiler.specs.steps.OpenedWords as spec;
+ghost use Rattle.plan_compiler.specs.steps.RunShapes.{group_shape, phrase_shape, shape, size_of, wanted_size, words_shape};
+
+use crate::choosing::{Opening, terms_for};
+use crate::item_matching::ItemTest;
+use crate::node::Node;
+use crate::phrase_plan::PhrasePlan;
+use crate::run_node::{RunGroup, RunNode, RunPhrase, RunWords, WordTerms};
+use crate::term_cursor::TermCursor;
+use crate::words_plan::WordsPlan;
+use ft_base::{Items, Memory};
+use match_options::WordTest;
+use place_merges::Item;
+
+/// The compiled selection, opened.
+#[cycle(open)]
+pub(crate) fn open_node<'v>(opening: &Opening<'_>, node: &Node) -> Result<RunNode<'v>, Memory>
+    ensures { IfOk result (λ run. spec.IsOpened opening.now.looks opening.now.lists.now.stems opening.now.version.now (shape run) node.now) }
+{
+    match node {
+        Node::Words(plan) => Ok(RunNode::Words(open_words(opening, plan)?)),
+        Node::Or(parts) => Ok(RunNode::Or(open_all(opening, parts)?)),
+        Node::And(parts) => Ok(RunNode::And(open_all(opening, parts)?)),
+        Node::Not(part) => Ok(RunNode::Not(open_boxed(opening, part)?)),
+    }
+}
+
+#[cycle(open)]
+fn open_boxed<'v>(opening: &Opening<'_>, node: &Box<Node>) -> Result<Box<RunNode<'v>>, Memory>
+    ensures { IfOk result (λ run. spec.IsOpened opening.now.looks opening.now.lists.now.stems opening.now.version.now (shape run.value) node.now.value) }
+{
+    let run = open_node(opening, node)?;
+    Ok(Box::new(opening.alloc, run)?)
+}
+
+#[cycle(open)]
+fn open_all<'v>(opening: &Opening<'_>, parts: &Items<Node>) -> Result<Vec<RunNode<'v>>, Memory>
+    ensures { IfOk result (λ runs. spec.AreOpened opening.now.looks opening.now.lists.now.stems opening.now.version.now (map shape runs.items) parts.now) }
+{
+    let mut runs = Vec::new(opening.alloc);
+    for part in parts.as_slice() {
+        runs.push(open_node(opening, part)?)?;
+    }
+    Ok(runs)
+}
+
+fn open_words<'v>(opening: &Opening<'_>, plan: &WordsPlan) -> Result<RunWords<'v>, Memory>
+    ensures { IfOk result (λ run. words_shape run ≡ spec.opened_words opening.now.looks opening.now.lists.now.stems opening.now.version.now plan.now) }
+{
+    let phrases = open_phrases(opening, plan.phrases.as_slice())?;
+    Ok(RunWords {
+        phrases,
+        all: plan.all,
+        times: plan.times,
+    })
+}
+
+fn open_phrases<'v>(
+    opening: &Opening<'_>,
+    plans: &[PhrasePlan],
+) -> Result<Vec<RunPhrase<'v>>, Memory>
+    ensures { IfOk result (λ runs. map phrase_shape runs.items ≡
+        map (spec.opened_phrase opening.now.looks opening.now.lists.now.stems opening.now.version.now) plans.now) }
+{
+    let mut runs = Vec::new(opening.alloc);
+    for plan in plans {
+        let groups = open_groups(opening, plan.groups.as_slice())?;
+        runs.push(RunPhrase { groups })?;
+    }
+    Ok(runs)
+}
+
+fn open_groups<'v>(
+    opening: &Opening<'_>,
+    groups: &[Items<Items<ItemTest>>],
+) -> Result<Vec<RunGroup<'v>>, Memory>
+    ensures { IfOk result (λ runs. map group_shape runs.items ≡
+        map (spec.opened_group opening.now.looks opening.now.lists.now.stems opening.now.version.now) groups.now) }
+{
+    let mut runs = Vec::new(opening.alloc);
+    for group in groups {
+        let terms = open_variants(opening, group.as_slice())?;
+        let variants = cursors_of_variants(opening, terms.as_slice())?;
+        runs.push(RunGroup { terms, variants })?;
+    }
+    Ok(runs)
+}
+
+fn open_variants(
+    opening: &Opening<'_>,
+    variants: &[Items<ItemTest>],
+) -> Result<Items<Items<WordTerms>>, Memory>
+    ensures { IfOk result (λ terms. terms ≡ map (spec.opened_variant opening.now.looks opening.now.lists.now.stems opening.now.version.now) variants.now) }
+{
+    let mut terms = Items::new(opening.alloc);
+    for variant in variants {
+        terms.push(open_items(opening, variant.as_slice())?)?;
+    }
+    Ok(terms)
+}
+
+fn open_items(opening: &Opening<'_>, tests: &[ItemTest]) -> Result<Items<WordTerms>, Memory>
+    ensures { IfOk result (λ terms. terms ≡ map (spec.opened_item opening.now.looks opening.now.lists.now.stems opening.now.version.now) tests.now) }
+{
+    let mut terms = Items::new(opening.alloc);
+    for test in tests {
+        terms.push(open_item(opening, test)?)?;
+    }
+    Ok(terms)
+}
+
+fn open_item(opening: &Opening<'_>, test: &ItemTest) -> Result<WordTerms, Memory>
+    ensures { IfOk result (λ terms. terms ≡ spec.opened_item opening.now.looks opening.now.lists.now.stems opening.now.version.now test.now) }
+{
+    if asks_nothing(test) {
+        return Ok(WordTerms::Any);
+    }
+    Ok(WordTerms::Of(terms_for(opening, test)?))
+}
+
+/// Whether each word passes, whatever it is.
+fn asks_nothing(test: &ItemTest) -> bool
+    ensures { result ≡ keys.asks_nothing test.now }
+{
+    match test {
+        ItemTest::ByForms(test) => forms_pass(test),
+        ItemTest::ByStem(_stem, _case) => false,
+    }
+}
+
+fn forms_pass(test: &WordTest) -> bool
+    ensures { result ≡ keys.forms_pass test.now }
+{
+    match test {
+        WordTest::Any => true,
+        _ => false,
+    }
+}
+
+/// A cursor for each term of each word of each variant.
+fn cursors_of_variants<'v>(
+    opening: &Opening<'_>,
+    variants: &[Items<WordTerms>],
+) -> Result<Vec<Vec<Item<TermCursor<'v>>>>, Memory>
+    ensures { IfOk result (λ made. map (λ variant. map size_of variant.items) made.items ≡ map (map wanted_size) variants.now) }
+{
+    let mut made = Vec::new(opening.alloc);
+    for variant in variants {
+        made.push(cursors_of_words(opening, variant.as_slice())?)?;
+    }
+    Ok(made)
+}
+
+fn cursors_of_words<'v>(
+    opening: &Opening<'_>,
+    words: &[WordTerms],
+) -> Result<Vec<Item<TermCursor<'v>>>, Memory>
+    ensures { IfOk result (λ items. map size_of items.items ≡ map wanted_size words.now) }
+{
+    let mut items = Vec::new(opening.alloc);
+    for terms in words {
+        items.push(cursors_of(opening, terms)?)?;
+    }
+    Ok(items)
+}
+
+fn cursors_of<'v>(opening: &Opening<'_>, terms: &WordTerms) -> Result<Item<TermCursor<'v>>, Memory>
+    ensures { IfOk result (λ item. size_of item ≡ wanted_size terms.now) }
+{
+    match terms {
+        WordTerms::Any => Ok(Item::Any),
+        WordTerms::Of(numbers) => Ok(Item::Of(new_cursors(opening, numbers.len())?)),
+    }
+}
+
+fn new_cursors<'v>(opening: &Opening<'_>, count: usize) -> Result<Vec<TermCursor<'v>>, Memory>
+    ensures { IfOk result (λ cursors. length cursors.items ≡ count) }
+{
+    let mut cursors = Vec::new(opening.alloc);
+    for _number in 0..count {
+        cursors.push(TermCursor::new())?;
+    }
+    Ok(cursors)
+}

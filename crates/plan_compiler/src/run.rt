@@ -1,0 +1,59 @@
+//! Plans opened over a version of the index, and tested at spans of its documents.
+
+ghost use Rattle.std.specs.Prelude.{◌≡◌, ◌≤◌, ◌+◌, List, map, true};
+ghost use Rattle.ft_base.specs.declared.token.Token.{Token};
+ghost use Rattle.all_matches.specs.Meaning.{sat};
+ghost use Rattle.index_meaning.specs.Documents.{document_at, has_document, token_count};
+ghost use Rattle.plan_compiler.specs.Lexicon.{lexicon};
+ghost use Rattle.plan_compiler.specs.RunMeaning.{words_at};
+
+use crate::plan::Plan;
+use crate::run_node::RunNode;
+use crate::test_place::TestPlace;
+use crate::testing::node_holds;
+use ft_base::{DocId, Span, Steps};
+use index_versions::Version;
+use std::marker::Model;
+use std::sync::ledger::Ledger;
+
+/// A plan opened over a version of the index, which stays as it is as long as the run is there. Contracts see the selection and the
+/// lists of the plan, and the documents of the version.
+#[derive(Drop)]
+pub struct Run<'v> {
+    pub(crate) plan: &'v Plan,
+    pub(crate) version: &'v Version,
+    pub(crate) root: RunNode<'v>,
+}
+
+impl<'v> Model for Run<'v> {
+    ghost use Rattle.plan_compiler.specs.steps.OpenedWords.{IsOpened};
+    ghost use Rattle.plan_compiler.specs.PlanMeaning.{plan_form, plan_lists};
+    ghost use Rattle.plan_compiler.specs.steps.RunCode.{run_code};
+    ghost use Rattle.plan_compiler.specs.RunMeaning.{RunMeaning, run_of};
+    ghost use Rattle.plan_compiler.specs.steps.RunShapes.{shape};
+
+    ghost Value = { RunMeaning };
+
+    ghost coded = { run_code };
+
+    ghost view = { λ inside. run_of (plan_form inside.plan.now) (plan_lists inside.plan.now) inside.version.now };
+
+    ghost invariant = { λ inside.
+        IsOpened inside.plan.now.looks inside.plan.now.lists.stems inside.version.now (shape inside.root) inside.plan.now.root };
+}
+
+impl<'v> Run<'v> {
+    /// Whether the words of the span of the document satisfy the plan's selection. It moves cursors forward, and takes no memory.
+    pub fn test<L: Ledger>(&mut self, doc: DocId, span: Span, moves: &mut Steps<L>) -> bool
+        requires there { has_document doc.0 self.old.version ≡ true }
+        requires inside { (1 ≤ span.from) × (span.from ≤ span.to) × (span.to ≤ token_count (document_at doc.0 self.old.version) + 1) }
+        ensures says { (tokens : List Token) → map (λ token. token.word) tokens ≡ words_at span (document_at doc.0 self.old.version)
+            → result ≡ sat (lexicon self.old.lists) self.old.form tokens }
+        ensures same { self.new ≡ self.old }
+        ensures grown { moves.old ≤ moves.new }
+    {
+        let version = self.version;
+        let place = TestPlace { version, doc, span };
+        node_holds(&place, &mut self.root, moves)
+    }
+}
