@@ -1,24 +1,25 @@
 -- Documents under ascending numbers, and the version that follows them.
-use Rattle.std.proofs.Common.{◌≡◌, ◌∙◌, sym, ap, ap₂, refl, ℕ, ◌+◌, ◌<◌, ◌≤◌, arith, Bool, true, false, cond, not, ◌&&◌, ◌||◌, ◌==◌, List, [], ◌∷◌, ◌++◌, length, map, inl, inr}
-use Rattle.std.specs.Prelude.{Option, Some, None, nat_lt}
+use Rattle.std.proofs.Common.{◌≡◌, ◌≢◌, ◌∙◌, subst, sym, ap, refl, ℕ, ◌+◌, ◌<◌, ◌≤◌, arith, true, false, cond, not, ◌==◌, List, [], ◌∷◌, ◌++◌, length, map, inl, inr}
+use Rattle.std.specs.Prelude.{Some, nat_lt}
+use Rattle.std.specs.List.{AllByRecursion}
 use Rattle.std.specs.Map.{lookup, remove_entry}
 use Rattle.std.specs.Str.{bytes_eq}
 use Rattle.std.proofs.lemmas.Bool.{and_from, cases_Bool, cond-false, cond-true, eq-eqb, le-ltb, lt-ltb, ne_eqb, or_from, or_left, or_right}
 use Rattle.std.proofs.lemmas.List.{length-map, map_push}
 use Rattle.ft_base.specs.Places.{is_ascending}
-use Rattle.index_meaning.specs.Documents.{Document, Numbered, document_at, has_document, numbered, with_document, without_document}
+use Rattle.index_meaning.specs.Documents.{Numbered, document_at, has_document, numbered, with_document, without_document}
 use Rattle.index_meaning.specs.Index.{index}
-use Rattle.index_updates.specs.Follows.{Follows, token_document, tree_document, under_tokens, under_tree}
+use Rattle.index_updates.specs.Follows.{Follows, tree_document, under_tokens, under_tree}
 use Rattle.index_updates.proofs.IndexLemmas.{index-same}
+use Rattle.ordered_tree.specs.Numbered as tree
 use Rattle.ordered_tree.specs.Numbered.{plain}
-use Rattle.path_meaning.specs.Collection.{Named}
 use Rattle.text_forms.specs.Forms.{key_of}
 use Rattle.tokenizer.specs.Tokens.{tokens}
 use Rattle.ft_session.specs.Indexed.{IsIndexOf, under}
 use Rattle.ft_session.specs.State.{to_document}
 use Rattle.ft_session.specs.Step.{tokens_named}
 use Rattle.ft_session.specs.declared.loaded.Loaded.{Loaded}
-use Rattle.ft_session.specs.steps.Numbering.{Ascend, IsNumbered, tree_of, trees_of}
+use Rattle.ft_session.specs.steps.Numbering.{Ascend, FollowsEach, IsNumbered, tree_of, trees_of}
 
 abbrev Entry : Type 0
 Entry = List ℕ × Loaded
@@ -122,6 +123,14 @@ module _ (name : List ℕ) (found : Loaded) where
         ∙ found-document (first.doc.0 + 1) rest to up.1 inside
   ]
 
+  -- what holds of each tree holds of its
+  pub found-tree : (P : ℕ × tree.Numbered → Type 0) (es : Entries) → AllByRecursion P (trees_of es) → lookup (bytes_eq name) es ≡ Some found → P (found.doc.0, found.tree.root)
+  found-tree P [] all is = let no : ⊥ = cc in absurd no
+  found-tree P ((other, first) ∷ rest) all is = elim (cases_Bool (bytes_eq name other)) [
+    | inl same ↦ subst (λ (l : Loaded). P (l.doc.0, l.tree.root)) (first-found other first rest same is) all.0
+    | inr differ ↦ found-tree P rest all.1 (rest-found other first rest differ is)
+  ]
+
   pub found-follows : (from : ℕ) (es : Entries) (to : ℕ) → Ascend from es to → lookup (bytes_eq name) es ≡ Some found → Follows (followed es) found.doc.0 found.tree.root
   found-follows from es to up is = record { there = found-there es is; document = found-document from es to up is }
 
@@ -177,6 +186,38 @@ is-index es version next held = record {
   ascending = numbers-ascend 0 es next held.ascend;
   index = ap (index key_of) held.follows ∙ (index-same key_of (trees_of es) ∙ sym (ap (index key_of) (under-tokens es)));
 }
+
+-- ---- the version follows each document
+
+follows-first : (id : ℕ) (root : tree.Numbered) (rest : List Numbered) → Follows (under_tree (id, root) ∷ rest) id root
+follows-first id root rest = record {
+  there = or_left (id == id) (has_document id rest) (eq-eqb id id refl);
+  document = cond-true (id == id) (tree_document root) (document_at id rest) (eq-eqb id id refl);
+}
+
+follows-behind : (d : Numbered) (rest : List Numbered) (id : ℕ) (root : tree.Numbered) → d.id ≢ id → Follows rest id root → Follows (d ∷ rest) id root
+follows-behind d rest id root apart follows = record {
+  there = or_right (d.id == id) (has_document id rest) follows.there;
+  document = cond-false (d.id == id) d.document (document_at id rest) (ne_eqb d.id id apart) ∙ follows.document;
+}
+
+all-behind : (d : Numbered) (version : List Numbered) (from : ℕ) (es : Entries) (to : ℕ) → d.id < from → Ascend from es to → FollowsEach version (trees_of es) → FollowsEach (d ∷ version) (trees_of es)
+all-behind d version from [] to less up all = tt
+all-behind d version from ((name, first) ∷ rest) to less up all =
+    let low = up.0 in (
+      follows-behind d version first.doc.0 first.tree.root (λ same. omega (arith, low, less, same)) all.0,
+      all-behind d version (first.doc.0 + 1) rest to (omega (arith, low, less)) up.1 all.1,
+    )
+
+all-followed : (from : ℕ) (es : Entries) (to : ℕ) → Ascend from es to → FollowsEach (followed es) (trees_of es)
+all-followed from [] to up = tt
+all-followed from ((name, first) ∷ rest) to up = (
+  follows-first first.doc.0 first.tree.root (followed rest),
+  all-behind (under_tree (tree_of (name, first))) (followed rest) (first.doc.0 + 1) rest to (omega arith) up.1 (all-followed (first.doc.0 + 1) rest to up.1),
+)
+
+pub follows-each : (es : Entries) (version : List Numbered) (next : ℕ) → IsNumbered es version next → FollowsEach version (trees_of es)
+follows-each es version next held = subst (λ (v : List Numbered). FollowsEach v (trees_of es)) (sym held.follows) (all-followed 0 es next held.ascend)
 
 -- ---- a document comes or goes
 

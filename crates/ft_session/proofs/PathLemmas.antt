@@ -5,9 +5,9 @@ use Rattle.std.specs.Option.{option_or}
 use Rattle.std.proofs.lemmas.List.{at_drop_more, map-append, take_more}
 use Rattle.std.proofs.lemmas.Simd.{map-map}
 use Rattle.std.specs.List.{list_all}
-use Rattle.all_matches.specs.Meaning.{sat}
 use Rattle.element_lines.specs.Lines.{element_line, printed_line}
 use Rattle.ft_base.specs.Selection.{Form}
+use Rattle.index_meaning.specs.Documents as indexed
 use Rattle.ordered_tree.specs.Numbered.{Numbered, plain}
 use Rattle.ft_base.specs.declared.ids.NodeRef.{NodeRef}
 use Rattle.path_meaning.specs.Collection.{Named, documents}
@@ -20,7 +20,6 @@ use Rattle.path_nodes.specs.Asked.{OfEach, OfStep, OfPredicates, OfPredicate, Of
 use Rattle.path_nodes.specs.References.{element_of}
 use Rattle.path_subset.specs.Paths.{PathForm}
 use Rattle.plan_compiler.specs.Decided.{is_decided}
-use Rattle.plan_compiler.specs.Lexicon.{lexicon}
 use Rattle.plan_compiler.specs.Missing.{first_missing, names, IsMissing}
 use Rattle.plan_compiler.proofs.MissingLemmas.{missing_append}
 use Rattle.plan_compiler.specs.NamedLists.{NamedLists}
@@ -29,9 +28,8 @@ use Rattle.plan_compiler.specs.declared.fault.CompileFault.TheVariants as Fault
 use Rattle.plan_compiler.specs.declared.plan.Plan.{Plan}
 use Rattle.session_text.specs.declared.reply.Refusal.TheVariants.{NotYet}
 use Rattle.session_text.specs.declared.reply.Reply.TheVariants.{Refused}
-use Rattle.tokenizer.specs.Tokens.{tokens}
 use Rattle.ft_session.specs.Paths.{answer_listed, lines_for, lines_of, missing_document, missing_list, reply_with, satisfies, selections_of}
-use Rattle.ft_session.specs.PlannedPaths.{is_planned, meant, planned_lines, under, IsPlanOf}
+use Rattle.ft_session.specs.PlannedPaths.{is_meant, meant, planned_lines, run_meant, run_over, under, IsPlanOf}
 use Rattle.ft_session.specs.State.{State, has_name}
 use Rattle.ft_session.specs.declared.planned.PlannedPath.{PlannedPath}
 use Rattle.ft_session.specs.declared.shown.Shown.{Shown}
@@ -42,16 +40,18 @@ pub missing-document : (root : PathRoot) (name : List ℕ) (documents : List Nam
 missing-document root name documents there is has = ap (λ r. missing_document r documents) is ∙ ap (λ t. cond t None (Some name)) has
 
 -- what each plan says, its selection says
-pub planned-as : (lists : NamedLists) (plans : List Plan) (forms : List Form) → map meant plans ≡ map (under lists) forms → is_planned plans ≡ satisfies lists forms
-unfolding is_planned satisfies
-planned-as lists plans forms same = (λ i k e. by plans forms k same e i)
+pub planned-as : (lists : NamedLists) (plans : List Plan) (forms : List Form) → map meant plans ≡ map (under lists) forms → is_meant (map meant plans) ≡ satisfies lists forms
+unfolding is_meant satisfies
+planned-as lists plans forms same = ap is_meant same ∙ (λ i k e. by forms k e i)
   where
-    by : (plans : List Plan) (forms : List Form) (k : ℕ) → map meant plans ≡ map (under lists) forms → (e : Element) → is_planned plans k e ≡ satisfies lists forms k e
-    by [] [] k same e = refl
-    by [] (form ∷ forms) k same e = let no : ⊥ = cc in absurd no
-    by (plan ∷ plans) [] k same e = let no : ⊥ = cc in absurd no
-    by (plan ∷ plans) (form ∷ forms) zero same e = let one : meant plan ≡ under lists form = cc in ap (λ m. sat (lexicon m.0) m.1 (tokens e.node)) one
-    by (plan ∷ plans) (form ∷ forms) (suc k) same e = by plans forms k (let rest : map meant plans ≡ map (under lists) forms = cc in rest) e
+    by : (forms : List Form) (k : ℕ) (e : Element) → is_meant (map (under lists) forms) k e ≡ satisfies lists forms k e
+    by [] k e = refl
+    by (form ∷ forms) zero e = refl
+    by (form ∷ forms) (suc k) e = by forms k e
+
+-- the runs of plans
+pub runs-meant : (version : List indexed.Numbered) (plans : List Plan) → map run_meant (map (run_over version) plans) ≡ map meant plans
+runs-meant version plans = map-map run_meant (run_over version) plans
 
 -- what holds of each number for which steps ask, and is more than something else
 mutual

@@ -1,25 +1,35 @@
--- The node that a test is asked for, and the plan by which it answers.
-use Rattle.std.proofs.Common.{◌≡◌, ◌∙◌, sym, ap, refl, subst, ℕ, zero, suc, ◌+◌, ◌<◌, ◌≤◌, ◌==◌, Bool, true, false, ◌&&◌, ◌||◌, cond, List, [], ◌∷◌, length, get_or, arith, IsTrue}
+-- The node that a test is asked for, and the run by which it answers.
+use Rattle.std.proofs.Common.{◌≡◌, ◌∙◌, sym, ap, refl, subst, ℕ, zero, suc, ◌+◌, ◌-◌, ◌<◌, ◌≤◌, ◌==◌, Bool, true, false, ◌&&◌, ◌||◌, cond, List, [], ◌∷◌, length, map, take, drop, get_or, arith, IsTrue}
 use Rattle.std.specs.Prelude.{nat_lt}
-use Rattle.std.specs.List.{list_any, Contains}
+use Rattle.std.specs.List.{list_any, slice_range, Contains}
+use Rattle.std.proofs.lemmas.List.{drop-map, length-map, take-map}
 use Rattle.std.proofs.lemmas.Bool.Decides.{nat_tests}
 use Rattle.std.proofs.lemmas.List.Elements.{All-contains}
 use Rattle.std.proofs.lemmas.Bool.{and_parts, ltb-true}
 use Rattle.all_matches.specs.Meaning.{sat}
+use Rattle.ft_base.specs.declared.span.Span.{Span}
+use Rattle.ft_base.specs.declared.token.Token.{Token}
+use Rattle.index_meaning.specs.Documents as indexed
+use Rattle.index_meaning.specs.Documents.{document_at, token_count, words_of}
+use Rattle.index_updates.specs.Follows.{Follows}
+use Rattle.index_updates.proofs.WordsLemmas.{count-tree, words-tree}
 use Rattle.ordered_tree.specs.Counts.{word_count}
-use Rattle.ordered_tree.specs.Numbered.{Numbered, plain}
-use Rattle.ordered_tree.specs.Stands.{references, stands_in}
+use Rattle.ordered_tree.specs.Numbered.{Numbered, plain, reference}
+use Rattle.ordered_tree.specs.Part.{counted_from, part, renumbered}
+use Rattle.ordered_tree.specs.Stands.{Stand, references, span, stands_in}
 use Rattle.ft_base.specs.declared.ids.NodeRef.{NodeRef}
 use Rattle.ordered_tree.proofs.ShiftLemmas.{length-tokens, stands-few}
 use Rattle.path_meaning.specs.Elements.{Element, placed}
 use Rattle.path_nodes.specs.References.{Spot, spots_in, spot_element, spot_reference, found_in, element_of, IsElement}
-use Rattle.path_nodes.proofs.SpotLemmas.{spot-stand, spot-there}
+use Rattle.path_nodes.specs.Says.{Meaning}
+use Rattle.path_nodes.proofs.SpotLemmas.{spot-there}
 use Rattle.plan_compiler.specs.Lexicon.{lexicon}
-use Rattle.plan_compiler.specs.PlanMeaning.{plan_form, plan_lists}
+use Rattle.plan_compiler.specs.RunMeaning.{RunMeaning, words_at}
 use Rattle.plan_compiler.specs.declared.plan.Plan.{Plan}
 use Rattle.tokenizer.specs.Tokens.{tokens}
-use Rattle.ft_session.specs.PlannedPaths.{is_planned}
-use Rattle.ft_session.specs.SelectionTests.{is_there, may_ask}
+use Rattle.ft_session.specs.PlannedPaths.{is_meant, meant, run_meant, run_over}
+use Rattle.ft_session.specs.SelectionTests.{asked_of, is_there, may_ask, AreOver, AreOverEach}
+use Rattle.ft_session.specs.steps.Numbering.{FollowsEach}
 
 -- the node that a reference names
 pub record Node (root : Numbered) (r : NodeRef) : Type 0 where
@@ -66,21 +76,15 @@ node-there root r h =
     let n = found (spots_in root) r (placed [] (plain root)) h in
     record { spot = n.spot; among = n.among; refers = n.refers; is = n.is }
 
--- what plans may be asked for is a node
-pub asked-node : (plans : List Plan) (root : Numbered) (k : ℕ) (r : NodeRef) → IsTrue (may_ask plans root k r) → Node root r
-asked-node plans root k r h = node-there root r (and_parts (nat_lt k (length plans)) (is_there root r) h).1
+-- what runs may be asked for is a node
+pub asked-node : (runs : List RunMeaning) (root : Numbered) (k : ℕ) (r : NodeRef) → IsTrue (may_ask runs root k r) → Node root r
+asked-node runs root k r h = node-there root r (and_parts (nat_lt k (length runs)) (is_there root r) h).1
 
-pub asked-plan : (plans : List Plan) (root : Numbered) (k : ℕ) (r : NodeRef) → IsTrue (may_ask plans root k r) → k < length plans
-asked-plan plans root k r h = ltb-true k (length plans) (and_parts (nat_lt k (length plans)) (is_there root r) h).0
+pub asked-run : (runs : List RunMeaning) (root : Numbered) (k : ℕ) (r : NodeRef) → IsTrue (may_ask runs root k r) → k < length runs
+asked-run runs root k r h = ltb-true k (length runs) (and_parts (nat_lt k (length runs)) (is_there root r) h).0
 
 pub reference-there : (root : Numbered) (r : NodeRef) → Node root r → Contains (references root) r
 reference-there root r n = subst (Contains (references root)) n.refers (spot-there root n.spot n.among)
-
--- it has no more tokens than the document
-pub few-there : (root : Numbered) (r : NodeRef) (most : ℕ) (n : Node root r) → length (tokens (plain root)) ≤ most → length (tokens (plain n.spot.stand.node)) ≤ most
-few-there root r most n few =
-    let below = All-contains (λ s. s.around.before + word_count (plain s.node) ≤ word_count (plain root)) (stands_in root) n.spot.stand (stands-few root) (spot-stand root n.spot n.among) in
-    omega (arith, few, below, length-tokens (plain root), length-tokens (plain n.spot.stand.node))
 
 -- each element of a document may be asked for
 there : (xs : List Spot) (r : NodeRef) (k : ℕ) (s : Spot) → k < length xs → get_or xs k s ≡ s → spot_reference s ≡ r → list_any (λ s. (spot_reference s).0 == r.0) xs ≡ true
@@ -96,15 +100,74 @@ there (x ∷ xs) r (suc k) s more is refers =
 pub element-there : (root : Numbered) (r : NodeRef) → IsElement root r → is_there root r ≡ true
 element-there root r e = there (spots_in root) r e.among.0 e.spot e.among.1 e.among.2 e.refers
 
-pub may-asked : (plans items : List Plan) → plans ≡ items → (root : Numbered) (k : ℕ) → k < length items → (r : NodeRef) → IsElement root r → IsTrue (may_ask plans root k r)
-may-asked plans items same root k less r e =
-    let named : nat_lt k (length plans) ≡ true = ap (λ ps. nat_lt k (length ps)) same ∙ grind (arith, nat_tests, less) in
+pub may-asked : (runs : List RunMeaning) (root : Numbered) (k : ℕ) → k < length runs → (r : NodeRef) → IsElement root r → IsTrue (may_ask runs root k r)
+may-asked runs root k less r e =
+    let named : nat_lt k (length runs) ≡ true = grind (arith, nat_tests, less) in
     ap (λ b. b && is_there root r) named ∙ element-there root r e
 
--- the plan of a number
-pub planned-at : (plans : List Plan) (k : ℕ) (plan : Plan) (e : Element) → k < length plans → get_or plans k plan ≡ plan
-    → is_planned plans k e ≡ sat (lexicon (plan_lists plan)) (plan_form plan) (tokens e.node)
-unfolding is_planned
-planned-at [] k plan e more is = absurd (omega (arith, more))
-planned-at (p ∷ plans) zero plan e more is = ap (λ q. sat (lexicon (plan_lists q)) (plan_form q) (tokens e.node)) is
-planned-at (p ∷ plans) (suc k) plan e more is = planned-at plans k plan e (omega (arith, more)) is
+-- there are as many runs as plans
+pub as-many : (plans : List Plan) (runs : List RunMeaning) → map run_meant runs ≡ map meant plans → length plans ≡ length runs
+as-many plans runs same = sym (length-map plans meant) ∙ (ap length (sym same) ∙ length-map runs run_meant)
+
+-- ---- the run of a number
+
+pub met-at : (runs : List RunMeaning) (k : ℕ) (run : RunMeaning) (e : Element) → k < length runs → get_or runs k run ≡ run
+    → is_meant (map run_meant runs) k e ≡ sat (lexicon run.lists) run.form (tokens e.node)
+unfolding is_meant
+met-at [] k run e more is = absurd (omega (arith, more))
+met-at (r ∷ runs) zero run e more is = ap (λ q. sat (lexicon q.lists) q.form (tokens e.node)) is
+met-at (r ∷ runs) (suc k) run e more is = met-at runs k run e (omega (arith, more)) is
+
+pub over-at : (runs : List RunMeaning) (k : ℕ) (run : RunMeaning) (t : ℕ × Numbered) → k < length runs → get_or runs k run ≡ run → AreOver runs t → Follows run.version t.0 t.1
+over-at runs k run t more is over = subst (λ (q : RunMeaning). Follows q.version t.0 t.1) is (over k run more)
+
+-- ---- the loans of a test
+
+pub runs-loan : (runs : List RunMeaning) (root root₂ : Numbered) (x y x₂ y₂ : ℕ) → asked_of runs root x y ≡ asked_of runs root₂ x₂ y₂ → x ≡ x₂
+runs-loan runs root root₂ x y x₂ y₂ same = ap (λ (m : Meaning). get_or m.lent 0 x) same
+
+pub moves-loan : (runs : List RunMeaning) (root root₂ : Numbered) (x y x₂ y₂ : ℕ) → asked_of runs root x y ≡ asked_of runs root₂ x₂ y₂ → y ≡ y₂
+moves-loan runs root root₂ x y x₂ y₂ same = ap (λ (m : Meaning). get_or m.lent 1 y) same
+
+-- ---- the words at the span of a node
+
+words-counted : (first : Token) (ts : List Token) → map (λ token. token.word) (map (counted_from first) ts) ≡ map (λ token. token.word) ts
+words-counted first [] = refl
+words-counted first (t ∷ ts) = ap (λ ws. t.word ∷ ws) (words-counted first ts)
+
+words-renumbered : (ts : List Token) → map (λ token. token.word) (renumbered ts) ≡ map (λ token. token.word) ts
+words-renumbered [] = refl
+words-renumbered (first ∷ rest) = words-counted first (first ∷ rest)
+
+words-range : (ts : List Token) (a b : ℕ) → map (λ token. token.word) (slice_range ts a b) ≡ slice_range (map (λ token. token.word) ts) a b
+words-range ts a b = sym (take-map (λ (token : Token). token.word) (b - a) (drop a ts)) ∙ ap (take (b - a)) (sym (drop-map (λ (token : Token). token.word) a ts))
+
+module _ (version : List indexed.Numbered) (doc : ℕ) (root : Numbered) (follows : Follows version doc root) where
+  -- the words of the document are those of the tree's tokens
+  words-there : words_of (document_at doc version) ≡ map (λ token. token.word) (tokens (plain root))
+  words-there = ap words_of follows.document ∙ words-tree root
+
+  pub words-at-span : (at : Span) (ts : List Token) → part (tokens (plain root)) at ≡ ts → map (λ token. token.word) ts ≡ words_at at (document_at doc version)
+  words-at-span at ts is =
+      ap (map (λ token. token.word)) (sym is)
+      ∙ (words-renumbered (slice_range (tokens (plain root)) (at.from - 1) (at.to - 1))
+      ∙ (words-range (tokens (plain root)) (at.from - 1) (at.to - 1)
+      ∙ ap (λ ws. slice_range ws (at.from - 1) (at.to - 1)) (sym words-there)))
+
+  -- and the span is inside it
+  pub span-inside : (s : Stand) → Contains (stands_in root) s → (span s).to ≤ token_count (document_at doc version) + 1
+  span-inside s among =
+      let below = All-contains (λ s. s.around.before + word_count (plain s.node) ≤ word_count (plain root)) (stands_in root) s (stands-few root) among in
+      let count : token_count (document_at doc version) ≡ length (tokens (plain root)) = ap token_count follows.document ∙ count-tree root in
+      omega (arith, below, count, length-tokens (plain root))
+
+-- ---- runs of plans over one version
+
+over-all : (version : List indexed.Numbered) (plans : List Plan) (t : ℕ × Numbered) → Follows version t.0 t.1 → AreOver (map (run_over version) plans) t
+over-all version [] t follows k d less = absurd (omega (arith, less))
+over-all version (plan ∷ plans) t follows zero d less = follows
+over-all version (plan ∷ plans) t follows (suc k) d less = over-all version plans t follows k d (omega (arith, less))
+
+pub over-each : (version : List indexed.Numbered) (plans : List Plan) (trees : List (ℕ × Numbered)) → FollowsEach version trees → AreOverEach (map (run_over version) plans) trees
+over-each version plans [] follow = tt
+over-each version plans (t ∷ trees) follow = (over-all version plans t follow.0, over-each version plans trees follow.1)

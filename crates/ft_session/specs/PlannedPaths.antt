@@ -2,6 +2,7 @@
 use Rattle.std.specs.Prelude.{◌≡◌, ℕ, zero, suc, ◌<◌, Bool, false, List, [], ◌∷◌, length, map}
 use Rattle.all_matches.specs.Meaning.{sat}
 use Rattle.ft_base.specs.Selection.{Form}
+use Rattle.index_meaning.specs.Documents.{Numbered}
 use Rattle.path_meaning.specs.Collection.{Named}
 use Rattle.path_meaning.specs.Elements.{Element}
 use Rattle.path_grammar.specs.Form.{Steps, steps}
@@ -13,15 +14,23 @@ use Rattle.plain_tree.specs.Document.{Node}
 use Rattle.plan_compiler.specs.Lexicon.{lexicon}
 use Rattle.plan_compiler.specs.NamedLists.{NamedLists}
 use Rattle.plan_compiler.specs.PlanMeaning.{plan_form, plan_lists}
+use Rattle.plan_compiler.specs.RunMeaning.{RunMeaning}
 use Rattle.plan_compiler.specs.declared.plan.Plan.{Plan}
 use Rattle.tokenizer.specs.Tokens.{tokens}
 use Rattle.ft_session.specs.Paths.{lines_of, selections_of}
 use Rattle.ft_session.specs.declared.planned.PlannedPath.{PlannedPath}
 use Rattle.ft_session.specs.declared.shown.Shown.{Shown}
 
--- what a plan is of
+-- what a plan is of, and what a run is of
 abbrev pub meant : Plan → NamedLists × Form
 meant plan = (plan_lists plan, plan_form plan)
+
+abbrev pub run_meant : RunMeaning → NamedLists × Form
+run_meant run = (run.lists, run.form)
+
+-- the run of a plan over a version
+abbrev pub run_over : List Numbered → Plan → RunMeaning
+run_over version plan = record { form = plan_form plan; lists = plan_lists plan; version = version }
 
 -- a selection under lists
 abbrev pub under : NamedLists → Form → NamedLists × Form
@@ -41,15 +50,19 @@ pub record IsPlanOf (lists : NamedLists) (p : PathForm) (planned : PlannedPath) 
   pub steps : steps (map step planned.steps.now) ≡ p.path.steps
   pub plans : map meant planned.plans.items ≡ map (under lists) (selections_of p)
 
--- whether an element's tokens satisfy the selection of the plan of that number, under the plan's lists
-unfoldable pub is_planned : List Plan → ℕ → Element → Bool
-is_planned [] k e = false
-is_planned (first ∷ rest) zero e = sat (lexicon (plan_lists first)) (plan_form first) (tokens e.node)
-is_planned (first ∷ rest) (suc k) e = is_planned rest k e
+-- There is a run for each plan of a path, in order.
+abbrev pub AreRunsOf : PlannedPath → List RunMeaning → Type 0
+AreRunsOf path runs = map run_meant runs ≡ map meant path.plans.items
+
+-- whether an element's tokens satisfy the selection of that number, under its lists
+unfoldable pub is_meant : List (NamedLists × Form) → ℕ → Element → Bool
+is_meant [] k e = false
+is_meant (first ∷ rest) zero e = sat (lexicon first.0) first.1 (tokens e.node)
+is_meant (first ∷ rest) (suc k) e = is_meant rest k e
 
 -- the elements of a document to which the steps lead
 abbrev pub planned_in : PlannedPath → Node → List Element
-planned_in path root = selected (is_planned path.plans.items) (steps (map step path.steps.now)) root
+planned_in path root = selected (is_meant (map meant path.plans.items)) (steps (map step path.steps.now)) root
 
 -- their lines
 abbrev pub planned_lines : Shown → PlannedPath → Named → List (List ℕ)

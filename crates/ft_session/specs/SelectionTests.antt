@@ -1,21 +1,37 @@
--- What plans say of the nodes of a document.
-use Rattle.std.specs.Prelude.{ℕ, ◌==◌, Bool, ◌&&◌, nat_lt, List, length}
-use Rattle.std.specs.List.{list_any}
+-- What runs say of the nodes of a document.
+use Rattle.std.specs.Prelude.{ℕ, ◌==◌, Bool, ◌&&◌, nat_lt, List, [], ◌∷◌, length, map, All}
+use Rattle.std.specs.List.{list_any, AllByRecursion}
+use Rattle.ft_base.specs.Selection.{Form}
+use Rattle.index_updates.specs.Follows.{Follows}
 use Rattle.ordered_tree.specs.Numbered.{Numbered}
 use Rattle.ft_base.specs.declared.ids.NodeRef.{NodeRef}
 use Rattle.path_nodes.specs.References.{element_of, spot_reference, spots_in}
 use Rattle.path_nodes.specs.Says.{Meaning}
-use Rattle.plan_compiler.specs.declared.plan.Plan.{Plan}
-use Rattle.ft_session.specs.PlannedPaths.{is_planned}
+use Rattle.plan_compiler.specs.NamedLists.{NamedLists}
+use Rattle.plan_compiler.specs.RunMeaning.{RunMeaning}
+use Rattle.ft_session.specs.PlannedPaths.{is_meant, run_meant}
 
 -- whether a reference names a node of a document
 abbrev pub is_there : Numbered → NodeRef → Bool
 is_there root r = list_any (λ s. (spot_reference s).0 == r.0) (spots_in root)
 
--- Plans may be asked, each by its number, of each node of a document.
-abbrev pub may_ask : List Plan → Numbered → ℕ → NodeRef → Bool
-may_ask plans root k r = nat_lt k (length plans) && is_there root r
+-- Runs may be asked, each by its number, of each node of a document.
+abbrev pub may_ask : List RunMeaning → Numbered → ℕ → NodeRef → Bool
+may_ask runs root k r = nat_lt k (length runs) && is_there root r
 
--- They say whether the element that the reference names satisfies the selection, and no steps of cursors are counted for it.
-abbrev pub asked_of : List Plan → Numbered → Meaning
-asked_of plans root = record { may_ask = may_ask plans root; says = λ k r. is_planned plans k (element_of root r); price = λ k r. 0 }
+-- They say whether the element that the reference names satisfies the selection, for no price yet. The runs and a count of steps are lent,
+-- under these names.
+abbrev pub asked_of : List RunMeaning → Numbered → ℕ → ℕ → Meaning
+asked_of runs root runs_loan moves_loan = record {
+  may_ask = may_ask runs root;
+  says = λ k r. is_meant (map run_meant runs) k (element_of root r);
+  price = λ k r. 0;
+  lent = runs_loan ∷ moves_loan ∷ [];
+}
+
+-- Each run is over a version that follows a tree under its number, or each of some trees.
+abbrev pub AreOver : List RunMeaning → ℕ × Numbered → Type 0
+AreOver runs t = All (λ run. Follows run.version t.0 t.1) runs
+
+abbrev pub AreOverEach : List RunMeaning → List (ℕ × Numbered) → Type 0
+AreOverEach runs trees = AllByRecursion (AreOver runs) trees

@@ -1,5 +1,5 @@
 -- What a command does to what a session holds.
-use Rattle.std.specs.Prelude.{ℕ, ◌||◌, nat_le, nat_lt, if◌then◌else◌, List, [], ◌∷◌, ◌++◌, length, Result, Ok, Err}
+use Rattle.std.specs.Prelude.{ℕ, Bool, true, false, ◌||◌, nat_le, nat_lt, if◌then◌else◌, List, [], ◌∷◌, ◌++◌, length, Result, Ok, Err}
 use Rattle.std.specs.Str.{bytes_eq}
 use Rattle.plan_compiler.specs.NamedLists.{NamedLists}
 use Rattle.doc_profile.specs.declared.fault.DocFault.{DocFault}
@@ -74,7 +74,19 @@ step state (command.BadCommand line) = (state, Refused (refusal.BadCommand line)
 step state (command.BadName line) = (state, Refused (refusal.BadName line))
 step state _ = (state, Refused refusal.NotYet)
 
--- ---- the rows of the index
+-- ---- the rows of the index, and the steps of its cursors
+
+-- whether a command loads a document or takes one out; no other puts or takes rows
+abbrev pub changes_documents : Command → Bool
+changes_documents (command.Load name block) = true
+changes_documents (command.Drop name) = true
+changes_documents _ = false
+
+-- whether a command shows what a path selects; no other moves cursors
+abbrev pub shows_path : Command → Bool
+shows_path (command.Query path) = true
+shows_path (command.Print path) = true
+shows_path _ = false
 
 -- how many tokens the document has that a load puts in; none, where it is refused
 abbrev pub tokens_loaded : List Named → List ℕ → Result Node Refusal → ℕ

@@ -6,12 +6,13 @@ ghost use Rattle.tokenizer.specs.Tokens.{tokens};
 ghost use Rattle.ft_session.specs.Indexed.{IsIndexOf, with_version};
 ghost use Rattle.ft_session.specs.State.{has_name, to_document};
 ghost use Rattle.ft_session.specs.Step.{dropped, loadable, loaded, tokens_loaded, tokens_named};
+ghost use Rattle.ft_session.specs.steps.Numbering.{FollowsEach, trees_of};
 
 use crate::loaded::{Loadable, Loaded};
 use crate::loading::{Outcome, read_document};
 use ft_base::{DocId, Line, MAX_DOCUMENTS, Memory, Steps};
-use index_updates::{add_loaded, drop_doc};
-use index_versions::Version;
+use index_updates::{Found, add_loaded, drop_doc};
+use index_versions::{Version, WordHints};
 use indexmap::IndexMap;
 use ordered_tree::Read;
 use session_text::{FullOf, Refusal, Reply};
@@ -26,6 +27,8 @@ pub(crate) struct Collection {
     alloc: Global,
     documents: IndexMap<Line, Loaded>,
     version: Version,
+    /// Where the version's dictionary has words: what a document that comes looks at first
+    hints: WordHints,
     /// The number of the document that is loaded next
     next: u32,
 }
@@ -56,16 +59,25 @@ impl Collection {
             alloc,
             documents: IndexMap::new(alloc),
             version: Version::empty(alloc),
+            hints: WordHints::new(alloc),
             next: 0,
         }
     }
 
-    /// The documents. The version is their index.
+    /// The documents. The version is their index, and it follows the tree of each under its number.
     pub(crate) fn documents(&self) -> &IndexMap<Line, Loaded>
         ensures documents { map to_document result.now.entries ≡ self.now.documents }
         ensures indexed { IsIndexOf self.now.documents self.now.version }
+        ensures followed { FollowsEach self.now.version (trees_of result.now.entries) }
     {
         &self.documents
+    }
+
+    /// The version of the index.
+    pub(crate) fn version(&self) -> &Version
+        ensures { result.now ≡ self.now.version }
+    {
+        &self.version
     }
 
     /// Puts the document that the block is behind those that are there, unless its name is taken, there are as many as
@@ -119,7 +131,9 @@ impl Collection {
             leaves,
             breaks,
         } = document.read;
-        let added = add_loaded(self.alloc, &self.version, doc, &tree, leaves, breaks, rows);
+        let found = Found { leaves, breaks };
+        let hints = &mut self.hints;
+        let added = add_loaded(self.alloc, &self.version, hints, doc, &tree, found, rows);
         let Ok(version) = added else {
             drop((name, tree));
             return Err(Memory);

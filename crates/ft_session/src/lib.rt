@@ -3,7 +3,7 @@
 #![tactic(auto)]
 
 mod answering;
-mod asked_plans;
+mod asked_runs;
 mod collection;
 pub mod laws;
 mod lists;

@@ -1,6 +1,6 @@
 //! The reply to a path: the elements that it selects, or why it is refused.
 
-ghost use Rattle.std.specs.Prelude.{◌≡◌, ◌≢◌, IfOk, IsTrue, Ok, OnOk, flat_map, length, map};
+ghost use Rattle.std.specs.Prelude.{◌≡◌, ◌≢◌, ◌≤◌, IfOk, IsTrue, Ok, OnOk, flat_map, length, map};
 ghost use Rattle.std.specs.List.{list_all};
 ghost use Rattle.std.specs.Option.{option_copied};
 ghost use Rattle.path_meaning.specs.Collection.{documents as documents_of};
@@ -11,30 +11,34 @@ ghost use Rattle.ft_session.specs.PlannedPaths.{planned_lines, AskBelow, HasItsP
 ghost use Rattle.ft_session.specs.State.{to_document};
 ghost use Rattle.ft_session.specs.StateView.{state_of};
 
+use crate::collection::Collection;
 use crate::loaded::Loaded;
-use crate::planned::{PlannedPath, compile_path};
+use crate::planned::{PlannedPath, compile_path, open_runs};
 use crate::selected::collect_lines;
 use crate::shown::{Shown, reply_with};
-use ft_base::{Line, Memory, QueryFault};
+use ft_base::{Line, Memory, QueryFault, Steps};
 use indexmap::IndexMap;
 use path_grammar::PathRoot;
 use path_subset::{ReadPath, read_path};
 use plan_compiler::{CompileFault, Lists, is_decided, missing_list};
 use session_text::{Refusal, Reply};
 use std::alloc::Global;
+use std::sync::ledger::Ledger;
 
 /// The reply to a path, by the documents and the lists that are there.
-pub(crate) fn answer_path(
+pub(crate) fn answer_path<M: Ledger>(
     alloc: Global,
-    documents: &IndexMap<Line, Loaded>,
+    collection: &Collection,
     lists: &Lists,
     shown: Shown,
     text: &str,
+    moves: &mut Steps<M>,
 ) -> Result<Reply, Memory>
-    ensures { IfOk result (λ reply. reply ≡ paths.answer shown (state_of documents.now lists.now) text.now) }
+    ensures reply { IfOk result (λ reply. reply ≡ paths.answer shown (state_of collection.now lists.now) text.now) }
+    ensures moves { moves.old ≤ moves.new }
 {
     match read_path(alloc, text) {
-        Ok(path) => answer_read(alloc, documents, lists, shown, &path),
+        Ok(path) => answer_read(alloc, collection, lists, shown, &path, moves),
         Err(fault) => refuse(fault),
     }
 }
@@ -51,22 +55,24 @@ fn refuse(fault: QueryFault) -> Result<Reply, Memory>
 }
 
 /// The reply to a path that was read.
-fn answer_read(
+fn answer_read<M: Ledger>(
     alloc: Global,
-    documents: &IndexMap<Line, Loaded>,
+    collection: &Collection,
     lists: &Lists,
     shown: Shown,
     path: &ReadPath,
+    moves: &mut Steps<M>,
 ) -> Result<Reply, Memory>
     requires { AskBelow (length (read_form path.now).selections) (read_form path.now).path.steps }
-    ensures { IfOk result (λ reply. reply ≡ paths.answer_read shown (state_of documents.now lists.now) (Ok (read_form path.now))) }
+    ensures reply { IfOk result (λ reply. reply ≡ paths.answer_read shown (state_of collection.now lists.now) (Ok (read_form path.now))) }
+    ensures moves { moves.old ≤ moves.new }
 {
-    if let Some(name) = missing_document(documents, path.root()) {
+    if let Some(name) = missing_document(collection.documents(), path.root()) {
         let name = Line::read(alloc, name)?;
         return Ok(Reply::Refused(Refusal::NoSuchDoc { name }));
     }
     if are_decided(path) {
-        return answer_decided(alloc, documents, lists, shown, path);
+        return answer_decided(alloc, collection, lists, shown, path, moves);
     }
     // Nothing is compiled where plans don't decide each selection, so that the lists are looked for here.
     if let Some(name) = missing_list_of(path, lists) {
@@ -77,39 +83,49 @@ fn answer_read(
 }
 
 /// The reply to a path whose document is there and whose selections plans decide. All of them are compiled before one is asked.
-fn answer_decided(
+fn answer_decided<M: Ledger>(
     alloc: Global,
-    documents: &IndexMap<Line, Loaded>,
+    collection: &Collection,
     lists: &Lists,
     shown: Shown,
     path: &ReadPath,
+    moves: &mut Steps<M>,
 ) -> Result<Reply, Memory>
     requires decided { IsTrue (list_all is_decided (paths.selections_of (read_form path.now))) }
     requires numbered { AskBelow (length (read_form path.now).selections) (read_form path.now).path.steps }
-    ensures { IfOk result (λ reply. reply
-        ≡ paths.answer_listed shown (state_of documents.now lists.now) (read_form path.now)
+    ensures reply { IfOk result (λ reply. reply
+        ≡ paths.answer_listed shown (state_of collection.now lists.now) (read_form path.now)
         (paths.missing_list lists.now (paths.selections_of (read_form path.now)))) }
+    ensures moves { moves.old ≤ moves.new }
 {
     match compile_path(alloc, path, lists) {
-        Ok(planned) => answer_planned(alloc, documents, shown, &planned),
+        Ok(planned) => answer_planned(alloc, collection, shown, &planned, moves),
         Err(CompileFault::NoSuchList { name }) => Ok(Reply::Refused(Refusal::NoSuchList { name })),
         Err(CompileFault::Memory) => Err(Memory),
     }
 }
 
-/// The reply to a path by its plans.
-fn answer_planned(
+/// The reply to a path by its plans. A run of each is opened once, over the version of the index, and asked of the elements.
+fn answer_planned<M: Ledger>(
     alloc: Global,
-    documents: &IndexMap<Line, Loaded>,
+    collection: &Collection,
     shown: Shown,
     planned: &PlannedPath<'_>,
+    moves: &mut Steps<M>,
 ) -> Result<Reply, Memory>
     requires { HasItsPlans planned.now }
-    ensures { IfOk result (λ reply. reply
-        ≡ paths.reply_with shown (flat_map (planned_lines shown planned.now) (documents_of planned.now.root.now (map to_document documents.now.entries)))) }
+    ensures reply { IfOk result (λ reply. reply
+        ≡ paths.reply_with shown (flat_map (planned_lines shown planned.now) (documents_of planned.now.root.now collection.now.documents))) }
+    ensures moves { moves.old ≤ moves.new }
 {
-    let lines = collect_lines(alloc, documents, shown, planned)?;
-    Ok(reply_with(shown, lines))
+    let documents = collection.documents();
+    let mut runs = open_runs(alloc, planned.plans.as_slice(), collection.version())?;
+    let lines = collect_lines(alloc, documents, shown, planned, &mut runs, moves);
+    drop(runs);
+    match lines {
+        Ok(lines) => Ok(reply_with(shown, lines)),
+        Err(memory) => Err(memory),
+    }
 }
 
 /// The name of the document with which a path begins, if there is none of that name.

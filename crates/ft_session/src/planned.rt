@@ -1,17 +1,18 @@
-//! Paths with a plan for each of their selections.
+//! Paths with a plan for each of their selections, and the runs of these over a version of the index.
 
-ghost use Rattle.std.specs.Prelude.{◌≡◌, ◌++◌, ◌∷◌, [], IfErr, IfOk, IsTrue, None, length, map};
+ghost use Rattle.std.specs.Prelude.{◌≡◌, ◌++◌, ◌∷◌, [], IfErr, IfOk, IsTrue, None, OnOk, length, map};
 ghost use Rattle.std.specs.List.{list_all};
 ghost use Rattle.path_subset.specs.Paths.{read_form};
 ghost use Rattle.plan_compiler.specs.Decided.{is_decided};
 ghost use Rattle.plan_compiler.specs.Missing.{IsMissing};
 ghost use Rattle.ft_session.specs.Paths.{missing_list, selections_of};
-ghost use Rattle.ft_session.specs.PlannedPaths.{meant, under, AskBelow, HasItsPlans, IsPlanOf};
+ghost use Rattle.ft_session.specs.PlannedPaths.{meant, run_over, under, AskBelow, HasItsPlans, IsPlanOf};
 
 use ft_base::Memory;
+use index_versions::Version;
 use path_grammar::{PathRoot, Steps};
 use path_subset::ReadPath;
-use plan_compiler::{CompileFault, Lists, Plan};
+use plan_compiler::{CompileFault, Lists, Plan, Run};
 use std::alloc::Global;
 
 /// A path with a plan for each of its selections, by their numbers.
@@ -73,4 +74,27 @@ fn with_plan(plans: Vec<Plan>, plan: Plan) -> Result<Vec<Plan>, Memory>
     let mut all = plans;
     all.push(plan)?;
     Ok(all)
+}
+
+/// A run for each plan over the version.
+pub(crate) fn open_runs<'v>(
+    alloc: Global,
+    plans: &'v [Plan],
+    version: &'v Version,
+) -> Result<Vec<Run<'v>>, Memory>
+    ensures { IfOk result (λ runs. runs.items ≡ map (run_over version.now) plans.now) }
+{
+    let mut runs = Vec::new(alloc);
+    for plan in plans {
+        push_run(plan, version, &mut runs)?;
+    }
+    Ok(runs)
+}
+
+/// Puts the run of a plan over the version behind the others.
+fn push_run<'v>(plan: &'v Plan, version: &'v Version, runs: &mut Vec<Run<'v>>) -> Result<(), Memory>
+    ensures { OnOk result (runs.new.items ≡ runs.old.items ++ run_over version.now plan.now ∷ []) }
+{
+    runs.push(plan.open(version)?)?;
+    Ok(())
 }

@@ -1,125 +1,195 @@
 //! The lines of the elements that a path selects.
 
-ghost use Rattle.std.specs.Prelude.{◌≡◌, ◌++◌, All, IfOk, OnOk, flat_map, map};
+ghost use Rattle.std.specs.Prelude.{◌≡◌, ◌≤◌, ◌++◌, All, IfOk, OnOk, flat_map, map};
 ghost use Rattle.ordered_tree.specs.Numbered.{plain};
 ghost use Rattle.path_meaning.specs.Collection.{documents as documents_of};
 ghost use Rattle.path_grammar.specs.declared.path.PathRoot.TheVariants as roots;
 ghost use Rattle.path_nodes.specs.References.{IsElement, element_of};
-ghost use Rattle.ft_session.specs.PlannedPaths.{planned_in, planned_lines, HasItsPlans};
+ghost use Rattle.ft_session.specs.Paths.{lines_of};
+ghost use Rattle.ft_session.specs.PlannedPaths.{planned_in, planned_lines, AreRunsOf, HasItsPlans};
+ghost use Rattle.ft_session.specs.SelectionTests.{AreOver, AreOverEach};
 ghost use Rattle.ft_session.specs.State.{to_document};
+ghost use Rattle.ft_session.specs.steps.Numbering.{trees_of};
 
-use crate::asked_plans::SelectionTest;
+use crate::asked_runs::{Loan, SelectionTest};
 use crate::loaded::Loaded;
 use crate::planned::PlannedPath;
 use crate::shown::Shown;
 use element_lines::{push_names, push_printed};
-use ft_base::{Line, Lines, Memory};
+use ft_base::{Line, Lines, Memory, Steps};
 use indexmap::IndexMap;
 use ordered_tree::NodeRef;
 use path_grammar::PathRoot;
 use path_nodes::nodes;
+use plan_compiler::Run;
 use std::alloc::Global;
+use std::marker::{Brand, PhantomData};
+use std::sync::ledger::Ledger;
 
-/// The lines of the elements that the path selects, document by document.
-pub(crate) fn collect_lines(
+/// The lines of the elements that the path selects, document by document. The runs are those of its plans, over a version that
+/// follows the documents.
+pub(crate) fn collect_lines<M: Ledger>(
     alloc: Global,
     documents: &IndexMap<Line, Loaded>,
     shown: Shown,
     path: &PlannedPath<'_>,
+    runs: &mut Vec<Run<'_>>,
+    moves: &mut Steps<M>,
 ) -> Result<Lines, Memory>
-    requires { HasItsPlans path.now }
-    ensures { IfOk result (λ lines. lines ≡ flat_map (planned_lines shown path.now) (documents_of path.now.root.now (map to_document documents.now.entries))) }
+    requires plans { HasItsPlans path.now }
+    requires runs { AreRunsOf path.now runs.old.items }
+    requires over { AreOverEach runs.old.items (trees_of documents.now.entries) }
+    ensures lines { IfOk result (λ lines. lines
+        ≡ flat_map (planned_lines shown path.now) (documents_of path.now.root.now (map to_document documents.now.entries))) }
+    ensures moves { moves.old ≤ moves.new }
 {
     match path.root {
-        PathRoot::Collection => collect_all(alloc, documents, shown, path),
-        PathRoot::Doc(name) => collect_one(alloc, documents, name, shown, path),
+        PathRoot::Collection => collect_all(alloc, documents, shown, path, runs, moves),
+        PathRoot::Doc(name) => collect_one(alloc, documents, name, shown, path, runs, moves),
     }
 }
 
 /// The lines of all documents, in their order.
-fn collect_all(
+fn collect_all<M: Ledger>(
     alloc: Global,
     documents: &IndexMap<Line, Loaded>,
     shown: Shown,
     path: &PlannedPath<'_>,
+    runs: &mut Vec<Run<'_>>,
+    moves: &mut Steps<M>,
 ) -> Result<Lines, Memory>
-    requires { HasItsPlans path.now }
-    ensures { IfOk result (λ lines. lines ≡ flat_map (planned_lines shown path.now) (map to_document documents.now.entries)) }
+    requires plans { HasItsPlans path.now }
+    requires runs { AreRunsOf path.now runs.old.items }
+    requires over { AreOverEach runs.old.items (trees_of documents.now.entries) }
+    ensures lines { IfOk result (λ lines. lines ≡ flat_map (planned_lines shown path.now) (map to_document documents.now.entries)) }
+    ensures moves { moves.old ≤ moves.new }
 {
     let mut lines = Lines::new(alloc);
     for (name, document) in documents.iter() {
-        push_lines(alloc, name.as_str(), document, shown, path, &mut lines)?;
+        let found = select(alloc, document, path, runs, moves)?;
+        push_lines(
+            alloc,
+            name.as_str(),
+            document,
+            shown,
+            found.as_slice(),
+            &mut lines,
+        )?;
     }
     Ok(lines)
 }
 
 /// The lines of the document of that name, if there is one.
-fn collect_one(
+fn collect_one<M: Ledger>(
     alloc: Global,
     documents: &IndexMap<Line, Loaded>,
     name: &Line,
     shown: Shown,
     path: &PlannedPath<'_>,
+    runs: &mut Vec<Run<'_>>,
+    moves: &mut Steps<M>,
 ) -> Result<Lines, Memory>
-    requires { HasItsPlans path.now }
-    ensures { IfOk result (λ lines. lines
+    requires plans { HasItsPlans path.now }
+    requires runs { AreRunsOf path.now runs.old.items }
+    requires over { AreOverEach runs.old.items (trees_of documents.now.entries) }
+    ensures lines { IfOk result (λ lines. lines
         ≡ flat_map (planned_lines shown path.now) (documents_of (roots.Doc name.now) (map to_document documents.now.entries))) }
+    ensures moves { moves.old ≤ moves.new }
 {
     // No two documents have one name, as the clauses of `iter` say.
     let _entries = documents.iter();
     match documents.get(name) {
-        Some(document) => collect_from(alloc, name.as_str(), document, shown, path),
+        Some(document) => collect_from(alloc, name.as_str(), document, shown, path, runs, moves),
         None => Ok(Lines::new(alloc)),
     }
 }
 
 /// The lines of one document.
-fn collect_from(
+fn collect_from<M: Ledger>(
     alloc: Global,
     name: &str,
     document: &Loaded,
     shown: Shown,
     path: &PlannedPath<'_>,
+    runs: &mut Vec<Run<'_>>,
+    moves: &mut Steps<M>,
 ) -> Result<Lines, Memory>
-    requires { HasItsPlans path.now }
-    ensures { IfOk result (λ lines. lines ≡ planned_lines shown path.now (to_document (name.now, document.now))) }
+    requires plans { HasItsPlans path.now }
+    requires runs { AreRunsOf path.now runs.old.items }
+    requires over { AreOver runs.old.items (document.now.doc.0, document.now.tree.root) }
+    ensures lines { IfOk result (λ lines. lines ≡ planned_lines shown path.now (to_document (name.now, document.now))) }
+    ensures moves { moves.old ≤ moves.new }
 {
+    let found = select(alloc, document, path, runs, moves)?;
     let mut lines = Lines::new(alloc);
-    push_lines(alloc, name, document, shown, path, &mut lines)?;
+    push_lines(alloc, name, document, shown, found.as_slice(), &mut lines)?;
     Ok(lines)
 }
 
-/// Puts the lines of a document's elements behind those found so far.
+/// Puts the lines of these elements of a document behind those found so far.
 fn push_lines(
     alloc: Global,
     name: &str,
     document: &Loaded,
     shown: Shown,
-    path: &PlannedPath<'_>,
+    found: &[NodeRef],
     lines: &mut Lines,
 ) -> Result<(), Memory>
-    requires { HasItsPlans path.now }
-    ensures { OnOk result (lines.new ≡ lines.old ++ planned_lines shown path.now (to_document (name.now, document.now))) }
+    requires { All (IsElement document.now.tree.root) found.now }
+    ensures { OnOk result (lines.new
+        ≡ lines.old ++ lines_of shown name.now (plain document.now.tree.root) (map (element_of document.now.tree.root) found.now)) }
 {
-    let found = select(alloc, document, path)?;
     match shown {
-        Shown::Names => push_names(alloc, name, &document.tree, found.as_slice(), lines),
-        Shown::Texts => push_printed(alloc, &document.tree, found.as_slice(), lines),
+        Shown::Names => push_names(alloc, name, &document.tree, found, lines),
+        Shown::Texts => push_printed(alloc, &document.tree, found, lines),
     }
 }
 
 /// The elements of a document that the path selects.
-fn select(alloc: Global, document: &Loaded, path: &PlannedPath<'_>) -> Result<Vec<NodeRef>, Memory>
-    requires { HasItsPlans path.now }
+fn select<M: Ledger>(
+    alloc: Global,
+    document: &Loaded,
+    path: &PlannedPath<'_>,
+    runs: &mut Vec<Run<'_>>,
+    moves: &mut Steps<M>,
+) -> Result<Vec<NodeRef>, Memory>
+    requires plans { HasItsPlans path.now }
+    requires runs { AreRunsOf path.now runs.old.items }
+    requires over { AreOver runs.old.items (document.now.doc.0, document.now.tree.root) }
     ensures elements { IfOk result (λ found. map (element_of document.now.tree.root) found.items ≡ planned_in path.now (plain document.now.tree.root)) }
     ensures there { IfOk result (λ found. All (IsElement document.now.tree.root) found.items) }
+    ensures runs { runs.new.items ≡ runs.old.items }
+    ensures moves { moves.old ≤ moves.new }
+{
+    select_with::<Brand, M>(alloc, document, path, runs, moves)
+}
+
+/// The same, where proofs know what the test is lent.
+fn select_with<B: Loan, M: Ledger>(
+    alloc: Global,
+    document: &Loaded,
+    path: &PlannedPath<'_>,
+    runs: &mut Vec<Run<'_>>,
+    moves: &mut Steps<M>,
+) -> Result<Vec<NodeRef>, Memory>
+    requires plans { HasItsPlans path.now }
+    requires runs { AreRunsOf path.now runs.old.items }
+    requires over { AreOver runs.old.items (document.now.doc.0, document.now.tree.root) }
+    requires lent_runs { runs.old.items ≡ B.runs }
+    requires lent_moves { moves.old ≡ B.moves }
+    ensures elements { IfOk result (λ found. map (element_of document.now.tree.root) found.items ≡ planned_in path.now (plain document.now.tree.root)) }
+    ensures there { IfOk result (λ found. All (IsElement document.now.tree.root) found.items) }
+    ensures runs { runs.new.items ≡ runs.old.items }
+    ensures moves { moves.old ≤ moves.new }
 {
     // The root is an element, as the clauses of `root` say.
     let _root = document.tree.root();
-    let mut test = SelectionTest {
-        alloc,
+    let mut test = SelectionTest::<'_, '_, '_, '_, B, M> {
+        doc: document.doc,
         tree: &document.tree,
-        plans: path.plans.as_slice(),
+        runs,
+        moves,
+        loan: PhantomData,
     };
     nodes(alloc, path.steps, &document.tree, &mut test)
 }

@@ -1,8 +1,9 @@
-ghost use Rattle.std.specs.Prelude.{◌≡◌, ◌≤◌, ◌+◌, IfOk, OnErr};
+ghost use Rattle.std.specs.Prelude.{◌≡◌, ◌≤◌, ◌+◌, false, IfOk, OnErr};
 ghost use Rattle.ft_session.specs.Held.{nothing_held};
 ghost use Rattle.ft_session.specs.Indexed.{IsIndexOf};
 ghost use Rattle.ft_session.specs.Paths.{answer};
-ghost use Rattle.ft_session.specs.Step.{dropped, loadable, loaded, rows_for, step, tokens_loaded, tokens_named, with_documents};
+ghost use Rattle.ft_session.specs.Step.{changes_documents, dropped, loadable, loaded, rows_for, shows_path, step, tokens_loaded, tokens_named};
+ghost use Rattle.ft_session.specs.Step.{with_documents};
 
 use crate::collection::Collection;
 use crate::lists::{put_stems, put_stop_list, put_thesaurus};
@@ -53,7 +54,8 @@ impl Session {
     /// Does what the command says, and answers it. A refused command changes nothing, nor does one for which memory runs
     /// out. Whatever the answer, the version that the session holds is then the index of its documents.
     ///
-    /// `moves` counts steps of cursors, which no command makes yet, and `rows` the rows of the index that are put and taken.
+    /// `moves` counts the steps of the cursors by which queries and prints answer `contains text`, and `rows` the rows of the
+    /// index that are put and taken.
     pub fn step<L: Ledger, M: Ledger>(
         &mut self,
         command: &Command,
@@ -63,10 +65,12 @@ impl Session {
         ensures answer { IfOk result (λ reply. (self.new.state, reply) ≡ step self.old.state command.now) }
         ensures err { OnErr result (self.new ≡ self.old) }
         ensures indexed { IsIndexOf self.new.state.documents self.new.version }
-        ensures moves { moves.new ≡ moves.old }
+        ensures moves { moves.old ≤ moves.new }
+        ensures moves_kept { shows_path command.now ≡ false → moves.new ≡ moves.old }
         ensures rows { rows.new ≤ rows.old + rows_for self.old.state command.now }
+        ensures rows_kept { changes_documents command.now ≡ false → rows.new ≡ rows.old }
     {
-        let reply = self.carry_out(command, rows);
+        let reply = self.carry_out(command, moves, rows);
         // The version is the index of the documents, as the clauses of `documents` say.
         let _documents = self.collection.documents();
         reply
@@ -74,14 +78,18 @@ impl Session {
 
     /// Does what the command says, and answers it.
     #[tactic(auto, unfolding(crate::specs::Step::step, crate::specs::Step::rows_for))]
-    fn carry_out<L: Ledger>(
+    fn carry_out<L: Ledger, M: Ledger>(
         &mut self,
         command: &Command,
+        moves: &mut Steps<M>,
         rows: &mut Steps<L>,
     ) -> Result<Reply, Memory>
         ensures answer { IfOk result (λ reply. (self.new.state, reply) ≡ step self.old.state command.now) }
         ensures err { OnErr result (self.new ≡ self.old) }
+        ensures moves { moves.old ≤ moves.new }
+        ensures moves_kept { shows_path command.now ≡ false → moves.new ≡ moves.old }
         ensures rows { rows.new ≤ rows.old + rows_for self.old.state command.now }
+        ensures rows_kept { changes_documents command.now ≡ false → rows.new ≡ rows.old }
     {
         match command {
             Command::Load { name, block } => self.load(name, block.as_slice(), rows),
@@ -93,8 +101,8 @@ impl Session {
             Command::Thesaurus { name, block } => {
                 put_thesaurus(self.alloc, &mut self.lists, name.as_str(), block.as_slice())
             }
-            Command::Query { path } => self.show(Shown::Names, path.as_str()),
-            Command::Print { path } => self.show(Shown::Texts, path.as_str()),
+            Command::Query { path } => self.show(Shown::Names, path.as_str(), moves),
+            Command::Print { path } => self.show(Shown::Texts, path.as_str(), moves),
             Command::BadCommand { line } => {
                 Ok(Reply::Refused(Refusal::BadCommand { line: *line }))
             }
@@ -128,10 +136,22 @@ impl Session {
     }
 
     /// The reply to a path, of whose elements this is shown.
-    fn show(&self, shown: Shown, path: &str) -> Result<Reply, Memory>
-        ensures { IfOk result (λ reply. reply ≡ answer shown self.now.state path.now) }
+    fn show<M: Ledger>(
+        &self,
+        shown: Shown,
+        path: &str,
+        moves: &mut Steps<M>,
+    ) -> Result<Reply, Memory>
+        ensures reply { IfOk result (λ reply. reply ≡ answer shown self.now.state path.now) }
+        ensures moves { moves.old ≤ moves.new }
     {
-        let documents = self.collection.documents();
-        answer_path(self.alloc, documents, &self.lists, shown, path)
+        answer_path(
+            self.alloc,
+            &self.collection,
+            &self.lists,
+            shown,
+            path,
+            moves,
+        )
     }
 }

@@ -1,7 +1,8 @@
 -- The numbers of the documents that a session holds, and the version of its index.
 use Rattle.std.specs.Prelude.{◌≡◌, ◌≤◌, ℕ, ◌+◌, List, [], ◌∷◌, map}
+use Rattle.std.specs.List.{AllByRecursion}
 use Rattle.index_meaning.specs.Documents.{Numbered}
-use Rattle.index_updates.specs.Follows.{under_tree}
+use Rattle.index_updates.specs.Follows.{Follows, under_tree}
 use Rattle.ordered_tree.specs.Numbered as tree
 use Rattle.ft_session.specs.declared.loaded.Loaded.{Loaded}
 
@@ -11,6 +12,10 @@ tree_of (name, loaded) = (loaded.doc.0, loaded.tree.root)
 
 abbrev pub trees_of : List (List ℕ × Loaded) → List (ℕ × tree.Numbered)
 trees_of entries = map tree_of entries
+
+-- The version follows each tree under its number.
+abbrev pub FollowsEach : List Numbered → List (ℕ × tree.Numbered) → Type 0
+FollowsEach version trees = AllByRecursion (λ t. Follows version t.0 t.1) trees
 
 -- Numbers ascend, from the first one or a greater one on, up to the second.
 abbrev pub Ascend : ℕ → List (List ℕ × Loaded) → ℕ → Type 0

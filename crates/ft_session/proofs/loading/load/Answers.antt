@@ -3,7 +3,6 @@ use Rattle.std.proofs.Common.{◌∙◌, sym, ap, subst, ◌≤◌, length, Ok}
 use Rattle.std.specs.Prelude.{Err}
 use Rattle.tokenizer.specs.Tokens.{tokens, paragraph_starts, sentence_starts}
 use Rattle.ordered_tree.specs.Leaves.{leaves}
-use Rattle.ordered_tree.specs.Numbered.{plain}
 use Rattle.ordered_tree.specs.Stored.{Stored}
 use Rattle.ft_base.specs.Limits.{max_tokens}
 use Rattle.ft_session.proofs.SessionLemmas.{tree-is, with_few_tokens-few, with_few_tokens-many}

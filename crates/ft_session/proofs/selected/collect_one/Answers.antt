@@ -1,4 +1,4 @@
--- The document that the look-up finds is the only one of its name.
+-- The document that the look-up finds is the only one of its name, and the runs are over it.
 use Rattle.std.proofs.Common.{◌≡◌, ◌∙◌, sym, ap, subst, append-nil, map, IfOk, Some, None}
 use Rattle.std.specs.List.{flat_map}
 use Rattle.std.specs.Map.{lookup}
@@ -7,12 +7,21 @@ use Rattle.std.specs.Str.{bytes_eq}
 use Rattle.path_meaning.specs.Collection.{documents}
 use Rattle.path_grammar.specs.declared.path.PathRoot.TheVariants.{Doc}
 use Rattle.ft_session.specs.PlannedPaths.{planned_lines}
+use Rattle.ft_session.specs.SelectionTests.{AreOver}
 use Rattle.ft_session.specs.State.{to_document}
 use Rattle.ft_session.proofs.NamedLemmas.{none-named, one-named}
+use Rattle.ft_session.proofs.NumberingLemmas.{found-tree}
 use Rattle.ft_session.proofs.selected.collect_one.Goals as goal
 
-pub returns-in-Some : goal.returns-in-Some
-returns-in-Some c =
+pub collect_from-requires-clause-over : goal.collect_from-requires-clause-over
+collect_from-requires-clause-over g c =
+    let name = c.args.name.now in
+    let entries = c.args.documents.now.entries in
+    let found : lookup (bytes_eq name) entries ≡ Some c.in-Some.document.now = sym c.get.ensures.value ∙ ap option_copied c.in-Some.is in
+    found-tree name c.in-Some.document.now (AreOver c.args.runs.now.items) entries c.requires.over found
+
+pub returns-in-Some-clause-lines : goal.returns-in-Some-clause-lines
+returns-in-Some-clause-lines g c =
     let name = c.args.name.now in
     let entries = c.args.documents.now.entries in
     let lines = planned_lines c.args.shown c.args.path.now in
@@ -20,10 +29,10 @@ returns-in-Some c =
     let one : planned_lines c.args.shown c.args.path.now (to_document (c.as_str.result.now, c.in-Some.document.now)) ≡ flat_map lines (documents (Doc name) (map to_document entries)) =
     ap (λ n. lines (to_document (n, c.in-Some.document.now))) c.as_str.ensures
     ∙ (sym (append-nil (lines (to_document (name, c.in-Some.document.now)))) ∙ sym (ap (flat_map lines) (one-named name entries c.in-Some.document.now c.iter-entries.ensures.unique found))) in
-    subst (λ ls. IfOk c.collect_from.result (λ found. found ≡ ls)) one c.collect_from.ensures
+    subst (λ ls. IfOk c.collect_from.result (λ found. found ≡ ls)) one c.collect_from.ensures.lines
 
-pub returns-in-None : goal.returns-in-None
-returns-in-None c =
+pub returns-in-None-clause-lines : goal.returns-in-None-clause-lines
+returns-in-None-clause-lines g c =
     let name = c.args.name.now in
     let entries = c.args.documents.now.entries in
     let lines = planned_lines c.args.shown c.args.path.now in

@@ -1,11 +1,11 @@
 -- The document is the last one, and the version follows it too.
-use Rattle.std.proofs.Common.{◌≡◌, ◌∙◌, sym, ap, ap₂, rules, false, ◌∷◌, ◌++◌, [], ◌+◌, List, ℕ, map, subst, arith}
+use Rattle.std.proofs.Common.{◌≡◌, ◌∙◌, sym, ap, ap₂, rules, ◌∷◌, ◌++◌, [], ◌+◌, ℕ, map, subst, arith}
 use Rattle.std.specs.Prelude.{None}
 use Rattle.std.specs.Str.{bytes_eq}
 use Rattle.std.specs.HashMap.{get}
 use Rattle.std.proofs.lemmas.List.{map_push}
 use Rattle.ft_base.proofs.Truth.{none_from_test}
-use Rattle.index_meaning.specs.Documents.{Numbered, has_document, numbered, with_document}
+use Rattle.index_meaning.specs.Documents.{has_document, numbered, with_document}
 use Rattle.index_updates.specs.Follows.{tree_document}
 use Rattle.indexmap.proofs.CallerLemmas.{insert_entry-new}
 use Rattle.ordered_tree.specs.Numbered.{plain}
@@ -15,7 +15,6 @@ use Rattle.ft_base.specs.declared.ids.DocId.{DocId}
 use Rattle.ft_session.specs.Indexed.{Indexed}
 use Rattle.ft_session.specs.State.{has_name, to_document}
 use Rattle.ft_session.specs.steps.Numbering.{IsNumbered}
-use Rattle.ft_session.specs.declared.loaded.Loaded.{Loaded}
 use Rattle.ft_session.proofs.NumberingLemmas.{absent, numbered-more}
 use Rattle.ft_session.proofs.SessionLemmas.{has_name-lookup}
 use Rattle.ft_session.proofs.collection.Collection.add.Goals as goal
@@ -26,7 +25,10 @@ add_loaded-added-requires-clause-absent g c =
     ap (has_document inside.next) c.self.invariant.follows ∙ absent 0 inside.documents.entries inside.next inside.next c.self.invariant.ascend (omega arith)
 
 pub invariant_of-self : goal.invariant_of-self
-invariant_of-self g c =
+invariant_of-self g c = c.self.invariant
+
+pub invariant_of-self-in-Ok-insert : goal.invariant_of-self-in-Ok-insert
+invariant_of-self-in-Ok-insert g c =
     let m = c.self.inside.documents in
     let loaded = c.new.result in
     let none : get bytes_eq m c.args.name ≡ None = none_from_test (get bytes_eq m c.args.name)

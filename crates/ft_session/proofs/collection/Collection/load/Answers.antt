@@ -1,11 +1,10 @@
 -- A name that is taken is found, and a new document is the last one.
-use Rattle.std.proofs.Common.{◌≡◌, ◌∙◌, sym, ap, refl, true, false, ◌∷◌, ◌++◌, [], List, ◌+◌, ◌≤◌, length, map, arith}
+use Rattle.std.proofs.Common.{◌≡◌, ◌∙◌, sym, ap, refl, true, false, ◌∷◌, ◌++◌, [], ◌+◌, length, map, arith}
 use Rattle.std.specs.Prelude.{Err, Ok, nat_le}
 use Rattle.std.proofs.lemmas.Bool.Decides.{nat_tests}
 use Rattle.std.proofs.lemmas.List.{length-map}
 use Rattle.ft_base.specs.Limits.{max_documents}
 use Rattle.ordered_tree.specs.Numbered.{plain}
-use Rattle.path_meaning.specs.Collection.{Named}
 use Rattle.session_text.specs.declared.reply.Reply.TheVariants.{Done, Refused}
 use Rattle.session_text.specs.declared.reply.Refusal.TheVariants.{NameTaken}
 use Rattle.ft_session.specs.Indexed.{Indexed}

@@ -1,0 +1,61 @@
+-- The node is there, its span is that of its words in the document, and its run is asked.
+use Rattle.std.proofs.Common.{◌≡◌, ◌∙◌, sym, ap, subst, ◌≤◌, ◌+◌, get_or, arith}
+use Rattle.all_matches.specs.Meaning.{sat}
+use Rattle.ft_base.specs.declared.span.Span.{Span}
+use Rattle.index_meaning.specs.Documents.{document_at, token_count}
+use Rattle.ordered_tree.specs.Numbered.{plain}
+use Rattle.path_meaning.specs.Elements.{Element}
+use Rattle.path_nodes.specs.References.{element_of}
+use Rattle.path_nodes.proofs.SpotLemmas.{spot-stand}
+use Rattle.plan_compiler.specs.Lexicon.{lexicon}
+use Rattle.tokenizer.specs.Tokens.{tokens}
+use Rattle.ft_session.proofs.SelectionTestLemmas.{asked-node, asked-run, met-at, over-at, reference-there, span-inside, words-at-span}
+use Rattle.ft_session.proofs.asked_runs.SelectionTestTextTest.contains.Goals as goal
+
+pub span_of-span-requires : goal.span_of-span-requires
+span_of-span-requires g c =
+    let root = c.args.self.now.tree.now.root in
+    reference-there root c.args.node (asked-node g.B.Loan.runs root c.args.selection c.args.node c.requires)
+
+pub test-requires-clause-there : goal.test-requires-clause-there
+test-requires-clause-there g c =
+    let root = c.args.self.now.tree.now.root in
+    let runs = g.B.Loan.runs in
+    let k = c.args.selection in
+    let run = c.index_mut.result.now in
+    let is : get_or runs k run ≡ run = ap (λ rs. get_or rs k run) (sym c.args.self.now.same) ∙ sym c.index_mut.ensures.value in
+    let follows = over-at runs k run (c.args.self.now.doc.0, root) (asked-run runs root k c.args.node c.requires) is c.args.self.now.over in
+    follows.there
+
+pub test-requires-clause-inside : goal.test-requires-clause-inside
+test-requires-clause-inside g c =
+    let root = c.args.self.now.tree.now.root in
+    let runs = g.B.Loan.runs in
+    let k = c.args.selection in
+    let run = c.index_mut.result.now in
+    let doc = c.args.self.now.doc.0 in
+    let n = asked-node runs root k c.args.node c.requires in
+    let among = spot-stand root n.spot n.among in
+    let is : get_or runs k run ≡ run = ap (λ rs. get_or rs k run) (sym c.args.self.now.same) ∙ sym c.index_mut.ensures.value in
+    let follows = over-at runs k run (doc, root) (asked-run runs root k c.args.node c.requires) is c.args.self.now.over in
+    let below = span-inside run.version doc root follows n.spot.stand among in
+    subst (λ (s : Span). (1 ≤ s.from) × (s.from ≤ s.to) × (s.to ≤ token_count (document_at doc run.version) + 1))
+    (sym (c.span_of-span.ensures.positions n.spot.stand among n.refers)) (omega arith, omega arith, below)
+
+pub returns-clause-says : goal.returns-clause-says
+returns-clause-says g c =
+    let root = c.args.self.now.tree.now.root in
+    let runs = g.B.Loan.runs in
+    let k = c.args.selection in
+    let run = c.index_mut.result.now in
+    let doc = c.args.self.now.doc.0 in
+    let n = asked-node runs root k c.args.node c.requires in
+    let among = spot-stand root n.spot n.among in
+    let less = asked-run runs root k c.args.node c.requires in
+    let is : get_or runs k run ≡ run = ap (λ rs. get_or rs k run) (sym c.args.self.now.same) ∙ sym c.index_mut.ensures.value in
+    let follows = over-at runs k run (doc, root) less is c.args.self.now.over in
+    let ts = tokens (plain n.spot.stand.node) in
+    let words = words-at-span run.version doc root follows c.span_of-span.result ts (c.span_of-span.ensures.tokens n.spot.stand among n.refers) in
+    c.test.ensures.says ts words
+    ∙ (ap (λ (e : Element). sat (lexicon run.lists) run.form (tokens e.node)) (sym n.is)
+    ∙ sym (met-at runs k run (element_of root c.args.node) less is))

@@ -1,0 +1,28 @@
+-- The test may be asked for each selection that the steps name, and what it was lent comes back.
+use Rattle.std.proofs.Common.{rules, ◌<◌, ap, ◌∙◌, length, map, arith, IsTrue}
+use Rattle.ft_base.specs.declared.ids.NodeRef.{NodeRef}
+use Rattle.path_grammar.specs.Form.{steps}
+use Rattle.path_grammar.specs.View.{step}
+use Rattle.path_nodes.specs.References.{IsElement}
+use Rattle.ft_session.specs.SelectionTests.{may_ask}
+use Rattle.ft_session.proofs.PathLemmas.{asked-weaker}
+use Rattle.ft_session.proofs.SelectionTestLemmas.{as-many, may-asked, moves-loan, runs-loan}
+use Rattle.ft_session.proofs.selected.select_with.Goals as goal
+
+pub nodes-requires-clause-asked : goal.nodes-requires-clause-asked
+nodes-requires-clause-asked g c =
+    let root = c.args.document.now.tree.root in
+    let runs = g.B.Loan.runs in
+    let count = as-many c.args.path.now.plans.items c.args.runs.now.items c.requires.runs ∙ ap length c.requires.lent_runs in
+    asked-weaker (λ k. k < length c.args.path.now.plans.items) (λ k. (r : NodeRef) → IsElement root r → IsTrue (may_ask runs root k r))
+    (λ k less r e. may-asked runs root k (omega (arith, less, count)) r e) (steps (map step c.args.path.now.steps.now)) c.requires.plans
+
+pub returns-clause-runs : goal.returns-clause-runs
+returns-clause-runs g c =
+    let same = runs-loan g.B.Loan.runs _ _ _ _ _ _ c.nodes.ensures.meaning in
+    search rules
+
+pub returns-clause-moves : goal.returns-clause-moves
+returns-clause-moves g c =
+    let same = moves-loan g.B.Loan.runs _ _ _ _ _ _ c.nodes.ensures.meaning in
+    search rules

@@ -1,0 +1,54 @@
+//! What `contains text` says of the elements of a document.
+
+ghost use Rattle.std.specs.Prelude.{◌≡◌, ◌≤◌, ℕ, List};
+ghost use Rattle.plan_compiler.specs.RunMeaning.{RunMeaning};
+ghost use Rattle.ft_session.specs.SelectionTests.{AreOver};
+
+use ft_base::{DocId, Memory, Steps};
+use ordered_tree::{DocTree, NodeRef};
+use path_nodes::TextTest;
+use plan_compiler::Run;
+use std::marker::{Brand, PhantomData};
+use std::sync::ledger::Ledger;
+
+/// What a test is lent: the runs, as they stay, and where the count of steps stands at first. Proofs alone see it.
+pub(crate) trait Loan {
+    ghost runs: { List RunMeaning };
+
+    ghost moves: { ℕ };
+}
+
+impl Loan for Brand {
+    ghost use Rattle.std.specs.Prelude.{[]};
+
+    ghost runs = { [] };
+
+    ghost moves = { 0 };
+}
+
+/// Asks the runs of a path's selections, each by its number, of the nodes of a document.
+#[derive(Drop)]
+pub(crate) struct SelectionTest<'t, 'r, 'v, 'm, B: Loan, M: Ledger> {
+    /// The document's number in the version of the runs
+    pub(crate) doc: DocId,
+    pub(crate) tree: &'t DocTree,
+    pub(crate) runs: &'r mut Vec<Run<'v>>,
+    pub(crate) moves: &'m mut Steps<M>,
+    pub(crate) loan: PhantomData<B>,
+    ghost over: { AreOver B.runs (doc.0, tree.now.root) },
+    ghost same: { runs.now.items ≡ B.runs },
+    ghost raised: { B.moves ≤ moves.now },
+}
+
+impl<'t, 'r, 'v, 'm, B: Loan, M: Ledger> TextTest for SelectionTest<'t, 'r, 'v, 'm, B, M> {
+    ghost use Rattle.ft_session.specs.SelectionTests.{asked_of};
+
+    ghost meaning = { λ test. asked_of B.runs test.tree.now.root test.runs.ghost_name test.moves.ghost_name };
+
+    ghost cost = { λ test. 0 };
+
+    fn contains(&mut self, selection: usize, node: NodeRef) -> Result<bool, Memory> {
+        let span = self.tree.span_of(node);
+        Ok(self.runs[selection].test(self.doc, span, self.moves))
+    }
+}
