@@ -1,0 +1,70 @@
+-- A selection that was read has each `ftnot` and `occurs` where it may stand.
+use Rattle.std.proofs.Common.{◌≡◌, ℕ, true, List, [], ◌++◌, None, Ok, refl, ap, ◌∙◌}
+use Rattle.std.specs.Prelude.{flat_map}
+use Rattle.std.specs.Option.{option_to_list}
+use Rattle.std.proofs.lemmas.Bool.{and_from, and_parts}
+use Rattle.ft_base.specs.Selection.{Form}
+use Rattle.ft_base.specs.declared.fault.QueryFault.TheVariants as F
+use Rattle.all_matches.specs.Allowed.{has_operands, without_times, without_not, has_plain_nots, may_stand_out, is_allowed, each_is_allowed}
+use Rattle.ft_parser.specs.Answer.{selection_read}
+use Rattle.selection_grammar.specs.Form.{form_of, forms_of}
+use Rattle.selection_grammar.specs.Tree as tree
+use Rattle.selection_grammar.specs.Tree.{Tree, Trees}
+use Rattle.selection_faults.specs.Excludes.{within, within_all, times, excludes, operand_excludes, nested_nots, filtered_excludes, mild_not_excludes, inside_filters}
+use Rattle.selection_faults.specs.Faults.{placed, faults_at, faults, fault_of}
+use Rattle.selection_faults.specs.Options.{options_twice}
+use Rattle.selection_faults.specs.Strings.{strings_of, phrases_past, bad_wildcards}
+use Rattle.selection_round_trip.proofs.Reading.{text_selects}
+use Rattle.allowed_selections.proofs.Empty.{parts_empty, none_in, none_mapped, none_at_all}
+use Rattle.allowed_selections.proofs.Excludes.{no_times, no_excludes, plain_nots}
+use Rattle.allowed_selections.proofs.Operands.{has_full_ands, each_has_full_ands, spelled_full}
+
+stands_out : (t : Tree) → has_full_ands (form_of t) ≡ true → excludes t ≡ [] → may_stand_out (form_of t) ≡ true
+stands_out t full none = let h = no_excludes t full none in and_from (without_times (form_of t)) (without_not (form_of t)) h.0 h.1
+
+mutual
+  unfolding form_of within is_allowed has_full_ands
+
+  allowed : (t : Tree) → has_full_ands (form_of t) ≡ true → mild_not_excludes t ≡ [] → inside_filters t ≡ [] → is_allowed (form_of t) ≡ true
+  allowed (tree.words w) full mild inside = refl
+  allowed (tree.or_of trees) full mild inside = each_allowed trees full mild inside
+  allowed (tree.and_of trees) full mild inside = each_allowed trees (and_parts (has_operands (forms_of trees)) (each_has_full_ands (forms_of trees)) full).1 mild inside
+  allowed (tree.mild_not left right) full mild inside =
+      let both = and_parts (has_full_ands (form_of left)) (has_full_ands (form_of right)) full in
+      let here = parts_empty (excludes left ++ excludes right) (flat_map operand_excludes (within left ++ within right)) mild in
+      let parts = parts_empty (excludes left) (excludes right) here.0 in
+      and_from (may_stand_out (form_of left)) (may_stand_out (form_of right)) (stands_out left both.0 parts.0) (stands_out right both.1 parts.1)
+  allowed (tree.not_of at operand) full mild inside = allowed operand full mild inside
+  allowed (tree.filtered operand filter) full mild inside =
+      let here = parts_empty (nested_nots operand ++ times operand) (flat_map filtered_excludes (within operand)) inside in
+      let parts = parts_empty (nested_nots operand) (times operand) here.0 in
+      and_from (without_times (form_of operand)) (has_plain_nots (form_of operand)) (no_times operand parts.1) (plain_nots operand full parts.0 mild)
+  allowed (tree.with_options operand options) full mild inside = allowed operand full mild inside
+
+  each_allowed : (ts : Trees) → each_has_full_ands (forms_of ts) ≡ true → flat_map operand_excludes (within_all ts) ≡ [] → flat_map filtered_excludes (within_all ts) ≡ []
+      → each_is_allowed (forms_of ts) ≡ true
+  each_allowed tree.none full mild inside = refl
+  each_allowed (tree.more t rest) full mild inside =
+      let both = and_parts (has_full_ands (form_of t)) (each_has_full_ands (forms_of rest)) full in
+      let first = none_in operand_excludes (within t) (within_all rest) mild in
+      let second = none_in filtered_excludes (within t) (within_all rest) inside in
+      and_from (is_allowed (form_of t)) (each_is_allowed (forms_of rest)) (allowed t both.0 first.0 second.0) (each_allowed rest both.1 first.1 second.1)
+
+-- without a fault there is none of either kind
+faultless : (t : Tree) → fault_of t ≡ None → (mild_not_excludes t ≡ []) × (inside_filters t ≡ [])
+unfolding fault_of
+faultless t h =
+    let phrases = faults_at F.Phrases (option_to_list (phrases_past 0 (strings_of t))) in
+    let twice = faults_at F.OptionTwice (options_twice t) in
+    let wildcards = faults_at F.BadWildcard (bad_wildcards (strings_of t)) in
+    let mild = faults_at F.MildNotExclude (mild_not_excludes t) in
+    let inside = faults_at F.InsideFilter (inside_filters t) in
+    let last = parts_empty (phrases ++ twice ++ wildcards ++ mild) inside (none_at_all (λ f. f.fault) (λ f. f.at) (faults t) h) in
+    let before = parts_empty (phrases ++ twice ++ wildcards) mild last.0 in
+    (none_mapped (placed F.MildNotExclude) (mild_not_excludes t) before.1, none_mapped (placed F.InsideFilter) (inside_filters t) last.1)
+
+pub read_allowed : (text : List ℕ) (form : Form) → selection_read text ≡ Ok form → is_allowed form ≡ true
+read_allowed text form h =
+    let x = text_selects text form h in
+    let none = faultless x.tree x.faultless in
+    ap is_allowed x.is ∙ allowed x.tree (spelled_full x.whole.spells) none.0 none.1

@@ -1,0 +1,4 @@
+pub mod Empty
+pub mod Operands
+pub mod Excludes
+pub mod Allowed
