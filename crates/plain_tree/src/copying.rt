@@ -18,18 +18,18 @@ pub(crate) fn copy_tree(alloc: Global, tree: &Tree) -> Result<Tree, Memory>
         Tree::Elem { name, attrs, kids } => Ok(Tree::Elem {
             name: Line::read(alloc, name.as_str())?,
             attrs: copy_attrs(alloc, attrs)?,
-            kids: copy_kids(alloc, kids)?,
+            kids: copy_kids(alloc, kids.as_slice())?,
         }),
     }
 }
 
 /// A copy of the children, with all that is below them.
 #[cycle(copying)]
-fn copy_kids(alloc: Global, kids: &Kids) -> Result<Kids, Memory>
+pub(crate) fn copy_kids(alloc: Global, kids: &[Tree]) -> Result<Kids, Memory>
     ensures { IfOk result (λ copies. map node copies ≡ map node kids.now) }
 {
     let mut copies = Kids::new(alloc);
-    for kid in kids.as_slice() {
+    for kid in kids {
         copies.push(copy_tree(alloc, kid)?)?;
     }
     Ok(copies)
