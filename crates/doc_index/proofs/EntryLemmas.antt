@@ -41,19 +41,19 @@ no-rows t es fails = nothing (of_term t es) fails
     nothing (x ∷ xs) fails = absurd (true≢false (sym (lt-ltb 0 (length (x ∷ xs)) (omega arith)) ∙ fails))
 
 -- the terms of the entries are the words
-pub words-from : (doc leaf offset : ℕ) (words : List ℕ) → map term_of (entries_from doc leaf offset words) ≡ words
-words-from doc leaf offset [] = refl
-words-from doc leaf offset (w ∷ words) = ap (λ ws. w ∷ ws) (words-from doc leaf (offset + 1) words)
+pub words-from : (leaf offset : ℕ) (words : List ℕ) → map term_of (entries_from leaf offset words) ≡ words
+words-from leaf offset [] = refl
+words-from leaf offset (w ∷ words) = ap (λ ws. w ∷ ws) (words-from leaf (offset + 1) words)
 
-pub words-are : (doc : ℕ) (leaves : List Leaf) → map term_of (entries doc leaves) ≡ words_of leaves
-words-are doc [] = refl
-words-are doc (l ∷ leaves) =
-    map-append term_of (leaf_entries doc l) (entries doc leaves)
-    ∙ ap (λ ws. ws ++ map term_of (entries doc leaves)) (words-from doc l.id 0 l.words)
-    ∙ ap (λ ws. l.words ++ ws) (words-are doc leaves)
+pub words-are : (leaves : List Leaf) → map term_of (entries leaves) ≡ words_of leaves
+words-are [] = refl
+words-are (l ∷ leaves) =
+    map-append term_of (leaf_entries l) (entries leaves)
+    ∙ ap (λ ws. ws ++ map term_of (entries leaves)) (words-from l.id 0 l.words)
+    ∙ ap (λ ws. l.words ++ ws) (words-are leaves)
 
-pub split-entries : (doc : ℕ) (leaves : List Leaf) (at : ℕ) → entries doc leaves ≡ entries doc (take at leaves) ++ entries doc (drop at leaves)
-split-entries doc leaves at = ap (λ ls. entries doc ls) (sym (take-append-drop at leaves)) ∙ flat_map-append (leaf_entries doc) (take at leaves) (drop at leaves)
+pub split-entries : (leaves : List Leaf) (at : ℕ) → entries leaves ≡ entries (take at leaves) ++ entries (drop at leaves)
+split-entries leaves at = ap (λ ls. entries ls) (sym (take-append-drop at leaves)) ∙ flat_map-append leaf_entries (take at leaves) (drop at leaves)
 
 -- an entry in front of others that is of none of these terms
 pub grouped-other : (ids : List ℕ) (e : Entry) (es : List Entry) → has e.term ids ≡ false → grouped ids (e ∷ es) ≡ grouped ids es

@@ -33,29 +33,29 @@ any-rows p t (e ∷ es) none =
     ]
 
 -- a test of leaves' numbers is one of their rows
-all-words : (q : ℕ → Bool) (doc id offset : ℕ) (words : List ℕ) → q id ≡ true → list_all (λ (e : Entry). q e.row.leaf.0) (entries_from doc id offset words) ≡ true
-all-words q doc id offset [] holds = refl
-all-words q doc id offset (w ∷ words) holds = and_from (q id) (list_all (λ (e : Entry). q e.row.leaf.0) (entries_from doc id (offset + 1) words)) holds (all-words q doc id (offset + 1) words holds)
+all-words : (q : ℕ → Bool) (id offset : ℕ) (words : List ℕ) → q id ≡ true → list_all (λ (e : Entry). q e.row.leaf.0) (entries_from id offset words) ≡ true
+all-words q id offset [] holds = refl
+all-words q id offset (w ∷ words) holds = and_from (q id) (list_all (λ (e : Entry). q e.row.leaf.0) (entries_from id (offset + 1) words)) holds (all-words q id (offset + 1) words holds)
 
-any-words : (q : ℕ → Bool) (doc id offset : ℕ) (words : List ℕ) → q id ≡ false → list_any (λ (e : Entry). q e.row.leaf.0) (entries_from doc id offset words) ≡ false
-any-words q doc id offset [] fails = refl
-any-words q doc id offset (w ∷ words) fails = or_from (q id) (list_any (λ (e : Entry). q e.row.leaf.0) (entries_from doc id (offset + 1) words)) fails (any-words q doc id (offset + 1) words fails)
+any-words : (q : ℕ → Bool) (id offset : ℕ) (words : List ℕ) → q id ≡ false → list_any (λ (e : Entry). q e.row.leaf.0) (entries_from id offset words) ≡ false
+any-words q id offset [] fails = refl
+any-words q id offset (w ∷ words) fails = or_from (q id) (list_any (λ (e : Entry). q e.row.leaf.0) (entries_from id (offset + 1) words)) fails (any-words q id (offset + 1) words fails)
 
-all-entries : (q : ℕ → Bool) (doc : ℕ) (leaves : List Leaf) → ((id : ℕ) → has id (leaf_ids leaves) ≡ true → q id ≡ true) → list_all (λ (e : Entry). q e.row.leaf.0) (entries doc leaves) ≡ true
-all-entries q doc [] holds = refl
-all-entries q doc (l ∷ leaves) holds =
-    list_all-append (λ (e : Entry). q e.row.leaf.0) (leaf_entries doc l) (entries doc leaves)
-    ∙ and_from (list_all (λ (e : Entry). q e.row.leaf.0) (leaf_entries doc l)) (list_all (λ (e : Entry). q e.row.leaf.0) (entries doc leaves))
-    (all-words q doc l.id 0 l.words (holds l.id (has-head l.id l.id (leaf_ids leaves) refl)))
-    (all-entries q doc leaves (λ id there. holds id (or_right (l.id == id) (has id (leaf_ids leaves)) there)))
+all-entries : (q : ℕ → Bool) (leaves : List Leaf) → ((id : ℕ) → has id (leaf_ids leaves) ≡ true → q id ≡ true) → list_all (λ (e : Entry). q e.row.leaf.0) (entries leaves) ≡ true
+all-entries q [] holds = refl
+all-entries q (l ∷ leaves) holds =
+    list_all-append (λ (e : Entry). q e.row.leaf.0) (leaf_entries l) (entries leaves)
+    ∙ and_from (list_all (λ (e : Entry). q e.row.leaf.0) (leaf_entries l)) (list_all (λ (e : Entry). q e.row.leaf.0) (entries leaves))
+    (all-words q l.id 0 l.words (holds l.id (has-head l.id l.id (leaf_ids leaves) refl)))
+    (all-entries q leaves (λ id there. holds id (or_right (l.id == id) (has id (leaf_ids leaves)) there)))
 
-any-entries : (q : ℕ → Bool) (doc : ℕ) (leaves : List Leaf) → ((id : ℕ) → has id (leaf_ids leaves) ≡ true → q id ≡ false) → list_any (λ (e : Entry). q e.row.leaf.0) (entries doc leaves) ≡ false
-any-entries q doc [] fails = refl
-any-entries q doc (l ∷ leaves) fails =
-    list_any-append (λ (e : Entry). q e.row.leaf.0) (leaf_entries doc l) (entries doc leaves)
-    ∙ or_from (list_any (λ (e : Entry). q e.row.leaf.0) (leaf_entries doc l)) (list_any (λ (e : Entry). q e.row.leaf.0) (entries doc leaves))
-    (any-words q doc l.id 0 l.words (fails l.id (has-head l.id l.id (leaf_ids leaves) refl)))
-    (any-entries q doc leaves (λ id there. fails id (or_right (l.id == id) (has id (leaf_ids leaves)) there)))
+any-entries : (q : ℕ → Bool) (leaves : List Leaf) → ((id : ℕ) → has id (leaf_ids leaves) ≡ true → q id ≡ false) → list_any (λ (e : Entry). q e.row.leaf.0) (entries leaves) ≡ false
+any-entries q [] fails = refl
+any-entries q (l ∷ leaves) fails =
+    list_any-append (λ (e : Entry). q e.row.leaf.0) (leaf_entries l) (entries leaves)
+    ∙ or_from (list_any (λ (e : Entry). q e.row.leaf.0) (leaf_entries l)) (list_any (λ (e : Entry). q e.row.leaf.0) (entries leaves))
+    (any-words q l.id 0 l.words (fails l.id (has-head l.id l.id (leaf_ids leaves) refl)))
+    (any-entries q leaves (λ id there. fails id (or_right (l.id == id) (has id (leaf_ids leaves)) there)))
 
 next-most : (slot : ℕ) → next_slot slot ≤ slot + 1
 next-most zero = omega arith
@@ -93,18 +93,18 @@ ids-split leaves at =
     ∙ ap (λ xs. leaf_ids (take at leaves) ++ xs) (drop-map (λ (l : Leaf). l.id) at leaves)
 
 -- the rows of a term in leaves in front of a place, and those in the others
-pub front-rows : (doc t : ℕ) (leaves : List Leaf) (at : ℕ) → at ≤ length leaves →
-    list_all (is_front (leaf_ids leaves) at) (rows_of t (entries doc (take at leaves))) ≡ true
-front-rows doc t leaves at within =
+pub front-rows : (t : ℕ) (leaves : List Leaf) (at : ℕ) → at ≤ length leaves →
+    list_all (is_front (leaf_ids leaves) at) (rows_of t (entries (take at leaves))) ≡ true
+front-rows t leaves at within =
     let ids = leaf_ids leaves in
-    all-rows (is_front ids at) t (entries doc (take at leaves)) (all-entries (λ id. nat_le (slot_of ids id) at) doc (take at leaves) (λ id there.
+    all-rows (is_front ids at) t (entries (take at leaves)) (all-entries (λ id. nat_le (slot_of ids id) at) (take at leaves) (λ id there.
     le-leb (slot_of ids id) at (omega (arith, ap (λ xs. slot_of xs id) (ids-split leaves at), slot-front (leaf_ids (take at leaves)) (leaf_ids (drop at leaves)) id there, length-map (take at leaves) (λ (l : Leaf). l.id), length-take-le at leaves within))))
 
-pub back-rows : (doc t : ℕ) (leaves : List Leaf) (at : ℕ) → at ≤ length leaves → are_distinct (leaf_ids leaves) ≡ true →
-    list_any (is_front (leaf_ids leaves) at) (rows_of t (entries doc (drop at leaves))) ≡ false
-back-rows doc t leaves at within apart =
+pub back-rows : (t : ℕ) (leaves : List Leaf) (at : ℕ) → at ≤ length leaves → are_distinct (leaf_ids leaves) ≡ true →
+    list_any (is_front (leaf_ids leaves) at) (rows_of t (entries (drop at leaves))) ≡ false
+back-rows t leaves at within apart =
     let ids = leaf_ids leaves in
     let front = leaf_ids (take at leaves) in
     let back = leaf_ids (drop at leaves) in
-    any-rows (is_front ids at) t (entries doc (drop at leaves)) (any-entries (λ id. nat_le (slot_of ids id) at) doc (drop at leaves) (λ id there.
+    any-rows (is_front ids at) t (entries (drop at leaves)) (any-entries (λ id. nat_le (slot_of ids id) at) (drop at leaves) (λ id there.
     lt-leb (slot_of ids id) at (omega (arith, ap (λ xs. slot_of xs id) (ids-split leaves at), slot-back front back id (apart-from front back id (ap are_distinct (sym (ids-split leaves at)) ∙ apart) there) there, length-map (take at leaves) (λ (l : Leaf). l.id), length-take-le at leaves within))))

@@ -35,17 +35,17 @@ places-append t place (w ∷ a) b =
     ]
 
 -- the rows of one leaf, behind so many words
-leaf-places : (leaves : List Leaf) (doc id t before offset : ℕ) (ws : List ℕ) → words_before leaves id ≡ before →
-    map (place_of leaves) (rows_of t (entries_from doc id offset ws)) ≡ places_from t (before + offset + 1) ws
-leaf-places leaves doc id t before offset [] is = refl
-leaf-places leaves doc id t before offset (w ∷ ws) is =
+leaf-places : (leaves : List Leaf) (id t before offset : ℕ) (ws : List ℕ) → words_before leaves id ≡ before →
+    map (place_of leaves) (rows_of t (entries_from id offset ws)) ≡ places_from t (before + offset + 1) ws
+leaf-places leaves id t before offset [] is = refl
+leaf-places leaves id t before offset (w ∷ ws) is =
     let n : before + (offset + 1) + 1 ≡ before + offset + 1 + 1 = omega arith in
-    let rest = leaf-places leaves doc id t before (offset + 1) ws is ∙ ap (λ p. places_from t p ws) n in
+    let rest = leaf-places leaves id t before (offset + 1) ws is ∙ ap (λ p. places_from t p ws) n in
     elim (cases_eq w t) [
-      | inl same ↦ ap (λ es. map (place_of leaves) (map row_of es)) (of_term-here t (entry_at doc id offset w) (entries_from doc id (offset + 1) ws) same)
-          ∙ ap (λ p. (p + offset + 1) ∷ map (place_of leaves) (rows_of t (entries_from doc id (offset + 1) ws))) is
+      | inl same ↦ ap (λ es. map (place_of leaves) (map row_of es)) (of_term-here t (entry_at id offset w) (entries_from id (offset + 1) ws) same)
+          ∙ ap (λ p. (p + offset + 1) ∷ map (place_of leaves) (rows_of t (entries_from id (offset + 1) ws))) is
           ∙ ap (λ ps. (before + offset + 1) ∷ ps) rest ∙ sym (places-here t (before + offset + 1) w ws same)
-      | inr other ↦ ap (λ es. map (place_of leaves) (map row_of es)) (of_term-other t (entry_at doc id offset w) (entries_from doc id (offset + 1) ws) other)
+      | inr other ↦ ap (λ es. map (place_of leaves) (map row_of es)) (of_term-other t (entry_at id offset w) (entries_from id (offset + 1) ws) other)
           ∙ rest ∙ sym (places-other t (before + offset + 1) w ws other)
     ]
 
@@ -61,25 +61,25 @@ words-append [] b = refl
 words-append (x ∷ a) b = ap (λ ws. x.words ++ ws) (words-append a b) ∙ sym (append_assoc x.words (words_of a) (words_of b))
 
 -- the rows of the leaves behind others
-rest-places : (doc t : ℕ) (a b : List Leaf) → are_distinct (leaf_ids (a ++ b)) ≡ true → map (place_of (a ++ b)) (rows_of t (entries doc b)) ≡ places_from t (length (words_of a) + 1) (words_of b)
-rest-places doc t a [] apart = refl
-rest-places doc t a (l ∷ b) apart =
+rest-places : (t : ℕ) (a b : List Leaf) → are_distinct (leaf_ids (a ++ b)) ≡ true → map (place_of (a ++ b)) (rows_of t (entries b)) ≡ places_from t (length (words_of a) + 1) (words_of b)
+rest-places t a [] apart = refl
+rest-places t a (l ∷ b) apart =
     let all = a ++ l ∷ b in
     let none : has l.id (leaf_ids a) ≡ false = apart-from (leaf_ids a) (l.id ∷ leaf_ids b) l.id (ap are_distinct (sym (map-append (λ (x : Leaf). x.id) a (l ∷ b))) ∙ apart) (has-head l.id l.id (leaf_ids b) refl) in
     let more : (a ++ l ∷ []) ++ b ≡ all = append_assoc a (l ∷ []) b in
     let n : length (words_of a) + 0 + 1 ≡ length (words_of a) + 1 = omega arith in
     let m : length (words_of (a ++ l ∷ [])) + 1 ≡ length (words_of a) + 1 + length l.words = omega (arith, ap length (words-append a (l ∷ [])), length-append (words_of a) (l.words ++ []), ap length (append-nil l.words)) in
-    ap (map (place_of all)) (rows_of-append t (leaf_entries doc l) (entries doc b))
-    ∙ map-append (place_of all) (rows_of t (leaf_entries doc l)) (rows_of t (entries doc b))
-    ∙ ap (λ ps. ps ++ map (place_of all) (rows_of t (entries doc b))) (leaf-places all doc l.id t (length (words_of a)) 0 l.words (before-behind a l b none) ∙ ap (λ p. places_from t p l.words) n)
+    ap (map (place_of all)) (rows_of-append t (leaf_entries l) (entries b))
+    ∙ map-append (place_of all) (rows_of t (leaf_entries l)) (rows_of t (entries b))
+    ∙ ap (λ ps. ps ++ map (place_of all) (rows_of t (entries b))) (leaf-places all l.id t (length (words_of a)) 0 l.words (before-behind a l b none) ∙ ap (λ p. places_from t p l.words) n)
     ∙ ap (λ ps. places_from t (length (words_of a) + 1) l.words ++ ps) (
-    ap (λ ls. map (place_of ls) (rows_of t (entries doc b))) (sym more)
-    ∙ rest-places doc t (a ++ l ∷ []) b (ap (λ ls. are_distinct (leaf_ids ls)) more ∙ apart) ∙ ap (λ p. places_from t p (words_of b)) m)
+    ap (λ ls. map (place_of ls) (rows_of t (entries b))) (sym more)
+    ∙ rest-places t (a ++ l ∷ []) b (ap (λ ls. are_distinct (leaf_ids ls)) more ∙ apart) ∙ ap (λ p. places_from t p (words_of b)) m)
     ∙ sym (places-append t (length (words_of a) + 1) l.words (words_of b))
 
 -- the places of a term's rows are those at which it stands
 pub places-are : (document : TermDocument) (t : ℕ) → are_distinct (leaf_ids document.leaves) ≡ true → map (place_of document.leaves) (rows_of t (entries_of document)) ≡ places_of t document.leaves
-places-are document t apart = rest-places document.doc t [] document.leaves apart
+places-are document t apart = rest-places t [] document.leaves apart
 
 -- places ascend from the first on, and none is behind the last word
 above : (t place : ℕ) (ws : List ℕ) (p : ℕ) → has p (places_from t place ws) ≡ true → (place ≤ p) × (p < place + length ws)
@@ -104,10 +104,10 @@ places-ascending t place (w ∷ ws) = elim (cases_eq w t) [
 pub place-within : (t : ℕ) (leaves : List Leaf) (k : ℕ) → k < length (places_of t leaves) → get_or (places_of t leaves) k 0 ≤ length (words_of leaves)
 place-within t leaves k there = omega (arith, (above t 1 (words_of leaves) (get_or (places_of t leaves) k 0) (has-at (places_of t leaves) k there)).1)
 
-first-row : (doc id offset : ℕ) (rest : List Row) (k : ℕ) (d : Row) → ((j : ℕ) → j < length rest → (get_or rest j d).leaf.0 ≡ id) → (rows : List Row) → rows ≡ row_at doc id offset ∷ rest →
+first-row : (id offset : ℕ) (rest : List Row) (k : ℕ) (d : Row) → ((j : ℕ) → j < length rest → (get_or rest j d).leaf.0 ≡ id) → (rows : List Row) → rows ≡ row_at id offset ∷ rest →
     k < length rows → (get_or rows k d).leaf.0 ≡ id
-first-row doc id offset rest zero d known rows is there = ap (λ rs. (get_or rs 0 d).leaf.0) is
-first-row doc id offset rest (suc k) d known rows is there = ap (λ rs. (get_or rs (suc k) d).leaf.0) is ∙ known k (omega (arith, there, ap length is))
+first-row id offset rest zero d known rows is there = ap (λ rs. (get_or rs 0 d).leaf.0) is
+first-row id offset rest (suc k) d known rows is there = ap (λ rs. (get_or rs (suc k) d).leaf.0) is ∙ known k (omega (arith, there, ap length is))
 
 get-take : {T : Type 0} (n : ℕ) (xs : List T) (k : ℕ) (d : T) → k < n → get_or (take n xs) k d ≡ get_or xs k d
 get-take zero xs k d below = absurd (omega arith)
@@ -125,32 +125,32 @@ take-front [] b = refl
 take-front (x ∷ a) b = ap (λ xs. x ∷ xs) (take-front a b)
 
 -- every row of a leaf is of it
-row-leaf : (doc id t offset : ℕ) (ws : List ℕ) (k : ℕ) (d : Row) → k < length (rows_of t (entries_from doc id offset ws)) → (get_or (rows_of t (entries_from doc id offset ws)) k d).leaf.0 ≡ id
-row-leaf doc id t offset [] k d there = absurd (omega arith)
-row-leaf doc id t offset (w ∷ ws) k d there = elim (cases_eq w t) [
-  | inl same ↦ first-row doc id offset (rows_of t (entries_from doc id (offset + 1) ws)) k d (λ j inside. row-leaf doc id t (offset + 1) ws j d inside)
-      (rows_of t (entries_from doc id offset (w ∷ ws))) (ap (λ es. map row_of es) (of_term-here t (entry_at doc id offset w) (entries_from doc id (offset + 1) ws) same)) there
-  | inr other ↦ let is = ap (λ es. map row_of es) (of_term-other t (entry_at doc id offset w) (entries_from doc id (offset + 1) ws) other) in
-      ap (λ rs. (get_or rs k d).leaf.0) is ∙ row-leaf doc id t (offset + 1) ws k d (omega (arith, there, ap length is))
+row-leaf : (id t offset : ℕ) (ws : List ℕ) (k : ℕ) (d : Row) → k < length (rows_of t (entries_from id offset ws)) → (get_or (rows_of t (entries_from id offset ws)) k d).leaf.0 ≡ id
+row-leaf id t offset [] k d there = absurd (omega arith)
+row-leaf id t offset (w ∷ ws) k d there = elim (cases_eq w t) [
+  | inl same ↦ first-row id offset (rows_of t (entries_from id (offset + 1) ws)) k d (λ j inside. row-leaf id t (offset + 1) ws j d inside)
+      (rows_of t (entries_from id offset (w ∷ ws))) (ap (λ es. map row_of es) (of_term-here t (entry_at id offset w) (entries_from id (offset + 1) ws) same)) there
+  | inr other ↦ let is = ap (λ es. map row_of es) (of_term-other t (entry_at id offset w) (entries_from id (offset + 1) ws) other) in
+      ap (λ rs. (get_or rs k d).leaf.0) is ∙ row-leaf id t (offset + 1) ws k d (omega (arith, there, ap length is))
 ]
 
 -- every row of leaves is of one of them
-pub row-there : (doc t : ℕ) (leaves : List Leaf) (k : ℕ) (d : Row) → k < length (rows_of t (entries doc leaves)) → has ((get_or (rows_of t (entries doc leaves)) k d).leaf.0) (leaf_ids leaves) ≡ true
-row-there doc t [] k d there = absurd (omega arith)
-row-there doc t (l ∷ leaves) k d there =
-    let front = rows_of t (leaf_entries doc l) in
-    let back = rows_of t (entries doc leaves) in
-    let is = rows_of-append t (leaf_entries doc l) (entries doc leaves) in
+pub row-there : (t : ℕ) (leaves : List Leaf) (k : ℕ) (d : Row) → k < length (rows_of t (entries leaves)) → has ((get_or (rows_of t (entries leaves)) k d).leaf.0) (leaf_ids leaves) ≡ true
+row-there t [] k d there = absurd (omega arith)
+row-there t (l ∷ leaves) k d there =
+    let front = rows_of t (leaf_entries l) in
+    let back = rows_of t (entries leaves) in
+    let is = rows_of-append t (leaf_entries l) (entries leaves) in
     elim (cases_lt k (length front)) [
       | inl inside ↦ ap (λ rs. has ((get_or rs k d).leaf.0) (leaf_ids (l ∷ leaves))) is
           ∙ ap (λ (r : Row). has (r.leaf.0) (leaf_ids (l ∷ leaves))) (read-front front back k d inside)
-          ∙ ap (λ i. has i (leaf_ids (l ∷ leaves))) (row-leaf doc l.id t 0 l.words k d inside) ∙ has-head l.id l.id (leaf_ids leaves) refl
+          ∙ ap (λ i. has i (leaf_ids (l ∷ leaves))) (row-leaf l.id t 0 l.words k d inside) ∙ has-head l.id l.id (leaf_ids leaves) refl
       | inr behind ↦
           let n : length front + (k - length front) ≡ k = omega (arith, behind) in
           let more : k - length front < length back = omega (arith, there, behind, ap length is, length-append front back) in
           ap (λ rs. has ((get_or rs k d).leaf.0) (leaf_ids (l ∷ leaves))) is ∙ ap (λ i. has ((get_or (front ++ back) i d).leaf.0) (leaf_ids (l ∷ leaves))) (sym n)
           ∙ ap (λ (r : Row). has (r.leaf.0) (leaf_ids (l ∷ leaves))) (read-back front back (k - length front) d)
-          ∙ or_right (l.id == (get_or back (k - length front) d).leaf.0) (has ((get_or back (k - length front) d).leaf.0) (leaf_ids leaves)) (row-there doc t leaves (k - length front) d more)
+          ∙ or_right (l.id == (get_or back (k - length front) d).leaf.0) (has ((get_or back (k - length front) d).leaf.0) (leaf_ids leaves)) (row-there t leaves (k - length front) d more)
     ]
 
 -- a run of rows, and what is read of it
@@ -166,7 +166,7 @@ module _ (document : TermDocument) (rows : List Row) (term first end : ℕ) (is 
     run-row = read ∙ sym (get-drop first rows number row) ∙ sym (get-take (end - first) (drop first rows) number row (omega (arith, there, run-length))) ∙ ap (λ rs. get_or rs number row) is.run
 
     pub row-known : has (row.leaf.0) (leaf_ids document.leaves) ≡ true
-    row-known = ap (λ (r : Row). has (r.leaf.0) (leaf_ids document.leaves)) run-row ∙ row-there document.doc term document.leaves number row (omega (arith, there, run-length, run-rows))
+    row-known = ap (λ (r : Row). has (r.leaf.0) (leaf_ids document.leaves)) run-row ∙ row-there term document.leaves number row (omega (arith, there, run-length, run-rows))
 
     pub row-place : place_of document.leaves row ≡ get_or (places_of term document.leaves) number 0
     row-place =

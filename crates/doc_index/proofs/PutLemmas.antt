@@ -42,7 +42,7 @@ module _ (ids : List ℕ) (k next : ℕ) (all : List Entry) (there : k < length 
 -- the rows of entries that are put between those of the leaves in front of a place and of the others
 module _ (document : TermDocument) (at : ℕ) (new : List Entry) where
   pub old-rows : (t : ℕ) → rows_of t (entries_of document) ≡ rows_of t (front_entries document at) ++ rows_of t (back_entries document at)
-  old-rows t = ap (rows_of t) (split-entries document.doc document.leaves at) ∙ rows_of-append t (front_entries document at) (back_entries document at)
+  old-rows t = ap (rows_of t) (split-entries document.leaves at) ∙ rows_of-append t (front_entries document at) (back_entries document at)
 
   pub new-rows : (t : ℕ) → rows_of t (entries_with document at new) ≡ rows_of t (front_entries document at) ++ (rows_of t new ++ rows_of t (back_entries document at))
   new-rows t = rows_of-append t (front_entries document at) (new ++ back_entries document at)
@@ -70,8 +70,8 @@ module _ (document : TermDocument) (at : ℕ) (new : List Entry) where
           ∙ ap (λ rs. before ++ (rs ++ behind)) (old-rows (get_or ids k 0)) ∙ ap (λ rs. before ++ rs) (append_assoc front back behind);
       first_is = first_is;
       end_is = omega (arith, end_is, ap length (old-rows (get_or ids k 0)), length-append front back);
-      in_front = front-rows document.doc (get_or ids k 0) document.leaves at within;
-      not_in_front = back-rows document.doc (get_or ids k 0) document.leaves at within apart;
+      in_front = front-rows (get_or ids k 0) document.leaves at within;
+      not_in_front = back-rows (get_or ids k 0) document.leaves at within apart;
     }
 
     pub put-done : (rows_new : List Row) → rows_new ≡ before ++ (front ++ (rows_of (get_or ids k 0) new ++ (back ++ behind))) →
@@ -86,12 +86,12 @@ module _ (document : TermDocument) (at : ℕ) (new : List Entry) where
 -- the rows of a leaf that are taken from between those of the others
 module _ (document : TermDocument) (at : ℕ) (old : List Entry) (same : (t : ℕ) → of_term t old ≡ of_term t (entries_at document at)) where
   abbrev pub rest_entries : List Entry
-  rest_entries = entries document.doc (drop (suc at) document.leaves)
+  rest_entries = entries (drop (suc at) document.leaves)
 
   pub back-split : (t : ℕ) → rows_of t (back_entries document at) ≡ rows_of t old ++ rows_of t rest_entries
   back-split t =
       let n : at + 1 ≡ suc at = omega arith in
-      ap (rows_of t) (split-entries document.doc (drop at document.leaves) 1 ∙ ap (λ ls. entries_at document at ++ entries document.doc ls) (drop-drop 1 at document.leaves ∙ ap (λ i. drop i document.leaves) n))
+      ap (rows_of t) (split-entries (drop at document.leaves) 1 ∙ ap (λ ls. entries_at document at ++ entries ls) (drop-drop 1 at document.leaves ∙ ap (λ i. drop i document.leaves) n))
       ∙ rows_of-append t (entries_at document at) rest_entries
       ∙ ap (λ es. map row_of es ++ rows_of t rest_entries) (sym (same t))
 
@@ -125,8 +125,8 @@ module _ (document : TermDocument) (at : ℕ) (old : List Entry) (same : (t : �
               ∙ ap (λ rs. done ++ (rs ++ left)) (all-split t) ∙ ap (λ rs. done ++ rs) (append_assoc front_run (rows_of t old ++ back_run) left);
           first_is = first_is;
           end_is = omega (arith, end_is, ap length (all-split t), length-append front_run (rows_of t old ++ back_run));
-          in_front = front-rows document.doc t document.leaves at within;
-          not_in_front = ap (λ rs. list_any (is_front (leaf_ids document.leaves) at) rs) (sym (back-split t)) ∙ back-rows document.doc t document.leaves at within apart;
+          in_front = front-rows t document.leaves at within;
+          not_in_front = ap (λ rs. list_any (is_front (leaf_ids document.leaves) at) rs) (sym (back-split t)) ∙ back-rows t document.leaves at within apart;
         }
 
     pub take-done : (rows_new : List Row) → rows_new ≡ done ++ (front_run ++ (back_run ++ left)) →

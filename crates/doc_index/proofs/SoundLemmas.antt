@@ -53,7 +53,7 @@ with-terms document at new old_ids ids old up members = record {
   members = λ t.
       let front = front_entries document at in
       let back = back_entries document at in
-      members t ∙ ap (λ z. z || has t (map term_of new)) (old.members t ∙ ap (λ es. has_rows es t) (split-entries document.doc document.leaves at) ∙ has-terms t front back)
+      members t ∙ ap (λ z. z || has t (map term_of new)) (old.members t ∙ ap (λ es. has_rows es t) (split-entries document.leaves at) ∙ has-terms t front back)
       ∙ ap (λ z. (has_rows front t || has_rows back t) || z) (sym (has-rows t new)) ∙ or-turn (has_rows front t) (has_rows back t) (has_rows new t)
       ∙ ap (λ z. has_rows front t || z) (sym (has-terms t new back)) ∙ sym (has-terms t front (new ++ back));
 }
@@ -64,38 +64,38 @@ new-grouped new old_ids ids up order members =
     grouped-sorted ids new up order (λ t there. members t ∙ or_right (has t old_ids) (has t (map term_of new)) there)
 
 -- all entries are those in front of a leaf, its own and those behind it
-pub three-parts : (document : TermDocument) (at : ℕ) → entries_of document ≡ front_entries document at ++ (entries_at document at ++ entries document.doc (drop (suc at) document.leaves))
+pub three-parts : (document : TermDocument) (at : ℕ) → entries_of document ≡ front_entries document at ++ (entries_at document at ++ entries (drop (suc at) document.leaves))
 three-parts document at =
     let n : at + 1 ≡ suc at = omega arith in
-    split-entries document.doc document.leaves at
-    ∙ ap (λ es. front_entries document at ++ es) (split-entries document.doc (drop at document.leaves) 1
-    ∙ ap (λ ls. entries_at document at ++ entries document.doc ls) (drop-drop 1 at document.leaves ∙ ap (λ i. drop i document.leaves) n))
+    split-entries document.leaves at
+    ∙ ap (λ es. front_entries document at ++ es) (split-entries (drop at document.leaves) 1
+    ∙ ap (λ ls. entries_at document at ++ entries ls) (drop-drop 1 at document.leaves ∙ ap (λ i. drop i document.leaves) n))
 
 pub old-grouped : (document : TermDocument) (at : ℕ) (old : List Entry) (ids : List ℕ) → HasTerms (entries_of document) ids → IsSortedFrom (entries_at document at) old → old ≡ grouped ids old
 old-grouped document at old ids terms sorted =
     grouped-sorted ids old terms.rising sorted.in_order (λ t there.
     let front = front_entries document at in
-    let back = entries document.doc (drop (suc at) document.leaves) in
+    let back = entries (drop (suc at) document.leaves) in
     let inside : has_rows (entries_at document at) t ≡ true = ap (λ es. nat_lt 0 (length es)) (sym (sorted.same t)) ∙ has-rows t old ∙ there in
     terms.members t ∙ ap (λ es. has_rows es t) (three-parts document at) ∙ has-terms t front (entries_at document at ++ back)
     ∙ or_right (has_rows front t) (has_rows (entries_at document at ++ back) t) (has-terms t (entries_at document at) back ∙ or_left (has_rows (entries_at document at) t) (has_rows back t) inside))
 
 -- the entries with a new leaf's, in the order of the text or of their terms
-pub with-same : (document : TermDocument) (at : ℕ) (l : Leaf) (new : List Entry) → IsSortedFrom (leaf_entries document.doc l) new →
+pub with-same : (document : TermDocument) (at : ℕ) (l : Leaf) (new : List Entry) → IsSortedFrom (leaf_entries l) new →
     (t : ℕ) → of_term t (entries_with document at new) ≡ of_term t (entries_of (with_leaf document at l))
 with-same document at l new sorted t =
     let front = front_entries document at in
     let back = back_entries document at in
-    of_term-append t front (new ++ back) ∙ ap (λ es. of_term t front ++ es) (of_term-append t new back ∙ ap (λ es. es ++ of_term t back) (sorted.same t) ∙ sym (of_term-append t (leaf_entries document.doc l) back))
-    ∙ sym (of_term-append t front (leaf_entries document.doc l ++ back))
-    ∙ ap (of_term t) (sym (flat_map-append (leaf_entries document.doc) (take at document.leaves) (l ∷ drop at document.leaves)))
+    of_term-append t front (new ++ back) ∙ ap (λ es. of_term t front ++ es) (of_term-append t new back ∙ ap (λ es. es ++ of_term t back) (sorted.same t) ∙ sym (of_term-append t (leaf_entries l) back))
+    ∙ sym (of_term-append t front (leaf_entries l ++ back))
+    ∙ ap (of_term t) (sym (flat_map-append leaf_entries (take at document.leaves) (l ∷ drop at document.leaves)))
 
 -- the same for all leaves of a document
-pub all-same : (doc : ℕ) (leaves : List Leaf) (new : List Entry) → IsSortedFrom (entries doc leaves) new → (t : ℕ) → of_term t (entries_with (document_of doc []) 0 new) ≡ of_term t (entries doc leaves)
+pub all-same : (doc : ℕ) (leaves : List Leaf) (new : List Entry) → IsSortedFrom (entries leaves) new → (t : ℕ) → of_term t (entries_with (document_of doc []) 0 new) ≡ of_term t (entries leaves)
 all-same doc leaves new sorted t = ap (of_term t) (append-nil new) ∙ sorted.same t
 
 pub without-is : (document : TermDocument) (at : ℕ) → entries_without document at ≡ entries_of (without_leaf document at)
-without-is document at = sym (flat_map-append (leaf_entries document.doc) (take at document.leaves) (drop (suc at) document.leaves))
+without-is document at = sym (flat_map-append leaf_entries (take at document.leaves) (drop (suc at) document.leaves))
 
 and-true : (a b : Bool) → (b ≡ true → a ≡ true) → (a && b) ≡ b
 and-true true b holds = refl
@@ -111,7 +111,7 @@ still-there : (document : TermDocument) (at t : ℕ) → has_rows (entries_witho
 still-there document at t there =
     let front = front_entries document at in
     let leaf = entries_at document at in
-    let back = entries document.doc (drop (suc at) document.leaves) in
+    let back = entries (drop (suc at) document.leaves) in
     ap (λ es. has_rows es t) (three-parts document at) ∙ has-terms t front (leaf ++ back) ∙ ap (λ z. has_rows front t || z) (has-terms t leaf back)
     ∙ or-more (has_rows front t) (has_rows leaf t) (has_rows back t) (sym (has-terms t front back) ∙ there)
 
@@ -124,14 +124,14 @@ without-terms document at ids old = record {
       has-filter (has_rows rest) ids t ∙ and-true (has t ids) (has_rows rest t) (λ there. old.members t ∙ still-there document at t (ap (λ es. has_rows es t) (without-is document at) ∙ there));
 }
 
-pub leaf-count : (doc : ℕ) (l : Leaf) → length (leaf_entries doc l) ≡ length l.words
-leaf-count doc l = sym (length-map (leaf_entries doc l) term_of) ∙ ap length (words-from doc l.id 0 l.words)
+pub leaf-count : (l : Leaf) → length (leaf_entries l) ≡ length l.words
+leaf-count l = sym (length-map (leaf_entries l) term_of) ∙ ap length (words-from l.id 0 l.words)
 
-pub all-count : (doc : ℕ) (leaves : List Leaf) → length (entries doc leaves) ≡ length (words_of leaves)
-all-count doc leaves = sym (length-map (entries doc leaves) term_of) ∙ ap length (words-are doc leaves)
+pub all-count : (leaves : List Leaf) → length (entries leaves) ≡ length (words_of leaves)
+all-count leaves = sym (length-map (entries leaves) term_of) ∙ ap length (words-are leaves)
 
 pub ids-are-terms : (document : TermDocument) (ids : List ℕ) → HasTerms (entries_of document) ids → ids ≡ terms_of (words_of document.leaves)
-ids-are-terms document ids terms = are-terms ids (words_of document.leaves) terms.rising (λ t. terms.members t ∙ has-rows t (entries_of document) ∙ ap (has t) (words-are document.doc document.leaves))
+ids-are-terms document ids terms = are-terms ids (words_of document.leaves) terms.rising (λ t. terms.members t ∙ has-rows t (entries_of document) ∙ ap (has t) (words-are document.leaves))
 
 pub sound-from : (parts : Parts) (document : TermDocument) → parts.leaves ≡ document → IsIndexed (entries_of document) parts.ids.items parts.starts.items parts.rows → HasTerms (entries_of document) parts.ids.items → IsSound parts
 sound-from parts document is indexed terms = record {
@@ -161,10 +161,10 @@ sound-empty parts doc leaves ids starts rows = sound-from parts (document_of doc
       members = λ t. ap (has t) ids;
     })
 
-pub leaf-length : (doc : ℕ) (l : Leaf) (made new : List Entry) → made ≡ leaf_entries doc l → IsSortedFrom made new → length new ≡ length l.words
-leaf-length doc l made new are sorted = sorted.same_length ∙ ap length are ∙ leaf-count doc l
+pub leaf-length : (l : Leaf) (made new : List Entry) → made ≡ leaf_entries l → IsSortedFrom made new → length new ≡ length l.words
+leaf-length l made new are sorted = sorted.same_length ∙ ap length are ∙ leaf-count l
 
 -- the entries of the leaf at a place
-pub entries-at : (document : TermDocument) (at : ℕ) (l : Leaf) → at < length document.leaves → l ≡ get_or document.leaves at l → leaf_entries document.doc l ≡ entries_at document at
+pub entries-at : (document : TermDocument) (at : ℕ) (l : Leaf) → at < length document.leaves → l ≡ get_or document.leaves at l → leaf_entries l ≡ entries_at document at
 entries-at document at l there read =
-    sym (append-nil (leaf_entries document.doc l)) ∙ ap (λ ls. entries document.doc (take 1 ls)) (ap (λ x. x ∷ drop (suc at) document.leaves) read ∙ sym (drop-cons document.leaves at l there))
+    sym (append-nil (leaf_entries l)) ∙ ap (λ ls. entries (take 1 ls)) (ap (λ x. x ∷ drop (suc at) document.leaves) read ∙ sym (drop-cons document.leaves at l there))

@@ -8,26 +8,26 @@ use Rattle.doc_index.specs.Terms.{Leaf, TermDocument, are_distinct, has, leaf_id
 use Rattle.doc_index.specs.declared.entry.Entry.{Entry}
 use Rattle.doc_index.specs.declared.parts.Parts.{Parts}
 
-abbrev pub row_at : ℕ → ℕ → ℕ → Row
-row_at doc leaf offset = record { doc = record { 0 = doc }; leaf = record { 0 = leaf }; offset = offset }
+abbrev pub row_at : ℕ → ℕ → Row
+row_at leaf offset = record { leaf = record { 0 = leaf }; offset = offset }
 
-abbrev pub entry_at : ℕ → ℕ → ℕ → ℕ → Entry
-entry_at doc leaf offset term = record { term = term; row = row_at doc leaf offset }
+abbrev pub entry_at : ℕ → ℕ → ℕ → Entry
+entry_at leaf offset term = record { term = term; row = row_at leaf offset }
 
 -- words of a leaf with their rows, where so many of its words stand in front of the first
-abbrev pub entries_from : ℕ → ℕ → ℕ → List ℕ → List Entry
-entries_from doc leaf offset [] = []
-entries_from doc leaf offset (word ∷ rest) = entry_at doc leaf offset word ∷ entries_from doc leaf (offset + 1) rest
+abbrev pub entries_from : ℕ → ℕ → List ℕ → List Entry
+entries_from leaf offset [] = []
+entries_from leaf offset (word ∷ rest) = entry_at leaf offset word ∷ entries_from leaf (offset + 1) rest
 
-abbrev pub leaf_entries : ℕ → Leaf → List Entry
-leaf_entries doc leaf = entries_from doc leaf.id 0 leaf.words
+abbrev pub leaf_entries : Leaf → List Entry
+leaf_entries leaf = entries_from leaf.id 0 leaf.words
 
 -- the words of leaves with their rows, in order
-abbrev pub entries : ℕ → List Leaf → List Entry
-entries doc leaves = flat_map (leaf_entries doc) leaves
+abbrev pub entries : List Leaf → List Entry
+entries leaves = flat_map leaf_entries leaves
 
 abbrev pub entries_of : TermDocument → List Entry
-entries_of document = entries document.doc document.leaves
+entries_of document = entries document.leaves
 
 -- those of one term, and their rows
 abbrev pub of_term : ℕ → List Entry → List Entry

@@ -63,7 +63,7 @@ impl DocIndex {
         ensures counted { OnOk result (rows.new ≡ rows.old + length (words_of leaves.items)) }
         ensures at_most { rows.new ≤ rows.old + length (words_of leaves.items) }
     {
-        let entries = sorted(entries_of_leaves(alloc, doc, &leaves)?)?;
+        let entries = sorted(entries_of_leaves(alloc, &leaves)?)?;
         let mut parts = Parts::empty(alloc, doc);
         put_entries(&mut parts, 0, &entries, rows)?;
         let whole = Leaves::of(alloc, doc, &leaves)?;
@@ -89,7 +89,8 @@ impl DocIndex {
         let mut parts = self.parts;
         let made = TermLeaf::new(leaf, terms)?;
         let alloc = parts.leaves.allocator();
-        let entries = sorted(entries_of_leaf(alloc, parts.leaves.doc(), &made)?)?;
+        let _doc = parts.leaves.doc();
+        let entries = sorted(entries_of_leaf(alloc, &made)?)?;
         put_entries(&mut parts, at, &entries, rows)?;
         let whole = parts.leaves.with_leaf(at, made)?;
         let parts = Parts {
@@ -117,7 +118,8 @@ impl DocIndex {
         let mut parts = self.parts;
         let alloc = parts.leaves.allocator();
         let leaf = parts.leaves.get(at);
-        let entries = sorted(entries_of_leaf(alloc, parts.leaves.doc(), leaf)?)?;
+        let _doc = parts.leaves.doc();
+        let entries = sorted(entries_of_leaf(alloc, leaf)?)?;
         let terms = Vec::from_slice(alloc, leaf.terms())?;
         take_entries(&mut parts, at, &entries, rows)?;
         let rest = parts.leaves.without_leaf(at)?;

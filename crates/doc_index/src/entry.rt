@@ -3,7 +3,7 @@ ghost use Rattle.doc_index.specs.Rows.{entries, leaf_entries};
 ghost use Rattle.doc_index.specs.steps.Groups.{IsSortedFrom};
 
 use crate::TermLeaf;
-use ft_base::{DocId, Memory};
+use ft_base::Memory;
 use postings::Row;
 use std::alloc::Global;
 
@@ -24,42 +24,33 @@ pub(crate) fn sorted(entries: Vec<Entry>) -> Result<Vec<Entry>, Memory>
 }
 
 /// The words of the leaf with their rows, in order.
-pub(crate) fn entries_of_leaf(
-    alloc: Global,
-    doc: DocId,
-    leaf: &TermLeaf,
-) -> Result<Vec<Entry>, Memory>
-    ensures { IfOk result (λ made. made.items ≡ leaf_entries doc.0 leaf.now) }
+pub(crate) fn entries_of_leaf(alloc: Global, leaf: &TermLeaf) -> Result<Vec<Entry>, Memory>
+    ensures { IfOk result (λ made. made.items ≡ leaf_entries leaf.now) }
 {
     let mut made = Vec::new(alloc);
-    add_entries(&mut made, doc, leaf)?;
+    add_entries(&mut made, leaf)?;
     Ok(made)
 }
 
 /// The words of the leaves with their rows, in order.
-pub(crate) fn entries_of_leaves(
-    alloc: Global,
-    doc: DocId,
-    leaves: &Vec<TermLeaf>,
-) -> Result<Vec<Entry>, Memory>
-    ensures { IfOk result (λ made. made.items ≡ entries doc.0 leaves.now.items) }
+pub(crate) fn entries_of_leaves(alloc: Global, leaves: &Vec<TermLeaf>) -> Result<Vec<Entry>, Memory>
+    ensures { IfOk result (λ made. made.items ≡ entries leaves.now.items) }
 {
     let mut made = Vec::new(alloc);
     for leaf in leaves {
-        add_entries(&mut made, doc, leaf)?;
+        add_entries(&mut made, leaf)?;
     }
     Ok(made)
 }
 
 /// Puts the words of a leaf with their rows behind the others.
-fn add_entries(made: &mut Vec<Entry>, doc: DocId, leaf: &TermLeaf) -> Result<(), Memory>
-    ensures { OnOk result (made.new.items ≡ made.old.items ++ leaf_entries doc.0 leaf.now) }
+fn add_entries(made: &mut Vec<Entry>, leaf: &TermLeaf) -> Result<(), Memory>
+    ensures { OnOk result (made.new.items ≡ made.old.items ++ leaf_entries leaf.now) }
 {
     let number = leaf.leaf();
     let mut offset = 0u32;
     for term in leaf.terms() {
         let row = Row {
-            doc,
             leaf: number,
             offset,
         };

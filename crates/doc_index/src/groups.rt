@@ -23,11 +23,11 @@ pub struct Run {
 }
 
 /// The place of the first row of the term of that number, or that behind the last row.
-pub(crate) fn start_at(starts: &Vec<usize>, total: usize, number: usize) -> usize
+pub(crate) fn start_at(starts: &Vec<u32>, total: usize, number: usize) -> usize
     ensures { (runs : List (List Row)) → starts.now.items ≡ starts_from 0 runs → total ≡ length (joined runs) → result ≡ start_of runs number }
 {
     if number < starts.len() {
-        return starts[number];
+        return starts[number] as usize;
     }
     total
 }

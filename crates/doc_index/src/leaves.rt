@@ -24,8 +24,8 @@ pub struct Leaves {
     leaves: SharedList<TermLeaf, BLOCK_LEAVES>,
     // By the number of a leaf, which is that of its node, so that there are no more than nodes: the leaf's place,
     // counted from 1, and how many words stand in front of it.
-    slots: Vec<usize>,
-    befores: Vec<usize>,
+    slots: Vec<u32>,
+    befores: Vec<u32>,
     words: usize,
 }
 

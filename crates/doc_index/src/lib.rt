@@ -12,6 +12,7 @@ mod entry;
 pub mod examples;
 mod groups;
 mod leaves;
+mod numbers;
 mod parts;
 mod put_rows;
 mod slots;

@@ -12,7 +12,7 @@ use std::alloc::Global;
 pub struct Parts {
     pub leaves: Leaves,
     pub ids: Vec<u32>,
-    pub starts: Vec<usize>,
+    pub starts: Vec<u32>,
     pub rows: PostingList,
 }
 

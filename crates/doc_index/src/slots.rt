@@ -1,20 +1,21 @@
 ghost use Rattle.std.specs.Prelude.{◌≡◌, ◌+◌, ◌-◌, ◌<◌, ◌≤◌, cond, nat_lt, length, slice_index, IfOk, OnOk};
 ghost use Rattle.doc_index.specs.steps.Directory.{IsChanged, IsClosed, IsOpened};
 
+use crate::numbers::in_32_bits;
 use ft_base::Memory;
 
 /// The number at the place, and 0 behind the last one.
-pub(crate) fn number_at(numbers: &Vec<usize>, at: usize) -> usize
+pub(crate) fn number_at(numbers: &Vec<u32>, at: usize) -> usize
     ensures { result ≡ slice_index numbers.now.items at }
 {
     if at >= numbers.len() {
         return 0;
     }
-    numbers[at]
+    numbers[at] as usize
 }
 
 /// Sees to it that the place is one of the vector's, by zeros behind the last number.
-fn cover(numbers: &mut Vec<usize>, at: usize) -> Result<(), Memory>
+fn cover(numbers: &mut Vec<u32>, at: usize) -> Result<(), Memory>
     ensures there { OnOk result (at < length numbers.new.items) }
     ensures same { OnOk result ((k : _) → slice_index numbers.new.items k ≡ slice_index numbers.old.items k) }
     ensures length { OnOk result (length numbers.new.items ≡ cond (nat_lt at (length numbers.old.items)) (length numbers.old.items) (at + 1)) }
@@ -30,32 +31,32 @@ fn cover(numbers: &mut Vec<usize>, at: usize) -> Result<(), Memory>
 }
 
 /// The number, raised where it is to be.
-fn raised(number: usize, moves: bool, by: usize) -> Result<usize, Memory>
+fn raised(number: u32, moves: bool, by: usize) -> Result<u32, Memory>
     ensures { IfOk result (λ sum. sum ≡ cond moves (number + by) number) }
 {
     if !moves {
         return Ok(number);
     }
-    match number.checked_add(by) {
-        Some(sum) => Ok(sum),
+    match (number as usize).checked_add(by) {
+        Some(sum) => in_32_bits(sum),
         None => Err(Memory),
     }
 }
 
 /// The number, lowered where it is to be.
-fn lowered(number: usize, moves: bool, by: usize) -> usize
+fn lowered(number: u32, moves: bool, by: usize) -> u32
     ensures { result ≡ cond moves (number - by) number }
 {
     if !moves {
         return number;
     }
-    number.saturating_sub(by)
+    (number as usize).saturating_sub(by) as u32
 }
 
 /// Raises the numbers whose slots are behind the place.
 fn raise_behind(
-    numbers: &mut Vec<usize>,
-    slots: &Vec<usize>,
+    numbers: &mut Vec<u32>,
+    slots: &Vec<u32>,
     at: usize,
     by: usize,
 ) -> Result<(), Memory>
@@ -66,25 +67,25 @@ fn raise_behind(
         ≡ cond (nat_lt at (slice_index slots.now.items k)) (slice_index numbers.old.items k + by) (slice_index numbers.old.items k)) }
 {
     for k in 0..slots.len() {
-        numbers[k] = raised(numbers[k], at < slots[k], by)?;
+        numbers[k] = raised(numbers[k], at < slots[k] as usize, by)?;
     }
     Ok(())
 }
 
 /// Raises the slots behind the place by one.
-fn raise_slots(slots: &mut Vec<usize>, at: usize) -> Result<(), Memory>
+fn raise_slots(slots: &mut Vec<u32>, at: usize) -> Result<(), Memory>
     ensures length { OnOk result (length slots.new.items ≡ length slots.old.items) }
     ensures moved { OnOk result ((k : _) → k < length slots.old.items →
         slice_index slots.new.items k ≡ cond (nat_lt at (slice_index slots.old.items k)) (slice_index slots.old.items k + 1) (slice_index slots.old.items k)) }
 {
     for k in 0..slots.len() {
-        slots[k] = raised(slots[k], at < slots[k], 1)?;
+        slots[k] = raised(slots[k], at < slots[k] as usize, 1)?;
     }
     Ok(())
 }
 
 /// Lowers the numbers whose slots are behind the place.
-fn lower_behind(numbers: &mut Vec<usize>, slots: &Vec<usize>, at: usize, by: usize)
+fn lower_behind(numbers: &mut Vec<u32>, slots: &Vec<u32>, at: usize, by: usize)
     requires { length numbers.old.items ≡ length slots.now.items }
     ensures length { length numbers.new.items ≡ length slots.now.items }
     ensures moved { (k : _) → k < length slots.now.items →
@@ -92,25 +93,25 @@ fn lower_behind(numbers: &mut Vec<usize>, slots: &Vec<usize>, at: usize, by: usi
         ≡ cond (nat_lt at (slice_index slots.now.items k)) (slice_index numbers.old.items k - by) (slice_index numbers.old.items k) }
 {
     for k in 0..slots.len() {
-        numbers[k] = lowered(numbers[k], at < slots[k], by);
+        numbers[k] = lowered(numbers[k], at < slots[k] as usize, by);
     }
 }
 
 /// Lowers the slots behind the place by one.
-fn lower_slots(slots: &mut Vec<usize>, at: usize)
+fn lower_slots(slots: &mut Vec<u32>, at: usize)
     ensures length { length slots.new.items ≡ length slots.old.items }
     ensures moved { (k : _) → k < length slots.old.items →
         slice_index slots.new.items k ≡ cond (nat_lt at (slice_index slots.old.items k)) (slice_index slots.old.items k - 1) (slice_index slots.old.items k) }
 {
     for k in 0..slots.len() {
-        slots[k] = lowered(slots[k], at < slots[k], 1);
+        slots[k] = lowered(slots[k], at < slots[k] as usize, 1);
     }
 }
 
 /// Makes way at that place for a leaf with so many words, where there are so many leaves.
 pub(crate) fn open_gap(
-    slots: &mut Vec<usize>,
-    befores: &mut Vec<usize>,
+    slots: &mut Vec<u32>,
+    befores: &mut Vec<u32>,
     at: usize,
     count: usize,
     by: usize,
@@ -129,8 +130,8 @@ pub(crate) fn open_gap(
 
 /// Closes the gap that the leaf of that number leaves at the place where it was taken out.
 pub(crate) fn close_gap(
-    slots: &mut Vec<usize>,
-    befores: &mut Vec<usize>,
+    slots: &mut Vec<u32>,
+    befores: &mut Vec<u32>,
     at: usize,
     number: usize,
     by: usize,
@@ -140,18 +141,18 @@ pub(crate) fn close_gap(
     requires place { slice_index slots.old.items number ≡ at + 1 }
     ensures { IsClosed at by number slots.old.items befores.old.items slots.new.items befores.new.items }
 {
-    let slot = slots[number];
+    let slot = slots[number] as usize;
     lower_behind(befores, slots, slot, by);
     lower_slots(slots, slot);
     slots[number] = 0;
 }
 
 /// Puts a number at that place, by zeros behind the last one where it is behind that.
-pub(crate) fn put_number(numbers: &mut Vec<usize>, at: usize, number: usize) -> Result<(), Memory>
+pub(crate) fn put_number(numbers: &mut Vec<u32>, at: usize, number: usize) -> Result<(), Memory>
     ensures changed { OnOk result (IsChanged at number numbers.old.items numbers.new.items) }
     ensures length { OnOk result (length numbers.new.items ≡ cond (nat_lt at (length numbers.old.items)) (length numbers.old.items) (at + 1)) }
 {
     cover(numbers, at)?;
-    numbers[at] = number;
+    numbers[at] = in_32_bits(number)?;
     Ok(())
 }

@@ -6,6 +6,7 @@ ghost use Rattle.doc_index.specs.steps.Groups.{entries_at, entries_without, grou
 
 use crate::entry::Entry;
 use crate::groups::{Run, run_at, take_term};
+use crate::numbers::push_number;
 use crate::parts::Parts;
 use ft_base::{Memory, Steps};
 use std::sync::ledger::Ledger;
@@ -34,7 +35,7 @@ pub(crate) fn take_rows<L: Ledger>(
     let mut next = 0;
     for number in 0..parts.ids.len() {
         let run = moved_front(run_at(parts, total, number), next);
-        starts.push(run.first)?;
+        push_number(&mut starts, run.first)?;
         next = take_term(
             &parts.leaves,
             &mut parts.rows,

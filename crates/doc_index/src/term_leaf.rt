@@ -11,15 +11,18 @@ use std::rc::Rc;
 #[derive(Drop)]
 pub struct TermLeaf {
     leaf: LeafId,
-    terms: Rc<Vec<u32>>,
+    // `None` where there is no word, as in half of the texts between elements.
+    terms: Option<Rc<Vec<u32>>>,
 }
 
 impl Model for TermLeaf {
     ghost use Rattle.doc_index.specs.Terms.{Leaf, leaf_of};
+    ghost use Rattle.std.specs.Option.{option_map_or};
+    ghost use Rattle.std.specs.Prelude.{[]};
 
     ghost Value = { Leaf };
 
-    ghost view = { λ inside. leaf_of inside.leaf.0 inside.terms.value.items };
+    ghost view = { λ inside. leaf_of inside.leaf.0 (option_map_or (λ shared. shared.value.items) inside.terms []) };
 }
 
 impl TermLeaf {
@@ -27,8 +30,11 @@ impl TermLeaf {
     pub fn new(leaf: LeafId, terms: Vec<u32>) -> Result<TermLeaf, Memory>
         ensures { IfOk result (λ made. made ≡ leaf_of leaf.0 terms.items) }
     {
+        if terms.is_empty() {
+            return Ok(TermLeaf { leaf, terms: None });
+        }
         let alloc = *terms.allocator();
-        let terms = Rc::new(alloc, terms)?;
+        let terms = Some(Rc::new(alloc, terms)?);
         Ok(TermLeaf { leaf, terms })
     }
 
@@ -43,14 +49,20 @@ impl TermLeaf {
     pub fn terms(&self) -> &[u32]
         ensures { result.now ≡ self.now.words }
     {
-        self.terms.as_slice()
+        match &self.terms {
+            Some(terms) => terms.as_slice(),
+            None => &[],
+        }
     }
 
     /// The same leaf once more; no word is copied.
     pub fn share(&self) -> Result<TermLeaf, Memory>
         ensures { IfOk result (λ copy. copy ≡ self.now) }
     {
-        let terms = self.terms.clone()?;
+        let terms = match &self.terms {
+            Some(terms) => Some(terms.clone()?),
+            None => None,
+        };
         Ok(TermLeaf {
             leaf: self.leaf,
             terms,

@@ -9,6 +9,7 @@ ghost use Rattle.std.specs.List.Sorted.{IsNonDecreasingBy};
 
 use crate::entry::Entry;
 use crate::groups::start_at;
+use crate::numbers::push_number;
 use crate::parts::Parts;
 use ft_base::Memory;
 
@@ -16,7 +17,7 @@ use ft_base::Memory;
 #[derive(Drop)]
 pub struct Made {
     pub ids: Vec<u32>,
-    pub starts: Vec<usize>,
+    pub starts: Vec<u32>,
     pub number: usize,
 }
 
@@ -42,6 +43,7 @@ pub(crate) fn widen(parts: &mut Parts, entries: &Vec<Entry>) -> Result<(), Memor
         push_new(parts, &mut made, term)?;
     }
     copy_up_to(parts, &mut made, u32::MAX)?;
+    made.ids.shrink_to_fit();
     parts.ids = made.ids;
     parts.starts = made.starts;
     Ok(())
@@ -103,13 +105,23 @@ fn push_new(parts: &Parts, made: &mut Made, term: u32) -> Result<(), Memory>
         IsWidening (entries_of parts.now.leaves) parts.now.ids.items made.new.number (done ++ term ∷ []) made.new.ids.items made.new.starts.items) }
     ensures up_to { OnOk result (AreUpTo term made.new.ids.items) }
 {
-    match find_term(&made.ids, term) {
-        Some(_) => Ok(()),
-        None => {
-            let start = start_at(&parts.starts, parts.rows.len(), made.number);
-            push_term(made, term, start)
-        }
+    if is_last(&made.ids, term) {
+        return Ok(());
     }
+    let start = start_at(&parts.starts, parts.rows.len(), made.number);
+    push_term(made, term, start)
+}
+
+/// Whether the last of the ascending terms, which are all up to this one, is this one: whether it is there.
+fn is_last(ids: &Vec<u32>, term: u32) -> bool
+    requires rising { is_ascending ids.now.items ≡ true }
+    requires up_to { AreUpTo term ids.now.items }
+    ensures { result ≡ has term ids.now.items }
+{
+    let Some(last) = ids.len().checked_sub(1) else {
+        return false;
+    };
+    ids[last] == term
 }
 
 /// Puts a term with the place of its first row behind the last one.
@@ -118,7 +130,7 @@ fn push_term(made: &mut Made, term: u32, start: usize) -> Result<(), Memory>
     ensures starts { OnOk result (made.new.starts.items ≡ made.old.starts.items ++ start ∷ []) }
     ensures number { OnOk result (made.new.number ≡ made.old.number) }
 {
-    made.starts.push(start)?;
+    push_number(&mut made.starts, start)?;
     made.ids.push(term)?;
     Ok(())
 }
@@ -137,30 +149,21 @@ pub(crate) fn narrow(parts: &mut Parts) -> Result<(), Memory>
     for number in 0..parts.ids.len() {
         let first = parts.starts[number];
         let end = start_at(&parts.starts, total, number + 1);
-        push_if(&mut ids, parts.ids[number], first < end)?;
-        push_start_if(&mut starts, first, first < end)?;
+        let stays = (first as usize) < end;
+        push_if(&mut ids, parts.ids[number], stays)?;
+        push_if(&mut starts, first, stays)?;
     }
     parts.ids = ids;
     parts.starts = starts;
     Ok(())
 }
 
-/// Puts a term behind the last one where it stays.
-fn push_if(ids: &mut Vec<u32>, term: u32, stays: bool) -> Result<(), Memory>
-    ensures { OnOk result (ids.new.items ≡ ids.old.items ++ cond stays (term ∷ []) []) }
+/// Puts a number behind the last one where it stays.
+fn push_if(numbers: &mut Vec<u32>, number: u32, stays: bool) -> Result<(), Memory>
+    ensures { OnOk result (numbers.new.items ≡ numbers.old.items ++ cond stays (number ∷ []) []) }
 {
     if stays {
-        ids.push(term)?;
-    }
-    Ok(())
-}
-
-/// Puts a start behind the last one where its term stays.
-fn push_start_if(starts: &mut Vec<usize>, start: usize, stays: bool) -> Result<(), Memory>
-    ensures { OnOk result (starts.new.items ≡ starts.old.items ++ cond stays (start ∷ []) []) }
-{
-    if stays {
-        starts.push(start)?;
+        numbers.push(number)?;
     }
     Ok(())
 }

@@ -9,6 +9,8 @@ mod adding;
 mod dropping;
 pub mod examples;
 pub mod laws;
+#[cfg(test)]
+mod tests;
 
 pub use adding::{Found, add_doc, add_loaded};
 pub use dropping::drop_doc;

@@ -56,10 +56,10 @@ term_is given ts hs n id d is =
 
 -- ---- whether a word is the term's
 
-same_word_is : (a b : List ℕ) → same_word a b ≡ true → a ≡ b
+pub same_word_is : (a b : List ℕ) → same_word a b ≡ true → a ≡ b
 same_word_is a b same = slice_cmp-IsAntisymmetric nat_cmp-IsAntisymmetric a b ((Equal-is (slice_cmp nat_cmp a b)).0 same)
 
-same_word_same : (a : List ℕ) → same_word a a ≡ true
+pub same_word_same : (a : List ℕ) → same_word a a ≡ true
 same_word_same a = (Equal-is (slice_cmp nat_cmp a a)).1 (tied_itself nat_list_cmp_total a)
 
 -- the word of another id that is there is the term's exactly where the ids are one

@@ -24,7 +24,7 @@ use Rattle.index_versions.proofs.NamingLemmas.{has_with_entries}
 
 -- ---- entries in order are known by which they are
 
-sorted_all : (new es : List Entry) → is_sorted es ≡ true → is_sorted (with_entries new es) ≡ true
+pub sorted_all : (new es : List Entry) → is_sorted es ≡ true → is_sorted (with_entries new es) ≡ true
 sorted_all [] es sorted = sorted
 sorted_all (e ∷ new) es sorted = sorted_all new (with_entry e es) (sorted_with e es sorted)
 

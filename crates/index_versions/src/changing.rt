@@ -7,9 +7,10 @@ ghost use Rattle.index_versions.specs.steps.Naming.{all_words};
 use crate::parts::Parts;
 use crate::version::Version;
 use crate::{WordHints, WordLeaves, leaves};
-use ft_base::{Breaks, DocId, LeafId, Lines, Memory, Steps};
+use ft_base::{Breaks, DocId, LeafId, Memory, Steps};
 use std::mem;
 use std::sync::ledger::Ledger;
+use text_list::TextList;
 
 impl Version {
     /// Puts a leaf with these words into the document, directly behind the leaf `after`, which is there, or in front of
@@ -20,7 +21,7 @@ impl Version {
         doc: DocId,
         after: Option<LeafId>,
         leaf: LeafId,
-        words: &Lines,
+        words: &TextList,
         rows: &mut Steps<L>,
     ) -> Result<(), Memory>
         requires new { has_leaf leaf.0 (document_at doc.0 self.old) ≡ false }

@@ -17,9 +17,10 @@ use crate::hints::WordHints;
 use crate::parts::Parts;
 use crate::words::{name_leaves, name_words};
 use doc_index::DocIndex;
-use ft_base::{Breaks, DocId, LeafId, Lines, Memory, Steps};
+use ft_base::{Breaks, DocId, LeafId, Memory, Steps};
 use std::alloc::Global;
 use std::sync::ledger::Ledger;
+use text_list::TextList;
 
 /// Puts a leaf with these words into the document, directly behind another leaf or in front of all.
 pub(crate) fn put_leaf<L: Ledger>(
@@ -28,7 +29,7 @@ pub(crate) fn put_leaf<L: Ledger>(
     doc: DocId,
     after: Option<LeafId>,
     leaf: LeafId,
-    words: &Lines,
+    words: &TextList,
     rows: &mut Steps<L>,
 ) -> Result<(), Memory>
     requires sound { IsSound parts.old }

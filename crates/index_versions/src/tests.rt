@@ -4,10 +4,11 @@ ghost use Rattle.std.specs.Prelude.{◌≡◌, ◌<◌, ◌∷◌, [], IfOk};
 ghost use Rattle.index_meaning.specs.Documents.{leaf_ids};
 
 use crate::{Version, WordHints, WordLeaf, WordLeaves};
-use ft_base::{Breaks, DocId, Hits, LeafId, Line, Lines, Memory, Places, Span, Steps};
+use ft_base::{Breaks, DocId, Hits, LeafId, Memory, Places, Span, Steps};
 use std::alloc::Global;
 use std::marker::Brand;
 use std::sync::ledger::{Blank, Ledger};
+use text_list::TextList;
 
 const FIRST: DocId = DocId(3);
 
@@ -17,8 +18,8 @@ const SECOND: DocId = DocId(7);
 fn leaf(alloc: Global, number: u32, word: &str) -> Result<WordLeaf, Memory>
     ensures { IfOk result (λ made. made.id ≡ number) }
 {
-    let mut words = Lines::new(alloc);
-    words.push(Line::read(alloc, word)?)?;
+    let mut words = TextList::new(alloc);
+    words.push(word)?;
     Ok(WordLeaf::new(LeafId(number), words))
 }
 
@@ -73,8 +74,8 @@ fn put_one<L: Ledger>(
     if version.has_doc(doc) {
         return Err(Memory);
     }
-    let mut words = Lines::new(alloc);
-    words.push(Line::read(alloc, word)?)?;
+    let mut words = TextList::new(alloc);
+    words.push(word)?;
     version.put_leaf(doc, None, LeafId(4), &words, rows)?;
     let breaks = breaks(alloc)?;
     version.set_breaks(doc, breaks)

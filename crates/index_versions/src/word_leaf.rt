@@ -1,14 +1,15 @@
 ghost use Rattle.std.specs.Prelude.{◌≡◌};
 ghost use Rattle.index_meaning.specs.Documents.{leaf_of};
 
-use ft_base::{LeafId, Lines};
+use ft_base::LeafId;
 use std::marker::Model;
+use text_list::TextList;
 
 /// A leaf that comes into a version: its number, and its words in order.
 #[derive(Drop)]
 pub struct WordLeaf {
     leaf: LeafId,
-    words: Lines,
+    words: TextList,
 }
 
 impl Model for WordLeaf {
@@ -21,7 +22,7 @@ impl Model for WordLeaf {
 
 impl WordLeaf {
     /// The leaf of that number with these words.
-    pub fn new(leaf: LeafId, words: Lines) -> WordLeaf
+    pub fn new(leaf: LeafId, words: TextList) -> WordLeaf
         ensures { result ≡ leaf_of leaf.0 words }
     {
         WordLeaf { leaf, words }
@@ -35,7 +36,7 @@ impl WordLeaf {
     }
 
     /// Its words, in order.
-    pub fn words(&self) -> &Lines
+    pub fn words(&self) -> &TextList
         ensures { result.now ≡ self.now.words }
     {
         &self.words

@@ -11,11 +11,12 @@ use crate::WordLeaves;
 use crate::hints::{WordHints, hash_of};
 use doc_index::TermLeaf;
 use document_counts::DocumentCounts;
-use ft_base::{Lines, Memory};
+use ft_base::Memory;
 use std::alloc::Global;
 use std::mem;
 use term_dict::TermDict;
 use text_forms::key;
+use text_list::TextList;
 
 /// Puts the words of the leaves into the dictionary, where they aren't there, and hands out the leaves with their ids.
 pub(crate) fn name_leaves(
@@ -43,7 +44,7 @@ pub(crate) fn name_words(
     alloc: Global,
     dictionary: &mut TermDict,
     counts: &DocumentCounts,
-    words: &Lines,
+    words: &TextList,
 ) -> Result<Vec<u32>, Memory>
     requires { (id : ℕ) → 0 < count_of counts.now id → has id (ids dictionary.old.terms) ≡ true }
     ensures { IfOk result (λ named. IsNamed dictionary.old (entries_of words.now) dictionary.new named.items) }
@@ -62,15 +63,16 @@ fn ids_of(
     counts: &DocumentCounts,
     first: usize,
     hints: &mut WordHints,
-    words: &Lines,
+    words: &TextList,
 ) -> Result<Vec<u32>, Memory>
     requires { IsKnown counts.now first dictionary.old }
     ensures named { IfOk result (λ named. IsNamed dictionary.old (entries_of words.now) dictionary.new named.items) }
     ensures known { OnOk result (IsKnown counts.now first dictionary.new) }
 {
     let mut named = Vec::with_capacity(alloc, words.len())?;
-    for word in words.as_slice() {
-        named.push(id_of(alloc, dictionary, counts, first, hints, word.as_str())?)?;
+    for number in 0..words.len() {
+        let word = words.get(number);
+        named.push(id_of(alloc, dictionary, counts, first, hints, word)?)?;
     }
     Ok(named)
 }

@@ -1,9 +1,10 @@
-use ft_base::{LeafId, Lines};
+use ft_base::LeafId;
+use text_list::TextList;
 
 /// A leaf with its words, in order. It stands directly behind the leaf `after`, or in front.
 #[derive(Drop)]
 pub struct LeafWords {
     pub leaf: LeafId,
     pub after: Option<LeafId>,
-    pub words: Lines,
+    pub words: TextList,
 }

@@ -6,8 +6,9 @@ ghost use Rattle.ordered_tree.specs.Slots.{IsRow, row, node_at};
 use crate::leaf::LeafWords;
 use crate::slot::{Held, Slot};
 use crate::{Leaves, NodeRef};
-use ft_base::{LeafId, Line, Lines, Memory};
+use ft_base::{LeafId, Memory};
 use std::alloc::Global;
+use text_list::TextList;
 use tokenizer::words_of;
 
 /// Puts the leaves of a node to the end, and gives the last one.
@@ -68,19 +69,19 @@ fn push_leaf(
 ) -> Result<(), Memory>
     ensures { OnOk result (leaves.new ≡ leaves.old ++ record { leaf = leaf; after = after; words = words text.now } ∷ []) }
 {
-    let words = words_as_lines(alloc, text)?;
+    let words = list_words(alloc, text)?;
     leaves.push(LeafWords { leaf, after, words })?;
     Ok(())
 }
 
 /// The words of a text.
-fn words_as_lines(alloc: Global, text: &str) -> Result<Lines, Memory>
-    ensures { IfOk result (λ lines. lines ≡ words text.now) }
+fn list_words(alloc: Global, text: &str) -> Result<TextList, Memory>
+    ensures { IfOk result (λ list. list ≡ words text.now) }
 {
     let pieces = words_of(alloc, text)?;
-    let mut lines = Lines::new(alloc);
+    let mut list = TextList::with_capacity(alloc, text.len())?;
     for piece in pieces.as_slice() {
-        lines.push(Line::read(alloc, &text[piece.from..piece.to])?)?;
+        list.push(&text[piece.from..piece.to])?;
     }
-    Ok(lines)
+    Ok(list)
 }

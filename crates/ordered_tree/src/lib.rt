@@ -21,6 +21,7 @@ pub use doc_tree::DocTree;
 use ft_base::Items;
 pub use ft_base::{LeafId, NodeRef};
 pub use leaf::LeafWords;
+pub use plain_tree::Place;
 pub use read::{Read, load_doc};
 
 /// A list of leaves.
@@ -28,6 +29,3 @@ pub type LeafIds = Items<LeafId>;
 
 /// A list of leaves with their words.
 pub type Leaves = Items<LeafWords>;
-
-/// Child numbers, counted from 1, read from the root down.
-pub type Place = Items<u32>;

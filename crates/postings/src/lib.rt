@@ -1,4 +1,4 @@
-//! Posting lists: where a word stands, document by document. A list's rows are in blocks that its copies share, and
+//! Posting lists: where a word stands in a document. A list's rows are in blocks that its copies share, and
 //! each row that comes or goes is counted.
 //!
 //! `row` is the plain type, `posting_list` the list, `row_cursor` a place in one.

@@ -1,12 +1,11 @@
-use ft_base::{DocId, LeafId, Memory};
+use ft_base::{LeafId, Memory};
 use shared_list::Share;
 use std::alloc::Global;
 
-/// One place at which a word stands (a posting): the document, its leaf, and how many words of the leaf stand in
-/// front of it.
+/// One place at which a word stands in a document (a posting): the leaf, and how many words of the leaf stand in front
+/// of it.
 #[derive(Clone, Copy, PartialEq, Eq)]
 pub struct Row {
-    pub doc: DocId,
     pub leaf: LeafId,
     pub offset: u32,
 }

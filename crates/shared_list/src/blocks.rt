@@ -3,7 +3,7 @@ ghost use Rattle.shared_list.specs.Blocks.{joined, start_of, IsBlockOf};
 
 use crate::Share;
 use crate::block::Block;
-use crate::starts::{last_at_most, lower, raise};
+use crate::starts::{last_at_most, last_at_most_near, lower, raise};
 use ft_base::Memory;
 use std::alloc::Global;
 use std::marker::Model;
@@ -63,6 +63,14 @@ impl<T: Drop> Blocks<T> {
         ensures { IsBlockOf self.now at result }
     {
         last_at_most(&self.starts, at)
+    }
+
+    /// The same, where it is likely to be the block of a given number.
+    pub fn block_near(&self, at: usize, likely: usize) -> usize
+        requires { 0 < length self.now }
+        ensures { IsBlockOf self.now at result }
+    {
+        last_at_most_near(&self.starts, at, likely)
     }
 
     /// The place of the first item of that block.

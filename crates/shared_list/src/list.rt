@@ -71,7 +71,7 @@ impl<T: Drop, const BLOCK: usize> SharedList<T, BLOCK> {
         requires { at < length self.now }
         ensures { result.now ≡ slice_index_or self.now at result.now }
     {
-        let number = self.blocks.block_of(at);
+        let number = self.blocks.block_near(at, block_if_full::<BLOCK>(at));
         &self.blocks.items(number)[at - self.blocks.start(number)]
     }
 
@@ -124,7 +124,8 @@ impl<T: Share, const BLOCK: usize> SharedList<T, BLOCK> {
         ensures ok { OnOk result (self.new ≡ slice_set self.old at item) }
         ensures err { OnErr result (self.new ≡ self.old) }
     {
-        replace(&mut self.blocks, at, item)
+        let likely = block_if_full::<BLOCK>(at);
+        replace(&mut self.blocks, likely, at, item)
     }
 
     /// Takes the item at that place, counted from 0, out of the list. Where memory runs out, the list stays as it was.
@@ -137,6 +138,14 @@ impl<T: Share, const BLOCK: usize> SharedList<T, BLOCK> {
         let item = take(&mut self.blocks, at)?;
         self.len -= 1;
         Ok(item)
+    }
+}
+
+/// The number of the block of that place where all blocks in front of it are full, as in a list that grew at its end.
+fn block_if_full<const BLOCK: usize>(at: usize) -> usize {
+    match at.checked_div(BLOCK) {
+        Some(number) => number,
+        None => 0,
     }
 }
 
@@ -178,13 +187,18 @@ fn put<T: Share>(blocks: &mut Blocks<T>, at: usize, item: T) -> Result<(), Memor
     Ok(())
 }
 
-/// Puts the item in the place of the one at that place of the list.
-fn replace<T: Share>(blocks: &mut Blocks<T>, at: usize, item: T) -> Result<(), Memory>
+/// Puts the item in the place of the one at that place of the list, in the block of that number or another one.
+fn replace<T: Share>(
+    blocks: &mut Blocks<T>,
+    likely: usize,
+    at: usize,
+    item: T,
+) -> Result<(), Memory>
     requires { at < length (joined blocks.old) }
     ensures ok { OnOk result (joined blocks.new ≡ slice_set (joined blocks.old) at item) }
     ensures err { OnErr result (blocks.new ≡ blocks.old) }
 {
-    let number = blocks.block_of(at);
+    let number = blocks.block_near(at, likely);
     let offset = at - blocks.start(number);
     blocks.replace(number, offset, item)?;
     Ok(())

@@ -17,6 +17,24 @@ pub fn last_at_most(starts: &Vec<usize>, at: usize) -> usize
     between(starts, at, last)
 }
 
+/// The same where it is likely to be a given number: that one is looked at before a search.
+pub fn last_at_most_near(starts: &Vec<usize>, at: usize, likely: usize) -> usize
+    requires some { 0 < length starts.now.items }
+    requires first { slice_index starts.now.items 0 ≤ at }
+    ensures there { result < length starts.now.items }
+    ensures from { slice_index starts.now.items result ≤ at }
+    ensures to { result + 1 < length starts.now.items → at < slice_index starts.now.items (result + 1) }
+{
+    if likely < starts.len() - 1 {
+        if starts[likely] <= at {
+            if at < starts[likely + 1] {
+                return likely;
+            }
+        }
+    }
+    last_at_most(starts, at)
+}
+
 /// The same where the start of that number is known to be behind the place.
 fn between(starts: &Vec<usize>, at: usize, behind: usize) -> usize
     requires within { behind < length starts.now.items }

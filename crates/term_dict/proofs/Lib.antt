@@ -5,3 +5,5 @@ pub mod TermLemmas
 pub mod KeyLemmas
 pub mod DictionaryLemmas
 pub mod IdLemmas
+pub mod GivenLemmas
+pub mod TermsOfLemmas

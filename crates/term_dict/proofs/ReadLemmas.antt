@@ -1,56 +1,44 @@
--- What a term that was read says of the entries.
+-- What an entry that was read says of the others.
 use Rattle.std.proofs.Common.{◌≡◌, ℕ, ◌+◌, ◌<◌, ◌≤◌, true, false, List, length, get_or, Some, None, ap, sym, ◌∙◌, arith}
-use Rattle.std.proofs.lemmas.List.{get_or-map, length-map}
+use Rattle.std.proofs.lemmas.List.{length-map}
 use Rattle.index_meaning.specs.Entries.{Entry, entry, is_sorted, found, span, smaller_keys, same_keys}
-use Rattle.index_meaning.specs.Dictionaries.{Term, entries}
+use Rattle.index_meaning.specs.Dictionaries.{Term, ids}
 use Rattle.shared_list.specs.Blocks.{IsRun}
 use Rattle.term_dict.specs.Places.{count_before, stands_before, IsWindow}
 use Rattle.term_dict.specs.declared.places.Place.{Place}
 use Rattle.term_dict.specs.declared.places.Place.TheVariants.{AtKey, BehindKey}
 use Rattle.term_dict.proofs.RankLemmas.{rank_above, rank_upto, upto_key, found_none, found_some}
 
--- the entry of a term that was read
-pub entry_read : (ts : List Term) (k : ℕ) (t : Term) → k < length ts → t ≡ get_or ts k t → get_or (entries ts) k t.entry ≡ t.entry
-entry_read ts k t within read = get_or-map (λ (u : Term). u.entry) ts k t t.entry within ∙ ap (λ (u : Term). u.entry) (sym read)
-
 -- what it says of a place
-pub read_before : (place : Place) (e : Entry) (ts : List Term) (k : ℕ) (t : Term) → is_sorted (entries ts) ≡ true → k < length ts → t ≡ get_or ts k t →
-    stands_before place e t.entry ≡ true → k < count_before place e (entries ts)
-read_before place e ts k t sorted within read is =
-    rank_above place e (entries ts) k t.entry sorted (omega (arith, within, length-map ts (λ (u : Term). u.entry))) (ap (stands_before place e) (entry_read ts k t within read) ∙ is)
+read_before : (place : Place) (e : Entry) (es : List Entry) (k : ℕ) (f : Entry) → is_sorted es ≡ true → k < length es → f ≡ get_or es k f →
+    stands_before place e f ≡ true → k < count_before place e es
+read_before place e es k f sorted within read is = rank_above place e es k f sorted within (ap (stands_before place e) (sym read) ∙ is)
 
-pub read_behind : (place : Place) (e : Entry) (ts : List Term) (k : ℕ) (t : Term) → is_sorted (entries ts) ≡ true → k < length ts → t ≡ get_or ts k t →
-    stands_before place e t.entry ≡ false → count_before place e (entries ts) ≤ k
-read_behind place e ts k t sorted within read is =
-    rank_upto place e (entries ts) k t.entry sorted (omega (arith, within, length-map ts (λ (u : Term). u.entry))) (ap (stands_before place e) (entry_read ts k t within read) ∙ is)
+read_behind : (place : Place) (e : Entry) (es : List Entry) (k : ℕ) (f : Entry) → is_sorted es ≡ true → k < length es → f ≡ get_or es k f →
+    stands_before place e f ≡ false → count_before place e es ≤ k
+read_behind place e es k f sorted within read is = rank_upto place e es k f sorted within (ap (stands_before place e) (sym read) ∙ is)
 
-pub window_behind : (place : Place) (e : Entry) (ts : List Term) (k low high : ℕ) (t : Term) → is_sorted (entries ts) ≡ true → k < length ts → t ≡ get_or ts k t →
-    stands_before place e t.entry ≡ true → IsWindow place e (entries ts) low high → IsWindow place e (entries ts) (k + 1) high
-window_behind place e ts k low high t sorted within read is window =
+pub window_behind : (place : Place) (e : Entry) (es : List Entry) (k low high : ℕ) (f : Entry) → is_sorted es ≡ true → k < length es → f ≡ get_or es k f →
+    stands_before place e f ≡ true → IsWindow place e es low high → IsWindow place e es (k + 1) high
+window_behind place e es k low high f sorted within read is window =
     record {
       within = window.within;
-      from = omega (arith, read_before place e ts k t sorted within read is);
+      from = omega (arith, read_before place e es k f sorted within read is);
       to = window.to;
     }
 
-pub window_front : (place : Place) (e : Entry) (ts : List Term) (k low high : ℕ) (t : Term) → is_sorted (entries ts) ≡ true → k < length ts → t ≡ get_or ts k t →
-    stands_before place e t.entry ≡ false → IsWindow place e (entries ts) low high → IsWindow place e (entries ts) low k
-window_front place e ts k low high t sorted within read is window =
+pub window_front : (place : Place) (e : Entry) (es : List Entry) (k low high : ℕ) (f : Entry) → is_sorted es ≡ true → k < length es → f ≡ get_or es k f →
+    stands_before place e f ≡ false → IsWindow place e es low high → IsWindow place e es low k
+window_front place e es k low high f sorted within read is window =
     record {
-      within = omega (arith, within, length-map ts (λ (u : Term). u.entry));
+      within = omega (arith, within);
       from = window.from;
-      to = read_behind place e ts k t sorted within read is;
+      to = read_behind place e es k f sorted within read is;
     }
 
--- a term that was read in a block
-pub run_read : (ts items : List Term) (start k : ℕ) (t : Term) → IsRun ts start items → k < length items → t ≡ get_or items k t → t ≡ get_or ts (start + k) t
-run_read ts items start k t run within read = read ∙ run.same k t within
-
--- the first term of a block
-pub first_read : (ts items : List Term) (start : ℕ) (t : Term) → IsRun ts start items → 0 < length items → t ≡ get_or items 0 t → (start < length ts) × (t ≡ get_or ts start t)
-first_read ts items start t run some read =
-    let place : start + 0 ≡ start = omega arith in
-    (omega (arith, run.within), run_read ts items start 0 t run some read ∙ ap (λ k. get_or ts k t) place)
+-- the first term of a block is one of the terms
+pub first_there : (ts : List Term) (items : List ℕ) (start : ℕ) → IsRun (ids ts) start items → 0 < length items → start < length ts
+first_there ts items start run some = omega (arith, run.within, some, length-map ts (λ (t : Term). t.id))
 
 -- ---- the numbers of a key
 

@@ -1,49 +1,35 @@
-ghost use Rattle.std.specs.Prelude.{◌≡◌, ◌≤◌, ◌<◌, ◌+◌, ◌^◌, ◌++◌, ◌∷◌, [], ℕ, insert, length, slice_get, slice_index_or, true, false, Some, IfOk, OnErr, OnOk};
+ghost use Rattle.std.specs.Prelude.{◌≡◌, ◌<◌, [], ℕ, length, slice_get, true, false, Some, IfOk, OnErr, OnOk};
 ghost use Rattle.std.specs.Ordering.{is_eq};
 ghost use Rattle.index_meaning.specs.Entries.{Entry, entry, entry_cmp, has_entry, found, number_of, is_sorted};
 ghost use Rattle.index_meaning.specs.Entries.{key_count, with_entry, without_entry};
-ghost use Rattle.index_meaning.specs.Dictionaries.{term, entries, ids, id_of, are_apart, are_given, ids_below};
+ghost use Rattle.index_meaning.specs.Dictionaries.{entries, ids, id_of, are_apart, are_given, ids_below};
 ghost use Rattle.index_meaning.specs.Dictionaries.{dictionary, with_new, without_term};
 
 use crate::Term;
-use crate::kept::Kept;
-use crate::places::{Place, Terms, brought_keys, count_before, stands_at};
-use crate::texts::Texts;
+use crate::places::{Place, brought_keys, count_before, stands_at};
+use crate::terms::Terms;
 use ft_base::{Memory, Span};
-use shared_list::SharedList;
 use std::alloc::Global;
 use std::marker::Model;
-
-/// How many entries a block by id holds at most.
-const BLOCK_GIVEN: usize = 256;
-
-/// How many ids there are at most.
-const MAX_IDS: usize = 4294967295;
-
-/// Entries by id.
-type Given = SharedList<Texts, BLOCK_GIVEN>;
 
 /// The terms of an index, in the order of their keys and with one key in that of their words, each with an id, which
 /// names its entry for ever. A copy shares the blocks of the dictionary that it was made of; neither sees a change to
 /// the other.
 #[derive(Drop)]
 pub struct TermDict {
-    alloc: Global,
     terms: Terms,
-    // The entries that ever came in, each at its id.
-    given: Given,
     keys: usize,
 }
 
 impl Model for TermDict {
-    ghost use Rattle.index_meaning.specs.Dictionaries.{Dictionary, dictionary};
+    ghost use Rattle.index_meaning.specs.Dictionaries.{Dictionary};
     ghost use Rattle.term_dict.specs.Sound.{IsSound};
 
     ghost Value = { Dictionary };
 
-    ghost view = { λ inside. dictionary inside.terms inside.given };
+    ghost view = { λ inside. inside.terms };
 
-    ghost invariant = { λ inside. IsSound inside.terms inside.keys inside.given };
+    ghost invariant = { λ inside. IsSound inside.terms.terms inside.keys inside.terms.given };
 }
 
 impl TermDict {
@@ -52,9 +38,7 @@ impl TermDict {
         ensures { result ≡ dictionary [] [] }
     {
         TermDict {
-            alloc,
             terms: Terms::new(alloc),
-            given: Given::new(alloc),
             keys: 0,
         }
     }
@@ -64,11 +48,8 @@ impl TermDict {
         ensures { IfOk result (λ copy. copy ≡ self.now) }
     {
         let terms = self.terms.copy()?;
-        let given = self.given.copy()?;
         Ok(TermDict {
-            alloc: self.alloc,
             terms,
-            given,
             keys: self.keys,
         })
     }
@@ -96,10 +77,10 @@ impl TermDict {
         requires { number < length self.now.terms }
         ensures { slice_get (entries self.now.terms) number ≡ Some (entry result.key.now result.word.now) }
     {
-        let kept = self.terms.get(number);
+        let read = self.terms.entry(number);
         Term {
-            key: kept.key(),
-            word: kept.word(),
+            key: read.key(),
+            word: read.word(),
         }
     }
 
@@ -108,14 +89,14 @@ impl TermDict {
         requires { number < length self.now.terms }
         ensures { slice_get (ids self.now.terms) number ≡ Some result }
     {
-        self.terms.get(number).id()
+        self.terms.id(number)
     }
 
     /// How many ids were given: each number below is one.
     pub fn given_count(&self) -> usize
         ensures { result ≡ length self.now.given }
     {
-        self.given.len()
+        self.terms.given_count()
     }
 
     /// The term that got that id, also where it isn't there any more.
@@ -123,10 +104,10 @@ impl TermDict {
         requires { id < length self.now.given }
         ensures { slice_get self.now.given id ≡ Some (entry result.key.now result.word.now) }
     {
-        let texts = texts_of(&self.given, id as usize);
+        let read = self.terms.given_entry(id);
         Term {
-            key: texts.key(),
-            word: texts.word(),
+            key: read.key(),
+            word: read.word(),
         }
     }
 
@@ -184,23 +165,9 @@ impl TermDict {
             return Ok((self, id));
         }
         let keys = self.keys + brought_keys(&self.terms, number, key);
-        let alloc = self.alloc;
-        let mut terms = self.terms;
-        let mut given = self.given;
-        match put_new(alloc, &mut terms, &mut given, number, key, word) {
-            Ok(id) => {
-                let new = TermDict {
-                    alloc,
-                    terms,
-                    given,
-                    keys,
-                };
-                Ok((new, id))
-            }
-            Err(_) => {
-                drop((terms, given));
-                Err(Memory)
-            }
+        match self.terms.put(number, key, word) {
+            Ok((terms, id)) => Ok((TermDict { terms, keys }, id)),
+            Err(_) => Err(Memory),
         }
     }
 
@@ -225,57 +192,38 @@ impl TermDict {
         if !stands_at(&self.terms, number, key, word) {
             return Ok(());
         }
-        drop(self.terms.remove(number)?);
+        self.terms.take(number)?;
         self.keys -= brought_keys(&self.terms, number, key);
         Ok(())
     }
-}
 
-/// Puts a term that isn't there among the others at that number, under the next id, which it hands out.
-fn put_new(
-    alloc: Global,
-    terms: &mut Terms,
-    given: &mut Given,
-    number: usize,
-    key: &str,
-    word: &str,
-) -> Result<u32, Memory>
-    requires { number ≤ length terms.old }
-    ensures id { IfOk result (λ id. id ≡ length given.old) }
-    ensures terms { OnOk result (terms.new ≡ insert terms.old number (term (entry key.now word.now) (length given.old))) }
-    ensures given { OnOk result (given.new ≡ given.old ++ entry key.now word.now ∷ []) }
-    ensures fits { OnOk result (length given.new < 2 ^ 32) }
-{
-    let id = next_id(given)?;
-    let texts = Texts::new(alloc, key, word)?;
-    let named = texts.share()?;
-    terms.insert(number, Kept::new(texts, id))?;
-    given.push(named)?;
-    Ok(id)
-}
+    /// The dictionary with that term, where this one stays as it is. Nothing changes where the term is there; a new one
+    /// gets an id that none had before, and `Memory` is answered where there is none left. An id that was given names
+    /// what it named.
+    pub fn with(&self, key: &str, word: &str) -> Result<TermDict, Memory>
+        ensures becomes { IfOk result (λ new. new ≡ with_new (entry key.now word.now) self.now) }
+        ensures listed { IfOk result (λ new. entries new.terms ≡ with_entry (entry key.now word.now) (entries self.now.terms)) }
+        ensures kept { IfOk result (λ new. (e : Entry) → has_entry e (entries self.now.terms) ≡ true → id_of e new.terms ≡ id_of e self.now.terms) }
+        ensures named { IfOk result (λ new. (id : ℕ) → id < length self.now.given → slice_get new.given id ≡ slice_get self.now.given id) }
+    {
+        let copy = self.copy()?;
+        let (new, _id) = copy.put(key, word)?;
+        Ok(new)
+    }
 
-/// The texts of that id. Ids are given one after the other, so that the blocks in front of it are full.
-fn texts_of(given: &Given, id: usize) -> &Texts
-    requires { id < length given.now }
-    ensures { result.now ≡ slice_index_or given.now id result.now }
-{
-    if let Some((start, items)) = given.block(id / BLOCK_GIVEN) {
-        if let Some(offset) = id.checked_sub(start) {
-            if offset < items.len() {
-                return &items[offset];
+    /// The dictionary without that term, where this one stays as it is. The term's id still names it.
+    pub fn without(&self, key: &str, word: &str) -> Result<TermDict, Memory>
+        ensures becomes { IfOk result (λ new. new ≡ without_term (entry key.now word.now) self.now) }
+        ensures listed { IfOk result (λ new. entries new.terms ≡ without_entry (entry key.now word.now) (entries self.now.terms)) }
+        ensures kept { IfOk result (λ new. (e : Entry) → is_eq (entry_cmp (entry key.now word.now) e) ≡ false → id_of e new.terms ≡ id_of e self.now.terms) }
+    {
+        let mut new = self.copy()?;
+        match new.take(key, word) {
+            Ok(()) => Ok(new),
+            Err(memory) => {
+                drop(new);
+                Err(memory)
             }
         }
     }
-    given.get(id)
-}
-
-/// The id that the next new term gets, where there is one left.
-fn next_id(given: &Given) -> Result<u32, Memory>
-    ensures { IfOk result (λ id. (id ≡ length given.now) × (id + 1 < 2 ^ 32)) }
-{
-    let count = given.len();
-    if count >= MAX_IDS {
-        return Err(Memory);
-    }
-    Ok(count as u32)
 }

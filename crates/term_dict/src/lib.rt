@@ -1,20 +1,22 @@
 //! The dictionary of an index: its terms in order, in blocks that the dictionary's copies share, each with an id, which
 //! names it for ever.
 //!
-//! `term` is a term as it is read, `owned` one in memory of its own, `texts` one whose copies share that memory, `kept`
-//! one with its id, `sought` one that is looked for; `places` finds where an entry stands, and `dictionary` is the
+//! `entry_ref` is an entry that is read or looked for, `entry_list` entries whose texts stand one behind the other,
+//! `entry_block` such a list that several dictionaries hold, `given` the blocks of the entries that ever came in, `terms`
+//! the terms in order as the ids of their entries; `places` finds where an entry stands, and `dictionary` is the
 //! dictionary itself.
 #![tactic(auto)]
 
 mod dictionary;
-mod kept;
-mod owned;
+mod entry_block;
+mod entry_list;
+mod entry_ref;
+mod given;
 mod places;
-mod sought;
 mod term;
+mod terms;
 #[cfg(test)]
 mod tests;
-mod texts;
 
 pub use dictionary::TermDict;
 pub use term::Term;

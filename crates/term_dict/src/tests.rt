@@ -1,7 +1,6 @@
 // What no contract says: that memory suffices. The calls run on terms that fill several blocks, and their answers are
 // those that follow from the order in which the terms were made.
 use crate::TermDict;
-use crate::owned::OwnedTerm;
 use ft_base::{Memory, Span};
 use std::alloc::Global;
 use std::process::Abort;
@@ -10,14 +9,26 @@ use std::test::Fail;
 /// How many terms there are: each key has three of them.
 const COUNT: usize = 600;
 
+// A term in memory of its own.
+#[derive(Drop)]
+struct OwnedTerm {
+    key: String,
+    word: String,
+}
+
 // The term of that number in the order of terms.
 fn term_of(alloc: Global, number: usize) -> Result<OwnedTerm, Memory> {
     let key = format!(in alloc; "key {:03}", number / 3)?;
+    let word = word_of(alloc, number, &key)?;
+    Ok(OwnedTerm { key, word })
+}
+
+// Its word: every third one is the key.
+fn word_of(alloc: Global, number: usize, key: &str) -> Result<String, Memory> {
     if number % 3 == 2 {
-        return OwnedTerm::new(alloc, &key, &key);
+        return Ok(String::from_str(alloc, key)?);
     }
-    let word = format!(in alloc; "a word {number:03}")?;
-    OwnedTerm::new(alloc, &key, &word)
+    Ok(format!(in alloc; "a word {number:03}")?)
 }
 
 // The number of the term that comes so many terms after the first: each number below the count once.
@@ -30,7 +41,7 @@ fn filled(alloc: Global, turns: usize) -> Result<TermDict, Memory> {
     let mut dict = TermDict::empty(alloc);
     for turn in 0..turns {
         let term = term_of(alloc, shuffled(turn))?;
-        let (new, _) = dict.put(term.key(), term.word())?;
+        let (new, _) = dict.put(&term.key, &term.word)?;
         dict = new;
     }
     Ok(dict)
@@ -48,7 +59,7 @@ fn put_all(
     for turn in from..to {
         assert!(rt; turn < COUNT);
         let term = term_of(alloc, shuffled(turn))?;
-        let (new, id) = all.put(term.key(), term.word())?;
+        let (new, id) = all.put(&term.key, &term.word)?;
         assert!(rt; id == turn as u32, "{turn}");
         all = new;
     }
@@ -60,17 +71,17 @@ fn expect_one(rt: &impl Abort, dict: &TermDict, term: &OwnedTerm, number: usize,
     assert!(rt; number < dict.len() && number < COUNT && turn < COUNT);
     let read = dict.term(number);
     assert!(rt;
-        read.key == term.key() && read.word == term.word(),
+        read.key == term.key.as_str() && read.word == term.word.as_str(),
         "{number}"
     );
     assert!(rt; dict.id(number) == turn as u32, "{number}");
     assert!(rt;
-        dict.find_word(term.key(), term.word()) == Some(number),
+        dict.find_word(&term.key, &term.word) == Some(number),
         "{number}"
     );
     let from = (number / 3 * 3) as u32;
     assert!(rt;
-        dict.find(term.key()) == Some(Span { from, to: from + 3 }),
+        dict.find(&term.key) == Some(Span { from, to: from + 3 }),
         "{number}"
     );
 }
@@ -93,7 +104,7 @@ fn expect_named(rt: &impl Abort, alloc: Global, dict: &TermDict) -> Result<(), M
         let term = term_of(alloc, shuffled(turn))?;
         let read = dict.entry(turn as u32);
         assert!(rt;
-            read.key == term.key() && read.word == term.word(),
+            read.key == term.key.as_str() && read.word == term.word.as_str(),
             "{turn}"
         );
     }
@@ -105,10 +116,10 @@ fn emptied(rt: &impl Abort, alloc: Global, all: &TermDict) -> Result<TermDict, M
     let mut dict = all.copy()?;
     for turn in 0..COUNT {
         let term = term_of(alloc, shuffled(COUNT - 1 - turn))?;
-        dict.take(term.key(), term.word())?;
-        dict.take(term.key(), term.word())?;
+        dict.take(&term.key, &term.word)?;
+        dict.take(&term.key, &term.word)?;
         assert!(rt; dict.len() == COUNT - 1 - turn);
-        assert!(rt; dict.find_word(term.key(), term.word()).is_none(), "{turn}");
+        assert!(rt; dict.find_word(&term.key, &term.word).is_none(), "{turn}");
     }
     Ok(dict)
 }
@@ -140,5 +151,17 @@ fn terms_go_out_and_copies_keep_theirs(rt: HostRuntime) -> Result<(), Fail> {
     assert!(rt; one.len() > 0 && one.id(0) == COUNT as u32);
     expect_named(&rt, rt.alloc(), &one)?;
     expect_all(&rt, rt.alloc(), &all)?;
+    Ok(())
+}
+
+#[test]
+fn a_term_comes_and_goes_beside_a_dictionary(rt: HostRuntime) -> Result<(), Fail> {
+    let dict = filled(rt.alloc(), COUNT)?;
+    let more = dict.with("key 001", "word")?;
+    let less = more.without("key 001", "word")?;
+    assert!(rt; dict.len() == COUNT && more.len() == COUNT + 1 && less.len() == COUNT);
+    assert!(rt; dict.find_word("key 001", "word").is_none());
+    assert!(rt; more.find_word("key 001", "word") == Some(6));
+    assert!(rt; less.find_word("key 001", "word").is_none());
     Ok(())
 }

@@ -9,8 +9,9 @@ ghost use Rattle.tokenizer.specs.Words.{words};
 use crate::numbering::Numbering;
 use crate::tokens::TokenFault;
 use crate::words::is_word;
-use ft_base::{Breaks, Line, Lines, Memory, Places};
+use ft_base::{Breaks, Memory, Places};
 use std::alloc::Global;
+use text_list::TextList;
 use unicode::segmentation::UnicodeSegmentation;
 
 /// The places at which sentences and paragraphs start, as far as a document was seen, and how many words were. Whoever walks
@@ -71,10 +72,15 @@ impl Starts {
 
     /// Goes past a text, and gives its words in order. `Tokens` comes where more than `most` words stand in what was seen
     /// with this text; no more than that many are made.
-    pub fn pass_text(&mut self, alloc: Global, text: &str, most: u32) -> Result<Lines, TokenFault>
+    pub fn pass_text(
+        &mut self,
+        alloc: Global,
+        text: &str,
+        most: u32,
+    ) -> Result<TextList, TokenFault>
         requires few { words_seen self.old ≤ most }
         requires countable { most < 2 ^ 31 }
-        ensures words { IfOk result (λ lines. lines ≡ words text.now) }
+        ensures words { IfOk result (λ list. list ≡ words text.now) }
         ensures counted { OnOk result (words_seen self.new ≡ words_seen self.old + length (words text.now)) }
         ensures few { words_seen self.new ≤ most }
         ensures full { result ≡ Err TokenFault.Tokens → most < words_seen self.old + length (words text.now) }
@@ -83,25 +89,19 @@ impl Starts {
         ensures paragraphs { OnOk result ((rest : List Part) →
             paragraphs_in self.old (map part_of_segment (word_bounds text.now) ++ rest) ≡ paragraphs_in self.new rest) }
     {
-        let mut lines = Lines::new(alloc);
+        let mut list = TextList::with_capacity(alloc, text.len())?;
         for segment in text.split_word_bounds() {
             if is_word(segment) {
-                self.take_word(alloc, segment, most, &mut lines)?;
+                self.take_word(segment, most, &mut list)?;
             } else {
                 self.pass_characters(segment);
             }
         }
-        Ok(lines)
+        Ok(list)
     }
 
     /// Goes past a word, and puts it to the end.
-    fn take_word(
-        &mut self,
-        alloc: Global,
-        segment: &str,
-        most: u32,
-        lines: &mut Lines,
-    ) -> Result<(), TokenFault>
+    fn take_word(&mut self, segment: &str, most: u32, list: &mut TextList) -> Result<(), TokenFault>
         requires few { self.old.words ≤ most }
         requires countable { most < 2 ^ 31 }
         ensures sentences { OnOk result ((rest : List Part) →
@@ -111,13 +111,12 @@ impl Starts {
         ensures counted { OnOk result (self.new.words ≡ self.old.words + 1) }
         ensures few { self.new.words ≤ most }
         ensures full { result ≡ Err TokenFault.Tokens → most ≤ self.old.words }
-        ensures lines { OnOk result (lines.new ≡ lines.old ++ segment.now ∷ []) }
+        ensures list { OnOk result (list.new ≡ list.old ++ segment.now ∷ []) }
     {
         if self.words >= most {
             return Err(TokenFault::Tokens);
         }
-        let line = Line::read(alloc, segment)?;
-        lines.push(line)?;
+        list.push(segment)?;
         self.pass_word()?;
         Ok(())
     }

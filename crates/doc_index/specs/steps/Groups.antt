@@ -37,18 +37,18 @@ without_rows rows at (suc count) = without_rows (remove rows at) at count
 
 -- the entries of the leaves in front of the place, of those behind it, and of all with these between them
 abbrev pub front_entries : TermDocument → ℕ → List Entry
-front_entries document at = entries document.doc (take at document.leaves)
+front_entries document at = entries (take at document.leaves)
 
 abbrev pub back_entries : TermDocument → ℕ → List Entry
-back_entries document at = entries document.doc (drop at document.leaves)
+back_entries document at = entries (drop at document.leaves)
 
 abbrev pub entries_with : TermDocument → ℕ → List Entry → List Entry
 entries_with document at new = front_entries document at ++ (new ++ back_entries document at)
 
 -- the entries without those of the leaf at the place
 abbrev pub entries_without : TermDocument → ℕ → List Entry
-entries_without document at = front_entries document at ++ entries document.doc (drop (suc at) document.leaves)
+entries_without document at = front_entries document at ++ entries (drop (suc at) document.leaves)
 
 -- the entries of the leaf at the place, if there is one
 abbrev pub entries_at : TermDocument → ℕ → List Entry
-entries_at document at = entries document.doc (take 1 (drop at document.leaves))
+entries_at document at = entries (take 1 (drop at document.leaves))

@@ -5,4 +5,4 @@ use Rattle.doc_index.proofs.entry.add_entries.Given as goal
 
 abbrev pub invariant-loop-term : goal.invariant-loop-term
 invariant-loop-term l =
-    l.made.items ++ entries_from l.doc.0 l.number.0 l.offset (drop l.term-index l.leaf.words) ≡ l.fn.made.items ++ entries_from l.doc.0 l.number.0 0 l.leaf.words
+    l.made.items ++ entries_from l.number.0 l.offset (drop l.term-index l.leaf.words) ≡ l.fn.made.items ++ entries_from l.number.0 0 l.leaf.words

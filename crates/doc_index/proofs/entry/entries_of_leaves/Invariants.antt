@@ -4,4 +4,4 @@ use Rattle.doc_index.specs.Rows.{entries}
 use Rattle.doc_index.proofs.entry.entries_of_leaves.Given as goal
 
 abbrev pub invariant-loop-leaf : goal.invariant-loop-leaf
-invariant-loop-leaf l = l.made.items ≡ entries l.doc.0 (take l.leaf-index l.leaves.items)
+invariant-loop-leaf l = l.made.items ≡ entries (take l.leaf-index l.leaves.items)

@@ -13,7 +13,7 @@ use Rattle.doc_index.proofs.entry.sorted.Goals as goal
 same-key : (t n : ℕ) → (not (is_lt (nat_cmp t n)) && not (is_lt (nat_cmp n t))) ≡ (n == t)
 same-key t n = grind (arith, nat_tests)
 
-tied : (t : ℕ) (e : Entry) → ties (λ (x y : Entry). is_lt (nat_cmp (term_of x) (term_of y))) (entry_at 0 0 0 t) e ≡ (e.term == t)
+tied : (t : ℕ) (e : Entry) → ties (λ (x y : Entry). is_lt (nat_cmp (term_of x) (term_of y))) (entry_at 0 0 t) e ≡ (e.term == t)
 tied t e = same-key t e.term
 
 pub returns : goal.returns
@@ -23,6 +23,6 @@ returns c =
     let done = c.in_ok-sort_by_key.ensures in
     record {
       same_length = length_permutation old new done.permutation;
-      same = λ t. sym (filter_agree _ _ (tied t) new) ∙ done.stable term_of (answers_always _ _ _ (λ f a r g h. search rules)) (entry_at 0 0 0 t) ∙ filter_agree _ _ (tied t) old;
+      same = λ t. sym (filter_agree _ _ (tied t) new) ∙ done.stable term_of (answers_always _ _ _ (λ f a r g h. search rules)) (entry_at 0 0 t) ∙ filter_agree _ _ (tied t) old;
       in_order = IsNonDecreasingBy-from_sort_by_key term_of _ done.sorted (λ a r q k. search rules);
     }

@@ -6,17 +6,17 @@ use Rattle.doc_index.proofs.groups.take_group.Goals as goal
 
 pub returns-in_err-take_row-clause-at_most : goal.returns-in_err-take_row-clause-at_most
 returns-in_err-take_row-clause-at_most g c =
-    let step = ap length (c.is_next.ensures.yes c.loop-rows-test.true (entry_at 0 0 0 0)) in
+    let step = ap length (c.is_next.ensures.yes c.loop-rows-test.true (entry_at 0 0 0)) in
     omega (arith, c.take_row.ensures.counted, c.loop-rows.invariant.counted, step)
 
 pub loop-rows-smaller : goal.loop-rows-smaller
 loop-rows-smaller g c =
-    let step = ap length (c.is_next.ensures.yes c.loop-rows-test.true (entry_at 0 0 0 0)) in
+    let step = ap length (c.is_next.ensures.yes c.loop-rows-test.true (entry_at 0 0 0)) in
     omega (arith, step)
 
 pub loop-rows-preserved : goal.loop-rows-preserved
 loop-rows-preserved g c =
-    let step = ap length (c.is_next.ensures.yes c.loop-rows-test.true (entry_at 0 0 0 0)) in
+    let step = ap length (c.is_next.ensures.yes c.loop-rows-test.true (entry_at 0 0 0)) in
     let inv = c.loop-rows.invariant in
     let left = length (group c.args.term (drop (c.loop-rows.end + 1) c.args.entries.now.items)) in
     record {

@@ -54,7 +54,7 @@ loop-number-preserved g c =
       leaves = old.leaves;
       ids = old.ids;
       old_starts = old.old_starts;
-      state = subst (λ starts. IsPutting parts.leaves c.args.at new ids (k + 1) c.in_ok-next.next c.put_term.new.rows starts) (sym c.in_ok-push.ensures.items)
+      state = subst (λ starts. IsPutting parts.leaves c.args.at new ids (k + 1) c.in_ok-next.next c.put_term.new.rows starts) (sym c.in_ok-push_number.ensures)
           (putting-more parts.leaves c.args.at new ids k c.loop-number.next c.loop-number.parts.rows c.loop-number.starts.items old.state there run.first run.end
           (c.in_ok-run.ensures.first ∙ ap (λ n. n + c.loop-number.next) first_is) (c.in_ok-run.ensures.end ∙ ap (λ n. n + c.loop-number.next) end_is)
           c.requires.rising c.requires.place c.requires.distinct c.loop-number.parts.leaves old.leaves run.term term c.put_term.new.rows c.in_ok-next.next

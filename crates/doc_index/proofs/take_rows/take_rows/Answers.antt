@@ -54,7 +54,7 @@ loop-number-preserved g c =
       leaves = old.leaves;
       ids = old.ids;
       old_starts = old.old_starts;
-      state = subst (λ starts. IsTaking parts.leaves c.args.at new ids (k + 1) c.in_ok-next.next c.take_term.new.rows starts) (sym c.in_ok-push.ensures.items)
+      state = subst (λ starts. IsTaking parts.leaves c.args.at new ids (k + 1) c.in_ok-next.next c.take_term.new.rows starts) (sym c.in_ok-push_number.ensures)
           (taking-more parts.leaves c.args.at new ids k c.loop-number.next c.loop-number.parts.rows c.loop-number.starts.items old.state there run.first run.end
           (c.moved_front-run.ensures.first ∙ ap (λ n. n - c.loop-number.next) first_is) (c.moved_front-run.ensures.end ∙ ap (λ n. n - c.loop-number.next) end_is)
           c.requires.rising c.requires.place c.requires.distinct c.requires.same c.loop-number.parts.leaves old.leaves run.term term c.take_term.new.rows c.in_ok-next.next

@@ -25,7 +25,7 @@ loop-number-preserved c =
     let first = c.index-first.result.now in
     let end = c.start_at-end.result in
     let total = c.len-total.ensures ∙ ap length c.requires.indexed.rows_are in
-    rw (c.in_ok-push_if.ensures, c.in_ok-push_start_if.ensures)
+    rw (c.in_ok-push_if.ensures, c.in_ok-push_if-2.ensures)
     (narrowing-more all ids parts.starts.items k id first end (nat_lt first end) c.loop-number.ids.items c.loop-number.starts.items c.loop-number.invariant c.requires.indexed.starts_are there
     (get_or_read ids k id there c.index.ensures 0) c.index-first.ensures (c.start_at-end.ensures (runs_of all ids) c.requires.indexed.starts_are total) refl)
 

@@ -54,12 +54,12 @@ returns-clause-indexed c =
     let made = c.copy_up_to-2.new.made in
     let done = map term_of (take c.loop-next.next c.args.entries.now.items) in
     let last = c.in_ok-copy_up_to-2.ensures in
-    widening-indexed (entries_of parts.leaves) parts.ids.items made.number done made.ids.items made.starts.items parts.rows (last.widening done c.loop-next.invariant.widening)
-    c.requires.indexed.rows_are (all-done parts.ids.items made.number last.next last.fits)
+    rw c.shrink_to_fit.ensures.items (widening-indexed (entries_of parts.leaves) parts.ids.items made.number done made.ids.items made.starts.items parts.rows (last.widening done c.loop-next.invariant.widening)
+    c.requires.indexed.rows_are (all-done parts.ids.items made.number last.next last.fits))
 
 pub returns-clause-rising : goal.returns-clause-rising
 returns-clause-rising c =
-    (c.in_ok-copy_up_to-2.ensures.widening (map term_of (take c.loop-next.next c.args.entries.now.items)) c.loop-next.invariant.widening).rising
+    rw c.shrink_to_fit.ensures.items (c.in_ok-copy_up_to-2.ensures.widening (map term_of (take c.loop-next.next c.args.entries.now.items)) c.loop-next.invariant.widening).rising
 
 pub returns-clause-members : goal.returns-clause-members
 returns-clause-members c = λ t.
@@ -69,6 +69,7 @@ returns-clause-members c = λ t.
     let done = map term_of (take c.loop-next.next entries) in
     let last = c.in_ok-copy_up_to-2.ensures in
     let all : take c.loop-next.next entries ≡ entries = take_all c.loop-next.next entries (omega (arith, c.loop-next-test.false, c.len-next-end.ensures, c.args.entries.now.ok.0)) in
-    widening-members (entries_of parts.leaves) parts.ids.items made.number done made.ids.items made.starts.items (last.widening done c.loop-next.invariant.widening)
+    ap (has t) c.shrink_to_fit.ensures.items
+    ∙ widening-members (entries_of parts.leaves) parts.ids.items made.number done made.ids.items made.starts.items (last.widening done c.loop-next.invariant.widening)
     (all-done parts.ids.items made.number last.next last.fits) t
     ∙ ap (λ es. has t parts.ids.items || has t (map term_of es)) all

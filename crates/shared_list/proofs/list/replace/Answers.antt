@@ -7,7 +7,7 @@ use Rattle.shared_list.proofs.list.replace.Goals as goal
 pub returns-clause-ok : goal.returns-clause-ok
 returns-clause-ok g c =
     let blocks = c.args.blocks.now in
-    let number = c.block_of-number.result in
+    let number = c.block_near-number.result in
     ap (λ new. joined new) c.in_ok-replace.ensures.ok
     ∙ ap (λ start. joined (set blocks number (set (get_or blocks number []) (c.args.at - start) c.args.item))) c.start.ensures
-    ∙ replace-at blocks c.args.at number c.args.item c.block_of-number.ensures c.requires
+    ∙ replace-at blocks c.args.at number c.args.item c.block_near-number.ensures c.requires

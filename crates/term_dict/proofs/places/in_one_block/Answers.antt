@@ -7,7 +7,7 @@ use Rattle.term_dict.proofs.places.in_one_block.Goals as goal
 
 pub loop-place-init : goal.loop-place-init
 loop-place-init c =
-    let terms = c.args.terms.now in
+    let terms = c.args.terms.now.terms in
     let size = length-map terms (λ (t : Term). t.entry) in
     record {
       within = omega (arith, c.len.ensures);

@@ -30,22 +30,22 @@ invariant_of-result g c =
     let terms = subst (λ (d : TermDocument). HasTerms (entries_with d 0 new) parts.ids.items) c.empty-parts.ensures.leaves c.in_ok-put_entries.ensures.terms in
     record {
       indexed = subst (λ (d : TermDocument). IsIndexed (entries_of d) parts.ids.items parts.starts.items parts.rows) (sym c.in_ok-whole.ensures)
-          (indexed-same (entries_with empty 0 new) (entries doc leaves) parts.ids.items parts.starts.items parts.rows same indexed);
-      terms = subst (λ (d : TermDocument). HasTerms (entries_of d) parts.ids.items) (sym c.in_ok-whole.ensures) (terms-same (entries_with empty 0 new) (entries doc leaves) parts.ids.items same terms);
+          (indexed-same (entries_with empty 0 new) (entries leaves) parts.ids.items parts.starts.items parts.rows same indexed);
+      terms = subst (λ (d : TermDocument). HasTerms (entries_of d) parts.ids.items) (sym c.in_ok-whole.ensures) (terms-same (entries_with empty 0 new) (entries leaves) parts.ids.items same terms);
     }
 
 pub returns-in_err-put_entries-clause-at_most : goal.returns-in_err-put_entries-clause-at_most
 returns-in_err-put_entries-clause-at_most g c =
-    omega (arith, c.put_entries.ensures.at_most, c.in_ok-entries.ensures.same_length, ap length c.in_ok-entries_of_leaves.ensures, all-count c.args.doc.0 c.args.leaves.items)
+    omega (arith, c.put_entries.ensures.at_most, c.in_ok-entries.ensures.same_length, ap length c.in_ok-entries_of_leaves.ensures, all-count c.args.leaves.items)
 
 pub returns-in_err-whole-clause-at_most : goal.returns-in_err-whole-clause-at_most
 returns-in_err-whole-clause-at_most g c =
-    omega (arith, c.put_entries.ensures.at_most, c.in_ok-entries.ensures.same_length, ap length c.in_ok-entries_of_leaves.ensures, all-count c.args.doc.0 c.args.leaves.items)
+    omega (arith, c.put_entries.ensures.at_most, c.in_ok-entries.ensures.same_length, ap length c.in_ok-entries_of_leaves.ensures, all-count c.args.leaves.items)
 
 pub returns-clause-at_most : goal.returns-clause-at_most
 returns-clause-at_most g c =
-    omega (arith, c.put_entries.ensures.at_most, c.in_ok-entries.ensures.same_length, ap length c.in_ok-entries_of_leaves.ensures, all-count c.args.doc.0 c.args.leaves.items)
+    omega (arith, c.put_entries.ensures.at_most, c.in_ok-entries.ensures.same_length, ap length c.in_ok-entries_of_leaves.ensures, all-count c.args.leaves.items)
 
 pub returns-clause-counted : goal.returns-clause-counted
 returns-clause-counted g c =
-    omega (arith, c.in_ok-put_entries.ensures.counted, c.in_ok-entries.ensures.same_length, ap length c.in_ok-entries_of_leaves.ensures, all-count c.args.doc.0 c.args.leaves.items)
+    omega (arith, c.in_ok-put_entries.ensures.counted, c.in_ok-entries.ensures.same_length, ap length c.in_ok-entries_of_leaves.ensures, all-count c.args.leaves.items)

@@ -2,7 +2,7 @@
 use Rattle.std.proofs.Common.{◌≡◌, ℕ, List, length, ap, sym, subst, ◌∙◌, arith}
 use Rattle.doc_index.specs.declared.entry.Entry.{Entry}
 use Rattle.doc_index.specs.Terms.{TermDocument, has, leaf_ids, with_leaf}
-use Rattle.doc_index.specs.Rows.{HasTerms, IsIndexed, entries_of, leaf_entries}
+use Rattle.doc_index.specs.Rows.{HasTerms, IsIndexed, entries_of}
 use Rattle.doc_index.specs.steps.Groups.{IsSortedFrom, entries_with}
 use Rattle.doc_index.proofs.SoundLemmas.{indexed-same, leaf-length, terms-same, with-same}
 use Rattle.doc_index.proofs.doc_index.DocIndex.put_leaf.Goals as goal
@@ -11,7 +11,7 @@ pub put_entries-requires-clause-place : goal.put_entries-requires-clause-place
 put_entries-requires-clause-place g c = omega (arith, c.requires.place, ap (λ (d : TermDocument). length d.leaves) c.self.view_is)
 
 pub put_entries-requires-clause-distinct : goal.put_entries-requires-clause-distinct
-put_entries-requires-clause-distinct g c = c.doc.ensures.distinct
+put_entries-requires-clause-distinct g c = c.doc-doc.ensures.distinct
 
 pub put_entries-requires-clause-sound : goal.put_entries-requires-clause-sound
 put_entries-requires-clause-sound g c = c.self.invariant
@@ -33,7 +33,7 @@ returns-in_err-put_entries-clause-at_most g c =
     omega (
       arith,
       c.put_entries.ensures.at_most,
-      leaf-length c.doc.result.0 c.in_ok-made.made c.in_ok-entries_of_leaf.field-0.items c.in_ok-entries.entries.items c.in_ok-entries_of_leaf.ensures c.in_ok-entries.ensures,
+      leaf-length c.in_ok-made.made c.in_ok-entries_of_leaf.field-0.items c.in_ok-entries.entries.items c.in_ok-entries_of_leaf.ensures c.in_ok-entries.ensures,
       ap (λ l. length l.words) c.in_ok-made.ensures,
     )
 
@@ -42,7 +42,7 @@ returns-in_err-whole-clause-at_most g c =
     omega (
       arith,
       c.put_entries.ensures.at_most,
-      leaf-length c.doc.result.0 c.in_ok-made.made c.in_ok-entries_of_leaf.field-0.items c.in_ok-entries.entries.items c.in_ok-entries_of_leaf.ensures c.in_ok-entries.ensures,
+      leaf-length c.in_ok-made.made c.in_ok-entries_of_leaf.field-0.items c.in_ok-entries.entries.items c.in_ok-entries_of_leaf.ensures c.in_ok-entries.ensures,
       ap (λ l. length l.words) c.in_ok-made.ensures,
     )
 
@@ -51,7 +51,7 @@ returns-clause-at_most g c =
     omega (
       arith,
       c.put_entries.ensures.at_most,
-      leaf-length c.doc.result.0 c.in_ok-made.made c.in_ok-entries_of_leaf.field-0.items c.in_ok-entries.entries.items c.in_ok-entries_of_leaf.ensures c.in_ok-entries.ensures,
+      leaf-length c.in_ok-made.made c.in_ok-entries_of_leaf.field-0.items c.in_ok-entries.entries.items c.in_ok-entries_of_leaf.ensures c.in_ok-entries.ensures,
       ap (λ l. length l.words) c.in_ok-made.ensures,
     )
 
@@ -60,7 +60,7 @@ returns-clause-counted g c =
     omega (
       arith,
       c.in_ok-put_entries.ensures.counted,
-      leaf-length c.doc.result.0 c.in_ok-made.made c.in_ok-entries_of_leaf.field-0.items c.in_ok-entries.entries.items c.in_ok-entries_of_leaf.ensures c.in_ok-entries.ensures,
+      leaf-length c.in_ok-made.made c.in_ok-entries_of_leaf.field-0.items c.in_ok-entries.entries.items c.in_ok-entries_of_leaf.ensures c.in_ok-entries.ensures,
       ap (λ l. length l.words) c.in_ok-made.ensures,
     )
 
@@ -71,7 +71,7 @@ invariant_of-result g c =
     let leaf = c.in_ok-made.made in
     let new = c.in_ok-entries.entries.items in
     let parts = c.put_entries.new.parts in
-    let sorted = subst (λ (n : ℕ). IsSortedFrom (leaf_entries n leaf) new) c.doc.ensures.doc (subst (λ (es : List Entry). IsSortedFrom es new) c.in_ok-entries_of_leaf.ensures c.in_ok-entries.ensures) in
+    let sorted = subst (λ (es : List Entry). IsSortedFrom es new) c.in_ok-entries_of_leaf.ensures c.in_ok-entries.ensures in
     let same = with-same old at leaf new sorted in
     let is : c.in_ok-whole.whole ≡ with_leaf old at leaf = c.in_ok-whole.ensures ∙ ap (λ (d : TermDocument). with_leaf d at leaf) c.in_ok-put_entries.ensures.leaves in
     record {

@@ -2,7 +2,7 @@
 use Rattle.std.proofs.Common.{◌≡◌, ◌<◌, [], ℕ, List, length, get_or, filter, ap, sym, subst, ◌∙◌, arith}
 use Rattle.doc_index.specs.declared.entry.Entry.{Entry}
 use Rattle.doc_index.specs.Terms.{TermDocument, leaf_words, without_leaf}
-use Rattle.doc_index.specs.Rows.{HasTerms, IsIndexed, entries_of, has_rows, leaf_entries}
+use Rattle.doc_index.specs.Rows.{HasTerms, IsIndexed, entries_of, has_rows}
 use Rattle.doc_index.specs.steps.Groups.{IsSortedFrom}
 use Rattle.doc_index.proofs.LeafLemmas.{words-read}
 use Rattle.doc_index.proofs.SoundLemmas.{entries-at, leaf-length, without-is, without-terms}
@@ -15,7 +15,7 @@ pub take_entries-requires-clause-place : goal.take_entries-requires-clause-place
 take_entries-requires-clause-place g c = omega (arith, c.requires, ap (λ (d : TermDocument). length d.leaves) c.self.view_is)
 
 pub take_entries-requires-clause-distinct : goal.take_entries-requires-clause-distinct
-take_entries-requires-clause-distinct g c = c.doc.ensures.distinct
+take_entries-requires-clause-distinct g c = c.doc-doc.ensures.distinct
 
 pub take_entries-requires-clause-sound : goal.take_entries-requires-clause-sound
 take_entries-requires-clause-sound g c = c.self.invariant
@@ -27,7 +27,7 @@ take_entries-requires-clause-sorted g c =
     let leaf = c.get-leaf.result.now in
     let taken = c.in_ok-entries.entries.items in
     let there : at < length old.leaves = omega (arith, c.requires, ap (λ (d : TermDocument). length d.leaves) c.self.view_is) in
-    let is = c.in_ok-entries_of_leaf.ensures ∙ ap (λ n. leaf_entries n leaf) c.doc.ensures.doc ∙ entries-at old at leaf there c.get-leaf.ensures in
+    let is = c.in_ok-entries_of_leaf.ensures ∙ entries-at old at leaf there c.get-leaf.ensures in
     subst (λ (es : List Entry). IsSortedFrom es taken) is c.in_ok-entries.ensures
 
 pub without_leaf-requires : goal.without_leaf-requires
@@ -52,7 +52,7 @@ returns-in_err-take_entries-clause-at_most g c =
     omega (
       arith,
       c.take_entries.ensures.at_most,
-      leaf-length c.doc.result.0 leaf c.in_ok-entries_of_leaf.field-0.items c.in_ok-entries.entries.items c.in_ok-entries_of_leaf.ensures c.in_ok-entries.ensures,
+      leaf-length leaf c.in_ok-entries_of_leaf.field-0.items c.in_ok-entries.entries.items c.in_ok-entries_of_leaf.ensures c.in_ok-entries.ensures,
       ap length (words-read c.self.inside.parts.leaves.leaves c.args.at leaf there c.get-leaf.ensures),
       ap (λ (d : TermDocument). length (get_or (leaf_words d.leaves) c.args.at [])) c.self.view_is,
     )
@@ -64,7 +64,7 @@ returns-in_err-rest-clause-at_most g c =
     omega (
       arith,
       c.take_entries.ensures.at_most,
-      leaf-length c.doc.result.0 leaf c.in_ok-entries_of_leaf.field-0.items c.in_ok-entries.entries.items c.in_ok-entries_of_leaf.ensures c.in_ok-entries.ensures,
+      leaf-length leaf c.in_ok-entries_of_leaf.field-0.items c.in_ok-entries.entries.items c.in_ok-entries_of_leaf.ensures c.in_ok-entries.ensures,
       ap length (words-read c.self.inside.parts.leaves.leaves c.args.at leaf there c.get-leaf.ensures),
       ap (λ (d : TermDocument). length (get_or (leaf_words d.leaves) c.args.at [])) c.self.view_is,
     )
@@ -76,7 +76,7 @@ returns-in_err-narrow-clause-at_most g c =
     omega (
       arith,
       c.take_entries.ensures.at_most,
-      leaf-length c.doc.result.0 leaf c.in_ok-entries_of_leaf.field-0.items c.in_ok-entries.entries.items c.in_ok-entries_of_leaf.ensures c.in_ok-entries.ensures,
+      leaf-length leaf c.in_ok-entries_of_leaf.field-0.items c.in_ok-entries.entries.items c.in_ok-entries_of_leaf.ensures c.in_ok-entries.ensures,
       ap length (words-read c.self.inside.parts.leaves.leaves c.args.at leaf there c.get-leaf.ensures),
       ap (λ (d : TermDocument). length (get_or (leaf_words d.leaves) c.args.at [])) c.self.view_is,
     )
@@ -88,7 +88,7 @@ returns-clause-at_most g c =
     omega (
       arith,
       c.take_entries.ensures.at_most,
-      leaf-length c.doc.result.0 leaf c.in_ok-entries_of_leaf.field-0.items c.in_ok-entries.entries.items c.in_ok-entries_of_leaf.ensures c.in_ok-entries.ensures,
+      leaf-length leaf c.in_ok-entries_of_leaf.field-0.items c.in_ok-entries.entries.items c.in_ok-entries_of_leaf.ensures c.in_ok-entries.ensures,
       ap length (words-read c.self.inside.parts.leaves.leaves c.args.at leaf there c.get-leaf.ensures),
       ap (λ (d : TermDocument). length (get_or (leaf_words d.leaves) c.args.at [])) c.self.view_is,
     )
@@ -100,7 +100,7 @@ returns-clause-counted g c =
     omega (
       arith,
       c.in_ok-take_entries.ensures.counted,
-      leaf-length c.doc.result.0 leaf c.in_ok-entries_of_leaf.field-0.items c.in_ok-entries.entries.items c.in_ok-entries_of_leaf.ensures c.in_ok-entries.ensures,
+      leaf-length leaf c.in_ok-entries_of_leaf.field-0.items c.in_ok-entries.entries.items c.in_ok-entries_of_leaf.ensures c.in_ok-entries.ensures,
       ap length (words-read c.self.inside.parts.leaves.leaves c.args.at leaf there c.get-leaf.ensures),
       ap (λ (d : TermDocument). length (get_or (leaf_words d.leaves) c.args.at [])) c.self.view_is,
     )

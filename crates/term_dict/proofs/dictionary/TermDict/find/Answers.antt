@@ -7,7 +7,7 @@ use Rattle.term_dict.proofs.dictionary.TermDict.find.Goals as goal
 
 pub returns-then-from-to : goal.returns-then-from-to
 returns-then-from-to c =
-    found_nothing c.args.key.now [] (entries c.self.inside.terms) c.count_before-from.result c.count_before-to.result c.count_before-from.ensures.count c.count_before-to.ensures.count c.if-from-to.true
+    found_nothing c.args.key.now [] (entries c.self.inside.terms.terms) c.count_before-from.result c.count_before-to.result c.count_before-from.ensures.count c.count_before-to.ensures.count c.if-from-to.true
     ∙ ap (λ (d : Dictionary). found c.args.key.now (entries d.terms)) c.self.view_is
 
 pub overflow_cast-result : goal.overflow_cast-result
@@ -18,5 +18,5 @@ overflow_cast-result-2 c = omega (arith, c.count_before-to.ensures.within, c.sel
 
 pub returns : goal.returns
 returns c =
-    found_numbers c.args.key.now [] (entries c.self.inside.terms) c.count_before-from.result c.count_before-to.result c.count_before-from.ensures.count c.count_before-to.ensures.count c.if-from-to.false
+    found_numbers c.args.key.now [] (entries c.self.inside.terms.terms) c.count_before-from.result c.count_before-to.result c.count_before-from.ensures.count c.count_before-to.ensures.count c.if-from-to.false
     ∙ ap (λ (d : Dictionary). found c.args.key.now (entries d.terms)) c.self.view_is

@@ -10,7 +10,7 @@ returns-then-stands_at c =
     let e = entry c.args.key.now c.args.word.now in
     let number = c.count_before-number.result in
     ap (λ b. cond b (Some number) None) (sym c.if-stands_at.true)
-    ∙ told_number e (entries c.self.inside.terms) number c.stands_at.result c.self.invariant.sorted c.count_before-number.ensures.count c.stands_at.ensures
+    ∙ told_number e (entries c.self.inside.terms.terms) number c.stands_at.result c.self.invariant.sorted c.count_before-number.ensures.count c.stands_at.ensures
     ∙ ap (λ (d : Dictionary). number_of e (entries d.terms)) c.self.view_is
 
 pub returns : goal.returns
@@ -18,5 +18,5 @@ returns c =
     let e = entry c.args.key.now c.args.word.now in
     let number = c.count_before-number.result in
     ap (λ b. cond b (Some number) None) (sym c.if-stands_at.false)
-    ∙ told_number e (entries c.self.inside.terms) number c.stands_at.result c.self.invariant.sorted c.count_before-number.ensures.count c.stands_at.ensures
+    ∙ told_number e (entries c.self.inside.terms.terms) number c.stands_at.result c.self.invariant.sorted c.count_before-number.ensures.count c.stands_at.ensures
     ∙ ap (λ (d : Dictionary). number_of e (entries d.terms)) c.self.view_is

@@ -12,6 +12,6 @@ invariant-loop-segment l = record {
   sentences : (rest : List Part) → sentences_in l.fn.self (map part_of_segment (word_bounds l.text) ++ rest) ≡ sentences_in l.self (map part_of_segment (word_bounds_left l.segment-iterator) ++ rest);
   paragraphs : (rest : List Part) → paragraphs_in l.fn.self (map part_of_segment (word_bounds l.text) ++ rest) ≡ paragraphs_in l.self (map part_of_segment (word_bounds_left l.segment-iterator) ++ rest);
   counted : l.self.words + length (filter is_word (word_bounds_left l.segment-iterator)) ≡ l.fn.self.words + length (words l.text);
-  lines : l.lines ++ filter is_word (word_bounds_left l.segment-iterator) ≡ words l.text;
+  list : l.list ++ filter is_word (word_bounds_left l.segment-iterator) ≡ words l.text;
   few : l.self.words ≤ l.most;
 }

@@ -1,7 +1,0 @@
--- The lines so far are the bytes of the pieces up to the next one.
-use Rattle.std.proofs.Common.{◌≡◌, map, take}
-use Rattle.tokenizer.specs.Pieces.{bytes_at}
-use Rattle.ordered_tree.proofs.leaves.words_as_lines.Given as goal
-
-abbrev pub invariant-loop-piece : goal.invariant-loop-piece
-invariant-loop-piece l = l.lines ≡ map (bytes_at l.text) (take l.piece-index l.piece-items)

@@ -1,0 +1,7 @@
+//! A growing list of texts that take no memory of their own: their bytes stand one behind the other.
+#![tactic(auto)]
+
+pub mod examples;
+mod list;
+
+pub use list::TextList;
