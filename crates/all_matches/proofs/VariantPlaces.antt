@@ -258,3 +258,21 @@ module _ (lexicon : Lexicon) (options : Options) where
 
   pub hits_by_places : (phrase : List Item) (tokens : List Token) → hit_count lexicon options tokens phrase ≡ sum (map (λ group. places (passes_item lexicon options) group.1 tokens) (by_length (variants lexicon options phrase)))
   hits_by_places phrase tokens = hits_on_prefixes lexicon options phrase tokens ∙ prefixes_places (variants lexicon options phrase) tokens
+
+  -- lists of the same variants, whatever their order and however often one stands there
+  prefixes_alike : (stood other : List (List Item)) → ((test : List Item → Bool) → list_any test stood ≡ list_any test other)
+      → (tokens : List Token) → all_prefixes lexicon options stood tokens ≡ all_prefixes lexicon options other tokens
+  unfolding all_prefixes prefixes stands_here
+  prefixes_alike stood other same [] = refl
+  prefixes_alike stood other same (token ∷ tokens) =
+      λ i. count_by-alike
+      (λ j. list_any (λ items. stands_as lexicon options items (take (suc j) (token ∷ tokens))) stood)
+      (λ j. list_any (λ items. stands_as lexicon options items (take (suc j) (token ∷ tokens))) other)
+      (range_with_len 0 (length (token ∷ tokens))) (λ j. same (λ items. stands_as lexicon options items (take (suc j) (token ∷ tokens)))) i
+      + prefixes_alike stood other same tokens i
+
+  pub places_alike : (stood other : List (List Item)) → ((test : List Item → Bool) → list_any test stood ≡ list_any test other)
+      → (tokens : List Token)
+      → sum (map (λ group. places (passes_item lexicon options) group.1 tokens) (by_length stood))
+      ≡ sum (map (λ group. places (passes_item lexicon options) group.1 tokens) (by_length other))
+  places_alike stood other same tokens = sym (prefixes_places stood tokens) ∙ prefixes_alike stood other same tokens ∙ prefixes_places other tokens

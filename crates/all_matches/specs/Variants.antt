@@ -64,12 +64,16 @@ key_of lexicon any_word = []
 key_of lexicon (word w) = lexicon.key w
 key_of lexicon (pattern p) = []
 
--- the phrases that the choices of a thesaurus option reach from a phrase: none where it holds a pattern
+-- the phrases that the choices of a thesaurus option reach from a phrase, as keys: none where it holds a pattern
+abbrev pub reached_keys : Lexicon → Option ThesaurusChoice → List Item → List (List (List ℕ))
+reached_keys lexicon None phrase = []
+reached_keys lexicon (Some Thesaurus.No) phrase = []
+reached_keys lexicon (Some (Thesaurus.Uses uses)) phrase =
+    if list_any is_pattern phrase then [] else flat_map (λ use_of. lexicon.reached use_of (map (key_of lexicon) phrase)) uses
+
+-- their keys are words of the query
 abbrev pub reached_phrases : Lexicon → Option ThesaurusChoice → List Item → List (List Item)
-reached_phrases lexicon None phrase = []
-reached_phrases lexicon (Some Thesaurus.No) phrase = []
-reached_phrases lexicon (Some (Thesaurus.Uses uses)) phrase =
-    if list_any is_pattern phrase then [] else flat_map (λ use_of. map (map word) (lexicon.reached use_of (map (key_of lexicon) phrase))) uses
+reached_phrases lexicon thesaurus phrase = map (map word) (reached_keys lexicon thesaurus phrase)
 
 -- the lists of items that a phrase stands for. A phrase without words and patterns stands for none
 abbrev pub variants : Lexicon → Options → List Item → List (List Item)

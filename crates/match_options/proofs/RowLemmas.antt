@@ -1,11 +1,11 @@
 -- What a row of places says, one atom after the other.
-use Rattle.std.proofs.Common.{◌≡◌, refl, sym, ap, ◌∙◌, ℕ, suc, ◌+◌, ◌-◌, ◌<◌, ◌≤◌, Bool, true, false, not, ◌&&◌, ◌⊎◌, inl, inr, List, [], ◌∷◌, length, get_or, set, drop, arith, Option, Some, None, drop-drop, length-drop}
-use Rattle.std.specs.Prelude.{◌==◌, nat_lt, nat_le, if◌then◌else◌}
-use Rattle.std.specs.List.{Any, range_with_len}
-use Rattle.std.proofs.lemmas.Bool.{ne_eqb, eq-eqb, ltb-true, lt-ltb, leb-true, le-leb, and_parts, and_from, and_right, cases_lt, both_ways, not-true, not-false}
-use Rattle.std.proofs.lemmas.List.{drop_more, drop_all, get_or_past, get_or-drop, get_or-set_same, get_or-set_other}
+use Rattle.std.proofs.Common.{◌≡◌, refl, sym, ap, ◌∙◌, ℕ, suc, ◌+◌, ◌-◌, ◌<◌, ◌≤◌, Bool, true, false, not, ◌&&◌, ◌⊎◌, inl, inr, List, [], ◌∷◌, ◌++◌, length, get_or, set, drop, take, arith, Option, Some, None, drop-drop, length-drop}
+use Rattle.std.specs.Prelude.{◌==◌, nat_lt, nat_le, if◌then◌else◌, slice_index_or}
+use Rattle.std.specs.List.{Any, list_any, range_with_len}
+use Rattle.std.proofs.lemmas.Bool.{ne_eqb, eq-eqb, ltb-true, lt-ltb, leb-true, le-leb, and_parts, and_from, and_right, cases_lt, both_ways, not-true, not-false, false_from_ne_true}
+use Rattle.std.proofs.lemmas.List.{take-append-drop, drop_more, drop_all, get_or_past, get_or-drop, get_or-set_same, get_or-set_other}
 use Rattle.std.proofs.lemmas.List.Sums.{prefix_len_passes, prefix_len_stops}
-use Rattle.std.proofs.lemmas.List.Folds.{list_any_at, Any-from_list_any}
+use Rattle.std.proofs.lemmas.List.Folds.{list_any_at, list_any_none, Any-from_list_any}
 use Rattle.std.proofs.lemmas.List.FromFn.{length-range_with_len, get_or-range_with_len}
 use Rattle.ft_base.proofs.Truth.{same_tests}
 use Rattle.match_options.specs.declared.atom.Atom.{Atom}
@@ -213,3 +213,45 @@ pub letter_none : (letters : List ℕ) (row : List Bool) (a place : ℕ) (b : Bo
 letter_none letters row a place b size none is =
     let few = ap length none in
     is ∙ sym (and_right (a == get_or letters place a) (at_place row (place + 1)) (get_or_past row (place + 1) false (omega (arith, size, few, length-drop place letters))))
+
+-- ---- no place is left
+
+at_none : (row : List Bool) → list_any (λ b. b) row ≡ false → (place : ℕ) → at_place row place ≡ false
+at_none row none place =
+    false_from_ne_true (at_place row place)
+    (λ is. both_ways (list_any (λ b. b) row) none (list_any_at (λ b. b) row place false (within row place is) is))
+
+row_none : (row : List Bool) (atoms : List Atom) (letters : List ℕ) → IsRow row atoms letters → list_any (λ b. b) row ≡ false
+    → (place : ℕ) → covers atoms (drop place letters) ≡ false
+row_none row atoms letters is none place = go (cases_lt (length letters) place)
+  where
+    inside : (p : ℕ) → p ≤ length letters → covers atoms (drop p letters) ≡ false
+    inside p h = sym (is.told p h) ∙ at_none row none p
+
+    go : ((length letters < place) ⊎ (place ≤ length letters)) → covers atoms (drop place letters) ≡ false
+    go (inl behind) =
+        ap (covers atoms) (drop_all place letters (omega (arith, behind)) ∙ sym (drop_all (length letters) letters (omega arith)))
+        ∙ inside (length letters) (omega arith)
+    go (inr before) = inside place before
+
+-- then none is with an atom more in front, or with several
+none_in_front : (atom : Atom) (atoms : List Atom) (letters : List ℕ) → ((place : ℕ) → covers atoms (drop place letters) ≡ false) → covers (atom ∷ atoms) letters ≡ false
+unfolding covers
+none_in_front (Letter a) atoms [] none = refl
+none_in_front (Letter a) atoms (c ∷ rest) none = and_right (a == c) (covers atoms rest) (none 1)
+none_in_front (Gap low high) atoms letters none =
+    list_any_none (λ count. fits_gap low high count && covers atoms (drop count letters)) (range_with_len 0 (suc (length letters)))
+    (λ k d h. and_right (fits_gap low high (slice_index_or (range_with_len 0 (suc (length letters))) k d))
+    (covers atoms (drop (slice_index_or (range_with_len 0 (suc (length letters))) k d) letters)) (none (slice_index_or (range_with_len 0 (suc (length letters))) k d)))
+
+none_behind : (front atoms : List Atom) (letters : List ℕ) → ((place : ℕ) → covers atoms (drop place letters) ≡ false)
+    → (place : ℕ) → covers (front ++ atoms) (drop place letters) ≡ false
+none_behind [] atoms letters none place = none place
+none_behind (atom ∷ front) atoms letters none place =
+    none_in_front atom (front ++ atoms) (drop place letters)
+    (λ more. ap (covers (front ++ atoms)) (drop-drop more place letters) ∙ none_behind front atoms letters none (place + more))
+
+pub stopped : (row : List Bool) (atoms : List Atom) (letters : List ℕ) (number : ℕ) → IsRow row (drop number atoms) letters → list_any (λ b. b) row ≡ false → covers atoms letters ≡ false
+stopped row atoms letters number is none =
+    ap (λ all. covers all letters) (sym (take-append-drop number atoms))
+    ∙ none_behind (take number atoms) (drop number atoms) letters (row_none row (drop number atoms) letters is none) 0

@@ -4,6 +4,7 @@ pub mod Items
 pub mod WordForms
 pub mod TokenTest
 pub mod Wildcards
+pub mod PlaceRows
 pub mod WordTests
 pub mod Examples
 pub mod steps

@@ -1,9 +1,11 @@
 //! Whether atoms cover a text.
 
-ghost use Rattle.std.specs.Prelude.{◌≡◌, ◌+◌, ◌-◌, ◌^◌, ◌<◌, IfOk, length, chars};
+ghost use Rattle.std.specs.Prelude.{◌≡◌, ◌+◌, ◌-◌, ◌^◌, ◌<◌, ◌≤◌, IfOk, OnErr, length, chars};
+ghost use Rattle.match_options.specs.PlaceRows.{place_count};
 ghost use Rattle.match_options.specs.Wildcards as spec;
 
 use crate::atom::Atom;
+use crate::place_row::PlaceRow;
 use crate::row::covers_in;
 use crate::trying::covers_from;
 use ft_base::Memory;
@@ -22,6 +24,16 @@ pub(crate) fn covers(alloc: Global, atoms: &[Atom], text: &str) -> bool
         Ok(mut row) => covers_in(row.as_mut_slice(), atoms, text),
         Err(_memory) => covers_from(atoms, 0, text),
     }
+}
+
+/// The same in a row that is kept, which takes memory where the text is longer than each before it.
+pub(crate) fn covers_kept(atoms: &[Atom], text: &str, row: &mut PlaceRow) -> Result<bool, Memory>
+    ensures told { IfOk result (λ covered. covered ≡ spec.covers atoms.now (chars text.now)) }
+    ensures short { OnErr result (place_count row.old ≤ length (chars text.now)) }
+{
+    let size = char_count(text);
+    row.make_room(size)?;
+    Ok(covers_in(&mut row.places[..size + 1], atoms, text))
 }
 
 fn char_count(text: &str) -> usize

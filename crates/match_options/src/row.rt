@@ -4,12 +4,13 @@ ghost use Rattle.std.specs.Prelude.{◌≡◌, ◌+◌, ◌-◌, ◌^◌, ◌<�
 ghost use Rattle.match_options.specs.declared.atom.Atom as the;
 ghost use Rattle.match_options.specs.declared.atom.Atom.TheVariants.{Letter, Gap};
 ghost use Rattle.match_options.specs.steps.Row.{IsRow, at_place, reaches};
+ghost use Rattle.std.specs.List.{list_any};
 ghost use Rattle.match_options.specs.Wildcards as spec;
 
 use crate::atom::Atom;
 
 /// Whether the atoms cover the text exactly, in a row with a place before each character and one at the end. No step is done more often
-/// than there are atoms times places.
+/// than there are atoms times places. Where no place is left, the atoms further in front aren't looked at.
 pub(crate) fn covers_in(row: &mut [bool], atoms: &[Atom], text: &str) -> bool
     requires { length row.old ≡ suc (length (chars text.now)) }
     ensures { result ≡ spec.covers atoms.now (chars text.now) }
@@ -17,8 +18,18 @@ pub(crate) fn covers_in(row: &mut [bool], atoms: &[Atom], text: &str) -> bool
     mark_end(row, text);
     for passed in 0..atoms.len() {
         pass(row, atoms[atoms.len() - 1 - passed], text);
+        if !some_place(row) {
+            return false;
+        }
     }
     row[0]
+}
+
+/// Whether what stands behind one of the places is covered.
+fn some_place(row: &[bool]) -> bool
+    ensures { result ≡ list_any (λ place. place) row.now }
+{
+    row.iter().any(|place| *place)
 }
 
 /// Without an atom the end alone is covered.

@@ -1,14 +1,16 @@
 //! Patterns with wildcards, ready to be compared with words.
 
-ghost use Rattle.std.specs.Prelude.{◌≡◌, ◌++◌, ◌∷◌, [], ℕ, List, Err, Some, None, IfOk, OnOk, map, option_map, chars, encode_utf8_all};
+ghost use Rattle.std.specs.Prelude.{◌≡◌, ◌≤◌, ◌++◌, ◌∷◌, [], ℕ, List, Err, Some, None, IfOk, OnErr, OnOk, map, option_map, length, chars, encode_utf8_all};
+ghost use Rattle.match_options.specs.PlaceRows.{place_count};
 ghost use Rattle.match_options.specs.declared.atom.Atom as the;
 ghost use Rattle.match_options.specs.declared.atom.Atom.TheVariants.{Letter};
 ghost use Rattle.match_options.specs.Wildcards as spec;
 
 use crate::atom::Atom;
 use crate::comparing::{case_of, is_on};
-use crate::covering::covers;
+use crate::covering::{covers, covers_kept};
 use crate::pattern::pattern_atoms;
+use crate::place_row::PlaceRow;
 use ft_base::{Case, Line, Memory, Options, letters_of, text_of};
 use std::alloc::{AllocFailed, Global};
 use text_forms::{exact, key, plain_case, plain_marks};
@@ -77,6 +79,15 @@ impl Wild {
         ensures { result ≡ spec.covers self.now.atoms.items (chars form.now) }
     {
         covers(self.alloc, self.atoms.as_slice(), form)
+    }
+
+    /// The same in a row of places that is kept from one word to the next. No place is looked at more often than the pattern has atoms, and
+    /// memory runs out only where the row has no room for the word.
+    pub fn accepts_in(&self, form: &str, row: &mut PlaceRow) -> Result<bool, Memory>
+        ensures told { IfOk result (λ accepted. accepted ≡ spec.covers self.now.atoms.items (chars form.now)) }
+        ensures short { OnErr result (place_count row.old ≤ length (chars form.now)) }
+    {
+        covers_kept(self.atoms.as_slice(), form, row)
     }
 }
 

@@ -8,6 +8,7 @@ ghost use Rattle.match_options.specs.WordTests as spec;
 use crate::comparing::{forms, has_case, same_word};
 use crate::form_choice::FormChoice;
 use crate::item::QueryItem;
+use crate::place_row::PlaceRow;
 use crate::wild::Wild;
 use crate::word_forms::Forms;
 use ft_base::{Case, Line, Memory};
@@ -51,6 +52,19 @@ impl WordTest {
             WordTest::Never => false,
         }
     }
+
+    /// The same, where patterns are compared with words in a row of places that is kept from one word to the next.
+    #[tactic(auto, unfolding(crate::specs::WordTests::passes, crate::specs::WordTests::item_passes))]
+    pub fn passes_in(&self, text: &Forms, row: &mut PlaceRow) -> Result<bool, Memory>
+        ensures { IfOk result (λ passed. passed ≡ spec.passes self.now text.now) }
+    {
+        match self {
+            WordTest::Any => Ok(true),
+            WordTest::Same(choice, query) => Ok(same_word(*choice, query, text)),
+            WordTest::Covered(choice, wild) => is_covered_in(*choice, wild, text, row),
+            WordTest::Never => Ok(false),
+        }
+    }
 }
 
 #[tactic(auto, unfolding(crate::specs::WordTests::passes, crate::specs::WordTests::item_passes))]
@@ -73,6 +87,20 @@ fn is_covered(choice: FormChoice, wild: &Wild, text: &Forms) -> bool
     ensures { result ≡ spec.covered choice wild.now.atoms.items text.now }
 {
     has_case(choice.case, text) && wild.accepts(form_in(choice, text).as_str())
+}
+
+fn is_covered_in(
+    choice: FormChoice,
+    wild: &Wild,
+    text: &Forms,
+    row: &mut PlaceRow,
+) -> Result<bool, Memory>
+    ensures { IfOk result (λ covered. covered ≡ spec.covered choice wild.now.atoms.items text.now) }
+{
+    if !has_case(choice.case, text) {
+        return Ok(false);
+    }
+    wild.accepts_in(form_in(choice, text).as_str(), row)
 }
 
 fn form_in<'a>(choice: FormChoice, text: &'a Forms) -> &'a Line
