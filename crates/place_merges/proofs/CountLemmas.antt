@@ -1,10 +1,10 @@
 -- Counts of the places at which a test holds, as far as the places go.
-use Rattle.std.proofs.Common.{◌≡◌, ℕ, zero, suc, ◌+◌, ◌-◌, ◌<◌, ◌≤◌, min, Bool, true, false, cond, List, map, refl, sym, ap, ◌∙◌, arith, zero-add, Vec, Global}
-use Rattle.std.specs.List.{count_by, range_with_len}
+use Rattle.std.proofs.Common.{◌≡◌, ℕ, zero, suc, ◌+◌, ◌-◌, ◌<◌, ◌≤◌, min, Bool, true, false, cond, ◌&&◌, ◌||◌, List, [], ◌∷◌, filter, map, refl, sym, ap, ◌∙◌, arith, zero-add}
+use Rattle.std.specs.List.{count_by, list_any, range_with_len}
 use Rattle.ft_base.specs.Hits.{HitPlace}
 use Rattle.all_matches.proofs.Counting.{count_by-cons, count_by-alike}
-use Rattle.place_merges.specs.declared.item.Item.{Item}
-use Rattle.place_merges.specs.Places.{stands_before, some_stands, places_between}
+use Rattle.place_merges.specs.declared.item.Variant.{Variant}
+use Rattle.place_merges.specs.Places.{Wanted, stands_before, some_stands, places_between}
 use Rattle.place_merges.specs.Sources.{wanted, wanted_words}
 use Rattle.place_merges.specs.steps.Searching.{Leads, SameFrom, Moved, one_stands, shown_variants}
 use Rattle.place_merges.proofs.MoveLemmas.{unmoved, moved_on, any_map}
@@ -41,22 +41,38 @@ count_here : (test : ℕ → Bool) (place size : ℕ) → test place ≡ true �
 unfolding count
 count_here test place size h = count_by-cons test place (range_with_len (place + 1) size) ∙ ap (λ b. cond b 1 0 + count test (place + 1) size) h
 
+any_that_counts : {H : Type 0} (p : Variant H → Bool) (variants : List (Variant H)) → list_any p (filter (λ variant. variant.counts) variants) ≡ list_any (λ variant. variant.counts && p variant) variants
+any_that_counts p [] = refl
+any_that_counts p (variant ∷ variants) =
+    let rest = any_that_counts p variants in
+    elim variant.counts as (λ b. list_any p (cond b (variant ∷ filter (λ v. v.counts) variants) (filter (λ v. v.counts) variants)) ≡ ((b && p variant) || list_any (λ v. v.counts && p v) variants)) [
+      | true ↦ ap (λ b. p variant || b) rest
+      | false ↦ rest
+    ]
+
 module _ {H : Type 0} (stands : H → HitPlace) (to : ℕ) where
   -- at how many places, from one on, one of the variants stands
-  pub still : List (Vec (Item H) Global) → ℕ → ℕ
+  pub still : List (Variant H) → ℕ → ℕ
   still variants place = count (one_stands stands to variants) place (to - place)
 
-  pub still_is : (variants : List (Vec (Item H) Global)) (place : ℕ) → places_between place to (wanted_words stands variants) ≡ still variants place
+  pub still_is : (variants : List (Variant H)) (place : ℕ) → places_between place to (wanted_words stands variants) ≡ still variants place
   unfolding still count
   still_is variants place =
       count_by-alike (some_stands to (wanted_words stands variants)) (one_stands stands to variants) (range_with_len place (to - place))
-      (λ other. any_map (stands_before to other) (λ variant. map (wanted stands) variant.items) variants)
+      (λ other. any_map (stands_before to other) (λ variant. map (wanted stands) variant.items.items) (filter (λ variant. variant.counts) variants)
+      ∙ any_that_counts (λ variant. stands_before to other (map (wanted stands) variant.items.items)) variants)
 
-  still_same : (new old : List (Vec (Item H) Global)) (place : ℕ) → SameFrom place (one_stands stands to new) (one_stands stands to old) → still new place ≡ still old place
+  -- variants that stand where some words do stand at as many places
+  pub as_wanted : (variants : List (Variant H)) (words : List (List Wanted)) (place : ℕ) → SameFrom place (one_stands stands to variants) (some_stands to words)
+      → places_between place to (wanted_words stands variants) ≡ places_between place to words
+  unfolding still count
+  as_wanted variants words place same = still_is variants place ∙ count_same (one_stands stands to variants) (some_stands to words) place (to - place) same.same
+
+  still_same : (new old : List (Variant H)) (place : ℕ) → SameFrom place (one_stands stands to new) (one_stands stands to old) → still new place ≡ still old place
   unfolding still
   still_same new old place same = count_same (one_stands stands to new) (one_stands stands to old) place (to - place) same.same
 
-  still_jumps : (variants : List (Vec (Item H) Global)) (place next : ℕ) → Leads (one_stands stands to variants) place to next → still variants place ≡ still variants next
+  still_jumps : (variants : List (Variant H)) (place next : ℕ) → Leads (one_stands stands to variants) place to next → still variants place ≡ still variants next
   unfolding still
   still_jumps variants place next leads =
       let from = leads.from in
@@ -67,31 +83,31 @@ module _ {H : Type 0} (stands : H → HitPlace) (to : ℕ) where
       ∙ count_jump (one_stands stands to variants) place (next - place) (to - next) (λ other a b. leads.none other a (omega arith))
       ∙ ap (λ p. count (one_stands stands to variants) p (to - next)) at
 
-  still_here : (variants : List (Vec (Item H) Global)) (place : ℕ) → place < to → one_stands stands to variants place ≡ true → still variants place ≡ 1 + still variants (place + 1)
+  still_here : (variants : List (Variant H)) (place : ℕ) → place < to → one_stands stands to variants place ≡ true → still variants place ≡ 1 + still variants (place + 1)
   unfolding still
   still_here variants place order h =
       let all : to - place ≡ suc (to - (place + 1)) = omega arith in
       ap (count (one_stands stands to variants) place) all ∙ count_here (one_stands stands to variants) place (to - (place + 1)) h
 
-  still_none : (variants : List (Vec (Item H) Global)) (place : ℕ) → to ≤ place → still variants place ≡ 0
+  still_none : (variants : List (Variant H)) (place : ℕ) → to ≤ place → still variants place ≡ 0
   unfolding still count
   still_none variants place h = let none : to - place ≡ 0 = omega arith in ap (count (one_stands stands to variants) place) none
 
 -- so many places are counted, and those from the place on are still to come
-pub record Counted {H : Type 0} (stands : H → HitPlace) (plain : H → Bool) (old now : List (Vec (Item H) Global)) (from to most counted place start end : ℕ) : Type 0 where
+pub record Counted {H : Type 0} (stands : H → HitPlace) (plain : H → Bool) (old now : List (Variant H)) (from to most counted place start end : ℕ) : Type 0 where
   pub sum : counted + places_between place to (wanted_words stands now) ≡ places_between from to (wanted_words stands old)
   pub within : counted ≤ most
   pub moved : Moved (shown_variants stands plain old) (shown_variants stands plain now) start end
 
 module _ {H : Type 0} (stands : H → HitPlace) (plain : H → Bool) where
-  pub count_starts : (variants : List (Vec (Item H) Global)) (from to most steps : ℕ) → Counted stands plain variants variants from to most 0 from steps steps
+  pub count_starts : (variants : List (Variant H)) (from to most steps : ℕ) → Counted stands plain variants variants from to most 0 from steps steps
   count_starts variants from to most steps = record {
     sum = zero-add (places_between from to (wanted_words stands variants));
     within = omega arith;
     moved = unmoved (shown_variants stands plain variants) steps;
   }
 
-  module _ (old now after : List (Vec (Item H) Global)) (from to most counted place start middle end : ℕ)
+  module _ (old now after : List (Variant H)) (from to most counted place start middle end : ℕ)
       (so_far : Counted stands plain old now from to most counted place start middle) (order : place < to) (below : counted < most) (next : ℕ)
       (leads : Leads (one_stands stands to now) place to next) (same : SameFrom place (one_stands stands to after) (one_stands stands to now))
       (moved : Moved (shown_variants stands plain now) (shown_variants stands plain after) middle end) where
@@ -120,7 +136,7 @@ module _ {H : Type 0} (stands : H → HitPlace) (plain : H → Bool) where
         let is = still_is stands to after next in
         record { sum = omega (arith, sum, was, jumped, later, is); within = so_far.within; moved = moved_too }
 
-  module _ (old now : List (Vec (Item H) Global)) (from to most counted place start end : ℕ) (so_far : Counted stands plain old now from to most counted place start end) where
+  module _ (old now : List (Variant H)) (from to most counted place start end : ℕ) (so_far : Counted stands plain old now from to most counted place start end) where
     pub count_ends : to ≤ place → counted ≡ min (places_between from to (wanted_words stands old)) most
     count_ends h =
         let sum = so_far.sum in

@@ -1,13 +1,15 @@
 -- The items of a variant, one after the other, from a place on.
-use Rattle.std.proofs.Common.{◌≡◌, ℕ, zero, suc, ◌+◌, ◌-◌, ◌<◌, ◌≤◌, Bool, true, false, ◌&&◌, nat_le, List, [], ◌∷◌, map, length, get_or, set, drop, refl, sym, ap, ◌∙◌, arith, length-set, drop-set-lt, drop-drop, Vec, Global}
+use Rattle.std.proofs.Common.{◌≡◌, ℕ, zero, suc, ◌+◌, ◌-◌, ◌<◌, ◌≤◌, Bool, true, false, cond, ◌&&◌, nat_le, List, [], ◌∷◌, map, length, get_or, set, drop, refl, sym, ap, ◌∙◌, arith, length-set, drop-set-lt, drop-drop, Vec, Global}
+use Rattle.std.specs.List.{sum_by}
 use Rattle.std.proofs.lemmas.Bool.{and_left, and_right, and_from, le-leb, lt-leb}
 use Rattle.std.proofs.lemmas.List.{drop_more, drop_all, length-map}
 use Rattle.ft_base.specs.Hits.{HitPlace}
 use Rattle.place_merges.specs.declared.item.Item.{Item}
 use Rattle.place_merges.specs.declared.item.Item.TheVariants.{Of}
+use Rattle.place_merges.specs.declared.item.Variant.{Variant}
 use Rattle.place_merges.specs.Places.{Wanted, fits, stands_at, stands_before}
-use Rattle.place_merges.specs.Sources.{places_left}
-use Rattle.place_merges.specs.steps.Searching.{Shown, Leads, SameFrom, Moved, shown_all, has, some_has, item_fits}
+use Rattle.place_merges.specs.Sources.{places_left, wanted, hits_left}
+use Rattle.place_merges.specs.steps.Searching.{Shown, Leads, SameFrom, Moved, shown_all, has, some_has, item_fits, shown_items, shown_variant, variant_stands}
 use Rattle.place_merges.proofs.MoveLemmas.{unmoved, moved_on, moved_in, same_on, any_map}
 
 -- an item for which any word does leads nowhere else
@@ -86,16 +88,36 @@ module _ {A L : Type 0} (want : A → Wanted) (shown : A → Shown L) where
     moved = unmoved (shown_all shown xs) steps;
   }
 
+  -- an item was asked for a place
+  module _ (old now : List A) (place limit number start middle end : ℕ) (before : SameFrom place (stand want now) (stand want old)) (earlier : Moved (shown_all shown old) (shown_all shown now) start middle)
+      (x y : A) (within : number < length now) (read : x ≡ get_or now number x) (next : ℕ) (leads : Leads (λ other. fits other (want x)) (place + number) (limit + number) next)
+      (same : SameFrom (place + number) (λ other. fits other (want y)) (λ other. fits other (want x))) (moved : Moved (shown x) (shown y) middle end) where
+    pub fit_same : SameFrom place (stand want (set now number y)) (stand want old)
+    fit_same = same_on place (stand want old) (stand want now) (stand want (set now number y)) before
+        (record { same = λ other a. stand_set want now number other x y within read (same.same (other + number) (omega arith)) })
+
+    pub fit_moved : Moved (shown_all shown old) (shown_all shown (set now number y)) start end
+    fit_moved = moved_on (shown_all shown old) (shown_all shown now) (shown_all shown (set now number y)) start middle end earlier (moved_in shown now number x y middle end within read moved)
+
+    pub fit_jumps : (next ≡ place + number → ⊥) → Unfitted want shown old (set now number y) place limit (next - number) start end
+    fit_jumps other_place =
+        let from = leads.from in
+        let to = leads.to in
+        record {
+          leads = record {
+            from = omega arith;
+            to = omega arith;
+            there = λ e. absurd (omega (arith, e, other_place));
+            none = λ other a b.
+                sym (before.same other a) ∙ unfit want now number other x within read (leads.none (other + number) (omega arith) (omega arith));
+          };
+          same = fit_same;
+          moved = fit_moved;
+        }
+
   module _ (old now : List A) (place limit number start middle end : ℕ) (so_far : Fitted want shown old now place number start middle)
       (x y : A) (within : number < length now) (read : x ≡ get_or now number x) (next : ℕ) (leads : Leads (λ other. fits other (want x)) (place + number) (limit + number) next)
       (same : SameFrom (place + number) (λ other. fits other (want y)) (λ other. fits other (want x))) (moved : Moved (shown x) (shown y) middle end) where
-    fit_same : SameFrom place (stand want (set now number y)) (stand want old)
-    fit_same = same_on place (stand want old) (stand want now) (stand want (set now number y)) so_far.same
-        (record { same = λ other a. stand_set want now number other x y within read (same.same (other + number) (omega arith)) })
-
-    fit_moved : Moved (shown_all shown old) (shown_all shown (set now number y)) start end
-    fit_moved = moved_on (shown_all shown old) (shown_all shown now) (shown_all shown (set now number y)) start middle end so_far.moved (moved_in shown now number x y middle end within read moved)
-
     behind : drop (number + 1) now ≡ drop (number + 1) old
     behind = sym (drop-drop 1 number now) ∙ ap (drop 1) so_far.rest ∙ drop-drop 1 number old
 
@@ -112,24 +134,8 @@ module _ {A L : Type 0} (want : A → Wanted) (shown : A → Shown L) where
               ∙ ap (λ b. b && stand want (drop (number + 1) old) (place + number + 1)) (leads.there at_place)
               ∙ ap (stand want (drop (number + 1) old)) at;
           rest = drop-set-lt (number + 1) now number y (omega arith) ∙ behind;
-          same = fit_same;
-          moved = fit_moved;
-        }
-
-    pub fit_jumps : (next ≡ place + number → ⊥) → Unfitted want shown old (set now number y) place limit (next - number) start end
-    fit_jumps other_place =
-        let from = leads.from in
-        let to = leads.to in
-        record {
-          leads = record {
-            from = omega arith;
-            to = omega arith;
-            there = λ e. absurd (omega (arith, e, other_place));
-            none = λ other a b.
-                sym (so_far.same.same other a) ∙ unfit want now number other x within read (leads.none (other + number) (omega arith) (omega arith));
-          };
-          same = fit_same;
-          moved = fit_moved;
+          same = fit_same old now place limit number start middle end so_far.same so_far.moved x y within read next leads same moved;
+          moved = fit_moved old now place limit number start middle end so_far.same so_far.moved x y within read next leads same moved;
         }
 
   pub fit_ends : (old now : List A) (place limit number start end : ℕ) → place < limit → Fitted want shown old now place number start end → length now ≤ number → Leads (stand want old) place limit place
@@ -141,6 +147,19 @@ module _ {A L : Type 0} (want : A → Wanted) (shown : A → Shown L) where
         there = λ e. so_far.left ∙ ap (λ l. stand want l (place + number)) (drop_all number old (omega arith));
         none = λ other a b. absurd (omega arith);
       }
+
+-- nothing was asked yet
+pub nothing_asked : {A : Type 0} (want : A → Wanted) (xs : List A) (place : ℕ) → SameFrom place (stand want xs) (stand want xs)
+nothing_asked want xs place = record { same = λ other a. refl }
+
+-- what is found after moves that change nothing from the place on was to be found before them
+pub leads_before : (before after : ℕ → Bool) (place limit result : ℕ) → SameFrom place after before → Leads after place limit result → Leads before place limit result
+leads_before before after place limit result same leads = record {
+  from = leads.from;
+  to = leads.to;
+  there = λ at. sym (same.same place (omega arith)) ∙ leads.there at;
+  none = λ other a b. sym (same.same other a) ∙ leads.none other a b;
+}
 
 -- ---- variants that end in front of the end
 
@@ -177,3 +196,48 @@ module _ {A : Type 0} (want : A → Wanted) (to : ℕ) where
   variant_same xs ys place long same =
       let size : length (map want ys) ≡ length (map want xs) = length-map ys want ∙ long ∙ sym (length-map xs want) in
       record { same = λ other a. λ i. nat_le (other + size i) to && same.same other a i }
+
+-- ---- variants that count
+
+module _ {H : Type 0} (stands : H → HitPlace) (plain : H → Bool) (to : ℕ) where
+  -- a variant that doesn't count stands nowhere
+  pub left_out_leads : (variant : Variant H) (place : ℕ) → place < to → variant.counts ≡ false → Leads (variant_stands stands to variant) place to to
+  left_out_leads variant place order out = record {
+    from = omega arith;
+    to = omega arith;
+    there = λ e. absurd (omega (arith, e));
+    none = λ other a b. and_left variant.counts (stands_before to other (map (wanted stands) variant.items.items)) out;
+  }
+
+  module _ (variant : Variant H) (after : Vec (Item H) Global) (counts : variant.counts ≡ true) where
+    abbrev now : Variant H
+    now = record { items = after; lead = variant.lead; counts = variant.counts }
+
+    counted_stands : (place : ℕ) (items : Vec (Item H) Global)
+        → variant_stands stands to (record { items = items; lead = variant.lead; counts = variant.counts }) place ≡ stands_before to place (map (wanted stands) items.items)
+    counted_stands place items = ap (λ b. b && stands_before to place (map (wanted stands) items.items)) counts
+
+    pub counted_leads : (place result : ℕ) → Leads (λ other. stands_before to other (map (wanted stands) variant.items.items)) place to result → Leads (variant_stands stands to variant) place to result
+    counted_leads place result leads = record {
+      from = leads.from;
+      to = leads.to;
+      there = λ at. counted_stands place variant.items ∙ leads.there at;
+      none = λ other a b. counted_stands other variant.items ∙ leads.none other a b;
+    }
+
+    pub counted_same : (place : ℕ) → SameFrom place (λ other. stands_before to other (map (wanted stands) after.items)) (λ other. stands_before to other (map (wanted stands) variant.items.items))
+        → SameFrom place (variant_stands stands to now) (variant_stands stands to variant)
+    counted_same place same = record { same = λ other a. counted_stands other after ∙ same.same other a ∙ sym (counted_stands other variant.items) }
+
+    pub counted_moved : (start end : ℕ) → Moved (shown_items stands plain variant.items) (shown_items stands plain after) start end
+        → Moved (shown_variant stands plain variant) (shown_variant stands plain now) start end
+    counted_moved start end moved = record {
+      lists = moved.lists;
+      plain = moved.plain;
+      counted = λ h.
+          let left = ap (λ b. cond b (sum_by (hits_left stands) variant.items.items) 0) counts in
+          let still = ap (λ b. cond b (sum_by (hits_left stands) after.items) 0) counts in
+          let steps = moved.counted h in
+          omega (arith, left, still, steps);
+      grown = moved.grown;
+    }

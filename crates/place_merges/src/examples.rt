@@ -1,8 +1,11 @@
 //! Where variants stand and how many places count, on small lists of places, by computation.
 ghost use Rattle.std.specs.Prelude.{◌≡◌, ◌∷◌, [], true, false};
-ghost use Rattle.ft_base.specs.Hits.{hit_place};
+ghost use Rattle.std.specs.declared.alloc.Global.{Global};
+ghost use Rattle.std.specs.declared.vec.Vec.{Vec};
+ghost use Rattle.ft_base.specs.Hits.{HitPlace, hit_place};
 ghost use Rattle.place_merges.specs.Places.{one_of, fits, stands_at, stands_before, places_between};
-ghost use Rattle.place_merges.specs.Sources.{places_left};
+ghost use Rattle.place_merges.specs.Sources.{all_left, places_left, wanted_words};
+ghost use Rattle.place_merges.specs.declared.item.Item.{Item};
 ghost use Rattle.place_merges.specs.Examples.{a, b, any, hit};
 
 /// `a` stands at the places 1, 4 and 6, `b` at 2, 3 and 7.
@@ -49,4 +52,10 @@ pub fn sources()
     ensures at_the_front { places_left (hit_place (hit 2 2 ∷ hit 5 6 ∷ []) 0) ≡ 2 ∷ 5 ∷ [] }
     ensures further_on { places_left (hit_place (hit 2 2 ∷ hit 5 6 ∷ []) 1) ≡ 5 ∷ [] }
     ensures at_the_end { places_left (hit_place (hit 2 2 ∷ hit 5 6 ∷ []) 2) ≡ [] }
+{}
+
+/// A variant that doesn't count wants nothing, and has no hit to be passed.
+pub fn variants_left_out()
+    ensures wants { (items : Vec (Item HitPlace) Global) → wanted_words (λ at. at) (record { items = items; lead = 0; counts = false } ∷ []) ≡ [] }
+    ensures left { (items : Vec (Item HitPlace) Global) → all_left (λ at. at) (record { items = items; lead = 0; counts = false } ∷ []) ≡ 0 }
 {}

@@ -6,3 +6,14 @@ pub enum Item<H> {
     /// A word at which one of the sources has a hit: the first word of the hit.
     Of(Vec<H>),
 }
+
+/// One of the lists of words that a phrase stands for.
+#[derive(Drop)]
+pub struct Variant<H> {
+    /// What its words have to be.
+    pub items: Vec<Item<H>>,
+    /// The number of the item, from 0, that is asked first: best the one with the fewest hits. No answer depends on it.
+    pub lead: usize,
+    /// Whether the variant counts. It may be left out where it is known to stand nowhere; then none of its sources is moved.
+    pub counts: bool,
+}

@@ -5,9 +5,10 @@
 //! words of the text.
 //!
 //! Each search begins at a place and ends there, or leads to a later place in front of which there is nothing to be
-//! found: a source leads to its next hit (`source`), a variant to where the first of its items that doesn't fit leads
-//! (`variant`), and several sources or variants to the first of the places of each. So a frequent word is sought only at
-//! the places where a rare one has hits, the sources go forward only, and no memory is taken.
+//! found: a source leads to its next hit (`source`), a variant to where its leading item leads, or else the first of its
+//! items that doesn't fit (`variant`), and several sources or variants to the first of the places of each. So where the
+//! rarest word leads, a frequent one is sought only at the places of the rare one. The sources go forward only, and no
+//! memory is taken.
 #![tactic(auto)]
 
 mod counting;
@@ -20,4 +21,4 @@ mod tests;
 mod variant;
 
 pub use counting::count_places;
-pub use item::Item;
+pub use item::{Item, Variant};

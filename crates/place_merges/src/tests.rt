@@ -2,7 +2,7 @@
 ghost use Rattle.std.specs.Prelude.{◌≡◌, ◌<◌, ◌∷◌, [], if◌then◌else◌, true};
 ghost use Rattle.ft_base.specs.Hits.{hit_place};
 
-use crate::{Item, count_places};
+use crate::{Item, Variant, count_places};
 use ft_base::{Hit, Hits, Span, Steps};
 use std::alloc::{AllocError, Global};
 use std::marker::Brand;
@@ -67,23 +67,29 @@ fn at(alloc: Global, places: &[u32]) -> Result<Item<OneHit>, AllocError> {
     Ok(Item::Of(sources))
 }
 
-// Two words, one after the other.
+// Two words, one after the other. The second leads.
 fn two_words(
     alloc: Global,
     first: Item<OneHit>,
     second: Item<OneHit>,
-) -> Result<Vec<Item<OneHit>>, AllocError> {
-    let mut variant = Vec::new(alloc);
-    variant.push(first)?;
-    variant.push(second)?;
-    Ok(variant)
+    counts: bool,
+) -> Result<Variant<OneHit>, AllocError> {
+    let mut items = Vec::new(alloc);
+    items.push(first)?;
+    items.push(second)?;
+    Ok(Variant {
+        items,
+        lead: 1,
+        counts,
+    })
 }
 
-// `a b`, or `b` and any word, in `a b b a x a b x`.
-fn variants(alloc: Global) -> Result<Vec<Vec<Item<OneHit>>>, AllocError> {
+// `a b`, or `b` and any word, in `a b b a x a b x`; `a` and any word doesn't count.
+fn variants(alloc: Global) -> Result<Vec<Variant<OneHit>>, AllocError> {
     let mut all = Vec::new(alloc);
-    all.push(two_words(alloc, at(alloc, &[1, 4, 6])?, at(alloc, &[2, 3, 7])?)?)?;
-    all.push(two_words(alloc, at(alloc, &[2, 3, 7])?, Item::Any)?)?;
+    all.push(two_words(alloc, at(alloc, &[1, 4, 6])?, at(alloc, &[2, 3, 7])?, true)?)?;
+    all.push(two_words(alloc, at(alloc, &[2, 3, 7])?, Item::Any, true)?)?;
+    all.push(two_words(alloc, at(alloc, &[1, 4, 6])?, Item::Any, false)?)?;
     Ok(all)
 }
 

@@ -1,10 +1,10 @@
 //! Where the words of one variant stand, one after the other.
 
 ghost use Rattle.std.specs.Prelude.{◌≡◌, ◌+◌, ◌<◌, ◌≤◌, ◌^◌, vec_len};
-ghost use Rattle.place_merges.specs.steps.Searching.{Leads, Moved, SameFrom, item_fits, items_stand, shown_item, shown_items, variant_stands};
+ghost use Rattle.place_merges.specs.steps.Searching.{Leads, Moved, SameFrom, item_fits, items_stand, shown_item, shown_items, shown_variant, variant_stands};
 
-use crate::Item;
 use crate::source::lead_of_sources;
+use crate::{Item, Variant};
 use ft_base::{Hits, Steps};
 use std::sync::ledger::Ledger;
 
@@ -29,21 +29,21 @@ fn lead_of_item<H: Hits, L: Ledger>(
 /// The place, where the items fit the words from it on; or else a later one, up to the limit, in front of which they fit
 /// nowhere: the first item that doesn't fit says how far the place may jump.
 fn lead_of_items<H: Hits, L: Ledger>(
-    variant: &mut Vec<Item<H>>,
+    items: &mut Vec<Item<H>>,
     place: u32,
     limit: u32,
     steps: &mut Steps<L>,
 ) -> u32
     requires order { place < limit }
-    requires within { limit + vec_len variant.old ≤ 2 ^ 32 }
-    ensures leads { Leads (items_stand H.stand variant.old.items) place limit result }
-    ensures same { SameFrom place (items_stand H.stand variant.new.items) (items_stand H.stand variant.old.items) }
-    ensures moved { Moved (shown_items H.stand H.plain variant.old) (shown_items H.stand H.plain variant.new) steps.old steps.new }
-    ensures length { vec_len variant.new ≡ vec_len variant.old }
+    requires within { limit + vec_len items.old ≤ 2 ^ 32 }
+    ensures leads { Leads (items_stand H.stand items.old.items) place limit result }
+    ensures same { SameFrom place (items_stand H.stand items.new.items) (items_stand H.stand items.old.items) }
+    ensures moved { Moved (shown_items H.stand H.plain items.old) (shown_items H.stand H.plain items.new) steps.old steps.new }
+    ensures length { vec_len items.new ≡ vec_len items.old }
 {
-    for number in 0..variant.len() {
+    for number in 0..items.len() {
         let offset = number as u32;
-        let next = lead_of_item(&mut variant[number], place + offset, limit + offset, steps);
+        let next = lead_of_item(&mut items[number], place + offset, limit + offset, steps);
         if next != place + offset {
             return next - offset;
         }
@@ -51,10 +51,36 @@ fn lead_of_items<H: Hits, L: Ledger>(
     place
 }
 
-/// The place, where the variant begins there and ends in front of `to`; or else a later one, up to `to`, in front of
-/// which it doesn't.
+/// The same, where the item of that number is asked first: the others are sought only where it fits.
+fn lead_with_first<H: Hits, L: Ledger>(
+    items: &mut Vec<Item<H>>,
+    first: usize,
+    place: u32,
+    limit: u32,
+    steps: &mut Steps<L>,
+) -> u32
+    requires order { place < limit }
+    requires within { limit + vec_len items.old ≤ 2 ^ 32 }
+    ensures leads { Leads (items_stand H.stand items.old.items) place limit result }
+    ensures same { SameFrom place (items_stand H.stand items.new.items) (items_stand H.stand items.old.items) }
+    ensures moved { Moved (shown_items H.stand H.plain items.old) (shown_items H.stand H.plain items.new) steps.old steps.new }
+    ensures length { vec_len items.new ≡ vec_len items.old }
+{
+    if first >= items.len() {
+        return lead_of_items(items, place, limit, steps);
+    }
+    let offset = first as u32;
+    let next = lead_of_item(&mut items[first], place + offset, limit + offset, steps);
+    if next != place + offset {
+        return next - offset;
+    }
+    lead_of_items(items, place, limit, steps)
+}
+
+/// The place, where the variant counts, begins there and ends in front of `to`; or else a later one, up to `to`, in
+/// front of which it doesn't.
 pub(crate) fn lead_of_variant<H: Hits, L: Ledger>(
-    variant: &mut Vec<Item<H>>,
+    variant: &mut Variant<H>,
     place: u32,
     to: u32,
     steps: &mut Steps<L>,
@@ -62,11 +88,15 @@ pub(crate) fn lead_of_variant<H: Hits, L: Ledger>(
     requires { place < to }
     ensures leads { Leads (variant_stands H.stand to variant.old) place to result }
     ensures same { SameFrom place (variant_stands H.stand to variant.new) (variant_stands H.stand to variant.old) }
-    ensures moved { Moved (shown_items H.stand H.plain variant.old) (shown_items H.stand H.plain variant.new) steps.old steps.new }
+    ensures moved { Moved (shown_variant H.stand H.plain variant.old) (shown_variant H.stand H.plain variant.new) steps.old steps.new }
 {
-    if variant.len() > (to - place) as usize {
+    if !variant.counts {
         return to;
     }
-    let behind_first = variant.len().saturating_sub(1) as u32;
-    lead_of_items(variant, place, to - behind_first, steps)
+    if variant.items.len() > (to - place) as usize {
+        return to;
+    }
+    let behind_first = variant.items.len().saturating_sub(1) as u32;
+    let lead = variant.lead;
+    lead_with_first(&mut variant.items, lead, place, to - behind_first, steps)
 }

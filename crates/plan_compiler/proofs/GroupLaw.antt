@@ -1,9 +1,7 @@
 -- A group whose cursors were aimed at a span stands at as many places of it as its variants begin at words.
-use Rattle.std.proofs.Common.{◌≡◌, refl, sym, ap, ◌∙◌, ℕ, ◌+◌, ◌-◌, ◌<◌, ◌==◌, ◌||◌, List, [], ◌∷◌, map, length, get_or, zero, suc, Some, drop, arith}
-use Rattle.std.specs.List.{list_any}
+use Rattle.std.proofs.Common.{◌≡◌, refl, sym, ap, ◌∙◌, ℕ, ◌+◌, ◌-◌, ◌<◌, ◌==◌, ◌||◌, ◌&&◌, true, List, [], ◌∷◌, map, length, get_or, zero, suc, Some, drop, arith}
+use Rattle.std.specs.List.{list_all, list_any}
 use Rattle.std.specs.Option.{option_map}
-use Rattle.std.specs.declared.alloc.Global.{Global}
-use Rattle.std.specs.declared.vec.Vec.{Vec}
 use Rattle.std.proofs.lemmas.List.{length-drop, length-map, length-take}
 use Rattle.ft_base.specs.Hits.{HitPlace}
 use Rattle.ft_base.specs.declared.hit.Hit.{Hit}
@@ -13,17 +11,19 @@ use Rattle.index_meaning.specs.Documents.{document_at, words_of}
 use Rattle.index_meaning.specs.Postings.{same_word}
 use Rattle.index_versions.specs.Versions.{term_at}
 use Rattle.place_merges.specs.Places.{fits, places_between}
-use Rattle.place_merges.specs.Sources.{all_lists, lists_of}
+use Rattle.place_merges.specs.Sources.{all_lists, all_plain, is_plain, lists_of, wanted_words}
 use Rattle.place_merges.specs.declared.item.Item.{Item}
 use Rattle.place_merges.specs.declared.item.Item.TheVariants as Merged
+use Rattle.place_merges.specs.declared.item.Variant.{Variant}
+use Rattle.place_merges.proofs.CountLemmas.{as_wanted}
 use Rattle.place_merges.proofs.PlacesLaw.{places_law}
 use Rattle.plan_compiler.specs.steps.ChosenTerms.{is_among}
-use Rattle.plan_compiler.specs.steps.RunShapes.{size_of}
+use Rattle.plan_compiler.specs.steps.RunShapes.{size_of, sizes_of}
 use Rattle.plan_compiler.specs.steps.RunTruth.{is_wanted}
-use Rattle.plan_compiler.specs.steps.TestPlaces.{hits_at, text_at, wanted_at}
+use Rattle.plan_compiler.specs.steps.AskedPlaces.{AreAimed, hits_at, text_at, wanted_at}
 use Rattle.plan_compiler.specs.declared.run_node.WordTerms.{WordTerms}
 use Rattle.plan_compiler.specs.declared.run_node.WordTerms.TheVariants as Terms
-use Rattle.plan_compiler.specs.declared.test_place.TestPlace.{TestPlace}
+use Rattle.plan_compiler.specs.declared.asked_place.AskedPlace.{AskedPlace}
 use Rattle.plan_compiler.proofs.TermLaws.{hit_law}
 
 -- an item of a list is the same whatever stands for one that isn't there
@@ -41,15 +41,36 @@ sizes_are : (items : List (Item HitPlace)) → map size_of items ≡ map (option
 sizes_are [] = refl
 sizes_are (item ∷ items) = λ i. size_is item i ∷ sizes_are items i
 
-all_sizes : (variants : List (Vec (Item HitPlace) Global)) → map (λ variant. map size_of variant.items) variants ≡ map (map (option_map length)) (all_lists (λ cursor. cursor) variants)
+all_sizes : (variants : List (Variant HitPlace)) → map sizes_of variants ≡ map (map (option_map length)) (all_lists (λ cursor. cursor) variants)
 all_sizes [] = refl
-all_sizes (variant ∷ variants) = λ i. sizes_are variant.items i ∷ all_sizes variants i
+all_sizes (variant ∷ variants) = λ i. sizes_are variant.items.items i ∷ all_sizes variants i
 
-pub sizes_kept : (before after : List (Vec (Item HitPlace) Global)) → all_lists (λ cursor. cursor) after ≡ all_lists (λ cursor. cursor) before
-    → map (λ (variant : Vec (Item HitPlace) Global). map size_of variant.items) after ≡ map (λ (variant : Vec (Item HitPlace) Global). map size_of variant.items) before
+pub sizes_kept : (before after : List (Variant HitPlace)) → all_lists (λ cursor. cursor) after ≡ all_lists (λ cursor. cursor) before → map sizes_of after ≡ map sizes_of before
 sizes_kept before after same = all_sizes after ∙ ap (map (map (option_map length))) same ∙ sym (all_sizes before)
 
-module _ (place : TestPlace) where
+-- cursors of terms have a price for each move
+item_is_plain : (item : Item HitPlace) → is_plain (λ cursor. true) item ≡ true
+item_is_plain Merged.Any = refl
+item_is_plain (Merged.Of cursors) = always cursors.items
+  where
+    always : (xs : List HitPlace) → list_all (λ cursor. true) xs ≡ true
+    always [] = refl
+    always (x ∷ xs) = always xs
+
+items_are_plain : (items : List (Item HitPlace)) → list_all (is_plain (λ cursor. true)) items ≡ true
+items_are_plain [] = refl
+items_are_plain (item ∷ items) = ap (λ b. b && list_all (is_plain (λ cursor. true)) items) (item_is_plain item) ∙ items_are_plain items
+
+pub all_are_plain : (variants : List (Variant HitPlace)) → all_plain (λ cursor. true) variants ≡ true
+all_are_plain [] = refl
+all_are_plain (variant ∷ variants) = ap (λ b. b && all_plain (λ cursor. true) variants) (items_are_plain variant.items.items) ∙ all_are_plain variants
+
+module _ (place : AskedPlace) where
+  -- aimed variants stand at as many places as their terms
+  pub aimed_law : (terms : List (List WordTerms)) (variants : List (Variant HitPlace)) → AreAimed place terms variants
+      → places_between place.span.from place.span.to (wanted_words (λ cursor. cursor) variants) ≡ places_between place.span.from place.span.to (map (map (wanted_at place)) terms)
+  aimed_law terms variants aimed = as_wanted (λ cursor. cursor) place.span.to variants (map (map (wanted_at place)) terms) place.span.from aimed
+
   pub text_length : length (text_at place) ≡ place.span.to - place.span.from
   text_length =
       let all = words_of (document_at place.doc.0 place.version.now) in

@@ -1,8 +1,11 @@
--- What each kind of compiled selection says.
-use Rattle.std.proofs.Common.{◌≡◌, refl, ap, ◌∙◌, List, [], ◌∷◌, map, Box, Global, rules, not, ◌&&◌, ◌||◌}
-use Rattle.std.specs.List.{list_any, list_all}
+-- What each kind of compiled selection says, and what its tests cost.
+use Rattle.std.proofs.Common.{◌≡◌, refl, ap, ◌∙◌, ℕ, sum, List, [], ◌∷◌, map, Box, Global, rules, not, ◌&&◌, ◌||◌}
+use Rattle.std.specs.List.{list_any, list_all, sum_by}
+use Rattle.std.proofs.lemmas.List.Sums.{sum-map}
+use Rattle.plan_compiler.specs.NodeCosts.{node_cost, words_cost}
 use Rattle.plan_compiler.specs.NodeMeaning.{layer, truth}
 use Rattle.plan_compiler.specs.WordsMeaning.{words_truth}
+use Rattle.plan_compiler.specs.declared.item_matching.ItemTest.{ItemTest}
 use Rattle.plan_compiler.specs.declared.text_word.TextWord.{TextWord}
 use Rattle.plan_compiler.specs.declared.words_plan.WordsPlan.{WordsPlan}
 use Rattle.plan_compiler.specs.declared.node.Node.TheOpen.{Node-F}
@@ -37,3 +40,28 @@ truth-And parts words = ap (λ f. f words) (truth-all_parts parts) ∙ all_of_tr
 pub truth-Not : (part : Box Node Global) (words : List TextWord) → truth (Not part) words ≡ not (truth part.value words)
 unfolding truth
 truth-Not part words = search (rules, the_lemmas)
+
+-- ---- what its tests cost
+
+module _ (cost : ItemTest → ℕ) where
+  pub cost-Words : (plan : WordsPlan) → node_cost cost (Words plan) ≡ words_cost cost plan
+  unfolding node_cost
+  cost-Words plan = search (rules, the_lemmas)
+
+  cost-parts : (parts : List Node) → node_cost cost (Or parts) ≡ sum (map (node_cost cost) parts)
+  unfolding node_cost
+  cost-parts parts = search (rules, the_lemmas)
+
+  cost-all_parts : (parts : List Node) → node_cost cost (And parts) ≡ sum (map (node_cost cost) parts)
+  unfolding node_cost
+  cost-all_parts parts = search (rules, the_lemmas)
+
+  pub cost-Or : (parts : List Node) → node_cost cost (Or parts) ≡ sum_by (node_cost cost) parts
+  cost-Or parts = cost-parts parts ∙ sum-map (node_cost cost) parts
+
+  pub cost-And : (parts : List Node) → node_cost cost (And parts) ≡ sum_by (node_cost cost) parts
+  cost-And parts = cost-all_parts parts ∙ sum-map (node_cost cost) parts
+
+  pub cost-Not : (part : Box Node Global) → node_cost cost (Not part) ≡ node_cost cost part.value
+  unfolding node_cost
+  cost-Not part = search (rules, the_lemmas)

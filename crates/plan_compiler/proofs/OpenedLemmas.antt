@@ -1,9 +1,10 @@
 -- Compiled words opened over a version say of words of its documents what they say by tests.
-use Rattle.std.proofs.Common.{◌≡◌, refl, sym, ap, ◌∙◌, ℕ, ◌+◌, ◌<◌, suc, Bool, true, false, ◌&&◌, ◌||◌, not, cond, List, [], ◌∷◌, ◌++◌, map, sum, length, get_or, take, true≢false, arith, subst, Box, Global}
-use Rattle.std.specs.List.{All, list_all, list_any, range_with_len}
+use Rattle.std.proofs.Common.{◌≡◌, refl, sym, ap, ◌∙◌, ℕ, ◌+◌, ◌<◌, ◌≤◌, suc, Bool, true, false, ◌&&◌, ◌||◌, not, cond, List, [], ◌∷◌, ◌++◌, map, sum, length, get_or, take, true≢false, arith, subst, Box, Global}
+use Rattle.std.specs.List.{All, list_all, list_any, range_with_len, sum_by}
 use Rattle.std.specs.declared.vec.Vec.{Vec}
 use Rattle.std.proofs.lemmas.List.{map_more, map_push}
 use Rattle.std.proofs.lemmas.List.Elements.{All-filter, All-from_get_or, All-map, All-push}
+use Rattle.std.proofs.lemmas.List.Sums.{sum_by_more, sum_by_push}
 use Rattle.std.proofs.lemmas.List.FromFn.{get_or-range_with_len, length-range_with_len}
 use Rattle.all_matches.specs.Compositional.{enough}
 use Rattle.all_matches.specs.Counting.{begins_as, places}
@@ -18,8 +19,11 @@ use Rattle.word_lists.specs.Stems.{Stem}
 use Rattle.plan_compiler.specs.steps.AskedKeys.{asks_nothing, forms_pass}
 use Rattle.plan_compiler.specs.steps.ChosenTerms.{AreKnown, IsKnown, terms_for}
 use Rattle.plan_compiler.specs.ItemTests.{passes}
+use Rattle.plan_compiler.specs.NodeCosts.{node_cost}
+use Rattle.plan_compiler.specs.NodeCosts as node
 use Rattle.plan_compiler.specs.NodeMeaning.{truth}
-use Rattle.plan_compiler.specs.steps.OpenedWords.{AreOpened, IsOpened, opened_group, opened_item, opened_phrase, opened_words, word_test}
+use Rattle.plan_compiler.specs.steps.RunCosts.{group_cost, phrase_cost, run_cost, words_cost}
+use Rattle.plan_compiler.specs.steps.OpenedWords.{AreOpened, IsOpened, opened_group, opened_item, opened_phrase, opened_variant, opened_words, word_test}
 use Rattle.plan_compiler.specs.steps.RunShapes.{GroupShape, Shape, shape, shapes_of, words, words_shape}
 use Rattle.plan_compiler.specs.steps.RunTruth.{AreSound, AreThere, IsGroup, IsSound, IsWords, all_true, group_count, is_wanted, phrase_total, run_truth, some_true, words_say}
 use Rattle.plan_compiler.specs.TextWords.{word_as}
@@ -33,10 +37,13 @@ use Rattle.plan_compiler.specs.declared.phrase_plan.PhrasePlan.{PhrasePlan}
 use Rattle.plan_compiler.specs.declared.run_node.RunNode.{RunNode}
 use Rattle.plan_compiler.specs.declared.run_node.RunNode as R
 use Rattle.plan_compiler.specs.declared.run_node.RunWords.{RunWords}
+use Rattle.plan_compiler.specs.declared.run_node.WordTerms.{WordTerms}
 use Rattle.plan_compiler.specs.declared.run_node.WordTerms.TheVariants as Terms
 use Rattle.plan_compiler.specs.declared.text_word.TextWord.{TextWord}
 use Rattle.plan_compiler.specs.declared.words_plan.WordsPlan.{WordsPlan}
-use Rattle.plan_compiler.proofs.NodeViews.{truth-Words, truth-Or, truth-And, truth-Not}
+use Rattle.plan_compiler.proofs.NodeViews.{truth-Words, truth-Or, truth-And, truth-Not, cost-Words, cost-Or, cost-And, cost-Not}
+use Rattle.plan_compiler.proofs.SumLemmas.{sum_over_le}
+use Rattle.plan_compiler.proofs.TreeLemmas.{costs_are}
 use Rattle.plan_compiler.proofs.RunViews.{shape-Words, shape-Or, shape-And, shape-Not}
 
 -- ---- lists
@@ -135,15 +142,33 @@ module _ (looks : Looks) (stems : List Stem) (version : List Numbered) where
       All-map (All (IsGroup version)) (opened_phrase looks stems version) plan.phrases
       (every _ (λ (phrase : PhrasePlan). All-map (IsGroup version) (opened_group looks stems version) phrase.groups (every _ group_fits phrase.groups)) plan.phrases)
 
+  -- ---- what opened words cost, where no word costs more than its test
+
+  module _ (word_cost : WordTerms → ℕ) (test_cost : ItemTest → ℕ) (most : (test : ItemTest) → word_cost (opened_item looks stems version test) ≤ test_cost test) where
+    group_cheap : (variants : List (List ItemTest)) → group_cost word_cost (opened_group looks stems version variants) ≤ sum_by (sum_by test_cost) variants
+    group_cheap variants =
+        sum_over_le (sum_by word_cost) (sum_by test_cost) (opened_variant looks stems version)
+        (sum_over_le word_cost test_cost (opened_item looks stems version) most) variants
+
+    phrase_cheap : (plan : PhrasePlan) → phrase_cost word_cost (opened_phrase looks stems version plan) ≤ node.phrase_cost test_cost plan
+    phrase_cheap plan = sum_over_le (group_cost word_cost) (sum_by (sum_by test_cost)) (opened_group looks stems version) group_cheap plan.groups
+
+    words_cheap : (plan : WordsPlan) → words_cost word_cost (opened_words looks stems version plan) ≤ node.words_cost test_cost plan
+    words_cheap plan = sum_over_le (phrase_cost word_cost) (node.phrase_cost test_cost) (opened_phrase looks stems version) phrase_cheap plan.phrases
+
   -- ---- the kinds of a tree
 
   pub words_opened : (run : RunWords) (plan : WordsPlan) (node : Node) → node ≡ N.Words plan → words_shape run ≡ opened_words looks stems version plan → IsOpened looks stems version (shape (R.Words run)) node
-  unfolding run_truth IsSound
+  unfolding run_truth IsSound run_cost
   words_opened run plan node is opened =
       let own : shape (R.Words run) ≡ words (opened_words looks stems version plan) = shape-Words run ∙ ap words opened in
       subst (λ (s : Shape). IsOpened looks stems version s node) (sym own) (record {
         sound = words_fit plan;
         says = λ text known. words_says text known plan ∙ sym (ap (λ (n : Node). truth n (map (word_as looks stems) text)) is ∙ truth-Words plan (map (word_as looks stems) text));
+        cost = λ word_cost test_cost most.
+            let cheap = words_cheap word_cost test_cost most plan in
+            let whole = ap (node_cost test_cost) is ∙ cost-Words test_cost plan in
+            omega (arith, cheap, whole);
       })
 
   are_sound : (runs : List Shape) → All (IsSound version) runs → AreSound version (shapes_of runs)
@@ -166,7 +191,7 @@ module _ (looks : Looks) (stems : List Stem) (version : List Numbered) where
   list_all-map p f (x ∷ xs) = ap (λ b. p (f x) && b) (list_all-map p f xs)
 
   pub or_opened : (runs : Vec RunNode Global) (parts : List Node) (node : Node) → node ≡ N.Or parts → AreOpened looks stems version (map shape runs.items) parts → IsOpened looks stems version (shape (R.Or runs)) node
-  unfolding run_truth IsSound
+  unfolding run_truth IsSound run_cost
   or_opened runs parts node is opened =
       subst (λ (s : Shape). IsOpened looks stems version s node) (sym (shape-Or runs)) (record {
         sound = are_sound (map shape runs.items) opened.sound;
@@ -175,10 +200,15 @@ module _ (looks : Looks) (stems : List Stem) (version : List Numbered) where
             ∙ ap (list_any (λ b. b)) (opened.says text known)
             ∙ list_any-map (λ b. b) (λ (n : Node). truth n (map (word_as looks stems) text)) parts
             ∙ sym (ap (λ (n : Node). truth n (map (word_as looks stems) text)) is ∙ truth-Or parts (map (word_as looks stems) text));
+        cost = λ word_cost test_cost most.
+            let cheap = opened.cost word_cost test_cost most in
+            let all = costs_are word_cost (map shape runs.items) in
+            let whole = ap (node_cost test_cost) is ∙ cost-Or test_cost parts in
+            omega (arith, cheap, all, whole);
       })
 
   pub and_opened : (runs : Vec RunNode Global) (parts : List Node) (node : Node) → node ≡ N.And parts → AreOpened looks stems version (map shape runs.items) parts → IsOpened looks stems version (shape (R.And runs)) node
-  unfolding run_truth IsSound
+  unfolding run_truth IsSound run_cost
   and_opened runs parts node is opened =
       subst (λ (s : Shape). IsOpened looks stems version s node) (sym (shape-And runs)) (record {
         sound = are_sound (map shape runs.items) opened.sound;
@@ -187,16 +217,25 @@ module _ (looks : Looks) (stems : List Stem) (version : List Numbered) where
             ∙ ap (list_all (λ b. b)) (opened.says text known)
             ∙ list_all-map (λ b. b) (λ (n : Node). truth n (map (word_as looks stems) text)) parts
             ∙ sym (ap (λ (n : Node). truth n (map (word_as looks stems) text)) is ∙ truth-And parts (map (word_as looks stems) text));
+        cost = λ word_cost test_cost most.
+            let cheap = opened.cost word_cost test_cost most in
+            let all = costs_are word_cost (map shape runs.items) in
+            let whole = ap (node_cost test_cost) is ∙ cost-And test_cost parts in
+            omega (arith, cheap, all, whole);
       })
 
   pub not_opened : (run : Box RunNode Global) (part : Box Node Global) (node : Node) → node ≡ N.Not part → IsOpened looks stems version (shape run.value) part.value → IsOpened looks stems version (shape (R.Not run)) node
-  unfolding run_truth IsSound
+  unfolding run_truth IsSound run_cost
   not_opened run part node is opened =
       subst (λ (s : Shape). IsOpened looks stems version s node) (sym (shape-Not run)) (record {
         sound = opened.sound;
         says = λ text known.
             ap not (opened.says text known)
             ∙ sym (ap (λ (n : Node). truth n (map (word_as looks stems) text)) is ∙ truth-Not part (map (word_as looks stems) text));
+        cost = λ word_cost test_cost most.
+            let cheap = opened.cost word_cost test_cost most in
+            let whole = ap (node_cost test_cost) is ∙ cost-Not test_cost part in
+            omega (arith, cheap, whole);
       })
 
   -- one part more
@@ -212,4 +251,11 @@ module _ (looks : Looks) (stems : List Stem) (version : List Numbered) where
             ∙ (λ j. all.says text known j ++ opened.says text known j ∷ [])
             ∙ ap (λ (n : Node). map (λ (m : Node). truth m (map (word_as looks stems) text)) (take i nodes) ++ truth n (map (word_as looks stems) text) ∷ []) is
             ∙ sym (map_more (λ (m : Node). truth m (map (word_as looks stems) text)) nodes i node h);
+        cost = λ word_cost test_cost most.
+            let sum = ap (sum_by (run_cost word_cost)) shapes ∙ sum_by_push (run_cost word_cost) (map shape before) (shape run) in
+            let more = sum_by_more (node_cost test_cost) nodes i node h in
+            let own = ap (node_cost test_cost) is in
+            let first = all.cost word_cost test_cost most in
+            let then = opened.cost word_cost test_cost most in
+            omega (arith, sum, more, own, first, then);
       }

@@ -12,15 +12,18 @@ use Rattle.ft_base.specs.declared.words.Words.{Words}
 use Rattle.ft_base.specs.declared.words.Mode.{Mode}
 use Rattle.ft_base.specs.declared.words.Mode.TheVariants.{Any, AnyWord, All, AllWords, Phrase}
 use Rattle.text_forms.specs.Forms.{key_of}
-use Rattle.all_matches.specs.Variants.{Item, any_word, word, pattern, without_stop_word, reached_phrases}
+use Rattle.all_matches.specs.Variants.{Item, any_word, word, pattern, without_stop_word, reached_keys}
 use Rattle.all_matches.specs.Hits.{passes_item, Interval, intervals}
 use Rattle.all_matches.specs.Meaning.{singly, phrases_by}
 use Rattle.all_matches.specs.Counting.{begins_as, places, product, by_length, joined_count, hit_count, value_count}
-use Rattle.all_matches.proofs.VariantPlaces.{hits_by_places}
+use Rattle.all_matches.proofs.ListTests.{list_any-map}
+use Rattle.all_matches.proofs.VariantPlaces.{hits_by_places, places_alike}
 use Rattle.match_options.specs.Items.{items_of}
 use Rattle.match_options.specs.TokenTest.{is_on, case_of, has_case}
 use Rattle.match_options.specs.WordForms.{forms_of}
 use Rattle.match_options.specs.WordTests.{choice_of, is_by_key, item_passes, forms_as}
+use Rattle.thesaurus_file.specs.Phrases.{in_order}
+use Rattle.thesaurus_file.proofs.OrderLemmas.{any_in_order}
 use Rattle.word_lists.specs.Stems.{stem_in}
 use Rattle.plan_compiler.specs.CompiledWords.{IsCompiled}
 use Rattle.plan_compiler.specs.ItemTests.{passes}
@@ -161,7 +164,7 @@ module _ (looks : Looks) (lists : NamedLists) (options : Options) (reading : Rea
       ap (λ choice. item_passes choice (pattern p) (forms_as looks.all_forms token.word)) reads.choice
       ∙ by_forms looks.all_forms (choice_of options) (pattern p) token.word parts.0
 
-  word_passes : (item : Item) (token : Token) → item_test reading item (word_as looks lists.stems token.word) ≡ passes_item (lexicon lists) options (bare item) token
+  pub word_passes : (item : Item) (token : Token) → item_test reading item (word_as looks lists.stems token.word) ≡ passes_item (lexicon lists) options (bare item) token
   word_passes item token = ap (λ x. bare_test reading x (word_as looks lists.stems token.word)) (same_item item) ∙ bare_passes (bare item) token
 
   abbrev text : List Token → List TextWord
@@ -190,15 +193,31 @@ module _ (looks : Looks) (lists : NamedLists) (options : Options) (reading : Rea
   no_hit : (tokens : List Token) → hit_count (lexicon lists) options tokens [] ≡ 0
   no_hit tokens = none_found (intervals (length tokens))
 
+  -- a phrase that is reached more than once stands no oftener
+  once_alike : (phrase : List Item) (keys : List (List (List ℕ))) (test : List Item → Bool)
+      → list_any test (map (map bare) (phrase ∷ map (map word) (in_order keys))) ≡ list_any test (map (map bare) (phrase ∷ map (map word) keys))
+  once_alike phrase keys test =
+      ap (λ some. test (map bare phrase) || some)
+      (some_reached (in_order keys) ∙ any_in_order (λ reached. test (map bare (map word reached))) keys ∙ sym (some_reached keys))
+    where
+      some_reached : (all : List (List (List ℕ))) → list_any test (map (map bare) (map (map word) all)) ≡ list_any (λ reached. test (map bare (map word reached))) all
+      some_reached all =
+          list_any-map test (map bare) (map (map word) all)
+          ∙ list_any-map (λ items. test (map bare items)) (map word) all
+
   phrase_hits : (phrase : List Item) (tokens : List Token) → tests_count (grouped_tests reading phrase) (text tokens) ≡ hit_count (lexicon lists) options tokens phrase
   phrase_hits [] tokens = sym (no_hit tokens)
   phrase_hits (item ∷ phrase) tokens =
-      let these = (item ∷ phrase) ∷ reached_phrases (lexicon lists) options.thesaurus (item ∷ phrase) in
-      let same : phrases_for reading (item ∷ phrase) ≡ these = λ i. (item ∷ phrase) ∷ reached_phrases (lexicon (reads.named i)) (reads.thesaurus i) (item ∷ phrase) in
+      let keys = reached_keys (lexicon lists) options.thesaurus (item ∷ phrase) in
+      let once = (item ∷ phrase) ∷ map (map word) (in_order keys) in
+      let all = (item ∷ phrase) ∷ map (map word) keys in
+      let same : phrases_for reading (item ∷ phrase) ≡ once =
+      λ i. (item ∷ phrase) ∷ map (map word) (in_order (reached_keys (lexicon (reads.named i)) (reads.thesaurus i) (item ∷ phrase))) in
       ap (λ ps. tests_count (map (λ group. group.1) (by_length (map (map (item_test reading)) ps))) (text tokens)) same
-      ∙ ap (λ groups. tests_count (map (λ group. group.1) groups) (text tokens)) (by_length-map (item_test reading) these)
-      ∙ ap sum (groups_stand (by_length these) tokens)
-      ∙ ap (λ groups. sum (map (λ group. places (passes_item (lexicon lists) options) group.1 tokens) groups)) (sym (by_length-map bare these))
+      ∙ ap (λ groups. tests_count (map (λ group. group.1) groups) (text tokens)) (by_length-map (item_test reading) once)
+      ∙ ap sum (groups_stand (by_length once) tokens)
+      ∙ ap (λ groups. sum (map (λ group. places (passes_item (lexicon lists) options) group.1 tokens) groups)) (sym (by_length-map bare once))
+      ∙ places_alike (lexicon lists) options (map (map bare) once) (map (map bare) all) (once_alike (item ∷ phrase) keys) tokens
       ∙ sym (hits_by_places (lexicon lists) options (item ∷ phrase) tokens)
 
   phrases_hits : (phrases : List (List Item)) (tokens : List Token)

@@ -2,11 +2,8 @@
 use Rattle.std.proofs.Common.{◌≡◌, ℕ, ◌+◌, ◌-◌, ◌<◌, ◌≤◌, zero, suc, Bool, true, false, cond, ◌&&◌, ◌||◌, ◌==◌, List, [], ◌∷◌, length, map, filter, flat_map, drop, get_or, Some, None, refl, ap, sym, ◌∙◌, arith}
 use Rattle.std.specs.Prelude.{nat_le, nat_lt}
 use Rattle.std.specs.List.{list_any, range_with_len}
-use Rattle.std.specs.Ordering.{is_lt, is_le, is_eq, nat_cmp}
+use Rattle.std.specs.Ordering.{is_lt, is_le, is_eq}
 use Rattle.std.specs.declared.cmp.Ordering.TheVariants.{Equal}
-use Rattle.std.specs.Cmp.{Equal-is}
-use Rattle.std.specs.Cmp.Lexicographic.{slice_cmp}
-use Rattle.std.specs.FinMap.{slice_cmp-IsAntisymmetric, nat_cmp-IsAntisymmetric}
 use Rattle.std.proofs.Math.Bool.{and-true, or-false}
 use Rattle.std.proofs.lemmas.Bool.{and_from, or_left, or_right, eqb-true, eq-eqb, ne_eqb, le-leb, lt-ltb, false_from_ne_true}
 use Rattle.std.proofs.lemmas.Cmp.{nat_list_cmp_total, tied_itself}
@@ -19,27 +16,22 @@ use Rattle.ft_base.specs.declared.span.Span.{Span}
 use Rattle.all_matches.proofs.ListTests.{list_any-map}
 use Rattle.text_forms.specs.Forms.{key_of}
 use Rattle.index_meaning.specs.Documents.{Numbered, breaks_of, document_at, has_document, token_count, words_of}
-use Rattle.index_meaning.specs.Entries.{Entry, entry, entry_cmp, text_cmp, found, has_entry, is_sorted, same_keys, smaller_keys, span, with_entry, with_entries}
+use Rattle.index_meaning.specs.Entries.{Entry, entry, entry_cmp, text_cmp, found, has_entry, is_sorted, same_keys, smaller_keys, span}
 use Rattle.index_meaning.specs.Index.{term_of}
 use Rattle.index_meaning.specs.Postings.{places, places_from, same_word}
 use Rattle.term_dict.specs.declared.places.Place.TheVariants.{AtKey, BehindKey}
 use Rattle.term_dict.proofs.OrderLemmas.{equal_turned}
 use Rattle.term_dict.proofs.RankLemmas.{rank_above, rank_upto, rank_within, upto_key}
-use Rattle.term_dict.proofs.TermLemmas.{sorted_with}
 use Rattle.index_cursors.specs.SpanHits.{is_inside, word_hit}
 use Rattle.index_versions.specs.Versions.{term_at, term_hits, terms_of}
 use Rattle.index_versions.proofs.EntryLemmas.{equal_is, equal_same}
 use Rattle.index_versions.proofs.NamingLemmas.{has_with_entries}
+use Rattle.index_versions.proofs.PlacesLemmas.{same_word_is, same_word_same}
+use Rattle.index_versions.proofs.TermsLemmas.{sorted_all}
 use Rattle.plan_compiler.specs.steps.ChosenTerms.{is_among, numbers_in, passing, terms_for}
 use Rattle.plan_compiler.specs.RunMeaning.{words_at}
 
 -- ---- the terms of a version
-
-same_word_is : (a b : List ℕ) → same_word a b ≡ true → a ≡ b
-same_word_is a b same = slice_cmp-IsAntisymmetric nat_cmp-IsAntisymmetric a b ((Equal-is (slice_cmp nat_cmp a b)).0 same)
-
-same_word_same : (a : List ℕ) → same_word a a ≡ true
-same_word_same a = (Equal-is (slice_cmp nat_cmp a a)).1 (tied_itself nat_list_cmp_total a)
 
 -- the words of all documents
 abbrev all_words : List Numbered → List (List ℕ)
@@ -75,7 +67,7 @@ number_there version e there =
     (at.0, at.2, get_or_default (terms_of version) at.0 (entry [] []) at.1 at.2 ∙ at.3 ∙ sym (equal_is e at.1 at.4))
 
 -- the key of a term is that of its word
-term_keyed : (version : List Numbered) (n : ℕ) → n < length (terms_of version) → (term_at n version).key ≡ key_of (term_at n version).word
+pub term_keyed : (version : List Numbered) (n : ℕ) → n < length (terms_of version) → (term_at n version).key ≡ key_of (term_at n version).word
 term_keyed version n within =
     let e = term_at n version in
     let there : has_entry e (terms_of version) ≡ true = list_any_at (λ (f : Entry). is_eq (entry_cmp e f)) (terms_of version) n (entry [] []) within (equal_same e) in
@@ -83,12 +75,8 @@ term_keyed version n within =
     let is : e ≡ term_of key_of at.1 = equal_is e (term_of key_of at.1) at.4 in
     ap (λ (f : Entry). f.key) is ∙ sym (ap (λ (f : Entry). key_of f.word) is)
 
-sorted_with_all : (new es : List Entry) → is_sorted es ≡ true → is_sorted (with_entries new es) ≡ true
-sorted_with_all [] es sorted = sorted
-sorted_with_all (e ∷ new) es sorted = sorted_with_all new (with_entry e es) (sorted_with e es sorted)
-
-terms_sorted : (version : List Numbered) → is_sorted (terms_of version) ≡ true
-terms_sorted version = sorted_with_all (map (term_of key_of) (all_words version)) [] refl
+pub terms_sorted : (version : List Numbered) → is_sorted (terms_of version) ≡ true
+terms_sorted version = sorted_all (map (term_of key_of) (all_words version)) [] refl
 
 -- a word of a document is among the terms whose words pass a test exactly where it passes
 pub word_law : (version : List Numbered) (test : List ℕ → Bool) (doc k : ℕ) → has_document doc version ≡ true → k < token_count (document_at doc version)

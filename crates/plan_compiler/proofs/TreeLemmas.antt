@@ -1,13 +1,18 @@
--- What the kinds of a run's tree say, and when they fit.
-use Rattle.std.proofs.Common.{◌≡◌, sym, ap, subst, ◌∙◌, ℕ, ◌+◌, ◌<◌, ◌≤◌, true, false, not, ◌&&◌, ◌||◌, List, [], ◌∷◌, map, length, get_or, drop, suc, zero, arith, Box, Global}
+-- What the kinds of a run's tree say, what they cost, and when they fit.
+use Rattle.std.proofs.Common.{◌≡◌, refl, sym, ap, subst, ◌∙◌, ℕ, ◌+◌, ◌<◌, ◌≤◌, true, false, not, ◌&&◌, ◌||◌, List, [], ◌∷◌, map, length, get_or, drop, take, suc, zero, arith, Box, Global}
 use Rattle.std.specs.declared.vec.Vec.{Vec}
+use Rattle.std.specs.List.{sum_by}
 use Rattle.std.proofs.lemmas.List.{drop_all, drop_more}
+use Rattle.std.proofs.lemmas.List.Sums.{sum_by-cons}
 use Rattle.index_meaning.specs.Documents.{Numbered}
+use Rattle.plan_compiler.specs.steps.RunCosts.{run_cost, run_costs, words_cost}
 use Rattle.plan_compiler.specs.steps.RunShapes.{Shape, Shapes, shape, shapes_of, words, any_of, all_of, not_of, none, more, words_shape}
 use Rattle.plan_compiler.specs.steps.RunTruth.{AreSound, IsSound, IsWords, all_true, run_truth, some_true, words_say}
 use Rattle.plan_compiler.specs.declared.run_node.RunWords.{RunWords}
+use Rattle.plan_compiler.specs.declared.run_node.WordTerms.{WordTerms}
 use Rattle.plan_compiler.specs.declared.run_node.RunNode.{RunNode}
 use Rattle.plan_compiler.specs.declared.run_node.RunNode as R
+use Rattle.plan_compiler.proofs.SumLemmas.{so_far}
 use Rattle.plan_compiler.proofs.RunViews.{shape-Words, shape-Or, shape-And, shape-Not}
 
 module _ (version : List Numbered) (text : List (List ℕ)) (node : RunNode) where
@@ -125,3 +130,31 @@ module _ (node : RunNode) where
   pub weight-Not : (part : Box RunNode Global) → node ≡ R.Not part → weight (shape node) ≡ 1 + weight (shape part.value)
   unfolding weight
   weight-Not part is = ap weight (ap shape is ∙ shape-Not part)
+
+-- ---- what they cost
+
+module _ (cost : WordTerms → ℕ) (node : RunNode) where
+  pub cost-Words : (run : RunWords) → node ≡ R.Words run → run_cost cost (shape node) ≡ words_cost cost (words_shape run)
+  unfolding run_cost
+  cost-Words run is = ap (run_cost cost) (ap shape is ∙ shape-Words run)
+
+  pub cost-Or : (parts : Vec RunNode Global) → node ≡ R.Or parts → run_cost cost (shape node) ≡ run_costs cost (shapes_of (map shape parts.items))
+  unfolding run_cost
+  cost-Or parts is = ap (run_cost cost) (ap shape is ∙ shape-Or parts)
+
+  pub cost-And : (parts : Vec RunNode Global) → node ≡ R.And parts → run_cost cost (shape node) ≡ run_costs cost (shapes_of (map shape parts.items))
+  unfolding run_cost
+  cost-And parts is = ap (run_cost cost) (ap shape is ∙ shape-And parts)
+
+  pub cost-Not : (part : Box RunNode Global) → node ≡ R.Not part → run_cost cost (shape node) ≡ run_cost cost (shape part.value)
+  unfolding run_cost
+  cost-Not part is = ap (run_cost cost) (ap shape is ∙ shape-Not part)
+
+pub costs_are : (cost : WordTerms → ℕ) (shapes : List Shape) → run_costs cost (shapes_of shapes) ≡ sum_by (run_cost cost) shapes
+unfolding run_costs
+costs_are cost [] = refl
+costs_are cost (first ∷ rest) = ap (λ n. run_cost cost first + n) (costs_are cost rest) ∙ sym (sum_by-cons (run_cost cost) first rest)
+
+-- the parts so far
+pub costs_so_far : (cost : WordTerms → ℕ) (shapes : List Shape) (i start end : ℕ) → end ≤ start + sum_by (run_cost cost) (take i shapes) → end ≤ start + run_costs cost (shapes_of shapes)
+costs_so_far cost shapes i start end h = omega (arith, so_far (run_cost cost) shapes i start end h, costs_are cost shapes)

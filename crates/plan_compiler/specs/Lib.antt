@@ -13,6 +13,11 @@ pub mod GroupedTests
 pub mod WordsMeaning
 pub mod CompiledWords
 pub mod NodeMeaning
+pub mod NodeCosts
 pub mod PlanMeaning
 pub mod RunMeaning
+pub mod Price
+pub mod PriceExamples
+pub mod Judgement
+pub mod CompiledSelection
 pub mod steps

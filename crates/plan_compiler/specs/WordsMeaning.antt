@@ -4,11 +4,12 @@ use Rattle.ft_base.specs.declared.options.Case.{Case}
 use Rattle.ft_base.specs.declared.words.Mode.{Mode}
 use Rattle.ft_base.specs.declared.words.Mode.TheVariants.{Any, AnyWord, All, AllWords, Phrase}
 use Rattle.text_forms.specs.Forms.{key_of}
-use Rattle.all_matches.specs.Variants.{Item, any_word, word, pattern, reached_phrases}
+use Rattle.all_matches.specs.Variants.{Item, any_word, word, pattern, reached_keys}
 use Rattle.all_matches.specs.Counting.{by_length, places, product}
 use Rattle.all_matches.specs.Compositional.{enough}
 use Rattle.match_options.specs.TokenTest.{has_case}
 use Rattle.match_options.specs.WordTests.{item_passes}
+use Rattle.thesaurus_file.specs.Phrases.{in_order}
 use Rattle.word_lists.specs.Stems.{Stem, stem_in}
 use Rattle.plan_compiler.specs.ItemTests.{passes}
 use Rattle.plan_compiler.specs.Lexicon.{lexicon}
@@ -61,11 +62,14 @@ item_test reading item = bare_test reading (read_item reading item)
 
 -- ---- phrases
 
+-- what thesauri reach from a phrase, in order, each phrase once
+abbrev pub reached_once : Reading → List Item → List (List (List ℕ))
+reached_once reading phrase = in_order (reached_keys (lexicon reading.lists.now) (option_map (λ lent. lent.now) reading.thesaurus) phrase)
+
 -- the phrase itself, and those that thesauri reach from it
 abbrev pub phrases_for : Reading → List Item → List (List Item)
 phrases_for reading [] = []
-phrases_for reading (first ∷ rest) =
-    (first ∷ rest) ∷ reached_phrases (lexicon reading.lists.now) (option_map (λ lent. lent.now) reading.thesaurus) (first ∷ rest)
+phrases_for reading (first ∷ rest) = (first ∷ rest) ∷ map (map word) (reached_once reading (first ∷ rest))
 
 -- the tests of the phrases for a phrase, those of one length together
 abbrev pub grouped_tests : Reading → List Item → List (List (List (TextWord → Bool)))

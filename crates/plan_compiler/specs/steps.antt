@@ -5,5 +5,6 @@ pub mod RunShapes
 pub mod RunTruth
 pub mod OpenedWords
 pub mod CursorPlace
-pub mod TestPlaces
+pub mod AskedPlaces
+pub mod RunCosts
 pub mod Telling

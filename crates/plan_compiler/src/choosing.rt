@@ -15,7 +15,7 @@ use crate::looks::Looks;
 use crate::text_word::text_word;
 use ft_base::{Items, Memory};
 use index_versions::Version;
-use match_options::WordTest;
+use match_options::{PlaceRow, WordTest};
 use std::alloc::Global;
 
 /// The version over which a plan is opened, and how the plan looks at words.
@@ -61,8 +61,9 @@ fn passing(
         (range_with_len from (to - from))) }
 {
     let mut numbers = Items::new(opening.alloc);
+    let mut row = PlaceRow::new(opening.alloc);
     for number in from..to {
-        push_passing(opening, test, number, &mut numbers)?;
+        push_passing(opening, test, &mut row, number, &mut numbers)?;
     }
     Ok(numbers)
 }
@@ -71,6 +72,7 @@ fn passing(
 fn push_passing(
     opening: &Opening<'_>,
     test: &ItemTest,
+    row: &mut PlaceRow,
     number: usize,
     numbers: &mut Items<usize>,
 ) -> Result<(), Memory>
@@ -78,21 +80,26 @@ fn push_passing(
     ensures { OnOk result (numbers.new ≡ numbers.old ++ cond
         (word_test opening.now.looks opening.now.lists.now.stems test.now (term_at number opening.now.version.now).word) (number ∷ []) []) }
 {
-    if passes(opening, test, number)? {
+    if passes(opening, test, row, number)? {
         numbers.push(number)?;
     }
     Ok(())
 }
 
 /// Whether the word of the term of that number passes.
-fn passes(opening: &Opening<'_>, test: &ItemTest, number: usize) -> Result<bool, Memory>
+fn passes(
+    opening: &Opening<'_>,
+    test: &ItemTest,
+    row: &mut PlaceRow,
+    number: usize,
+) -> Result<bool, Memory>
     requires { number < length (terms_of opening.now.version.now) }
     ensures { IfOk result (λ passed.
         passed ≡ word_test opening.now.looks opening.now.lists.now.stems test.now (term_at number opening.now.version.now).word) }
 {
     let term = opening.version.term(number);
     let word = text_word(opening.alloc, opening.looks, opening.lists, term.word)?;
-    Ok(test.passes(&word))
+    test.passes_in(&word, row)
 }
 
 /// The one key that words have which pass, where the test asks for one.

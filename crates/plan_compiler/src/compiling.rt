@@ -1,15 +1,11 @@
 //! Selections compiled.
 
-ghost use Rattle.std.specs.Prelude.{◌≡◌, IfOk, IsTrue, List, map};
-ghost use Rattle.ft_base.specs.declared.token.Token.{Token};
+ghost use Rattle.std.specs.Prelude.{IfOk, IsTrue, map};
 ghost use Rattle.ft_syntax.specs.View.{form, forms_of};
 ghost use Rattle.ft_base.specs.Selection.{words};
-ghost use Rattle.all_matches.specs.Meaning.{sat_under};
 ghost use Rattle.plan_compiler.specs.ChosenOptions.{options_of};
+ghost use Rattle.plan_compiler.specs.CompiledSelection.{CompileAll, Compiles};
 ghost use Rattle.plan_compiler.specs.Served.{all_served, are_served, is_served};
-ghost use Rattle.plan_compiler.specs.Lexicon.{lexicon};
-ghost use Rattle.plan_compiler.specs.NodeMeaning.{truth};
-ghost use Rattle.plan_compiler.specs.TextWords.{words_of_tokens};
 
 use crate::chosen::{Chosen, inside};
 use crate::compiling_words::compile_words;
@@ -21,7 +17,7 @@ use ft_syntax::{Selection, Selections};
 use std::alloc::Global;
 
 /// The compiled form of a selection under the options that stand round it: it says of every text whether the text satisfies the
-/// selection, by what is looked at of its words.
+/// selection, by what is looked at of its words, and its tests have together at most the price of the selection.
 #[cycle(compile)]
 pub(crate) fn compile(
     alloc: Global,
@@ -32,8 +28,7 @@ pub(crate) fn compile(
 ) -> Result<Node, Memory>
     requires options { IsTrue (are_served looks (options_of chosen.now)) }
     requires selection { IsTrue (is_served looks (form selection.now)) }
-    ensures { IfOk result (λ node. (tokens : List Token) →
-        truth node (words_of_tokens looks lists.now.stems tokens) ≡ sat_under (lexicon lists.now) (options_of chosen.now) (form selection.now) tokens) }
+    ensures { IfOk result (λ node. Compiles looks lists.now (options_of chosen.now) node (form selection.now)) }
 {
     match selection {
         Selection::Words(words) => compile_value(alloc, lists, looks, chosen, words),
@@ -60,9 +55,7 @@ fn compile_boxed(
 ) -> Result<Box<Node>, Memory>
     requires options { IsTrue (are_served looks (options_of chosen.now)) }
     requires selection { IsTrue (is_served looks (form operand.now.value)) }
-    ensures { IfOk result (λ node. (tokens : List Token) →
-        truth node.value (words_of_tokens looks lists.now.stems tokens)
-        ≡ sat_under (lexicon lists.now) (options_of chosen.now) (form operand.now.value) tokens) }
+    ensures { IfOk result (λ node. Compiles looks lists.now (options_of chosen.now) node.value (form operand.now.value)) }
 {
     let node = compile(alloc, lists, looks, chosen, operand)?;
     Ok(Box::new(alloc, node)?)
@@ -78,8 +71,7 @@ fn compile_all(
 ) -> Result<Items<Node>, Memory>
     requires options { IsTrue (are_served looks (options_of chosen.now)) }
     requires selections { IsTrue (all_served looks (forms_of (map form parts.now))) }
-    ensures { IfOk result (λ nodes. (tokens : List Token) → map (λ node. truth node (words_of_tokens looks lists.now.stems tokens)) nodes
-        ≡ map (λ part. sat_under (lexicon lists.now) (options_of chosen.now) (form part) tokens) parts.now) }
+    ensures { IfOk result (λ nodes. CompileAll looks lists.now (options_of chosen.now) nodes parts.now) }
 {
     let mut nodes = Items::new(alloc);
     for part in parts.as_slice() {
@@ -98,8 +90,7 @@ fn compile_value(
 ) -> Result<Node, Memory>
     requires options { IsTrue (are_served looks (options_of chosen.now)) }
     requires inner { IsTrue (are_served looks value.now.options) }
-    ensures { IfOk result (λ node. (tokens : List Token) →
-        truth node (words_of_tokens looks lists.now.stems tokens) ≡ sat_under (lexicon lists.now) (options_of chosen.now) (words value.now) tokens) }
+    ensures { IfOk result (λ node. Compiles looks lists.now (options_of chosen.now) node (words value.now)) }
 {
     let chosen = inside(&value.options, chosen);
     Ok(Node::Words(compile_words(alloc, lists, value, &chosen)?))

@@ -1,12 +1,12 @@
 //! What a word of a text has to be for an item of a query.
 
-ghost use Rattle.std.specs.Prelude.{◌≡◌};
+ghost use Rattle.std.specs.Prelude.{◌≡◌, ◌&&◌, IfOk, bytes_eq};
 ghost use Rattle.match_options.specs.TokenTest as token;
 ghost use Rattle.plan_compiler.specs.ItemTests as spec;
 
 use crate::text_word::TextWord;
-use ft_base::{Case, Line};
-use match_options::{Forms, WordTest};
+use ft_base::{Case, Line, Memory};
+use match_options::{Forms, PlaceRow, WordTest};
 
 /// What a word of a text has to be.
 #[derive(Drop)]
@@ -25,11 +25,27 @@ impl ItemTest {
     {
         match self {
             ItemTest::ByForms(test) => test.passes(&word.forms),
-            ItemTest::ByStem(stem, case) => {
-                stem.as_str() == word.stem.as_str() && has_case(*case, &word.forms)
-            }
+            ItemTest::ByStem(stem, case) => has_stem(stem, *case, word),
         }
     }
+
+    /// The same, where patterns are compared with words in a row of places that is kept from one word to the next.
+    #[tactic(auto, unfolding(crate::specs::ItemTests::passes))]
+    pub(crate) fn passes_in(&self, word: &TextWord, row: &mut PlaceRow) -> Result<bool, Memory>
+        ensures { IfOk result (λ passed. passed ≡ spec.passes self.now word.now) }
+    {
+        match self {
+            ItemTest::ByForms(test) => test.passes_in(&word.forms, row),
+            ItemTest::ByStem(stem, case) => Ok(has_stem(stem, *case, word)),
+        }
+    }
+}
+
+/// Whether a word has the stem, in the case that is asked for.
+fn has_stem(stem: &Line, case: Case, word: &TextWord) -> bool
+    ensures { result ≡ (bytes_eq stem.now word.now.stem && token.has_case case word.now.forms) }
+{
+    stem.as_str() == word.stem.as_str() && has_case(case, &word.forms)
 }
 
 /// What `lowercase` and `uppercase` ask of the word of the text.

@@ -4,6 +4,7 @@
 #![tactic(auto)]
 
 mod aiming;
+mod asked_place;
 mod choosing;
 mod chosen;
 mod compiling;
@@ -11,8 +12,11 @@ mod compiling_words;
 mod counting;
 mod decided;
 mod deciding;
+pub mod examples;
 mod fault;
+mod holding;
 mod item_matching;
+mod judge;
 mod lists;
 mod looks;
 mod missing;
@@ -20,20 +24,21 @@ mod node;
 mod opening;
 mod phrase_plan;
 mod plan;
+mod rarity;
+mod reaching;
 mod reading;
 mod run;
 mod run_node;
 mod stops;
 mod term_cursor;
-mod test_place;
-mod testing;
 mod text_word;
 mod variants;
+mod words_holding;
 mod words_plan;
-mod words_testing;
 
 pub use decided::is_decided;
 pub use fault::CompileFault;
+pub use judge::{Direct, Judge};
 pub use lists::Lists;
 pub use missing::missing_list;
 pub use plan::Plan;

@@ -3,18 +3,19 @@
 ghost use Rattle.std.specs.Prelude.{◌≡◌, map, length, IfOk};
 ghost use Rattle.plan_compiler.specs.steps.AskedKeys as keys;
 ghost use Rattle.plan_compiler.specs.steps.OpenedWords as spec;
-ghost use Rattle.plan_compiler.specs.steps.RunShapes.{group_shape, phrase_shape, shape, size_of, wanted_size, words_shape};
+ghost use Rattle.plan_compiler.specs.steps.RunShapes.{group_shape, phrase_shape, shape, size_of, sizes_of, wanted_size, words_shape};
 
 use crate::choosing::{Opening, terms_for};
 use crate::item_matching::ItemTest;
 use crate::node::Node;
 use crate::phrase_plan::PhrasePlan;
+use crate::rarity::rarest;
 use crate::run_node::{RunGroup, RunNode, RunPhrase, RunWords, WordTerms};
 use crate::term_cursor::TermCursor;
 use crate::words_plan::WordsPlan;
 use ft_base::{Items, Memory};
 use match_options::WordTest;
-use place_merges::Item;
+use place_merges::{Item, Variant};
 
 /// The compiled selection, opened.
 #[cycle(open)]
@@ -141,16 +142,22 @@ fn forms_pass(test: &WordTest) -> bool
     }
 }
 
-/// A cursor for each term of each word of each variant.
+/// A cursor for each term of each word of each variant. The word that the fewest documents have leads.
 fn cursors_of_variants<'v>(
     opening: &Opening<'_>,
     variants: &[Items<WordTerms>],
-) -> Result<Vec<Vec<Item<TermCursor<'v>>>>, Memory>
-    ensures { IfOk result (λ made. map (λ variant. map size_of variant.items) made.items ≡ map (map wanted_size) variants.now) }
+) -> Result<Vec<Variant<TermCursor<'v>>>, Memory>
+    ensures { IfOk result (λ made. map sizes_of made.items ≡ map (map wanted_size) variants.now) }
 {
     let mut made = Vec::new(opening.alloc);
     for variant in variants {
-        made.push(cursors_of_words(opening, variant.as_slice())?)?;
+        let items = cursors_of_words(opening, variant.as_slice())?;
+        let lead = rarest(opening.version, variant.as_slice());
+        made.push(Variant {
+            items,
+            lead,
+            counts: true,
+        })?;
     }
     Ok(made)
 }

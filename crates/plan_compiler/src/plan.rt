@@ -4,6 +4,8 @@ ghost use Rattle.std.specs.Prelude.{◌≡◌, List, IfErr, IfOk, IsTrue, None};
 ghost use Rattle.ft_base.specs.declared.token.Token.{Token};
 ghost use Rattle.ft_syntax.specs.View.{form};
 ghost use Rattle.all_matches.specs.Meaning.{sat};
+ghost use Rattle.ft_base.specs.Selection.{no_options};
+ghost use Rattle.plan_compiler.specs.CompiledSelection.{Compiles};
 ghost use Rattle.plan_compiler.specs.Decided.{is_decided};
 ghost use Rattle.plan_compiler.specs.Lexicon.{lexicon};
 ghost use Rattle.plan_compiler.specs.Missing.{first_missing, IsMissing};
@@ -39,7 +41,7 @@ pub struct Plan {
     /// What it looks at of the words of a text.
     pub(crate) looks: Looks,
     pub(crate) root: Node,
-    ghost sound: { (tokens : List Token) → truth root (words_of_tokens looks lists.stems tokens) ≡ sat (lexicon lists) (form selection) tokens },
+    ghost sound: { Compiles looks lists no_options root (form selection) },
 }
 
 impl Plan {

@@ -5,12 +5,13 @@ ghost use Rattle.ft_base.specs.declared.token.Token.{Token};
 ghost use Rattle.all_matches.specs.Meaning.{sat};
 ghost use Rattle.index_meaning.specs.Documents.{document_at, has_document, token_count};
 ghost use Rattle.plan_compiler.specs.Lexicon.{lexicon};
+ghost use Rattle.plan_compiler.specs.Price.{price_at};
 ghost use Rattle.plan_compiler.specs.RunMeaning.{words_at};
 
+use crate::asked_place::AskedPlace;
+use crate::holding::node_holds;
 use crate::plan::Plan;
 use crate::run_node::RunNode;
-use crate::test_place::TestPlace;
-use crate::testing::node_holds;
 use ft_base::{DocId, Span, Steps};
 use index_versions::Version;
 use std::marker::Model;
@@ -43,17 +44,19 @@ impl<'v> Model for Run<'v> {
 }
 
 impl<'v> Run<'v> {
-    /// Whether the words of the span of the document satisfy the plan's selection. It moves cursors forward, and takes no memory.
+    /// Whether the words of the span of the document satisfy the plan's selection. It moves cursors forward, at most as often as the
+    /// selection's price at the span says, and takes no memory.
     pub fn test<L: Ledger>(&mut self, doc: DocId, span: Span, moves: &mut Steps<L>) -> bool
         requires there { has_document doc.0 self.old.version ≡ true }
         requires inside { (1 ≤ span.from) × (span.from ≤ span.to) × (span.to ≤ token_count (document_at doc.0 self.old.version) + 1) }
         ensures says { (tokens : List Token) → map (λ token. token.word) tokens ≡ words_at span (document_at doc.0 self.old.version)
             → result ≡ sat (lexicon self.old.lists) self.old.form tokens }
         ensures same { self.new ≡ self.old }
+        ensures price { moves.new ≤ moves.old + price_at self.old doc.0 span }
         ensures grown { moves.old ≤ moves.new }
     {
         let version = self.version;
-        let place = TestPlace { version, doc, span };
+        let place = AskedPlace { version, doc, span };
         node_holds(&place, &mut self.root, moves)
     }
 }

@@ -2,7 +2,7 @@
 
 use crate::term_cursor::TermCursor;
 use ft_base::{Items, Range};
-use place_merges::Item;
+use place_merges::Variant;
 
 /// A selection, opened over a version.
 #[derive(Drop)]
@@ -35,7 +35,7 @@ pub(crate) struct RunPhrase<'v> {
 #[derive(Drop)]
 pub(crate) struct RunGroup<'v> {
     pub(crate) terms: Items<Items<WordTerms>>,
-    pub(crate) variants: Vec<Vec<Item<TermCursor<'v>>>>,
+    pub(crate) variants: Vec<Variant<TermCursor<'v>>>,
 }
 
 /// Which words may stand at a place: any, or those of the terms of these numbers, which count from 0.

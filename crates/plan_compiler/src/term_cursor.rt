@@ -1,10 +1,10 @@
 //! Cursors over the places of a term in a span.
 
-ghost use Rattle.std.specs.Prelude.{◌≡◌, ◌≤◌, ◌<◌, length, true};
+ghost use Rattle.std.specs.Prelude.{◌≡◌, ◌+◌, ◌<◌, length, true};
 ghost use Rattle.ft_base.specs.Hits.{hit_place};
 ghost use Rattle.index_versions.specs.Versions.{term_hits, terms_of};
 
-use crate::test_place::TestPlace;
+use crate::asked_place::AskedPlace;
 use ft_base::{Hit, Hits, Steps};
 use index_cursors::Cursor;
 use std::marker::Model;
@@ -35,13 +35,13 @@ impl<'v> TermCursor<'v> {
     /// where it stands.
     pub(crate) fn aim<L: Ledger>(
         &mut self,
-        place: &TestPlace<'v>,
+        place: &AskedPlace<'v>,
         term: usize,
         moves: &mut Steps<L>,
     )
         requires { term < length (terms_of place.now.version.now) }
         ensures aimed { self.new ≡ hit_place (term_hits term place.now.doc.0 place.now.span place.now.version.now) 0 }
-        ensures grown { moves.old ≤ moves.new }
+        ensures counted { moves.new ≡ moves.old + 1 }
     {
         let version = place.version;
         if let Some(cursor) = &mut self.cursor {

@@ -1,22 +1,23 @@
 //! The phrases that a phrase of a query stands for.
 
-ghost use Rattle.std.specs.Prelude.{◌≡◌, ◌∷◌, ◌++◌, [], map, flat_map, option_map, Some, IfOk, OnOk};
+ghost use Rattle.std.specs.Prelude.{◌≡◌, ◌∷◌, ◌++◌, [], map, option_map, Some, IfOk, OnOk};
 ghost use Rattle.std.specs.List.{list_any};
-ghost use Rattle.std.specs.Option.{option_copied};
 ghost use Rattle.all_matches.specs.Variants as the;
 ghost use Rattle.match_options.specs.Items.{item};
 ghost use Rattle.plan_compiler.specs.Lexicon.{lexicon};
-ghost use Rattle.plan_compiler.specs.Lexicon as spec;
 ghost use Rattle.plan_compiler.specs.Stops.{item_key};
 ghost use Rattle.plan_compiler.specs.WordsMeaning as words;
+ghost use Rattle.thesaurus_file.specs.Phrases.{in_order};
 
 use crate::lists::Lists;
+use crate::reaching::reached_by;
 use crate::reading::Reading;
 use crate::stops::item_key;
-use ft_base::{Items, Line, Memory, Range, ThesaurusChoice, ThesaurusUse};
+use ft_base::{Items, Line, Memory, ThesaurusChoice};
 use match_options::QueryItem;
 use std::alloc::Global;
-use thesaurus_file::{Levels, Phrase};
+use std::collections::BTreeSet;
+use thesaurus_file::Phrase;
 
 /// The phrase itself, and those that its thesauri reach. A phrase without words stands for none.
 pub(crate) fn phrases_for(
@@ -62,7 +63,7 @@ fn copy_item(alloc: Global, query: &QueryItem) -> Result<QueryItem, Memory>
     }
 }
 
-/// Puts the phrases that a thesaurus option reaches to the end: none where the phrase holds a pattern.
+/// Puts the phrases that a thesaurus option reaches to the end, each once: none where the phrase holds a pattern.
 fn push_reached(
     alloc: Global,
     lists: &Lists,
@@ -70,8 +71,8 @@ fn push_reached(
     phrase: &[QueryItem],
     phrases: &mut Items<Items<QueryItem>>,
 ) -> Result<(), Memory>
-    ensures { OnOk result (map (map item) phrases.new
-        ≡ map (map item) phrases.old ++ the.reached_phrases (lexicon lists.now) (option_map (λ lent. lent.now) thesaurus.entry) (map item phrase.now)) }
+    ensures { OnOk result (map (map item) phrases.new ≡ map (map item) phrases.old
+        ++ map (map the.word) (in_order (the.reached_keys (lexicon lists.now) (option_map (λ lent. lent.now) thesaurus.entry) (map item phrase.now)))) }
 {
     match thesaurus {
         Some(choice) => push_by_choice(alloc, lists, choice, phrase, phrases),
@@ -86,8 +87,8 @@ fn push_by_choice(
     phrase: &[QueryItem],
     phrases: &mut Items<Items<QueryItem>>,
 ) -> Result<(), Memory>
-    ensures { OnOk result (map (map item) phrases.new
-        ≡ map (map item) phrases.old ++ the.reached_phrases (lexicon lists.now) (Some choice.now) (map item phrase.now)) }
+    ensures { OnOk result (map (map item) phrases.new ≡ map (map item) phrases.old
+        ++ map (map the.word) (in_order (the.reached_keys (lexicon lists.now) (Some choice.now) (map item phrase.now)))) }
 {
     match choice {
         ThesaurusChoice::No => Ok(()),
@@ -95,13 +96,9 @@ fn push_by_choice(
             if holds_pattern(phrase) {
                 return Ok(());
             }
-            push_by_uses(
-                alloc,
-                lists,
-                uses.as_slice(),
-                &keys_of(alloc, phrase)?,
-                phrases,
-            )
+            let keys = keys_of(alloc, phrase)?;
+            let reached = reached_by(alloc, lists, uses.as_slice(), &keys)?;
+            push_phrases(alloc, &reached, phrases)
         }
     }
 }
@@ -137,86 +134,13 @@ fn keys_of(alloc: Global, phrase: &[QueryItem]) -> Result<Phrase, Memory>
     Ok(keys)
 }
 
-fn push_by_uses(
-    alloc: Global,
-    lists: &Lists,
-    uses: &[ThesaurusUse],
-    keys: &Phrase,
-    phrases: &mut Items<Items<QueryItem>>,
-) -> Result<(), Memory>
-    ensures { OnOk result (map (map item) phrases.new
-        ≡ map (map item) phrases.old ++ flat_map (λ choice. map (map the.word) ((lexicon lists.now).reached choice keys.now)) uses.now) }
-{
-    for choice in uses {
-        push_by_use(alloc, lists, choice, keys, phrases)?;
-    }
-    Ok(())
-}
-
-fn push_by_use(
-    alloc: Global,
-    lists: &Lists,
-    choice: &ThesaurusUse,
-    keys: &Phrase,
-    phrases: &mut Items<Items<QueryItem>>,
-) -> Result<(), Memory>
-    ensures { OnOk result (map (map item) phrases.new
-        ≡ map (map item) phrases.old ++ map (map the.word) ((lexicon lists.now).reached choice.now keys.now)) }
-{
-    let Some(thesaurus) = lists.thesaurus(choice.name.as_str()) else {
-        return Ok(());
-    };
-    let levels = levels_of(choice.levels);
-    let expanded = thesaurus.expand(alloc, keys, relationship_of(choice), &levels)?;
-    push_phrases(alloc, &expanded[1..], phrases)
-}
-
-fn relationship_of<'a>(choice: &'a ThesaurusUse) -> Option<&'a str>
-    ensures { option_copied result ≡ choice.now.relationship }
-{
-    match &choice.relationship {
-        Some(relationship) => Some(relationship.as_str()),
-        None => None,
-    }
-}
-
-/// The levels that a range asks for: all but that of the phrase itself, where there is none.
-fn levels_of(range: Option<Range>) -> Levels
-    ensures { result ≡ spec.levels_of range }
-{
-    match range {
-        None => Levels { from: 1, to: None },
-        Some(range) => levels_in(range),
-    }
-}
-
-fn levels_in(range: Range) -> Levels
-    ensures { result ≡ spec.levels_of (Some range) }
-{
-    match range {
-        Range::Exactly(n) => Levels {
-            from: n,
-            to: Some(n),
-        },
-        Range::AtLeast(n) => Levels { from: n, to: None },
-        Range::AtMost(n) => Levels {
-            from: 0,
-            to: Some(n),
-        },
-        Range::FromTo(low, high) => Levels {
-            from: low,
-            to: Some(high),
-        },
-    }
-}
-
 /// Puts phrases of keys to the end, their keys as words of the query.
 fn push_phrases(
     alloc: Global,
-    reached: &[Phrase],
+    reached: &BTreeSet<Phrase>,
     phrases: &mut Items<Items<QueryItem>>,
 ) -> Result<(), Memory>
-    ensures { OnOk result (map (map item) phrases.new ≡ map (map item) phrases.old ++ map (map the.word) reached.now) }
+    ensures { OnOk result (map (map item) phrases.new ≡ map (map item) phrases.old ++ map (map the.word) reached.now.keys) }
 {
     for phrase in reached {
         phrases.push(words_of_keys(alloc, phrase)?)?;

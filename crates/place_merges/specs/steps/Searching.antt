@@ -1,13 +1,14 @@
 -- Searches for a place from another one on: where they lead, and what the moves of the sources leave.
-use Rattle.std.specs.Prelude.{◌≡◌, ℕ, ◌+◌, ◌*◌, ◌<◌, ◌≤◌, ◌==◌, Bool, true, false, IsTrue, List, map, length, Option}
+use Rattle.std.specs.Prelude.{◌≡◌, ℕ, ◌+◌, ◌*◌, ◌<◌, ◌≤◌, ◌==◌, Bool, true, false, ◌&&◌, IsTrue, List, map, length, Option}
 use Rattle.std.specs.List.{list_any, list_all, sum_by}
 use Rattle.std.specs.declared.vec.Vec.{Vec}
 use Rattle.std.specs.declared.alloc.Global.{Global}
 use Rattle.ft_base.specs.declared.hit.Hit.{Hit}
 use Rattle.ft_base.specs.Hits.{HitPlace}
 use Rattle.place_merges.specs.declared.item.Item.{Item}
+use Rattle.place_merges.specs.declared.item.Variant.{Variant}
 use Rattle.place_merges.specs.Places.{fits, stands_at, stands_before}
-use Rattle.place_merges.specs.Sources.{places_left, wanted, lists_of, is_plain, hits_left}
+use Rattle.place_merges.specs.Sources.{places_left, wanted, lists_of, is_plain, hits_left, variant_left}
 
 -- the result is the place itself, at which the test holds, or a later one in front of which it holds nowhere
 pub record Leads (test : ℕ → Bool) (place limit result : ℕ) : Type 0 where
@@ -66,16 +67,24 @@ abbrev pub item_fits : {H : Type 0} → (H → HitPlace) → Item H → ℕ → 
 item_fits stand item place = fits place (wanted stand item)
 
 abbrev pub shown_items : {H : Type 0} → (H → HitPlace) → (H → Bool) → Vec (Item H) Global → Shown (List (Option (List (List Hit))))
-shown_items stand plain variant = shown_all (shown_item stand plain) variant.items
+shown_items stand plain items = shown_all (shown_item stand plain) items.items
 
 abbrev pub items_stand : {H : Type 0} → (H → HitPlace) → List (Item H) → ℕ → Bool
 items_stand stand items place = stands_at place (map (wanted stand) items)
 
-abbrev pub variant_stands : {H : Type 0} → (H → HitPlace) → ℕ → Vec (Item H) Global → ℕ → Bool
-variant_stands stand to variant place = stands_before to place (map (wanted stand) variant.items)
+-- whether a variant counts and stands at the place, in front of the end
+abbrev pub variant_stands : {H : Type 0} → (H → HitPlace) → ℕ → Variant H → ℕ → Bool
+variant_stands stand to variant place = variant.counts && stands_before to place (map (wanted stand) variant.items.items)
 
-abbrev pub one_stands : {H : Type 0} → (H → HitPlace) → ℕ → List (Vec (Item H) Global) → ℕ → Bool
+abbrev pub shown_variant : {H : Type 0} → (H → HitPlace) → (H → Bool) → Variant H → Shown (List (Option (List (List Hit))))
+shown_variant stand plain variant = record {
+  lists = map (lists_of stand) variant.items.items;
+  plain = list_all (is_plain plain) variant.items.items;
+  left = variant_left stand variant;
+}
+
+abbrev pub one_stands : {H : Type 0} → (H → HitPlace) → ℕ → List (Variant H) → ℕ → Bool
 one_stands stand to variants place = list_any (λ variant. variant_stands stand to variant place) variants
 
-abbrev pub shown_variants : {H : Type 0} → (H → HitPlace) → (H → Bool) → List (Vec (Item H) Global) → Shown (List (List (Option (List (List Hit)))))
-shown_variants stand plain variants = shown_all (shown_items stand plain) variants
+abbrev pub shown_variants : {H : Type 0} → (H → HitPlace) → (H → Bool) → List (Variant H) → Shown (List (List (Option (List (List Hit)))))
+shown_variants stand plain variants = shown_all (shown_variant stand plain) variants

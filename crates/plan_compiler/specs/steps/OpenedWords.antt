@@ -1,12 +1,14 @@
 -- Compiled words opened over a version: terms in the place of tests.
-use Rattle.std.specs.Prelude.{◌≡◌, ℕ, Bool, cond, List, map}
-use Rattle.std.specs.List.{All}
+use Rattle.std.specs.Prelude.{◌≡◌, ◌≤◌, ℕ, Bool, cond, List, map}
+use Rattle.std.specs.List.{All, sum_by}
 use Rattle.index_meaning.specs.Documents.{Numbered}
 use Rattle.word_lists.specs.Stems.{Stem}
 use Rattle.plan_compiler.specs.steps.AskedKeys.{asks_nothing}
 use Rattle.plan_compiler.specs.steps.ChosenTerms.{AreKnown, terms_for}
 use Rattle.plan_compiler.specs.ItemTests.{passes}
+use Rattle.plan_compiler.specs.NodeCosts.{node_cost}
 use Rattle.plan_compiler.specs.NodeMeaning.{truth}
+use Rattle.plan_compiler.specs.steps.RunCosts.{run_cost}
 use Rattle.plan_compiler.specs.steps.RunShapes.{GroupShape, WordsShape, Shape, wanted_size}
 use Rattle.plan_compiler.specs.steps.RunTruth.{IsSound, run_truth}
 use Rattle.plan_compiler.specs.TextWords.{word_as}
@@ -38,13 +40,17 @@ module _ (looks : Looks) (stems : List Stem) (version : List Numbered) where
   abbrev pub opened_words : WordsPlan → WordsShape
   opened_words plan = record { phrases = map opened_phrase plan.phrases; all = plan.all; times = plan.times }
 
-  -- a tree that says of words of documents what the compiled selection says of them
+  -- a tree that says of words of documents what the compiled selection says of them, and costs no more where no word costs more than its test
   pub record IsOpened (run : Shape) (node : Node) : Type 0 where
     pub sound : IsSound version run
     pub says : (text : List (List ℕ)) → AreKnown version text → run_truth version run text ≡ truth node (map (word_as looks stems) text)
+    pub cost : (word_cost : WordTerms → ℕ) → (test_cost : ItemTest → ℕ)
+        → ((test : ItemTest) → word_cost (opened_item test) ≤ test_cost test) → run_cost word_cost run ≤ node_cost test_cost node
 
   -- the same of lists of both
   pub record AreOpened (runs : List Shape) (nodes : List Node) : Type 0 where
     pub sound : All (IsSound version) runs
     pub says : (text : List (List ℕ)) → AreKnown version text
         → map (λ run. run_truth version run text) runs ≡ map (λ node. truth node (map (word_as looks stems) text)) nodes
+    pub cost : (word_cost : WordTerms → ℕ) → (test_cost : ItemTest → ℕ)
+        → ((test : ItemTest) → word_cost (opened_item test) ≤ test_cost test) → sum_by (run_cost word_cost) runs ≤ sum_by (node_cost test_cost) nodes

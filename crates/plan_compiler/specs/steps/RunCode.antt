@@ -96,14 +96,14 @@ form_code =
     (coded⊎ options.the_row.coded (coded× coded_bool (coded× coded_bool coded_bool))))))
     pieces (λ ps. read ps [] []) read-back
 
-abbrev bytes_code : Coded (List ℕ)
+abbrev pub bytes_code : Coded (List ℕ)
 bytes_code = coded_list coded_ℕ
 
 abbrev link_code : Coded Link
 link_code =
     code_by (List ℕ × Phrase) (coded× bytes_code (coded_list bytes_code)) (λ l. (l.relation, l.to)) (λ p. record { relation = p.0; to = p.1 }) (λ _. refl)
 
-abbrev lists_code : Coded NamedLists
+abbrev pub lists_code : Coded NamedLists
 lists_code =
     code_by (List (List ℕ × List (List ℕ)) × (List (List ℕ × Links) × List Stem))
     (coded× (coded_list (coded× bytes_code (coded_list bytes_code)))
@@ -119,7 +119,7 @@ document_code =
     code_by (List Leaf × (List ℕ × List ℕ)) (coded× (coded_list leaf_code) (coded× bytes_code bytes_code))
     (λ d. (d.leaves, (d.sentences, d.paragraphs))) (λ p. record { leaves = p.0; sentences = p.1.0; paragraphs = p.1.1 }) (λ _. refl)
 
-abbrev numbered_code : Coded Numbered
+abbrev pub numbered_code : Coded Numbered
 numbered_code =
     code_by (ℕ × Document) (coded× coded_ℕ document_code) (λ d. (d.id, d.document)) (λ p. record { id = p.0; document = p.1 }) (λ _. refl)
 

@@ -4,6 +4,7 @@ use Rattle.ft_base.specs.Hits.{HitPlace}
 use Rattle.ft_base.specs.declared.range.Range.{Range}
 use Rattle.place_merges.specs.declared.item.Item.{Item}
 use Rattle.place_merges.specs.declared.item.Item.TheVariants as Merged
+use Rattle.place_merges.specs.declared.item.Variant.{Variant}
 use Rattle.plan_compiler.specs.declared.run_node.WordTerms.{WordTerms}
 use Rattle.plan_compiler.specs.declared.run_node.WordTerms.TheVariants as Terms
 use Rattle.plan_compiler.specs.declared.run_node.RunGroup.{RunGroup}
@@ -42,12 +43,15 @@ abbrev pub size_of : Item HitPlace → Option ℕ
 size_of Merged.Any = None
 size_of (Merged.Of cursors) = Some (length cursors.items)
 
+abbrev pub sizes_of : Variant HitPlace → List (Option ℕ)
+sizes_of variant = map size_of variant.items.items
+
 abbrev pub wanted_size : WordTerms → Option ℕ
 wanted_size Terms.Any = None
 wanted_size (Terms.Of numbers) = Some (length numbers)
 
 abbrev pub group_shape : RunGroup → GroupShape
-group_shape group = record { terms = group.terms; sizes = map (λ variant. map size_of variant.items) group.variants.items }
+group_shape group = record { terms = group.terms; sizes = map sizes_of group.variants.items }
 
 abbrev pub phrase_shape : RunPhrase → List GroupShape
 phrase_shape phrase = map group_shape phrase.groups.items

@@ -7,4 +7,4 @@ use Rattle.place_merges.proofs.variant.lead_of_items.Given as goal
 abbrev pub invariant-loop-number : goal.invariant-loop-number
 invariant-loop-number g l =
     let stand = g.H.Hits.stand in
-    Fitted (wanted stand) (shown_item stand g.H.Hits.plain) l.fn.variant.items l.variant.items l.place l.number l.fn.steps l.steps
+    Fitted (wanted stand) (shown_item stand g.H.Hits.plain) l.fn.items.items l.items.items l.place l.number l.fn.steps l.steps

@@ -3,7 +3,7 @@ use Rattle.std.proofs.Common.{ap, sym, ◌∙◌, map}
 use Rattle.std.proofs.lemmas.Simd.{map-map}
 use Rattle.place_merges.specs.Places.{one_of}
 use Rattle.place_merges.specs.Sources.{places_left}
-use Rattle.plan_compiler.specs.steps.TestPlaces.{aimed, wanted_at}
+use Rattle.plan_compiler.specs.steps.AskedPlaces.{aimed, wanted_at}
 use Rattle.plan_compiler.proofs.aiming.aim_item.Goals as goal
 
 pub returns-in-Of-terms-clause-aimed : goal.returns-in-Of-terms-clause-aimed

@@ -2,7 +2,9 @@
 use Rattle.std.proofs.Common.{◌<◌, length, arith}
 use Rattle.place_merges.specs.Sources.{wanted}
 use Rattle.plan_compiler.specs.steps.RunShapes.{size_of, wanted_size}
-use Rattle.plan_compiler.specs.steps.TestPlaces.{wanted_at}
+use Rattle.plan_compiler.specs.steps.AskedPlaces.{wanted_at}
+use Rattle.plan_compiler.specs.steps.RunCosts.{term_count}
+use Rattle.plan_compiler.proofs.SumLemmas.{one_more, so_far}
 use Rattle.plan_compiler.proofs.PartLemmas.{both_at, parts_more, same_length}
 use Rattle.plan_compiler.proofs.aiming.aim_items.Goals as goal
 
@@ -25,4 +27,13 @@ loop-number-preserved g c =
     c.args.moves.now c.loop-number.moves c.aim_item.new.moves c.index_mut.result.now c.aim_item.new.item c.get.result.now
     c.loop-number.invariant.sized within c.index_mut.ensures.value c.get.ensures c.aim_item.ensures.same c.aim_item.ensures.aimed c.loop-number.invariant.done
     c.loop-number.invariant.grown c.aim_item.ensures.grown in
-    record { sized = more.sized; done = more.done; grown = more.grown }
+    record {
+      sized = more.sized;
+      done = more.done;
+      price = one_more term_count c.args.terms.now c.loop-number.number c.args.moves.now c.get.result.now c.loop-number.moves c.aim_item.new.moves within c.get.ensures
+          c.loop-number.invariant.price c.aim_item.ensures.price;
+      grown = more.grown;
+    }
+
+pub returns-clause-price : goal.returns-clause-price
+returns-clause-price g c = so_far term_count c.args.terms.now c.loop-number.number c.args.moves.now c.loop-number.moves c.loop-number.invariant.price

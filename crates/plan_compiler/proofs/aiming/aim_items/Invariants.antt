@@ -1,13 +1,16 @@
 -- The cursors of the first words were aimed.
-use Rattle.std.proofs.Common.{◌≡◌, ◌≤◌, map, take}
+use Rattle.std.proofs.Common.{◌≡◌, ◌≤◌, ◌+◌, map, take}
+use Rattle.std.specs.List.{sum_by}
+use Rattle.plan_compiler.specs.steps.RunCosts.{term_count}
 use Rattle.place_merges.specs.Sources.{wanted}
 use Rattle.plan_compiler.specs.steps.RunShapes.{size_of, wanted_size}
-use Rattle.plan_compiler.specs.steps.TestPlaces.{wanted_at}
+use Rattle.plan_compiler.specs.steps.AskedPlaces.{wanted_at}
 use Rattle.plan_compiler.proofs.aiming.aim_items.Given as goal
 
 abbrev pub invariant-loop-number : goal.invariant-loop-number
 invariant-loop-number g l = record {
   sized : map size_of l.items.items ≡ map wanted_size l.terms;
   done : map (wanted (λ cursor. cursor)) (take l.number l.items.items) ≡ map (wanted_at l.place) (take l.number l.terms);
+  price : l.moves ≤ l.fn.moves + sum_by term_count (take l.number l.terms);
   grown : l.fn.moves ≤ l.moves;
 }

@@ -1,13 +1,16 @@
 -- The cursors of the first variants were aimed.
-use Rattle.std.proofs.Common.{◌≡◌, ◌≤◌, map, take}
-use Rattle.place_merges.specs.Sources.{wanted_words}
-use Rattle.plan_compiler.specs.steps.RunShapes.{size_of, wanted_size}
-use Rattle.plan_compiler.specs.steps.TestPlaces.{wanted_at}
+use Rattle.std.proofs.Common.{◌≡◌, ◌≤◌, ◌+◌, ◌*◌, map, take}
+use Rattle.std.specs.List.{sum_by}
+use Rattle.place_merges.specs.Sources.{all_left}
+use Rattle.plan_compiler.specs.steps.AskedPlaces.{AreAimed}
+use Rattle.plan_compiler.specs.steps.RunCosts.{moves_for}
+use Rattle.plan_compiler.specs.steps.RunShapes.{sizes_of, wanted_size}
 use Rattle.plan_compiler.proofs.aiming.aim_variants.Given as goal
 
 abbrev pub invariant-loop-number : goal.invariant-loop-number
 invariant-loop-number g l = record {
-  sized : map (λ variant. map size_of variant.items) l.variants.items ≡ map (map wanted_size) l.terms;
-  done : wanted_words (λ cursor. cursor) (take l.number l.variants.items) ≡ map (map (wanted_at l.place)) (take l.number l.terms);
+  sized : map sizes_of l.variants.items ≡ map (map wanted_size) l.terms;
+  aimed : AreAimed l.place (take l.number l.terms) (take l.number l.variants.items);
+  price : l.moves + 2 * all_left (λ cursor. cursor) (take l.number l.variants.items) ≤ l.fn.moves + sum_by (sum_by (moves_for l.place)) (take l.number l.terms);
   grown : l.fn.moves ≤ l.moves;
 }

@@ -1,18 +1,18 @@
 -- Operands are served with their selection, and say what it says of them.
-use Rattle.std.proofs.Common.{false, ◌≡◌, List, map, ap, sym, ◌∙◌, rules, subst, true, Bool, IfOk, arith}
+use Rattle.std.proofs.Common.{false, ◌≡◌, List, map, ap, sym, ◌∙◌, rules, subst, true, arith}
 use Rattle.std.proofs.lemmas.Bool.{and_parts}
 use Rattle.std.proofs.lemmas.List.{take_all}
-use Rattle.ft_base.specs.declared.token.Token.{Token}
+use Rattle.std.proofs.lemmas.Result.{IfOk-weaker}
+use Rattle.ft_base.specs.declared.options.Options.{Options}
 use Rattle.ft_syntax.specs.View.{form, forms_of}
 use Rattle.ft_syntax.specs.declared.selection.Selection.{Selection, the_lemmas}
-use Rattle.all_matches.specs.Meaning.{sat_under}
 use Rattle.plan_compiler.specs.ChosenOptions.{options_of}
-use Rattle.plan_compiler.specs.Lexicon.{lexicon}
+use Rattle.plan_compiler.specs.CompiledSelection.{CompileAll, Compiles}
 use Rattle.plan_compiler.specs.Served.{are_served, is_served, all_served}
-use Rattle.plan_compiler.specs.NodeMeaning.{truth}
-use Rattle.plan_compiler.specs.TextWords.{words_of_tokens}
+use Rattle.plan_compiler.specs.declared.node.Node.{Node}
+use Rattle.plan_compiler.proofs.CompiledLemmas.{and_compiles, compile_more, not_compiles, or_compiles, with_compiles}
 use Rattle.plan_compiler.proofs.DecidedLemmas.{decided-Words, decided-Or, decided-And, decided-Not, decided-With, decided-MildNot, decided-Filtered}
-use Rattle.plan_compiler.proofs.SelectionMeaning.{decided_at, or_selection, and_selection, not_selection, with_selection, served_inside, say_more}
+use Rattle.plan_compiler.proofs.SelectionMeaning.{decided_at, served_inside}
 use Rattle.plan_compiler.proofs.compiling.+compile.Goals as goal
 
 pub compile-compile_value-requires-clause-inner : goal.compile-compile_value-requires-clause-inner
@@ -46,22 +46,29 @@ compile-compile-requires t c =
     )
 
 pub compile-returns-in_ok-compile_all-in-Or : goal.compile-returns-in_ok-compile_all-in-Or
-compile-returns-in_ok-compile_all-in-Or t c tokens =
-    or_selection c.args.looks c.args.lists.now (options_of c.args.chosen.now) c.args.selection.now c.in-Or.parts c.in-Or.is c.in_ok-compile_all-in-Or.field-0 tokens c.in_ok-compile_all-in-Or.ensures
+compile-returns-in_ok-compile_all-in-Or t c =
+    or_compiles c.args.looks c.args.lists.now (options_of c.args.chosen.now) c.args.selection.now c.in-Or.parts c.in-Or.is c.in_ok-compile_all-in-Or.field-0 c.in_ok-compile_all-in-Or.ensures
 
 pub compile-returns-in_ok-compile_all-in-And : goal.compile-returns-in_ok-compile_all-in-And
-compile-returns-in_ok-compile_all-in-And t c tokens =
-    and_selection c.args.looks c.args.lists.now (options_of c.args.chosen.now) c.args.selection.now c.in-And.parts c.in-And.is c.in_ok-compile_all-in-And.field-0 tokens c.in_ok-compile_all-in-And.ensures
+compile-returns-in_ok-compile_all-in-And t c =
+    and_compiles c.args.looks c.args.lists.now (options_of c.args.chosen.now) c.args.selection.now c.in-And.parts c.in-And.is c.in_ok-compile_all-in-And.field-0 c.in_ok-compile_all-in-And.ensures
 
 pub compile-returns-in_ok-compile_boxed-in-Not : goal.compile-returns-in_ok-compile_boxed-in-Not
-compile-returns-in_ok-compile_boxed-in-Not t c tokens =
-    not_selection c.args.looks c.args.lists.now (options_of c.args.chosen.now) c.args.selection.now c.in-Not.operand c.in-Not.is c.in_ok-compile_boxed-in-Not.field-0 tokens (c.in_ok-compile_boxed-in-Not.ensures tokens)
+compile-returns-in_ok-compile_boxed-in-Not t c =
+    not_compiles c.args.looks c.args.lists.now (options_of c.args.chosen.now) c.args.selection.now c.in-Not.operand c.in-Not.is c.in_ok-compile_boxed-in-Not.field-0 c.in_ok-compile_boxed-in-Not.ensures
 
 pub compile-returns-in-With : goal.compile-returns-in-With
 compile-returns-in-With t c =
-    let told : (λ (tokens : List Token). sat_under (lexicon c.args.lists.now) (options_of c.inside.result) (form c.deref.result.now) tokens) ≡ (λ (tokens : List Token). sat_under (lexicon c.args.lists.now) (options_of c.args.chosen.now) (form c.args.selection.now) tokens) =
-    λ i tokens. ((λ j. sat_under (lexicon c.args.lists.now) (c.inside.ensures j) (form (c.deref.ensures j)) tokens) ∙ with_selection c.args.looks c.args.lists.now (options_of c.args.chosen.now) c.args.selection.now c.in-With.operand c.in-With.options c.in-With.is tokens) i in
-    subst (λ (says : List Token → Bool). IfOk c.compile.result (λ node. (tokens : List Token) → truth node (words_of_tokens c.args.looks c.args.lists.now.stems tokens) ≡ says tokens)) told c.compile.ensures
+    let looks = c.args.looks in
+    let lists = c.args.lists.now in
+    let inner = options_of c.inside.result in
+    let options = options_of c.args.chosen.now in
+    IfOk-weaker c.compile.result (λ (node : Node). Compiles looks lists inner node (form c.deref.result.now)) (λ (node : Node). Compiles looks lists options node (form c.args.selection.now))
+    (λ node part.
+    with_compiles looks lists options c.args.selection.now c.in-With.operand c.in-With.options c.in-With.is node
+    (subst (λ (o : Options). Compiles looks lists o node (form c.in-With.operand.value)) c.inside.ensures
+    (subst (λ (s : Selection). Compiles looks lists inner node (form s)) c.deref.ensures part)))
+    c.compile.ensures
 
 pub compile_all-compile-requires : goal.compile_all-compile-requires
 compile_all-compile-requires t c = (
@@ -73,11 +80,10 @@ compile_all-compile-requires t c = (
 )
 
 pub compile_all-loop-part-preserved : goal.compile_all-loop-part-preserved
-compile_all-loop-part-preserved t c tokens =
-    say_more (λ node. truth node (words_of_tokens c.args.looks c.args.lists.now.stems tokens)) (λ part. sat_under (lexicon c.args.lists.now) (options_of c.args.chosen.now) (form part) tokens) c.loop-part.nodes c.push.new.self c.as_slice-part-items.result.now
-    c.loop-part.part-index c.in_ok-compile.field-0 c.part-item.result c.loop-part-test.true c.part-item.is c.in_ok-push.ensures.ok (c.in_ok-compile.ensures tokens) (c.loop-part.invariant tokens)
+compile_all-loop-part-preserved t c =
+    compile_more c.args.looks c.args.lists.now (options_of c.args.chosen.now) c.loop-part.nodes c.push.new.self c.as_slice-part-items.result.now c.loop-part.part-index c.in_ok-compile.field-0
+    c.part-item.result c.loop-part-test.true c.part-item.is c.in_ok-push.ensures.ok c.in_ok-compile.ensures c.loop-part.invariant
 
 pub compile_all-returns : goal.compile_all-returns
-compile_all-returns t c tokens =
-    c.loop-part.invariant tokens
-    ∙ ap (map (λ (part : Selection). sat_under (lexicon c.args.lists.now) (options_of c.args.chosen.now) (form part) tokens)) (take_all c.loop-part.part-index c.as_slice-part-items.result.now (omega arith) ∙ c.as_slice-part-items.ensures)
+compile_all-returns t c =
+    subst (CompileAll c.args.looks c.args.lists.now (options_of c.args.chosen.now) c.loop-part.nodes) (take_all c.loop-part.part-index c.as_slice-part-items.result.now (omega arith) ∙ c.as_slice-part-items.ensures) c.loop-part.invariant

@@ -1,11 +1,13 @@
--- The words of the span are those of the tokens.
-use Rattle.std.proofs.Common.{◌∙◌, List, sym, ap, subst}
+-- The words of the span are those of the tokens, and the moves are within their price.
+use Rattle.std.proofs.Common.{◌∙◌, List, sym, ap, subst, arith}
 use Rattle.all_matches.specs.Meaning.{sat}
 use Rattle.index_meaning.specs.Documents.{Numbered, document_at}
 use Rattle.plan_compiler.specs.Lexicon.{lexicon}
+use Rattle.plan_compiler.specs.Price.{price_at}
 use Rattle.plan_compiler.specs.RunMeaning.{RunMeaning, words_at}
 use Rattle.plan_compiler.specs.steps.RunShapes.{shape}
-use Rattle.plan_compiler.proofs.RunLaw.{IsSpan, run_law}
+use Rattle.plan_compiler.specs.declared.asked_place.AskedPlace.{AskedPlace}
+use Rattle.plan_compiler.proofs.RunLaw.{IsSpan, price_law, run_law}
 use Rattle.plan_compiler.proofs.run.Run.test.Goals as goal
 
 pub returns-clause-says : goal.returns-clause-says
@@ -19,3 +21,16 @@ returns-clause-says g c tokens is =
     ∙ run_law inside.version.now c.args.doc.0 c.args.span (subst (λ (version : List Numbered). IsSpan version c.args.doc.0 c.args.span) (sym same) asked)
     inside.plan.now (shape inside.root) tokens c.self.invariant words
     ∙ ap (λ (run : RunMeaning). sat (lexicon run.lists) run.form tokens) c.self.view_is
+
+pub returns-clause-price : goal.returns-clause-price
+returns-clause-price g c =
+    let inside = c.self.inside in
+    let version = ap (λ (run : RunMeaning). run.version) c.self.view_is in
+    let asked : IsSpan inside.version.now c.args.doc.0 c.args.span =
+    subst (λ (v : List Numbered). IsSpan v c.args.doc.0 c.args.span) (sym version)
+    (record { there = c.requires.there; first = c.requires.inside.0; order = c.requires.inside.1; last = c.requires.inside.2 }) in
+    let place : AskedPlace =
+    record { version = inside.version; doc = c.args.doc; span = c.args.span; there = asked.there; first = asked.first; order = asked.order; last = asked.last } in
+    let most = price_law inside.plan.now (shape inside.root) place c.args.moves.now c.node_holds.new.moves c.node_holds.ensures.price c.self.invariant in
+    let same = ap (λ (run : RunMeaning). price_at run c.args.doc.0 c.args.span) c.self.view_is in
+    omega (arith, most, same)

@@ -1,0 +1,42 @@
+-- What the words of a run's tree cost together, whatever each of them costs.
+use Rattle.std.specs.Prelude.{ℕ, ◌+◌, ◌*◌, List, length}
+use Rattle.std.specs.List.{sum_by}
+use Rattle.plan_compiler.specs.steps.AskedPlaces.{hits_at}
+use Rattle.plan_compiler.specs.steps.RunShapes.{GroupShape, WordsShape, Shape, Shapes, words, any_of, all_of, not_of, none, more}
+use Rattle.plan_compiler.specs.declared.asked_place.AskedPlace.{AskedPlace}
+use Rattle.plan_compiler.specs.declared.run_node.WordTerms.{WordTerms}
+use Rattle.plan_compiler.specs.declared.run_node.WordTerms.TheVariants as Terms
+
+module _ (cost : WordTerms → ℕ) where
+  abbrev pub group_cost : GroupShape → ℕ
+  group_cost group = sum_by (sum_by cost) group.terms
+
+  abbrev pub phrase_cost : List GroupShape → ℕ
+  phrase_cost phrase = sum_by group_cost phrase
+
+  abbrev pub words_cost : WordsShape → ℕ
+  words_cost run = sum_by phrase_cost run.phrases
+
+  unfoldable mutual
+    pub run_cost : Shape → ℕ
+    run_cost (words run) = words_cost run
+    run_cost (any_of parts) = run_costs parts
+    run_cost (all_of parts) = run_costs parts
+    run_cost (not_of part) = run_cost part
+
+    pub run_costs : Shapes → ℕ
+    run_costs none = 0
+    run_costs (more part rest) = run_cost part + run_costs rest
+
+-- how many cursors are aimed for a word, and how many hits they have at the place
+abbrev pub term_count : WordTerms → ℕ
+term_count Terms.Any = 0
+term_count (Terms.Of numbers) = length numbers
+
+abbrev pub hit_count : AskedPlace → WordTerms → ℕ
+hit_count place Terms.Any = 0
+hit_count place (Terms.Of numbers) = sum_by (λ number. length (hits_at place number)) numbers
+
+-- a move for each cursor that is aimed, and at most two for each hit
+abbrev pub moves_for : AskedPlace → WordTerms → ℕ
+moves_for place word = term_count word + 2 * hit_count place word
