@@ -23,7 +23,7 @@ irreflexive [] = refl
 irreflexive (n ∷ rest) = ap (λ b. b || ((n == n) && precedes rest rest)) (nat_lt-irreflexive n) ∙ ap (λ b. (n == n) && b) (irreflexive rest) ∙ and-false (n == n)
 
 -- a common front doesn't count
-behind : (prefix x y : List ℕ) → precedes x y ≡ true → precedes (prefix ++ x) (prefix ++ y) ≡ true
+pub behind : (prefix x y : List ℕ) → precedes x y ≡ true → precedes (prefix ++ x) (prefix ++ y) ≡ true
 behind [] x y h = h
 behind (n ∷ prefix) x y h =
     ap (λ b. nat_lt n n || (b && precedes (prefix ++ x) (prefix ++ y))) (eq-eqb n n refl)
@@ -51,7 +51,7 @@ mutual
       (λ k d within. let b = from (above ++ number ∷ []) node k d within in (number, b.0, omega arith, b.1 ∙ append_assoc above (number ∷ []) b.0))
       (λ k d within. let b = under above (number + 1) rest k d within in (b.0, b.1, (let h : number + 1 ≤ b.0 = b.2 in omega arith), b.3))
 
-pairs-append : (xs ys : List Element) → AllPairs Before xs → AllPairs Before ys → All (λ x. All (Before x) ys) xs → AllPairs Before (xs ++ ys)
+pub pairs-append : (xs ys : List Element) → AllPairs Before xs → AllPairs Before ys → All (λ x. All (Before x) ys) xs → AllPairs Before (xs ++ ys)
 pairs-append [] ys p q apart = q
 pairs-append (x ∷ xs) ys p q apart =
     AllPairs-cons Before x (xs ++ ys)
@@ -59,7 +59,7 @@ pairs-append (x ∷ xs) ys p q apart =
     (pairs-append xs ys (λ i j d less within. p (suc i) (suc j) d (omega arith) (omega arith)) q (λ k d within. apart (suc k) d (omega arith)))
 
 -- a child before later ones
-earlier : (above : List ℕ) (number : ℕ) (e f : Element) → From (above ++ number ∷ []) e → Below above (number + 1) f → Before e f
+pub earlier : (above : List ℕ) (number : ℕ) (e f : Element) → From (above ++ number ∷ []) e → Below above (number + 1) f → Before e f
 earlier above number e f a b =
     let less : nat_lt number b.0 ≡ true = nat_lt-true number b.0 (let h : number + 1 ≤ b.0 = b.2 in omega arith) in
     let first : precedes (number ∷ a.0) (b.0 ∷ b.1) ≡ true = ap (λ c. c || ((number == b.0) && precedes a.0 b.1)) less in
@@ -71,14 +71,14 @@ outer place node f b =
     ap (precedes place) b.3 ∙ ap (λ p. precedes p (place ++ b.0 ∷ b.1)) (sym (append-nil place)) ∙ behind place [] (b.0 ∷ b.1) refl
 
 mutual
-  ordered-from : (place : List ℕ) (node : Node) → AllPairs Before (elements_from place node)
+  pub ordered-from : (place : List ℕ) (node : Node) → AllPairs Before (elements_from place node)
   ordered-from place (text bytes) = λ i j d less within. absurd (omega arith)
   ordered-from place (element name attributes kids) =
       AllPairs-cons Before (placed place (element name attributes kids)) (elements_below place 1 kids)
       (λ k d within. outer place (element name attributes kids) (slice_index_or (elements_below place 1 kids) k d) (under place 1 kids k d within))
       (ordered-below place 1 kids)
 
-  ordered-below : (above : List ℕ) (number : ℕ) (nodes : Nodes) → AllPairs Before (elements_below above number nodes)
+  pub ordered-below : (above : List ℕ) (number : ℕ) (nodes : Nodes) → AllPairs Before (elements_below above number nodes)
   ordered-below above number no_nodes = λ i j d less within. absurd (omega arith)
   ordered-below above number (node_then node rest) =
       pairs-append (elements_from (above ++ number ∷ []) node) (elements_below above (number + 1) rest)

@@ -17,10 +17,10 @@ use Rattle.path_nodes.proofs.SpotLemmas.{Contains-cons}
 
 -- ---- the lists of a step have elements of the document alone
 
-abbrev In : Node → Element → Type 0
+abbrev pub In : Node → Element → Type 0
 In root = Contains (elements root)
 
-region-in : (root : Node) (e : Element) → In root e → All (In root) (at_or_below e)
+pub region-in : (root : Node) (e : Element) → In root e → All (In root) (at_or_below e)
 region-in root e there =
     subst (All (In root)) (region [] root e there) (All-filter (λ x. is_front e.place x.place) (In root) (elements root) (All-contains_itself (elements root)))
 
@@ -39,11 +39,11 @@ children-from place (element name attributes kids) = λ k d within.
     Contains-cons (placed place (element name attributes kids)) (elements_below place 1 kids) (get_or (elements_among place 1 kids) k d) (among-below place 1 kids k d within)
 children-from place (text bytes) = All-nil (Contains [])
 
-children-in : (root : Node) (e : Element) → In root e → All (In root) (element_children e)
+pub children-in : (root : Node) (e : Element) → In root e → All (In root) (element_children e)
 children-in root e there = λ k d within.
     All-contains (In root) (at_or_below e) (get_or (element_children e) k d) (region-in root e there) (children-from e.place e.node k d within)
 
-abbrev ContextIn : Node → Context → Type 0
+abbrev pub ContextIn : Node → Context → Type 0
 ContextIn root (document n) = n ≡ root
 ContextIn root (item e) = In root e
 
@@ -78,23 +78,23 @@ map-alike f g (l ∷ ls) same = ap (λ x. x ∷ map f ls) (All-head (λ l. f l �
 -- ---- what two answers that are alike for these elements lead to
 
 module _ (f g : ℕ → Element → Bool) (root : Node) (same : All (λ e. (k : ℕ) → f k e ≡ g k e) (elements root)) where
-  stepped-in : (s : Step) (cs : List Context) → All (In root) (stepped g (elements root) s cs)
+  pub stepped-in : (s : Step) (cs : List Context) → All (In root) (stepped g (elements root) s cs)
   unfolding stepped
   stepped-in (step deep test ps) cs =
       All-filter (is_in (map (λ items. filtered g (elements root) ps (filter (λ e. is_named test e.node) items)) (flat_map (lists deep) cs))) (In root) (elements root) (All-contains_itself (elements root))
 
-  led-in : (s : Steps) (items : List Element) → All (In root) items → All (In root) (led g (elements root) s items)
+  pub led-in : (s : Steps) (items : List Element) → All (In root) items → All (In root) (led g (elements root) s items)
   unfolding led
   led-in no_steps items h = h
   led-in (step_then s rest) items h = led-in rest (stepped g (elements root) s (map item items)) (stepped-in s (map item items))
 
-  one : (e : Element) → In root e → All (In root) (e ∷ [])
+  pub one : (e : Element) → In root e → All (In root) (e ∷ [])
   one e there = All-cons (In root) e [] there (All-nil (In root))
 
   mutual
     unfolding stepped led filtered filtered_by is_true some_true each_true
 
-    stepped-alike : (s : Step) (cs : List Context) → All (ContextIn root) cs → stepped f (elements root) s cs ≡ stepped g (elements root) s cs
+    pub stepped-alike : (s : Step) (cs : List Context) → All (ContextIn root) cs → stepped f (elements root) s cs ≡ stepped g (elements root) s cs
     stepped-alike (step deep test ps) cs h =
         let name : Element → Bool = λ e. is_named test e.node in
         ap (λ ls. filter (is_in ls) (elements root))
@@ -102,7 +102,7 @@ module _ (f g : ℕ → Element → Bool) (root : Node) (same : All (λ e. (k : 
         (All-weaker (All (In root)) (λ l. filtered f (elements root) ps (filter name l) ≡ filtered g (elements root) ps (filter name l))
         (λ l there. filtered-alike ps (filter name l) (All-filter name (In root) l there)) (flat_map (lists deep) cs) (all-lists-in root deep cs h)))
 
-    led-alike : (s : Steps) (items : List Element) → All (In root) items → led f (elements root) s items ≡ led g (elements root) s items
+    pub led-alike : (s : Steps) (items : List Element) → All (In root) items → led f (elements root) s items ≡ led g (elements root) s items
     led-alike no_steps items h = refl
     led-alike (step_then s rest) items h =
         ap (led f (elements root) rest) (stepped-alike s (map item items) (All-map (ContextIn root) item items h))
@@ -113,7 +113,7 @@ module _ (f g : ℕ → Element → Bool) (root : Node) (same : All (λ e. (k : 
     filtered-alike (predicate_then p ps) items h =
         ap (filtered f (elements root) ps) (by-alike p items h) ∙ filtered-alike ps (filtered_by g (elements root) p items) (by-of g (elements root) (In root) p items h)
 
-    by-alike : (p : Predicate) (items : List Element) → All (In root) items → filtered_by f (elements root) p items ≡ filtered_by g (elements root) p items
+    pub by-alike : (p : Predicate) (items : List Element) → All (In root) items → filtered_by f (elements root) p items ≡ filtered_by g (elements root) p items
     by-alike (form.number k) items h = refl
     by-alike (holds c) items h = filter-alike (is_true f (elements root) c) (is_true g (elements root) c) items (λ k d within. true-alike c (get_or items k d) (h k d within))
 

@@ -112,7 +112,7 @@ text-adds : (place : List ℕ) (n : Numbered) → is_element n ≡ false → ele
 text-adds place (element_at r name attrs kids) h = cc
 text-adds place (text_at r bytes) h = refl
 
-element-adds : (place : List ℕ) (n : Numbered) → is_element n ≡ true → elements.element_at place (plain n) ≡ placed place (plain n) ∷ []
+pub element-adds : (place : List ℕ) (n : Numbered) → is_element n ≡ true → elements.element_at place (plain n) ≡ placed place (plain n) ∷ []
 element-adds place (element_at r name attrs kids) h = refl
 element-adds place (text_at r bytes) h = cc
 

@@ -181,7 +181,7 @@ chosen-inside root m s r x qs h =
     let base = element_of root r in
     subst (All (AtOrBelow base)) (within-base root m s r x qs h) (All-filter (is_in (map (kept_children root m s) qs)) (AtOrBelow base) (below base) (below-base base))
 
-front-further : (base c : Element) (y : Element) → AtOrBelow base c → From c.place y → AtOrBelow base y
+pub front-further : (base c : Element) (y : Element) → AtOrBelow base c → From c.place y → AtOrBelow base y
 front-further base c y h (r, is) =
     let t = tail-of base.place c.place h in
     ap (is_front base.place) (is ∙ ap (λ p. p ++ r) t.1 ∙ append_assoc base.place t.0 r) ∙ front-of base.place (t.0 ++ r)

@@ -12,10 +12,15 @@ pub mod KnownLemmas
 pub mod MeaningLemmas
 pub mod ChosenLemmas
 pub mod SelectedLemmas
-pub mod ListedLemmas
+pub mod MemberLemmas
 pub mod AboveLemmas
 pub mod WayLemmas
 pub mod NamedLemmas
 pub mod AlikeLemmas
+pub mod TestLemmas
 pub mod PriceLemmas
 pub mod CostLemmas
+pub mod OrderLemmas
+pub mod OfferedLemmas
+pub mod OutermostLemmas
+pub mod NamingLemmas

@@ -9,7 +9,7 @@ use Rattle.std.proofs.lemmas.Grind.{flat_map-append}
 pub map-more : {A B : Type 0} (f : A → B) (xs : List A) (i : ℕ) (d : A) → i < length xs → map f (take (i + 1) xs) ≡ map f (take i xs) ++ f (get_or xs i d) ∷ []
 map-more f xs i d lt = ap (map f) (take_more xs i d lt) ∙ map-append f (take i xs) (get_or xs i d ∷ [])
 
-or-nothing : (a b : Bool) → (a || (b || false)) ≡ (a || b)
+pub or-nothing : (a b : Bool) → (a || (b || false)) ≡ (a || b)
 or-nothing true b = refl
 or-nothing false true = refl
 or-nothing false false = refl

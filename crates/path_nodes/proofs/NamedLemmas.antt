@@ -8,7 +8,7 @@ use Rattle.ordered_tree.specs.Stands.{round_root, round_first, round_next, refer
 use Rattle.ordered_tree.specs.declared.around.Around.{Around}
 use Rattle.ft_base.specs.declared.ids.NodeRef.{NodeRef}
 use Rattle.path_nodes.specs.References.{Spot, spots, child_spots, spots_in, spot_reference, spot_element, element_of, IsElement}
-use Rattle.path_nodes.specs.Says.{Meaning, Agrees, reference_of, satisfied}
+use Rattle.path_nodes.specs.Says.{Meaning, Agrees, Costs, reference_of, satisfied}
 use Rattle.path_nodes.proofs.AboveLemmas.{top}
 use Rattle.path_nodes.proofs.PlaceLemmas.{reference-back}
 use Rattle.path_nodes.proofs.SpotLemmas.{Contains-cons, element_of-is}
@@ -50,9 +50,16 @@ module _ (root : Numbered) (apart : AllPairs (λ a b. a ≢ b) (references root)
       let h = All-contains (Has (spots_in root)) (elements (plain root)) e (has-from [] round_root root) there in
       (spot_reference h.0, record { spot = h.0; among = h.1; refers = refl; element = h.2; apart = apart }, element_of-is root h.0 h.1 apart ∙ h.3)
 
-  -- what a test says of each reference it says of each element
-  pub agrees-there : (m : Meaning) (sat : ℕ → Element → Bool) → Agrees root m sat → All (λ e. (k : ℕ) → satisfied root m k e ≡ sat k e) (elements (plain root))
-  agrees-there m sat agree = λ i d within k.
+  -- what is said of each reference is said of each element
+  said-there : {A : Type 0} (f : ℕ → NodeRef → A) (g : ℕ → Element → A) → ((k : ℕ) (r : NodeRef) → IsElement root r → f k r ≡ g k (element_of root r))
+      → All (λ e. (k : ℕ) → f k (reference_of root e) ≡ g k e) (elements (plain root))
+  said-there f g agree = λ i d within k.
       let e = get_or (elements (plain root)) i d in
       let h = element-there e (Contains-get_or (elements (plain root)) i d within) in
-      ap (λ x. m.says k (reference_of root x)) (sym h.2) ∙ ap (m.says k) (reference-back root h.0 h.1) ∙ agree k h.0 h.1 ∙ ap (sat k) h.2
+      ap (λ x. f k (reference_of root x)) (sym h.2) ∙ ap (f k) (reference-back root h.0 h.1) ∙ agree k h.0 h.1 ∙ ap (g k) h.2
+
+  pub agrees-there : (m : Meaning) (sat : ℕ → Element → Bool) → Agrees root m sat → All (λ e. (k : ℕ) → satisfied root m k e ≡ sat k e) (elements (plain root))
+  agrees-there m sat agree = said-there m.says sat agree
+
+  pub costs-there : (m : Meaning) (price : ℕ → Element → ℕ) → Costs root m price → All (λ e. (k : ℕ) → m.price k (reference_of root e) ≡ price k e) (elements (plain root))
+  costs-there m price costs = said-there m.price price costs

@@ -42,7 +42,7 @@ module _ (root : Numbered) (m : Meaning) where
   unfolding price_of
   price-append xs ys = sum_by-append (λ x. m.price x.selection (reference_of root x.element)) xs ys
 
-  price-none : price_of root m [] ≡ 0
+  pub price-none : price_of root m [] ≡ 0
   unfolding price_of
   price-none = refl
 
@@ -87,6 +87,13 @@ module _ (root : Numbered) (m : Meaning) where
       ap (λ l. price_of root m (each_tested k (map (element_of root) l))) (drop_more xs i d lt)
       ∙ price-cons (record { selection = k; element = element_of root q }) rest
       ∙ ap (λ r. m.price k r + price_of root m rest) (reference-back root q x)
+
+  pub one-price : (k : ℕ) (r : NodeRef) → IsElement root r → m.price k r ≡ price_of root m (each_tested k (element_of root r ∷ []))
+  one-price k r x =
+      let first = price-cons (record { selection = k; element = element_of root r }) [] in
+      let none = price-none in
+      let same = ap (m.price k) (reference-back root r x) in
+      omega (arith, first, none, same)
 
   -- a condition of each item
   pub price-holds : (c : form.Condition) (items : List Element) → sum_by (condition_price root m c) items ≡ predicate_price root m (form.holds c) items

@@ -23,7 +23,7 @@ use Rattle.path_nodes.proofs.ChildrenLemmas.{on_element}
 use Rattle.path_nodes.proofs.ChosenLemmas.{tail-of, kept-places}
 use Rattle.path_meaning.proofs.InOrder.{under}
 use Rattle.path_nodes.proofs.FrontLemmas.{filter-none}
-use Rattle.path_nodes.proofs.ListedLemmas.{or-cases}
+use Rattle.path_nodes.proofs.MemberLemmas.{or-cases}
 use Rattle.path_nodes.proofs.PlaceLemmas.{element-is, one-reference}
 use Rattle.path_nodes.proofs.SpotLemmas.{of_number}
 

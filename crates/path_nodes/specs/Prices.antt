@@ -11,6 +11,10 @@ use Rattle.path_meaning.specs.Tests.{Test, step_tests, steps_tests, predicates_t
 unfoldable pub price_of : Numbered → Meaning → List Test → ℕ
 price_of root meaning tests = sum_by (λ t. meaning.price t.selection (reference_of root t.element)) tests
 
+-- the same, where the price of a test is told of its element
+abbrev pub total_price : (ℕ → Element → ℕ) → List Test → ℕ
+total_price price tests = sum_by (λ t. price t.selection t.element) tests
+
 -- of steps from elements
 abbrev pub steps_price : Numbered → Meaning → Steps → List Element → ℕ
 steps_price root m steps items = price_of root m (steps_tests (satisfied root m) (elements (plain root)) steps items)

@@ -29,3 +29,7 @@ satisfied root meaning selection e = meaning.says selection (reference_of root e
 -- A test says of each element what `satisfies` says of it.
 abbrev pub Agrees : Numbered → Meaning → (ℕ → Element → Bool) → Type 0
 Agrees root meaning satisfies = (selection : ℕ) (r : NodeRef) → IsElement root r → meaning.says selection r ≡ satisfies selection (element_of root r)
+
+-- A test costs of each element what `price` has for it.
+abbrev pub Costs : Numbered → Meaning → (ℕ → Element → ℕ) → Type 0
+Costs root meaning price = (selection : ℕ) (r : NodeRef) → IsElement root r → meaning.price selection r ≡ price selection (element_of root r)

@@ -1,9 +1,11 @@
 //! What the steps, predicates and conditions of a path say of elements.
 
-ghost use Rattle.std.specs.Prelude.{◌≡◌, ◌≤◌, ◌+◌, ◌∷◌, [], All, IfOk, OnOk, filter, map, sum_by};
+ghost use Rattle.std.specs.Prelude.{◌≡◌, ◌≤◌, ◌+◌, ◌∷◌, [], true, false, if◌then◌else◌};
+ghost use Rattle.std.specs.Prelude.{All, AllPairs, IfOk, OnOk, filter, flat_map, length, map, sum_by};
 ghost use Rattle.std.specs.List.{list_any};
 ghost use Rattle.ordered_tree.specs.Numbered.{plain};
 ghost use Rattle.path_meaning.specs.Elements.{elements, is_in};
+ghost use Rattle.path_meaning.specs.Order.{Before};
 ghost use Rattle.path_grammar.specs.Form as form;
 ghost use Rattle.path_meaning.specs.Meaning as meaning;
 ghost use Rattle.path_grammar.specs.View as view;
@@ -11,12 +13,12 @@ ghost use Rattle.path_nodes.specs.Asked.{OfEach, OfStep, OfPredicate, OfConditio
 ghost use Rattle.path_nodes.specs.steps.Known.{AreRight};
 ghost use Rattle.path_nodes.specs.steps.Leading.{StandFrom, in_path, in_step, in_steps, in_predicate, in_condition, in_conditions};
 ghost use Rattle.path_nodes.specs.steps.Kept as spec;
-ghost use Rattle.path_nodes.specs.steps.Listed.{AreAmong, HaveSame};
 ghost use Rattle.path_nodes.specs.Prices as price;
 ghost use Rattle.path_nodes.specs.References.{IsElement, element_of};
 ghost use Rattle.path_nodes.specs.Says.{satisfied};
 ghost use Rattle.path_meaning.specs.Tests.{each_tested};
-ghost use Rattle.path_nodes.specs.steps.Within.{AtOrBelow};
+ghost use Rattle.path_nodes.specs.steps.Regions.{at_or_below};
+ghost use Rattle.path_nodes.specs.steps.Within.{AtOrBelow, Precedes};
 
 use crate::attributes::has_attribute;
 use crate::children::element_children;
@@ -25,7 +27,9 @@ use crate::known::Known;
 use crate::leading::{behind_condition, behind_predicate, behind_step, next};
 use crate::marks::{Marks, mark_kept};
 use crate::names::named;
+use crate::naming::named_under;
 use crate::numbers::numbered;
+use crate::outermost::outermost;
 use crate::walks::{add_marked, with_descendants};
 use crate::{Nodes, TextTest};
 use ft_base::{Items, Memory};
@@ -47,6 +51,7 @@ pub(crate) fn led<T: TextTest>(
     requires base { IsElement tree.now.root base }
     requires from { All (IsElement tree.now.root) from }
     requires inside { All (λ r. AtOrBelow (element_of tree.now.root base) (element_of tree.now.root r)) from }
+    requires ordered { AllPairs Before (map (element_of tree.now.root) from) }
     requires asked { OfEach (MayAsk tree.now.root (T.meaning test.old)) (form.steps (map view.step steps.now)) }
     requires numbered { StandFrom (in_path known.old.path.now) number (in_steps (form.steps (map view.step steps.now))) }
     requires known { AreRight tree.now.root (T.meaning test.old) (in_path known.old.path.now) known.old.truths }
@@ -70,7 +75,8 @@ pub(crate) fn led<T: TextTest>(
     Ok(items)
 }
 
-/// The elements to which a step leads from elements at or below an element.
+/// The elements to which a step leads from elements at or below an element. One pass in document order decides it, unless the
+/// step has a number, which counts the children of each parent, or the children of one context may stand among those of another.
 #[cycle(evaluate)]
 pub(crate) fn stepped<T: TextTest>(
     tree: &DocTree,
@@ -84,6 +90,7 @@ pub(crate) fn stepped<T: TextTest>(
     requires base { IsElement tree.now.root base }
     requires contexts { All (IsElement tree.now.root) contexts }
     requires inside { All (λ r. AtOrBelow (element_of tree.now.root base) (element_of tree.now.root r)) contexts }
+    requires ordered { AllPairs Before (map (element_of tree.now.root) contexts) }
     requires asked { OfStep (MayAsk tree.now.root (T.meaning test.old)) (view.step step.now) }
     requires numbered { StandFrom (in_path known.old.path.now) number (in_step (view.step step.now)) }
     requires known { AreRight tree.now.root (T.meaning test.old) (in_path known.old.path.now) known.old.truths }
@@ -99,19 +106,98 @@ pub(crate) fn stepped<T: TextTest>(
         ≤ T.cost test.old
         + price.step_price tree.now.root (T.meaning test.old) (view.step step.now) (map meaning.item (map (element_of tree.now.root) contexts)) }
 {
-    let parents = parents_of(known.alloc, tree, step.deep, contexts)?;
+    let outer = outermost(known.alloc, tree, &contexts)?;
+    if keeps_order(step, &outer, &contexts) {
+        return chosen_in_order(tree, step, number, &outer, test, known);
+    }
+    let parents = parents_of(known.alloc, tree, step.deep, &outer, contexts)?;
     chosen(tree, step, number, base, &parents, test, known)
 }
 
-/// The elements to whose children a step leads: the contexts or, where it is deep, they and all elements below them.
-fn parents_of(alloc: Global, tree: &DocTree, deep: bool, contexts: Nodes) -> Result<Nodes, Memory>
-    requires { All (IsElement tree.now.root) contexts }
-    ensures members { IfOk result (λ found. HaveSame (map (element_of tree.now.root) found) (spec.parents deep (map (element_of tree.now.root) contexts))) }
-    ensures once { IfOk result (λ found. AreAmong (map (element_of tree.now.root) found) (spec.parents deep (map (element_of tree.now.root) contexts))) }
+/// Whether what a step keeps of each of the outermost contexts, one behind the other, is all that it keeps, in document order.
+fn keeps_order(step: &Step, outer: &Nodes, contexts: &Nodes) -> bool
+    ensures numbers { result ≡ true → spec.has_number (view.step step.now) ≡ false }
+    ensures apart { result ≡ true → step.now.deep ≡ false → length outer.now ≡ length contexts.now }
+{
+    if has_number(step) {
+        return false;
+    }
+    step.deep || outer.len() == contexts.len()
+}
+
+/// Whether a predicate of the step is a number.
+fn has_number(step: &Step) -> bool
+    ensures { result ≡ spec.has_number (view.step step.now) }
+{
+    for predicate in step.predicates.as_slice() {
+        if is_number(predicate) {
+            return true;
+        }
+    }
+    false
+}
+
+/// Whether a predicate is a number.
+fn is_number(predicate: &Predicate) -> bool
+    ensures { result ≡ spec.is_number (view.predicate predicate.now) }
+{
+    match predicate {
+        Predicate::Number(_) => true,
+        Predicate::Holds(_) => false,
+    }
+}
+
+/// The elements that a step without numbers keeps of what elements offer it none of which stands below another.
+#[cycle(evaluate)]
+fn chosen_in_order<T: TextTest>(
+    tree: &DocTree,
+    step: &Step,
+    number: usize,
+    outer: &Nodes,
+    test: &mut T,
+    known: &mut Known,
+) -> Result<Nodes, Memory>
+    requires outer { All (IsElement tree.now.root) outer.now }
+    requires apart { AllPairs Precedes (map (element_of tree.now.root) outer.now) }
+    requires no_number { spec.has_number (view.step step.now) ≡ false }
+    requires asked { OfStep (MayAsk tree.now.root (T.meaning test.old)) (view.step step.now) }
+    requires numbered { StandFrom (in_path known.old.path.now) number (in_step (view.step step.now)) }
+    requires known { AreRight tree.now.root (T.meaning test.old) (in_path known.old.path.now) known.old.truths }
+    ensures elements { IfOk result (λ found. map (element_of tree.now.root) found
+        ≡ filter
+        (is_in (map (spec.kept_children tree.now.root (T.meaning test.old) (view.step step.now))
+        (spec.parents step.now.deep (map (element_of tree.now.root) outer.now))))
+        (elements (plain tree.now.root))) }
+    ensures there { IfOk result (All (IsElement tree.now.root)) }
+    ensures meaning { T.meaning test.new ≡ T.meaning test.old }
+    ensures path { known.new.path ≡ known.old.path }
+    ensures known { OnOk result (AreRight tree.now.root (T.meaning test.old) (in_path known.old.path.now) known.new.truths) }
+    ensures cost { T.cost test.new
+        ≤ T.cost test.old
+        + sum_by (price.children_price tree.now.root (T.meaning test.old) (view.step step.now))
+        (spec.parents step.now.deep (map (element_of tree.now.root) outer.now)) }
+{
+    let named = named_under(known.alloc, tree, &step.test, step.deep, outer)?;
+    passed(tree, step, number, named, test, known)
+}
+
+/// The elements to whose children a step leads: the contexts or, where it is deep, the outermost ones and all elements below
+/// them.
+fn parents_of(
+    alloc: Global,
+    tree: &DocTree,
+    deep: bool,
+    outer: &Nodes,
+    contexts: Nodes,
+) -> Result<Nodes, Memory>
+    requires outer { All (IsElement tree.now.root) outer.now }
+    requires contexts { All (IsElement tree.now.root) contexts }
+    ensures elements { IfOk result (λ found. map (element_of tree.now.root) found
+        ≡ (if deep then flat_map at_or_below (map (element_of tree.now.root) outer.now) else map (element_of tree.now.root) contexts)) }
     ensures there { IfOk result (All (IsElement tree.now.root)) }
 {
     if deep {
-        with_descendants(alloc, tree, &contexts)
+        with_descendants(alloc, tree, outer)
     } else {
         Ok(contexts)
     }
@@ -207,7 +293,37 @@ pub(crate) fn kept<T: TextTest>(
     ensures cost { T.cost test.new
         ≤ T.cost test.old + price.list_price tree.now.root (T.meaning test.old) (view.step step.now) (map (element_of tree.now.root) items.now) }
 {
-    let mut kept = named(known.alloc, tree, &step.test, items)?;
+    let named = named(known.alloc, tree, &step.test, items)?;
+    passed(tree, step, number, named, test, known)
+}
+
+/// The elements of a list that pass the predicates of a step, each of which sees what those before it have left.
+#[cycle(evaluate)]
+fn passed<T: TextTest>(
+    tree: &DocTree,
+    step: &Step,
+    number: usize,
+    items: Nodes,
+    test: &mut T,
+    known: &mut Known,
+) -> Result<Nodes, Memory>
+    requires items { All (IsElement tree.now.root) items }
+    requires asked { OfStep (MayAsk tree.now.root (T.meaning test.old)) (view.step step.now) }
+    requires numbered { StandFrom (in_path known.old.path.now) number (in_step (view.step step.now)) }
+    requires known { AreRight tree.now.root (T.meaning test.old) (in_path known.old.path.now) known.old.truths }
+    ensures elements { IfOk result (λ kept. map (element_of tree.now.root) kept
+        ≡ meaning.filtered (satisfied tree.now.root (T.meaning test.old)) (elements (plain tree.now.root))
+        (form.predicates (map view.predicate step.now.predicates)) (map (element_of tree.now.root) items)) }
+    ensures there { IfOk result (All (IsElement tree.now.root)) }
+    ensures meaning { T.meaning test.new ≡ T.meaning test.old }
+    ensures path { known.new.path ≡ known.old.path }
+    ensures known { OnOk result (AreRight tree.now.root (T.meaning test.old) (in_path known.old.path.now) known.new.truths) }
+    ensures cost { T.cost test.new
+        ≤ T.cost test.old
+        + price.predicates_price tree.now.root (T.meaning test.old) (form.predicates (map view.predicate step.now.predicates))
+        (map (element_of tree.now.root) items) }
+{
+    let mut kept = items;
     let mut first = number;
     for predicate in step.predicates.as_slice() {
         let behind = behind_predicate(first, predicate)?;
@@ -445,6 +561,9 @@ fn contains_text<T: TextTest>(
         (satisfied tree.now.root (T.meaning test.old)) (elements (plain tree.now.root)) (form.steps (map view.step steps.now))
         (element_of tree.now.root item ∷ [])))) }
 {
+    if steps.is_empty() {
+        return itself_contains(tree, selection, item, test);
+    }
     if let Some(truth) = known.truth(number, item) {
         return Ok(truth);
     }
@@ -452,6 +571,24 @@ fn contains_text<T: TextTest>(
     let truth = some_contains(tree, selection, &nodes, test)?;
     known.keep(number, item, truth)?;
     Ok(truth)
+}
+
+/// Whether an element itself satisfies a selection.
+fn itself_contains<T: TextTest>(
+    tree: &DocTree,
+    selection: usize,
+    item: NodeRef,
+    test: &mut T,
+) -> Result<bool, Memory>
+    requires item { IsElement tree.now.root item }
+    requires asked { MayAsk tree.now.root (T.meaning test.old) selection }
+    ensures truth { IfOk result (λ truth. truth ≡ satisfied tree.now.root (T.meaning test.old) selection (element_of tree.now.root item)) }
+    ensures meaning { T.meaning test.new ≡ T.meaning test.old }
+    ensures cost { T.cost test.new
+        ≤ T.cost test.old + price.price_of tree.now.root (T.meaning test.old) (each_tested selection (element_of tree.now.root item ∷ [])) }
+{
+    let _root = tree.root();
+    test.contains(selection, item)
 }
 
 /// Whether one of the elements satisfies a selection; those behind it aren't asked for.

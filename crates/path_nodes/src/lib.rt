@@ -10,7 +10,9 @@ mod known;
 mod leading;
 mod marks;
 mod names;
+mod naming;
 mod numbers;
+mod outermost;
 mod selected;
 mod walks;
 

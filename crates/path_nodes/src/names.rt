@@ -10,7 +10,7 @@ use path_grammar::NameTest;
 use std::alloc::Global;
 
 /// Whether the element passes the test of names.
-fn is_named(tree: &DocTree, test: &NameTest, node: NodeRef) -> bool
+pub(crate) fn is_named(tree: &DocTree, test: &NameTest, node: NodeRef) -> bool
     requires { IsElement tree.now.root node }
     ensures { result ≡ meaning.is_named test.now (element_of tree.now.root node).node }
 {

@@ -7,9 +7,9 @@ ghost use Rattle.path_grammar.specs.View as view;
 ghost use Rattle.path_nodes.specs.Asked.{OfEach, OfStep, MayAsk};
 ghost use Rattle.path_nodes.specs.steps.Known.{AreRight};
 ghost use Rattle.path_nodes.specs.steps.Leading.{StandFrom, in_path, in_step};
-ghost use Rattle.path_nodes.specs.Prices.{price_of, step_price};
+ghost use Rattle.path_nodes.specs.Prices.{price_of, step_price, total_price};
 ghost use Rattle.path_nodes.specs.References.{IsElement, element_of};
-ghost use Rattle.path_nodes.specs.Says.{Agrees, satisfied};
+ghost use Rattle.path_nodes.specs.Says.{Agrees, Costs, satisfied};
 ghost use Rattle.path_meaning.specs.Tests.{selected_tests};
 
 use crate::evaluating::{kept, led, stepped};
@@ -45,6 +45,9 @@ pub fn nodes<T: TextTest>(
         ≤ T.cost test.old
         + price_of tree.now.root (T.meaning test.old)
         (selected_tests (satisfied tree.now.root (T.meaning test.old)) (form.steps (map view.step steps.now)) (plain tree.now.root)) }
+    ensures costs { (satisfies : ℕ → Element → Bool) (price : ℕ → Element → ℕ) → Agrees tree.now.root (T.meaning test.old) satisfies
+        → Costs tree.now.root (T.meaning test.old) price
+        → T.cost test.new ≤ T.cost test.old + total_price price (selected_tests satisfies (form.steps (map view.step steps.now)) (plain tree.now.root)) }
 {
     let root = tree.root();
     if steps.is_empty() {

@@ -1,8 +1,6 @@
-ghost use Rattle.std.specs.Prelude.{◌≡◌, ◌≤◌, ◌+◌, ◌∷◌, [], ◌++◌, ◌||◌, ℕ, All, Bool, IfOk, OnOk, filter, flat_map, map, sum_by};
-ghost use Rattle.std.specs.List.{list_any};
+ghost use Rattle.std.specs.Prelude.{◌≡◌, ◌∷◌, [], ◌++◌, All, Bool, IfOk, OnOk, filter, flat_map, map};
 ghost use Rattle.ft_base.specs.declared.ids.NodeRef.{NodeRef};
 ghost use Rattle.path_meaning.specs.Elements.{Element};
-ghost use Rattle.path_nodes.specs.steps.Listed.{AreAmong, AreListed, HaveSame};
 ghost use Rattle.path_nodes.specs.steps.Marks.{is_marked};
 ghost use Rattle.path_nodes.specs.References.{IsElement, element_of};
 ghost use Rattle.path_nodes.specs.steps.Regions.{at_or_below, below};
@@ -10,8 +8,8 @@ ghost use Rattle.path_nodes.specs.steps.Ways.{LeadTo};
 
 use crate::Nodes;
 use crate::children::element_children;
-use crate::kept::{append, push_if};
-use crate::marks::{Marks, has_mark, mark_all};
+use crate::kept::push_if;
+use crate::marks::{Marks, has_mark};
 use ft_base::Memory;
 use ordered_tree::{DocTree, NodeRef};
 use std::alloc::Global;
@@ -37,54 +35,21 @@ pub(crate) fn add_elements(
     Ok(())
 }
 
-/// The elements and all elements below them. An element that stands below an earlier one isn't listed again.
+/// The elements and all elements below them, those of each one behind those of the one before.
 pub(crate) fn with_descendants(
     alloc: Global,
     tree: &DocTree,
     contexts: &Nodes,
 ) -> Result<Nodes, Memory>
     requires { All (IsElement tree.now.root) contexts.now }
-    ensures members { IfOk result (λ found.
-        HaveSame (map (element_of tree.now.root) found) (flat_map at_or_below (map (element_of tree.now.root) contexts.now))) }
-    ensures once { IfOk result (λ found. AreAmong (map (element_of tree.now.root) found) (flat_map at_or_below (map (element_of tree.now.root) contexts.now))) }
+    ensures elements { IfOk result (λ found. map (element_of tree.now.root) found ≡ flat_map at_or_below (map (element_of tree.now.root) contexts.now)) }
     ensures there { IfOk result (All (IsElement tree.now.root)) }
 {
-    let mut listed = Marks::new(alloc);
     let mut found = Nodes::new(alloc);
     for context in contexts.as_slice() {
-        add_unlisted(alloc, tree, *context, &mut listed, &mut found)?;
+        add_elements(alloc, tree, *context, &mut found)?;
     }
     Ok(found)
-}
-
-/// Puts an element and all elements below it to the end, unless they are listed.
-fn add_unlisted(
-    alloc: Global,
-    tree: &DocTree,
-    here: NodeRef,
-    listed: &mut Marks,
-    found: &mut Nodes,
-) -> Result<(), Memory>
-    requires here { IsElement tree.now.root here }
-    requires listed { AreListed tree.now.root listed.old (map (element_of tree.now.root) found.old) }
-    requires found { All (IsElement tree.now.root) found.old }
-    ensures members { OnOk result ((p : Element → Bool)
-        → list_any p (map (element_of tree.now.root) found.new)
-        ≡ (list_any p (map (element_of tree.now.root) found.old) || list_any p (at_or_below (element_of tree.now.root here)))) }
-    ensures once { OnOk result ((count : Element → ℕ)
-        → sum_by count (map (element_of tree.now.root) found.new)
-        ≤ sum_by count (map (element_of tree.now.root) found.old) + sum_by count (at_or_below (element_of tree.now.root here))) }
-    ensures listed { OnOk result (AreListed tree.now.root listed.new (map (element_of tree.now.root) found.new)) }
-    ensures there { OnOk result (All (IsElement tree.now.root) found.new) }
-{
-    if has_mark(listed, here) {
-        return Ok(());
-    }
-    let mut region = Nodes::new(alloc);
-    add_elements(alloc, tree, here, &mut region)?;
-    mark_all(tree, listed, &region)?;
-    append(found, &region)?;
-    Ok(())
 }
 
 /// Puts the marked elements below an element to the end, in document order. What is below an element that leads to none of

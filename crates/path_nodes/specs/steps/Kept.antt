@@ -1,15 +1,36 @@
 -- What steps, predicates and conditions say of elements, by what a test says.
-use Rattle.std.specs.Prelude.{ℕ, Bool, true, false, List, filter, flat_map, if◌then◌else◌}
+use Rattle.std.specs.Prelude.{ℕ, Bool, true, false, ◌||◌, List, [], ◌∷◌, filter, flat_map, if◌then◌else◌}
 use Rattle.ordered_tree.specs.Numbered.{Numbered, plain}
 use Rattle.path_meaning.specs.Elements.{Element, elements, element_children}
-use Rattle.path_grammar.specs.Form.{Step, step, Conditions}
+use Rattle.path_grammar.specs.Form.{Step, step, Predicate, number, holds, Predicates, no_predicates, predicate_then, Conditions}
 use Rattle.path_meaning.specs.Meaning.{is_named, filtered, some_true, each_true}
-use Rattle.path_nodes.specs.steps.Regions.{at_or_below}
+use Rattle.path_nodes.specs.steps.Regions.{at_or_below, below}
 use Rattle.path_nodes.specs.Says.{Meaning, satisfied}
 
 -- the elements whose children a step offers
 abbrev pub parents : Bool → List Element → List Element
 parents deep contexts = if deep then flat_map at_or_below contexts else contexts
+
+-- the elements of which a step keeps some, from one context: its children or, where it is deep, all elements below it
+abbrev pub offered : Bool → Element → List Element
+offered deep e = if deep then below e else element_children e
+
+-- the same of an element that is a child of the context
+abbrev pub offered_from : Bool → Element → List Element
+offered_from deep e = if deep then at_or_below e else e ∷ []
+
+-- whether a predicate is a number
+abbrev pub is_number : Predicate → Bool
+is_number (number k) = true
+is_number (holds condition) = false
+
+abbrev pub some_number : Predicates → Bool
+some_number no_predicates = false
+some_number (predicate_then p rest) = is_number p || some_number rest
+
+-- whether one of a step's predicates is
+abbrev pub has_number : Step → Bool
+has_number (step deep test predicates) = some_number predicates
 
 -- what a step keeps of a list
 abbrev pub kept : Numbered → Meaning → Step → List Element → List Element

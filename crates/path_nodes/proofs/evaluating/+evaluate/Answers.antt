@@ -1,17 +1,20 @@
 -- Each kind of condition and predicate, one more of each list.
-use Rattle.std.proofs.Common.{◌≡◌, ◌≤◌, ◌||◌, not, [], ◌++◌, map, filter, take, length, get_or, IfOk, refl, sym, ap, ◌∙◌, subst, arith, rules}
-use Rattle.std.specs.List.{All, list_any}
+use Rattle.std.proofs.Common.{◌≡◌, ◌≤◌, ◌+◌, ◌||◌, ℕ, false, not, List, ◌∷◌, [], ◌++◌, map, filter, take, length, get_or, IfOk, refl, sym, ap, ◌∙◌, subst, arith, rules}
+use Rattle.std.specs.List.{All, AllPairs, Contains, list_any}
 use Rattle.std.proofs.lemmas.List.{take_all, drop_all}
-use Rattle.std.proofs.lemmas.List.Elements.{All-nil, All-cons, All-map, All-get_or}
-use Rattle.ordered_tree.specs.Numbered.{plain}
+use Rattle.std.proofs.lemmas.List.Elements.{All-nil, All-cons, All-map, All-weaker, All-get_or}
+use Rattle.std.proofs.lemmas.Result.{IfOk-weaker}
+use Rattle.ordered_tree.specs.Numbered.{Numbered, plain}
 use Rattle.ft_base.specs.declared.ids.NodeRef.{NodeRef}
 use Rattle.path_grammar.specs.declared.path.Condition.{the_lemmas}
+use Rattle.path_grammar.specs.declared.path.Step as declared
 use Rattle.path_grammar.specs.Form as form
 use Rattle.path_grammar.specs.View as view
 use Rattle.path_grammar.proofs.Views.{view_number, view_holds, view_or, view_and, view_not, view_attribute, view_exists, view_contains}
-use Rattle.path_meaning.specs.Elements.{elements, is_in, is_same}
+use Rattle.path_meaning.specs.Elements.{Element, elements, is_in, is_same}
 use Rattle.path_meaning.specs.Meaning as meaning
-use Rattle.path_meaning.specs.Tests.{condition_tests}
+use Rattle.path_meaning.specs.Order.{Before}
+use Rattle.path_meaning.specs.Tests.{condition_tests, each_tested, steps_tests}
 use Rattle.path_nodes.specs.Asked.{OfPredicate, OfCondition, MayAsk}
 use Rattle.path_nodes.specs.steps.Kept as spec
 use Rattle.path_nodes.specs.steps.Marks.{is_marked}
@@ -19,16 +22,19 @@ use Rattle.path_nodes.specs.steps.Leading.{StandFrom, in_path, in_steps, in_pred
 use Rattle.path_nodes.specs.Prices as price
 use Rattle.path_nodes.specs.References.{IsElement, element_of}
 use Rattle.path_nodes.specs.steps.Regions.{below}
-use Rattle.path_nodes.specs.Says.{satisfied}
+use Rattle.path_nodes.specs.Says.{Meaning, satisfied}
 use Rattle.path_nodes.specs.steps.Within.{AtOrBelow}
 use Rattle.path_nodes.proofs.AskedLemmas.{step-is, of-step, nth-step, nth-predicate, nth-condition}
-use Rattle.path_nodes.proofs.ChosenLemmas.{within-base, chosen-inside, parents-inside, all-refs, stepped-is}
+use Rattle.path_nodes.proofs.ChosenLemmas.{within-base, chosen-inside, parents-inside, all-refs, of-document, stepped-is}
 use Rattle.path_nodes.proofs.FrontLemmas.{front-itself}
 use Rattle.path_nodes.proofs.LeadingLemmas.{in-step, steps-from, predicates-from, conditions-from, stand-first, stand-next, stand-itself, stand-inside}
-use Rattle.path_nodes.proofs.ListedLemmas.{or-cases, same-offered, same-inside}
-use Rattle.path_nodes.proofs.ListLemmas.{any-more-of, filter-more, more-there}
+use Rattle.path_nodes.proofs.MemberLemmas.{or-cases, same-offered, same-inside}
+use Rattle.path_nodes.proofs.OfferedLemmas.{in-one-pass, one-pass-price}
+use Rattle.path_nodes.proofs.OrderLemmas.{one-ordered, stepped-ordered}
+use Rattle.path_nodes.proofs.OutermostLemmas.{same-parents, few-parents, outer-members, outer-once}
+use Rattle.path_nodes.proofs.ListLemmas.{any-more-of, filter-more, more-there, or-nothing}
 use Rattle.path_nodes.proofs.MeaningLemmas.{led-next, filtered-next, decided, undecided, joined-none, emptied}
-use Rattle.path_nodes.proofs.PriceLemmas.{sum-next, price-append, price-holds, steps-next, predicates-next, conditions-next, step-price}
+use Rattle.path_nodes.proofs.PriceLemmas.{sum-next, price-append, price-none, price-holds, steps-next, predicates-next, conditions-next, step-price}
 use Rattle.path_nodes.proofs.CostLemmas.{cost-next, cost-part, at-price, at-most, both-cost}
 use Rattle.path_nodes.proofs.SpotLemmas.{of_number}
 use Rattle.path_nodes.proofs.WayLemmas.{lead-kept}
@@ -140,6 +146,35 @@ exists-returns-clause-known g t c =
     let itself = stand-itself all c.args.number (form.exists s) (in_steps s) c.requires.numbered in
     c.in_ok-keep.ensures.right c.args.tree.now.root (g.T.TextTest.meaning c.args.test.now) all (form.exists s) c.in_ok-nodes.ensures.known itself (exists-returns-clause-truth g t c)
 
+-- no steps lead from the element to itself
+module _ (root : Numbered) (m : Meaning) (k : ℕ) (e : Element) (steps : List declared.Step) (none : steps ≡ []) where
+  itself : satisfied root m k e ≡ list_any (satisfied root m k) (meaning.led (satisfied root m) (elements (plain root)) (form.steps (map view.step steps)) (e ∷ []))
+  unfolding meaning.led
+  itself = sym (ap (λ l. list_any (satisfied root m k) (meaning.led (satisfied root m) (elements (plain root)) (form.steps (map view.step l)) (e ∷ []))) none ∙ or-nothing false (satisfied root m k e))
+
+  itself-price : price.price_of root m (each_tested k (e ∷ []))
+      ≡ price.steps_price root m (form.steps (map view.step steps)) (e ∷ []) + price.price_of root m (each_tested k (meaning.led (satisfied root m) (elements (plain root)) (form.steps (map view.step steps)) (e ∷ [])))
+  unfolding meaning.led steps_tests
+  itself-price =
+      let tested : List Element → ℕ = λ es. price.price_of root m (each_tested k es) in
+      let spent : List declared.Step → ℕ = λ l. price.steps_price root m (form.steps (map view.step l)) (e ∷ []) in
+      let found : List declared.Step → List Element = λ l. meaning.led (satisfied root m) (elements (plain root)) (form.steps (map view.step l)) (e ∷ []) in
+      let free : spent [] ≡ 0 = price-none root m in
+      let all : spent steps + tested (found steps) ≡ spent [] + tested (e ∷ []) = ap (λ l. spent l + tested (found l)) none in
+      omega (arith, free, all)
+
+pub contains_text-returns-then-is_empty-clause-truth : goal.contains_text-returns-then-is_empty-clause-truth
+contains_text-returns-then-is_empty-clause-truth g t c =
+    let root = c.args.tree.now.root in
+    let m = g.T.TextTest.meaning c.args.test.now in
+    subst (λ b. IfOk c.itself_contains.result (λ truth. truth ≡ b)) (itself root m c.args.selection (element_of root c.args.item) c.args.steps.now (c.is_empty.ensures.0 c.if-is_empty.true)) c.itself_contains.ensures.truth
+
+pub contains_text-returns-then-is_empty-clause-cost : goal.contains_text-returns-then-is_empty-clause-cost
+contains_text-returns-then-is_empty-clause-cost g t c =
+    let root = c.args.tree.now.root in
+    let m = g.T.TextTest.meaning c.args.test.now in
+    at-price _ _ _ _ c.itself_contains.ensures.cost (itself-price root m c.args.selection (element_of root c.args.item) c.args.steps.now (c.is_empty.ensures.0 c.if-is_empty.true))
+
 pub contains_text-led_from-requires : goal.contains_text-led_from-requires
 unfolding in_condition
 contains_text-led_from-requires g t c κs within =
@@ -237,25 +272,98 @@ led_from-led-requires g t c κs within =
     let Q : NodeRef → Type 0 = λ r. AtOrBelow (element_of root item) (element_of root r) in
     let there = All-cons P item [] c.requires.item (All-nil P) in
     let inside = All-cons Q item [] (front-itself (element_of root item).place) (All-nil Q) in
-    (search (rules, the_lemmas), (within, (c.requires.item, (rw c.in_ok-from.ensures there, (rw c.in_ok-from.ensures inside, (rw c.as_slice.ensures c.requires.asked, (rw (c.as_slice.ensures, c.set_inside-outer.ensures.path) c.requires.numbered, rw (c.set_inside-outer.ensures.path, c.set_inside-outer.ensures.truths) c.requires.known)))))))
+    (search (rules, the_lemmas), (within, (c.requires.item, (rw c.in_ok-from.ensures there, (rw c.in_ok-from.ensures inside, (rw c.in_ok-from.ensures (one-ordered (element_of root item)), (rw c.as_slice.ensures c.requires.asked, (rw (c.as_slice.ensures, c.set_inside-outer.ensures.path) c.requires.numbered, rw (c.set_inside-outer.ensures.path, c.set_inside-outer.ensures.truths) c.requires.known))))))))
 
 pub led_from-returns-clause-known : goal.led_from-returns-clause-known
 led_from-returns-clause-known g t c =
     let right = rw c.set_inside-outer.ensures.path at c.in_ok-found.ensures.known in
     rw c.set_inside.ensures.truths right
 
+-- ---- chosen_in_order
+
+pub chosen_in_order-returns-clause-elements : goal.chosen_in_order-returns-clause-elements
+chosen_in_order-returns-clause-elements g t c =
+    let root = c.args.tree.now.root in
+    let m = g.T.TextTest.meaning c.args.test.now in
+    let s = c.args.step.now in
+    let ps = form.predicates (map view.predicate s.predicates) in
+    let there = All-map (Contains (elements (plain root))) (element_of root) c.args.outer.now
+    (All-weaker (IsElement root) (λ r. Contains (elements (plain root)) (element_of root r)) (of-document root) c.args.outer.now c.requires.outer) in
+    subst (λ es. IfOk c.passed.result (λ found. map (element_of root) found ≡ es))
+    (ap (meaning.filtered (satisfied root m) (elements (plain root)) ps) c.in_ok-named.ensures.elements
+    ∙ in-one-pass root m (view.step s) s.deep s.test ps (step-is s) c.requires.no_number (map (element_of root) c.args.outer.now) c.requires.apart there)
+    c.passed.ensures.elements
+
+pub chosen_in_order-returns-clause-cost : goal.chosen_in_order-returns-clause-cost
+chosen_in_order-returns-clause-cost g t c =
+    let root = c.args.tree.now.root in
+    let m = g.T.TextTest.meaning c.args.test.now in
+    let s = c.args.step.now in
+    let ps = form.predicates (map view.predicate s.predicates) in
+    at-price _ _ _ _ c.passed.ensures.cost
+    (ap (price.predicates_price root m ps) c.in_ok-named.ensures.elements
+    ∙ one-pass-price root m (view.step s) s.deep s.test ps (step-is s) c.requires.no_number (map (element_of root) c.args.outer.now))
+
 -- ---- stepped
+
+pub stepped-chosen_in_order-requires : goal.stepped-chosen_in_order-requires
+stepped-chosen_in_order-requires g t c κs within =
+    (search (rules, the_lemmas), (within, (c.in_ok-outer.ensures.there, (c.in_ok-outer.ensures.apart, (c.keeps_order.ensures.numbers c.if-keeps_order.true, (c.requires.asked, (c.requires.numbered, c.requires.known)))))))
 
 pub stepped-chosen-requires : goal.stepped-chosen-requires
 stepped-chosen-requires g t c κs within =
     let root = c.args.tree.now.root in
     let base = element_of root c.args.base in
     let contexts = map (element_of root) c.args.contexts in
+    let outer = map (element_of root) c.in_ok-outer.outer in
     let parents = c.in_ok-parents.parents in
     let deep = c.args.step.now.deep in
     let offered = parents-inside base deep contexts (All-map (AtOrBelow base) (element_of root) c.args.contexts c.requires.inside) in
-    let inside = all-refs root (AtOrBelow base) parents (same-inside base (map (element_of root) parents) (spec.parents deep contexts) c.in_ok-parents.ensures.members offered) in
+    let members = same-parents deep outer contexts (map (element_of root) parents) c.in_ok-outer.ensures.members c.in_ok-parents.ensures.elements in
+    let inside = all-refs root (AtOrBelow base) parents (same-inside base (map (element_of root) parents) (spec.parents deep contexts) members offered) in
     (search (rules, the_lemmas), (within, (c.requires.base, (c.in_ok-parents.ensures.there, (inside, (c.requires.asked, (c.requires.numbered, c.requires.known)))))))
+
+pub stepped-returns-then-keeps_order-clause-elements : goal.stepped-returns-then-keeps_order-clause-elements
+stepped-returns-then-keeps_order-clause-elements g t c =
+    let root = c.args.tree.now.root in
+    let s = c.args.step.now in
+    let m = g.T.TextTest.meaning c.args.test.now in
+    let contexts = map (element_of root) c.args.contexts in
+    let outer = map (element_of root) c.in_ok-outer.outer in
+    let whole : s.deep ≡ false → outer ≡ contexts = λ flat. ap (map (element_of root)) (c.in_ok-outer.ensures.whole (c.keeps_order.ensures.apart c.if-keeps_order.true flat)) in
+    subst (λ es. IfOk c.chosen_in_order.result (λ found. map (element_of root) found ≡ es))
+    (same-offered (spec.kept_children root m (view.step s)) (spec.parents s.deep outer) (spec.parents s.deep contexts) (elements (plain root)) (outer-members s.deep outer contexts whole c.in_ok-outer.ensures.members)
+    ∙ stepped-is root m (view.step s) s.deep s.test (form.predicates (map view.predicate s.predicates)) contexts (step-is s))
+    c.chosen_in_order.ensures.elements
+
+pub stepped-returns-then-keeps_order-clause-inside : goal.stepped-returns-then-keeps_order-clause-inside
+stepped-returns-then-keeps_order-clause-inside g t c =
+    let root = c.args.tree.now.root in
+    let s = c.args.step.now in
+    let m = g.T.TextTest.meaning c.args.test.now in
+    let base = element_of root c.args.base in
+    let contexts = map (element_of root) c.args.contexts in
+    let outer = map (element_of root) c.in_ok-outer.outer in
+    let whole : s.deep ≡ false → outer ≡ contexts = λ flat. ap (map (element_of root)) (c.in_ok-outer.ensures.whole (c.keeps_order.ensures.apart c.if-keeps_order.true flat)) in
+    let offered = parents-inside base s.deep contexts (All-map (AtOrBelow base) (element_of root) c.args.contexts c.requires.inside) in
+    let parents = same-inside base (spec.parents s.deep outer) (spec.parents s.deep contexts) (outer-members s.deep outer contexts whole c.in_ok-outer.ensures.members) offered in
+    let inside = chosen-inside root m (view.step s) c.args.base c.requires.base (spec.parents s.deep outer) parents in
+    IfOk-weaker c.chosen_in_order.result
+    (λ found. map (element_of root) found ≡ filter (is_in (map (spec.kept_children root m (view.step s)) (spec.parents s.deep outer))) (elements (plain root)))
+    (All (λ r. AtOrBelow base (element_of root r)))
+    (λ found is. all-refs root (AtOrBelow base) found (subst (All (AtOrBelow base)) (sym is) inside))
+    c.chosen_in_order.ensures.elements
+
+pub stepped-returns-then-keeps_order-clause-cost : goal.stepped-returns-then-keeps_order-clause-cost
+stepped-returns-then-keeps_order-clause-cost g t c =
+    let root = c.args.tree.now.root in
+    let m = g.T.TextTest.meaning c.args.test.now in
+    let s = c.args.step.now in
+    let contexts = map (element_of root) c.args.contexts in
+    let outer = map (element_of root) c.in_ok-outer.outer in
+    let whole : s.deep ≡ false → outer ≡ contexts = λ flat. ap (map (element_of root)) (c.in_ok-outer.ensures.whole (c.keeps_order.ensures.apart c.if-keeps_order.true flat)) in
+    at-most _ _ _ _ _ c.chosen_in_order.ensures.cost (outer-once s.deep outer contexts whole c.in_ok-outer.ensures.once (price.children_price root m (view.step s)))
+    (step-price root m (view.step s) s.deep s.test (form.predicates (map view.predicate s.predicates)) contexts (step-is s))
 
 pub stepped-returns-clause-elements : goal.stepped-returns-clause-elements
 stepped-returns-clause-elements g t c =
@@ -263,8 +371,11 @@ stepped-returns-clause-elements g t c =
     let s = c.args.step.now in
     let m = g.T.TextTest.meaning c.args.test.now in
     let contexts = map (element_of root) c.args.contexts in
+    let outer = map (element_of root) c.in_ok-outer.outer in
+    let parents = map (element_of root) c.in_ok-parents.parents in
     subst (λ es. IfOk c.chosen.result (λ found. map (element_of root) found ≡ es))
-    (same-offered (spec.kept_children root m (view.step s)) (map (element_of root) c.in_ok-parents.parents) (spec.parents s.deep contexts) (elements (plain root)) c.in_ok-parents.ensures.members
+    (same-offered (spec.kept_children root m (view.step s)) parents (spec.parents s.deep contexts) (elements (plain root))
+    (same-parents s.deep outer contexts parents c.in_ok-outer.ensures.members c.in_ok-parents.ensures.elements)
     ∙ stepped-is root m (view.step s) s.deep s.test (form.predicates (map view.predicate s.predicates)) contexts (step-is s))
     c.chosen.ensures.elements
 
@@ -273,8 +384,12 @@ stepped-returns-clause-cost g t c =
     let root = c.args.tree.now.root in
     let m = g.T.TextTest.meaning c.args.test.now in
     let s = c.args.step.now in
-    at-most _ _ _ _ _ c.chosen.ensures.cost (c.in_ok-parents.ensures.once (price.children_price root m (view.step s)))
-    (step-price root m (view.step s) s.deep s.test (form.predicates (map view.predicate s.predicates)) (map (element_of root) c.args.contexts) (step-is s))
+    let contexts = map (element_of root) c.args.contexts in
+    let outer = map (element_of root) c.in_ok-outer.outer in
+    let parents = map (element_of root) c.in_ok-parents.parents in
+    at-most _ _ _ _ _ c.chosen.ensures.cost
+    (few-parents s.deep outer contexts parents c.in_ok-outer.ensures.once c.in_ok-parents.ensures.elements (price.children_price root m (view.step s)))
+    (step-price root m (view.step s) s.deep s.test (form.predicates (map view.predicate s.predicates)) contexts (step-is s))
 
 -- ---- led
 
@@ -283,7 +398,7 @@ led-stepped-requires g t c κs within =
     let P = MayAsk c.args.tree.now.root (g.T.TextTest.meaning c.args.test.now) in
     let one = nth-step P c.args.steps.now c.loop-step.step-index c.step-item.result c.loop-step-test.true c.requires.asked in
     let first = stand-first _ _ _ (steps-from c.args.steps.now c.loop-step.step-index c.step-item.result c.loop-step-test.true) (in_path c.args.known.now.path.now) c.loop-step.first c.loop-step.invariant.numbered in
-    (search (rules, the_lemmas), (within, (c.requires.base, (c.loop-step.invariant.there, (c.loop-step.invariant.inside, (rw (c.loop-step.invariant.meaning, c.step-item.is) one, (rw (c.loop-step.invariant.path, c.step-item.is) first, rw (c.loop-step.invariant.meaning, c.loop-step.invariant.path) c.loop-step.invariant.known)))))))
+    (search (rules, the_lemmas), (within, (c.requires.base, (c.loop-step.invariant.there, (c.loop-step.invariant.inside, (c.loop-step.invariant.ordered, (rw (c.loop-step.invariant.meaning, c.step-item.is) one, (rw (c.loop-step.invariant.path, c.step-item.is) first, rw (c.loop-step.invariant.meaning, c.loop-step.invariant.path) c.loop-step.invariant.known))))))))
 
 pub led-loop-step-preserved : goal.led-loop-step-preserved
 led-loop-step-preserved g t c =
@@ -299,6 +414,7 @@ led-loop-step-preserved g t c =
       left = led-next (satisfied root m) (elements (plain root)) items i d c.loop-step-test.true before after now ∙ c.loop-step.invariant.left;
       there = c.in_ok-items.ensures.there;
       inside = c.in_ok-items.ensures.inside;
+      ordered = subst (AllPairs Before) (sym now) (stepped-ordered (satisfied root m) (plain root) (view.step (get_or items i d)) (map meaning.item before));
       meaning = c.stepped.ensures.meaning ∙ c.loop-step.invariant.meaning;
       path = c.stepped.ensures.path ∙ c.loop-step.invariant.path;
       numbered = stand-next _ _ _ (steps-from items i d c.loop-step-test.true) _ _ c.loop-step.invariant.numbered _ (rw c.step-item.is at c.in_ok-behind.ensures);
@@ -317,10 +433,10 @@ led-returns-in_err-items-clause-cost g t c =
     cost-part _ _ _ _ _ _ (rw (c.loop-step.invariant.meaning, c.step-item.is) at c.stepped.ensures.cost) c.loop-step.invariant.cost
     (steps-next c.args.tree.now.root (g.T.TextTest.meaning c.args.test.now) c.args.steps.now c.loop-step.step-index c.step-item.result c.loop-step-test.true (map (element_of c.args.tree.now.root) c.loop-step.items) _ refl)
 
--- ---- kept, also of children
+-- ---- passed
 
-pub kept-filtered-requires : goal.kept-filtered-requires
-kept-filtered-requires g t c κs within =
+pub passed-filtered-requires : goal.passed-filtered-requires
+passed-filtered-requires g t c κs within =
     let P = MayAsk c.args.tree.now.root (g.T.TextTest.meaning c.args.test.now) in
     let asked = rw (← c.as_slice-predicate-items.ensures) at (of-step P c.args.step.now c.requires.asked) in
     let items = c.as_slice-predicate-items.result.now in
@@ -329,52 +445,72 @@ kept-filtered-requires g t c κs within =
     let first = stand-first _ _ _ (predicates-from items i c.predicate-item.result c.loop-predicate-test.true) (in_path c.args.known.now.path.now) c.loop-predicate.first c.loop-predicate.invariant.numbered in
     (search (rules, the_lemmas), (within, (c.loop-predicate.invariant.there, (rw (c.loop-predicate.invariant.meaning, c.predicate-item.is) one, (rw (c.loop-predicate.invariant.path, c.predicate-item.is) first, rw (c.loop-predicate.invariant.meaning, c.loop-predicate.invariant.path) c.loop-predicate.invariant.known)))))
 
-pub kept-loop-predicate-init : goal.kept-loop-predicate-init
-kept-loop-predicate-init g t c =
-    let s = c.args.step.now in
-    let numbered = subst (StandFrom (in_path c.args.known.now.path.now) c.args.number) (in-step s) c.requires.numbered in
+pub passed-loop-predicate-init : goal.passed-loop-predicate-init
+passed-loop-predicate-init g t c =
+    let numbered = subst (StandFrom (in_path c.args.known.now.path.now) c.args.number) (in-step c.args.step.now) c.requires.numbered in
     record {
-      left = rw (step-is s, c.as_slice-predicate-items.ensures, c.in_ok-kept.ensures.elements) refl;
-      there = c.in_ok-kept.ensures.there;
+      left = rw c.as_slice-predicate-items.ensures refl;
+      there = c.requires.items;
       meaning = refl;
       path = refl;
       numbered = rw c.as_slice-predicate-items.ensures numbered;
       known = c.requires.known;
-      cost = rw (step-is s, c.as_slice-predicate-items.ensures, c.in_ok-kept.ensures.elements) (omega arith);
+      cost = rw c.as_slice-predicate-items.ensures (omega arith);
     }
 
-pub kept-loop-predicate-preserved : goal.kept-loop-predicate-preserved
-kept-loop-predicate-preserved g t c =
+pub passed-loop-predicate-preserved : goal.passed-loop-predicate-preserved
+passed-loop-predicate-preserved g t c =
     let root = c.args.tree.now.root in
     let m = g.T.TextTest.meaning c.args.test.now in
     let items = c.as_slice-predicate-items.result.now in
     let i = c.loop-predicate.predicate-index in
     let d = c.predicate-item.result in
     let before = map (element_of root) c.loop-predicate.kept in
-    let after = map (element_of root) c.in_ok-kept-2.kept in
-    let now = rw (c.loop-predicate.invariant.meaning, c.predicate-item.is) at c.in_ok-kept-2.ensures.elements in
+    let after = map (element_of root) c.in_ok-kept.kept in
+    let now = rw (c.loop-predicate.invariant.meaning, c.predicate-item.is) at c.in_ok-kept.ensures.elements in
     record {
       left = filtered-next (satisfied root m) (elements (plain root)) items i d c.loop-predicate-test.true before after now ∙ c.loop-predicate.invariant.left;
-      there = c.in_ok-kept-2.ensures.there;
+      there = c.in_ok-kept.ensures.there;
       meaning = c.filtered.ensures.meaning ∙ c.loop-predicate.invariant.meaning;
       path = c.filtered.ensures.path ∙ c.loop-predicate.invariant.path;
       numbered = stand-next _ _ _ (predicates-from items i d c.loop-predicate-test.true) _ _ c.loop-predicate.invariant.numbered _ (rw c.predicate-item.is at c.in_ok-behind.ensures);
-      known = rw (c.loop-predicate.invariant.meaning, c.loop-predicate.invariant.path) at c.in_ok-kept-2.ensures.known;
+      known = rw (c.loop-predicate.invariant.meaning, c.loop-predicate.invariant.path) at c.in_ok-kept.ensures.known;
       cost = cost-next _ _ _ _ _ _ (rw (c.loop-predicate.invariant.meaning, c.predicate-item.is) at c.filtered.ensures.cost) c.loop-predicate.invariant.cost (predicates-next root m items i d c.loop-predicate-test.true before after now);
     }
 
-pub kept-returns-clause-elements : goal.kept-returns-clause-elements
+pub passed-returns-clause-elements : goal.passed-returns-clause-elements
 unfolding meaning.filtered
-kept-returns-clause-elements g t c =
+passed-returns-clause-elements g t c =
     let items = c.as_slice-predicate-items.result.now in
     let past : length items ≤ c.loop-predicate.predicate-index = omega (arith, c.loop-predicate-test.false) in
     rw (drop_all c.loop-predicate.predicate-index items past) at c.loop-predicate.invariant.left
 
-pub kept-returns-in_err-kept-2-clause-cost : goal.kept-returns-in_err-kept-2-clause-cost
-kept-returns-in_err-kept-2-clause-cost g t c =
+pub passed-returns-in_err-kept-clause-cost : goal.passed-returns-in_err-kept-clause-cost
+passed-returns-in_err-kept-clause-cost g t c =
     cost-part _ _ _ _ _ _ (rw (c.loop-predicate.invariant.meaning, c.predicate-item.is) at c.filtered.ensures.cost) c.loop-predicate.invariant.cost
     (predicates-next c.args.tree.now.root (g.T.TextTest.meaning c.args.test.now) c.as_slice-predicate-items.result.now c.loop-predicate.predicate-index c.predicate-item.result c.loop-predicate-test.true
     (map (element_of c.args.tree.now.root) c.loop-predicate.kept) _ refl)
+
+-- ---- kept, also of children
+
+pub kept-returns-clause-elements : goal.kept-returns-clause-elements
+kept-returns-clause-elements g t c =
+    let root = c.args.tree.now.root in
+    let m = g.T.TextTest.meaning c.args.test.now in
+    let s = c.args.step.now in
+    subst (λ es. IfOk c.passed.result (λ kept. map (element_of root) kept ≡ es))
+    (ap (meaning.filtered (satisfied root m) (elements (plain root)) (form.predicates (map view.predicate s.predicates))) c.in_ok-named.ensures.elements
+    ∙ sym (ap (λ t. spec.kept root m t (map (element_of root) c.args.items.now)) (step-is s)))
+    c.passed.ensures.elements
+
+pub kept-returns-clause-cost : goal.kept-returns-clause-cost
+kept-returns-clause-cost g t c =
+    let root = c.args.tree.now.root in
+    let m = g.T.TextTest.meaning c.args.test.now in
+    let s = c.args.step.now in
+    at-price _ _ _ _ c.passed.ensures.cost
+    (ap (price.predicates_price root m (form.predicates (map view.predicate s.predicates))) c.in_ok-named.ensures.elements
+    ∙ sym (ap (λ t. price.list_price root m t (map (element_of root) c.args.items.now)) (step-is s)))
 
 pub kept_children-returns-clause-elements : goal.kept_children-returns-clause-elements
 kept_children-returns-clause-elements g t c =

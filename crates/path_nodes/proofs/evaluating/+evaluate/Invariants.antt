@@ -1,6 +1,6 @@
 -- What is done, then what is left, is all; the test means what it meant; what is known is right; what was spent, and the price
 -- of the rest, are no more than the price of all.
-use Rattle.std.proofs.Common.{◌≡◌, ◌≤◌, ◌+◌, All, map, filter, take, drop}
+use Rattle.std.proofs.Common.{◌≡◌, ◌≤◌, ◌+◌, All, AllPairs, map, filter, take, drop}
 use Rattle.std.specs.Prelude.{sum_by}
 use Rattle.ordered_tree.specs.Numbered.{plain}
 use Rattle.ft_base.specs.declared.ids.NodeRef.{NodeRef}
@@ -8,9 +8,10 @@ use Rattle.path_meaning.specs.Elements.{elements, is_in}
 use Rattle.path_grammar.specs.Form as form
 use Rattle.path_meaning.specs.Meaning as meaning
 use Rattle.path_grammar.specs.View as view
+use Rattle.path_meaning.specs.Order.{Before}
 use Rattle.path_nodes.specs.steps.Known.{AreRight}
 use Rattle.path_nodes.specs.steps.Leading.{StandFrom, in_path, in_steps, in_predicates, in_conditions}
-use Rattle.path_nodes.specs.steps.Kept.{kept, kept_children, joined}
+use Rattle.path_nodes.specs.steps.Kept.{kept_children, joined}
 use Rattle.path_nodes.specs.steps.Marks.{is_marked}
 use Rattle.path_nodes.specs.Prices as price
 use Rattle.path_nodes.specs.References.{IsElement, element_of}
@@ -32,17 +33,17 @@ invariant-chosen-loop-parent g l = record {
       ≤ g.T.TextTest.cost l.fn.test + sum_by (price.children_price l.tree.root (g.T.TextTest.meaning l.fn.test) (view.step l.fn.step)) (map (element_of l.tree.root) l.fn.parents);
 }
 
-abbrev pub invariant-kept-loop-predicate : goal.invariant-kept-loop-predicate
-invariant-kept-loop-predicate g l = record {
+abbrev pub invariant-passed-loop-predicate : goal.invariant-passed-loop-predicate
+invariant-passed-loop-predicate g l = record {
   left : meaning.filtered (satisfied l.tree.root (g.T.TextTest.meaning l.fn.test)) (elements (plain l.tree.root)) (form.predicates (map view.predicate (drop l.predicate-index l.predicate-items))) (map (element_of l.tree.root) l.kept)
-      ≡ kept l.tree.root (g.T.TextTest.meaning l.fn.test) (view.step l.fn.step) (map (element_of l.tree.root) l.fn.items);
+      ≡ meaning.filtered (satisfied l.tree.root (g.T.TextTest.meaning l.fn.test)) (elements (plain l.tree.root)) (form.predicates (map view.predicate l.fn.step.predicates)) (map (element_of l.tree.root) l.fn.items);
   there : All (IsElement l.tree.root) l.kept;
   meaning : g.T.TextTest.meaning l.test ≡ g.T.TextTest.meaning l.fn.test;
   path : l.known.path ≡ l.fn.known.path;
   numbered : StandFrom (in_path l.fn.known.path.now) l.first (in_predicates (form.predicates (map view.predicate (drop l.predicate-index l.predicate-items))));
   known : AreRight l.tree.root (g.T.TextTest.meaning l.fn.test) (in_path l.fn.known.path.now) l.known.truths;
   cost : g.T.TextTest.cost l.test + price.predicates_price l.tree.root (g.T.TextTest.meaning l.fn.test) (form.predicates (map view.predicate (drop l.predicate-index l.predicate-items))) (map (element_of l.tree.root) l.kept)
-      ≤ g.T.TextTest.cost l.fn.test + price.list_price l.tree.root (g.T.TextTest.meaning l.fn.test) (view.step l.fn.step) (map (element_of l.tree.root) l.fn.items);
+      ≤ g.T.TextTest.cost l.fn.test + price.predicates_price l.tree.root (g.T.TextTest.meaning l.fn.test) (form.predicates (map view.predicate l.fn.step.predicates)) (map (element_of l.tree.root) l.fn.items);
 }
 
 abbrev pub invariant-led-loop-step : goal.invariant-led-loop-step
@@ -51,6 +52,7 @@ invariant-led-loop-step g l = record {
       ≡ meaning.led (satisfied l.tree.root (g.T.TextTest.meaning l.fn.test)) (elements (plain l.tree.root)) (form.steps (map view.step l.fn.steps)) (map (element_of l.tree.root) l.fn.from);
   there : All (IsElement l.tree.root) l.items;
   inside : All (λ r. AtOrBelow (element_of l.tree.root l.base) (element_of l.tree.root r)) l.items;
+  ordered : AllPairs Before (map (element_of l.tree.root) l.items);
   meaning : g.T.TextTest.meaning l.test ≡ g.T.TextTest.meaning l.fn.test;
   path : l.known.path ≡ l.fn.known.path;
   numbered : StandFrom (in_path l.fn.known.path.now) l.first (in_steps (form.steps (map view.step (drop l.step-index l.steps))));

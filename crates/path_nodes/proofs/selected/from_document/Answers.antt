@@ -7,8 +7,12 @@ use Rattle.path_grammar.specs.View as view
 use Rattle.path_nodes.specs.steps.Kept as spec
 use Rattle.path_nodes.specs.References.{IsElement, element_of}
 use Rattle.path_nodes.proofs.SelectedLemmas.{one-step, deep-step, own-cost, deep-cost}
+use Rattle.path_nodes.proofs.OrderLemmas.{one-ordered}
 use Rattle.path_nodes.proofs.CostLemmas.{at-most, both-cost}
 use Rattle.path_nodes.proofs.selected.from_document.Goals as goal
+
+pub stepped-requires-clause-ordered : goal.stepped-requires-clause-ordered
+stepped-requires-clause-ordered g c = rw c.in_ok-only.ensures (one-ordered (element_of c.args.tree.now.root c.args.root))
 
 pub returns-then-not-step-clause-elements : goal.returns-then-not-step-clause-elements
 returns-then-not-step-clause-elements g c =

@@ -1,9 +1,12 @@
 -- The first step leads from the document, the others from what it leads to.
-use Rattle.std.proofs.Common.{◌-◌, map, take, drop, length, refl, sym, ap, ◌∙◌, subst}
+use Rattle.std.proofs.Common.{◌∷◌, [], ◌-◌, ◌+◌, ◌≤◌, map, take, drop, length, refl, sym, ap, ◌∙◌, subst}
+use Rattle.std.specs.List.{AllPairs}
 use Rattle.std.proofs.lemmas.List.{take_rest}
 use Rattle.ordered_tree.specs.Numbered.{plain}
 use Rattle.path_grammar.specs.Form as form
 use Rattle.path_grammar.specs.View as view
+use Rattle.path_meaning.specs.Meaning.{document}
+use Rattle.path_meaning.specs.Order.{Before}
 use Rattle.path_nodes.specs.Asked.{OfEach, OfStep, MayAsk}
 use Rattle.path_nodes.specs.steps.Leading.{in_path}
 use Rattle.path_nodes.specs.References.{element_of}
@@ -14,9 +17,11 @@ use Rattle.path_nodes.proofs.AskedLemmas.{nth-step}
 use Rattle.path_nodes.proofs.ChosenLemmas.{all-refs}
 use Rattle.path_nodes.proofs.LeadingLemmas.{steps-from, stand-all, stand-first, stand-next}
 use Rattle.path_nodes.proofs.NamedLemmas.{agrees-there}
+use Rattle.path_nodes.proofs.OrderLemmas.{stepped-ordered}
 use Rattle.path_nodes.proofs.PriceLemmas.{selected-price}
 use Rattle.path_nodes.proofs.SelectedLemmas.{root-there, root-placed, below-root, selected-none, selected-next, later-steps, not-empty}
 use Rattle.path_nodes.proofs.CostLemmas.{both-cost, first-part-cost}
+use Rattle.path_nodes.proofs.TestLemmas.{selected-prices}
 use Rattle.path_nodes.proofs.selected.nodes.Goals as goal
 
 pub returns-then-is_empty-clause-elements : goal.returns-then-is_empty-clause-elements
@@ -65,6 +70,12 @@ led-requires-clause-inside g c =
     let base = element_of root c.root-root.result in
     all-refs root (AtOrBelow base) c.in_ok-first.first
     (below-root root base (root-placed root c.root-root.result c.root-root.ensures.root c.root-root.ensures.apart) (map (element_of root) c.in_ok-first.first))
+
+pub led-requires-clause-ordered : goal.led-requires-clause-ordered
+led-requires-clause-ordered g c =
+    let root = c.args.tree.now.root in
+    subst (AllPairs Before) (sym c.in_ok-first.ensures.elements)
+    (stepped-ordered (satisfied root (g.T.TextTest.meaning c.args.test.now)) (plain root) (view.step c.get-step.result.now) (document (plain root) ∷ []))
 
 pub led-requires-clause-asked : goal.led-requires-clause-asked
 led-requires-clause-asked g c =
@@ -120,3 +131,21 @@ returns-clause-cost g c =
     both-cost _ _ _ _ _ _ (rw c.get-step.ensures at c.from_document.ensures.cost)
     (rw (c.in_ok-first.ensures.meaning, take_rest c.as_slice.result.now 1, c.as_slice.ensures) at c.led.ensures.cost)
     (selected-price c.args.tree.now.root (g.T.TextTest.meaning c.args.test.now) c.args.steps.now c.get-step.result.now some _ (rw c.get-step.ensures at c.in_ok-first.ensures.elements))
+
+pub returns-in_err-first-clause-costs : goal.returns-in_err-first-clause-costs
+returns-in_err-first-clause-costs g c = λ satisfies price agree costs.
+    subst (λ n. g.T.TextTest.cost c.from_document.new.test ≤ g.T.TextTest.cost c.args.test.now + n)
+    (selected-prices c.args.tree.now.root (g.T.TextTest.meaning c.args.test.now) satisfies price c.root-root.ensures.apart agree costs (form.steps (map view.step c.args.steps.now)))
+    (returns-in_err-first-clause-cost g c)
+
+pub returns-in_err-found-clause-costs : goal.returns-in_err-found-clause-costs
+returns-in_err-found-clause-costs g c = λ satisfies price agree costs.
+    subst (λ n. g.T.TextTest.cost c.led.new.test ≤ g.T.TextTest.cost c.args.test.now + n)
+    (selected-prices c.args.tree.now.root (g.T.TextTest.meaning c.args.test.now) satisfies price c.root-root.ensures.apart agree costs (form.steps (map view.step c.args.steps.now)))
+    (returns-in_err-found-clause-cost g c)
+
+pub returns-clause-costs : goal.returns-clause-costs
+returns-clause-costs g c = λ satisfies price agree costs.
+    subst (λ n. g.T.TextTest.cost c.led.new.test ≤ g.T.TextTest.cost c.args.test.now + n)
+    (selected-prices c.args.tree.now.root (g.T.TextTest.meaning c.args.test.now) satisfies price c.root-root.ensures.apart agree costs (form.steps (map view.step c.args.steps.now)))
+    (returns-clause-cost g c)

@@ -1,14 +1,11 @@
--- What is at or below the first ones was found, nothing more often than it is there.
-use Rattle.std.proofs.Common.{All, flat_map, map, take}
-use Rattle.path_nodes.specs.steps.Listed.{AreAmong, AreListed, HaveSame}
+-- What is at or below the first ones was found.
+use Rattle.std.proofs.Common.{◌≡◌, All, flat_map, map, take}
 use Rattle.path_nodes.specs.References.{IsElement, element_of}
 use Rattle.path_nodes.specs.steps.Regions.{at_or_below}
 use Rattle.path_nodes.proofs.walks.with_descendants.Given as goal
 
 abbrev pub invariant-loop-context : goal.invariant-loop-context
 invariant-loop-context l = record {
-  members : HaveSame (map (element_of l.tree.root) l.found) (flat_map at_or_below (map (element_of l.tree.root) (take l.context-index l.context-items)));
-  once : AreAmong (map (element_of l.tree.root) l.found) (flat_map at_or_below (map (element_of l.tree.root) (take l.context-index l.context-items)));
-  listed : AreListed l.tree.root l.listed (map (element_of l.tree.root) l.found);
+  done : map (element_of l.tree.root) l.found ≡ flat_map at_or_below (map (element_of l.tree.root) (take l.context-index l.context-items));
   there : All (IsElement l.tree.root) l.found;
 }
