@@ -2,6 +2,7 @@
 use Rattle.std.proofs.Common.{◌≡◌, ◌∙◌, sym, ap, refl, ℕ, ◌+◌, ◌<◌, List, [], ◌∷◌, ◌++◌, length, drop, get_or, append_assoc}
 use Rattle.std.specs.Prelude.{Option, Some, None}
 use Rattle.std.proofs.lemmas.List.{append-nil, at_drop_more}
+use Rattle.plan_compiler.specs.Judgement.{Judgement}
 use Rattle.session_text.specs.declared.command.Command.{Command}
 use Rattle.ft_session.specs.State.{State}
 use Rattle.ft_session.specs.Step.{replies, state_after, step}
@@ -47,16 +48,16 @@ pub written_start : (before : Option (List ℕ)) (text all : List ℕ) → text 
 written_start before text all same = record { done = []; whole = same; holds = with_nothing before }
 
 -- the next command of those that are left
-module _ (state next : State) (found : List Command) (at : ℕ) (command : Command) (within : at < length found) (is : command ≡ get_or found at command) (after : next ≡ (step state command).0) where
+module _ (says : Judgement) (state next : State) (found : List Command) (at : ℕ) (command : Command) (within : at < length found) (is : command ≡ get_or found at command) (after : next ≡ (step says state command).0) where
   -- its reply, and those to what is left
-  pub replies-next : replies state (drop at found) ≡ (step state command).1 ∷ replies next (drop (at + 1) found)
+  pub replies-next : replies says state (drop at found) ≡ (step says state command).1 ∷ replies says next (drop (at + 1) found)
   replies-next =
-      at_drop_more (replies state) found at command within
-      ∙ (ap (λ (c : Command). replies state (c ∷ drop (at + 1) found)) (sym is)
-      ∙ ap (λ s. (step state command).1 ∷ replies s (drop (at + 1) found)) (sym after))
+      at_drop_more (replies says state) found at command within
+      ∙ (ap (λ (c : Command). replies says state (c ∷ drop (at + 1) found)) (sym is)
+      ∙ ap (λ s. (step says state command).1 ∷ replies says s (drop (at + 1) found)) (sym after))
 
   -- the state that it leaves
-  pub state_after-next : state_after state (drop at found) ≡ state_after next (drop (at + 1) found)
+  pub state_after-next : state_after says state (drop at found) ≡ state_after says next (drop (at + 1) found)
   state_after-next =
-      at_drop_more (state_after state) found at command within
-      ∙ (ap (λ (c : Command). state_after state (c ∷ drop (at + 1) found)) (sym is) ∙ ap (λ s. state_after s (drop (at + 1) found)) (sym after))
+      at_drop_more (state_after says state) found at command within
+      ∙ (ap (λ (c : Command). state_after says state (c ∷ drop (at + 1) found)) (sym is) ∙ ap (λ s. state_after says s (drop (at + 1) found)) (sym after))

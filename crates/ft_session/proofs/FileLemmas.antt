@@ -5,6 +5,7 @@ use Rattle.std.specs.Result.{IsErrAnd}
 use Rattle.std.proofs.lemmas.Result.{err_from_is_err_and}
 use Rattle.ft_base.specs.Limits.{max_session_bytes}
 use Rattle.ft_io.specs.Shelf.{Files, bytes_of, known_bytes}
+use Rattle.plan_compiler.specs.Judgement.{Judgement}
 use Rattle.ft_session.specs.declared.answering.AnswerError.{AnswerError}
 use Rattle.ft_session.specs.declared.answering.AnswerError.TheVariants as unanswered
 use Rattle.ft_session.specs.declared.pieces.Stopped.{Stopped}
@@ -17,9 +18,9 @@ use Rattle.ft_session.proofs.AnswerLemmas.{prefix_nothing}
 use Rattle.ft_session.proofs.StoppedLemmas.{no_long, no_read_fault, sink_fault}
 
 -- nothing was written yet
-pub nothing_written : (known before : Option (List ℕ)) → IfSome known (λ session. TookPrefix before before (output session))
-nothing_written None before = tt
-nothing_written (Some session) before = prefix_nothing before (output session)
+pub nothing_written : (says : Judgement) (known before : Option (List ℕ)) → IfSome known (λ session. TookPrefix before before (output says session))
+nothing_written says None before = tt
+nothing_written says (Some session) before = prefix_nothing before (output says session)
 
 not_ok : (r : Result Bool Stopped) (e : AnswerError) → IsErrAnd r (λ stopped. stopped ≡ stopped_by e) → IsOk r → ⊥
 not_ok r e given ok =
@@ -28,18 +29,18 @@ not_ok r e given ok =
     let no : ⊥ = cc in
     no
 
-module _ (files : Option Files) (name : List ℕ) (reached read_before read_now write_before write_now : ℕ) (before now : Option (List ℕ)) where
+module _ (says : Judgement) (files : Option Files) (name : List ℕ) (reached read_before read_now write_before write_now : ℕ) (before now : Option (List ℕ)) where
   abbrev Leaves : Result Bool Stopped → Type 0
-  Leaves result = FileAnswered files name reached read_before read_now write_before write_now before now result
+  Leaves result = FileAnswered says files name reached read_before read_now write_before write_now before now result
 
   abbrev Prefix : Type 0
-  Prefix = IfSome (known_bytes files name) (λ session. TookPrefix before now (output session))
+  Prefix = IfSome (known_bytes files name) (λ session. TookPrefix before now (output says session))
 
   abbrev WritesWhole : Type 0
-  WritesWhole = IfSome (known_bytes files name) (λ session. now ≡ with_text before (output_of_whole (take reached session)))
+  WritesWhole = IfSome (known_bytes files name) (λ session. now ≡ with_text before (output_of_whole says (take reached session)))
 
   pub all_answered : (refused : Bool) → Prefix → IfSome files (λ known. IsSome (bytes_of known name)) → IfSome (known_bytes files name) (λ session. reached ≡ length session)
-      → IfSome (known_bytes files name) (λ session. now ≡ with_text before (output session)) → IfSome (known_bytes files name) (λ session. refused ≡ has_refusal session) → reached ≤ max_session_bytes
+      → IfSome (known_bytes files name) (λ session. now ≡ with_text before (output says session)) → IfSome (known_bytes files name) (λ session. refused ≡ has_refusal says session) → reached ≤ max_session_bytes
       → Leaves (Ok refused)
   all_answered refused prefix present whole written refuses below = record {
     prefix = prefix;
@@ -47,7 +48,7 @@ module _ (files : Option Files) (name : List ℕ) (reached read_before read_now 
     present = λ ok. present;
     whole = λ ok. whole;
     written = λ ok. written;
-    refuses = λ other is. let same : refused ≡ other = cc in subst (λ b. IfSome (known_bytes files name) (λ session. b ≡ has_refusal session)) same refuses;
+    refuses = λ other is. let same : refused ≡ other = cc in subst (λ b. IfSome (known_bytes files name) (λ session. b ≡ has_refusal says session)) same refuses;
     below = λ ok. below;
     read_fault = λ is. absurd (let no : ⊥ = cc in no);
     read_fault_early = λ is. absurd (let no : ⊥ = cc in no);
@@ -121,22 +122,22 @@ module _ (files : Option Files) (name : List ℕ) (reached read_before read_now 
 
   -- all is answered, where the files are known
   pub finished : (result : Result Bool Stopped) (refused : Bool) → Leaves result → result ≡ Ok refused
-      → IfSome files (λ known. IsSomeAnd (bytes_of known name) (λ session. AnswersAll session reached before now (cond refused SomeRefused Done)))
+      → IfSome files (λ known. IsSomeAnd (bytes_of known name) (λ session. AnswersAll says session reached before now (cond refused SomeRefused Done)))
   finished result refused a is = by files (a.present ok) (a.whole ok) (a.written ok) (a.refuses refused is)
     where
       ok : IsOk result
       ok = ap (λ (o : Result Bool Stopped). is_ok o) is
 
       there : (o : Option (List ℕ)) → IsSome o → IfSome o (λ session. reached ≡ length session)
-          → IfSome o (λ session. now ≡ with_text before (output session)) → IfSome o (λ session. refused ≡ has_refusal session)
-          → IsSomeAnd o (λ session. AnswersAll session reached before now (cond refused SomeRefused Done))
+          → IfSome o (λ session. now ≡ with_text before (output says session)) → IfSome o (λ session. refused ≡ has_refusal says session)
+          → IsSomeAnd o (λ session. AnswersAll says session reached before now (cond refused SomeRefused Done))
       there None some whole written refuses = absurd (let no : ⊥ = cc in no)
       there (Some session) some whole written refuses =
           record { whole = whole; written = written; refused = ap (λ b. cond b SomeRefused Done) refuses }
 
       by : (f : Option Files) → IfSome f (λ known. IsSome (bytes_of known name)) → IfSome (known_bytes f name) (λ session. reached ≡ length session)
-          → IfSome (known_bytes f name) (λ session. now ≡ with_text before (output session))
-          → IfSome (known_bytes f name) (λ session. refused ≡ has_refusal session)
-          → IfSome f (λ known. IsSomeAnd (bytes_of known name) (λ session. AnswersAll session reached before now (cond refused SomeRefused Done)))
+          → IfSome (known_bytes f name) (λ session. now ≡ with_text before (output says session))
+          → IfSome (known_bytes f name) (λ session. refused ≡ has_refusal says session)
+          → IfSome f (λ known. IsSomeAnd (bytes_of known name) (λ session. AnswersAll says session reached before now (cond refused SomeRefused Done)))
       by None present whole written refuses = tt
       by (Some known) present whole written refuses = there (bytes_of known name) present whole written refuses

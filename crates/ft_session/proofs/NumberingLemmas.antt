@@ -13,6 +13,7 @@ use Rattle.index_updates.specs.Follows.{Follows, tree_document, under_tokens, un
 use Rattle.index_updates.proofs.IndexLemmas.{index-same}
 use Rattle.ordered_tree.specs.Numbered as tree
 use Rattle.ordered_tree.specs.Numbered.{plain}
+use Rattle.path_meaning.specs.Collection.{Named}
 use Rattle.text_forms.specs.Forms.{key_of}
 use Rattle.tokenizer.specs.Tokens.{tokens}
 use Rattle.ft_session.specs.Indexed.{IsIndexOf, under}
@@ -236,3 +237,12 @@ numbered-less es version next_version next name found held is made = record {
   ascend = ascend-remove name 0 es next held.ascend;
   follows = made ∙ (ap (without_document found.doc.0) held.follows ∙ found-without name found 0 es next held.ascend is);
 }
+
+-- the document of a name, in the version of the documents, and its tokens
+pub found-known : (es : Entries) (version : List Numbered) (next : ℕ) (documents : List Named) (name asked : List ℕ) (found : Loaded) → IsNumbered es version next
+    → map to_document es ≡ documents → name ≡ asked → lookup (bytes_eq name) es ≡ Some found
+    → Follows version found.doc.0 found.tree.root × (tokens_named documents asked ≡ length (tokens (plain found.tree.root)))
+found-known es version next documents name asked found held there same is = (
+  subst (λ (v : List Numbered). Follows v found.doc.0 found.tree.root) (sym held.follows) (found-follows name found 0 es next held.ascend is),
+  ap (λ ds. tokens_named ds asked) (sym there) ∙ (ap (tokens_named (map to_document es)) (sym same) ∙ found-tokens name found es is),
+)

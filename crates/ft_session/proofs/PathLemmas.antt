@@ -1,8 +1,9 @@
 -- Which elements plans select, and when a path is refused.
-use Rattle.std.proofs.Common.{◌≡◌, ◌∙◌, sym, ap, refl, ℕ, zero, suc, ◌+◌, ◌<◌, Bool, true, cond, List, [], ◌∷◌, ◌++◌, length, map, take, drop, get_or}
-use Rattle.std.specs.Prelude.{Option, Some, None, flat_map}
+use Rattle.std.proofs.Common.{◌≡◌, ◌∙◌, sym, ap, refl, ℕ, zero, suc, ◌+◌, ◌<◌, Bool, true, cond, List, [], ◌∷◌, ◌++◌, length, map, take, drop, get_or, arith}
+use Rattle.std.specs.Prelude.{Option, Some, None, flat_map, sum_by}
 use Rattle.std.specs.Option.{option_or}
 use Rattle.std.proofs.lemmas.List.{at_drop_more, map-append, take_more}
+use Rattle.std.proofs.lemmas.List.Sums.{sum_by-cons}
 use Rattle.std.proofs.lemmas.Simd.{map-map}
 use Rattle.std.specs.List.{list_all}
 use Rattle.element_lines.specs.Lines.{element_line, printed_line}
@@ -16,20 +17,27 @@ use Rattle.path_grammar.specs.Form.{Steps, no_steps, step_then, Step, step, Pred
 use Rattle.path_grammar.specs.declared.path.PathRoot.{PathRoot}
 use Rattle.path_grammar.specs.declared.path.PathRoot.TheVariants.{Doc}
 use Rattle.path_meaning.specs.Meaning.{selected}
+use Rattle.path_meaning.specs.Tests.{selected_tests}
 use Rattle.path_nodes.specs.Asked.{OfEach, OfStep, OfPredicates, OfPredicate, OfCondition, OfConditions}
+use Rattle.path_nodes.specs.Prices.{total_price}
 use Rattle.path_nodes.specs.References.{element_of}
 use Rattle.path_subset.specs.Paths.{PathForm}
 use Rattle.plan_compiler.specs.Decided.{is_decided}
 use Rattle.plan_compiler.specs.Missing.{first_missing, names, IsMissing}
 use Rattle.plan_compiler.proofs.MissingLemmas.{missing_append}
+use Rattle.plan_compiler.specs.Judgement.{Judgement}
+use Rattle.plan_compiler.specs.Lexicon.{lexicon}
 use Rattle.plan_compiler.specs.NamedLists.{NamedLists}
+use Rattle.plan_compiler.specs.Price.{price}
+use Rattle.plan_compiler.specs.RunMeaning.{RunMeaning}
 use Rattle.plan_compiler.specs.declared.fault.CompileFault.{CompileFault}
 use Rattle.plan_compiler.specs.declared.fault.CompileFault.TheVariants as Fault
 use Rattle.plan_compiler.specs.declared.plan.Plan.{Plan}
 use Rattle.session_text.specs.declared.reply.Refusal.TheVariants.{NotYet}
 use Rattle.session_text.specs.declared.reply.Reply.TheVariants.{Refused}
 use Rattle.ft_session.specs.Paths.{answer_listed, lines_for, lines_of, missing_document, missing_list, reply_with, satisfies, selections_of}
-use Rattle.ft_session.specs.PlannedPaths.{is_meant, meant, planned_lines, run_meant, run_over, under, IsPlanOf}
+use Rattle.ft_session.specs.PathPrices.{element_price, path_price, selection_prices}
+use Rattle.ft_session.specs.PlannedPaths.{is_meant, meant, planned_lines, planned_price, prices_in, run_meant, run_over, run_price, under, IsPlanOf}
 use Rattle.ft_session.specs.State.{State, has_name}
 use Rattle.ft_session.specs.declared.planned.PlannedPath.{PlannedPath}
 use Rattle.ft_session.specs.declared.shown.Shown.{Shown}
@@ -40,11 +48,11 @@ pub missing-document : (root : PathRoot) (name : List ℕ) (documents : List Nam
 missing-document root name documents there is has = ap (λ r. missing_document r documents) is ∙ ap (λ t. cond t None (Some name)) has
 
 -- what each plan says, its selection says
-pub planned-as : (lists : NamedLists) (plans : List Plan) (forms : List Form) → map meant plans ≡ map (under lists) forms → is_meant (map meant plans) ≡ satisfies lists forms
+pub planned-as : (says : Judgement) (lists : NamedLists) (plans : List Plan) (forms : List Form) → map meant plans ≡ map (under lists) forms → is_meant says (map meant plans) ≡ satisfies says lists forms
 unfolding is_meant satisfies
-planned-as lists plans forms same = ap is_meant same ∙ (λ i k e. by forms k e i)
+planned-as says lists plans forms same = ap (is_meant says) same ∙ (λ i k e. by forms k e i)
   where
-    by : (forms : List Form) (k : ℕ) (e : Element) → is_meant (map (under lists) forms) k e ≡ satisfies lists forms k e
+    by : (forms : List Form) (k : ℕ) (e : Element) → is_meant says (map (under lists) forms) k e ≡ satisfies says lists forms k e
     by [] k e = refl
     by (form ∷ forms) zero e = refl
     by (form ∷ forms) (suc k) e = by forms k e
@@ -113,12 +121,32 @@ module _ (document : List ℕ) (root : Numbered) (found : List NodeRef) (element
   lines-of-texts = sym (map-map (λ (e : Element). printed_line e.node) (element_of root) found) ∙ ap (map (λ (e : Element). printed_line e.node)) is
 
 -- what plans select is what the path selects
-pub planned-lines : (lists : NamedLists) (all : List Named) (p : PathForm) (planned : PlannedPath) (shown : Shown) → IsPlanOf lists p planned
-    → flat_map (planned_lines shown planned) (documents planned.root.now all) ≡ lines_for shown (record { documents = all; lists = lists }) p
-planned-lines lists all p planned shown plan =
-    (λ i. flat_map (λ d. lines_of shown d.name d.root (selected (planned-as lists planned.plans.items (selections_of p) plan.plans i) (plan.steps i) d.root)) (documents (plan.root i) all))
+pub planned-lines : (says : Judgement) (lists : NamedLists) (all : List Named) (p : PathForm) (planned : PlannedPath) (shown : Shown) → IsPlanOf lists p planned
+    → flat_map (planned_lines says shown planned) (documents planned.root.now all) ≡ lines_for says shown (record { documents = all; lists = lists }) p
+planned-lines says lists all p planned shown plan =
+    (λ i. flat_map (λ d. lines_of shown d.name d.root (selected (planned-as says lists planned.plans.items (selections_of p) plan.plans i) (plan.steps i) d.root)) (documents (plan.root i) all))
+
+-- the prices in one document
+pub prices-one : (says : Judgement) (path : PlannedPath) (runs : List RunMeaning) (d : Named) → prices_in says path runs (d ∷ []) ≡ planned_price says path runs d.root
+prices-one says path runs d = omega (arith, sum_by-cons (λ (x : Named). planned_price says path runs x.root) d [])
+
+-- what the runs of plans cost, their selections cost
+priced-as : (lists : NamedLists) (version : List indexed.Numbered) (p : PathForm) (plans : List Plan) → map meant plans ≡ map (under lists) (selections_of p)
+    → map run_price (map (run_over version) plans) ≡ selection_prices lists version p
+priced-as lists version p plans same =
+    let cost : NamedLists × Form → List (List ℕ) → ℕ = λ m text. price (lexicon m.0) m.1 version text in
+    map-map run_price (run_over version) plans
+    ∙ (sym (map-map cost meant plans) ∙ (ap (map cost) same ∙ map-map cost (under lists) (selections_of p)))
+
+-- what the tests cost for which plans ask, those cost for which the path asks
+pub planned-prices : (says : Judgement) (lists : NamedLists) (version : List indexed.Numbered) (all : List Named) (p : PathForm) (planned : PlannedPath) → IsPlanOf lists p planned
+    → prices_in says planned (map (run_over version) planned.plans.items) (documents planned.root.now all)
+    ≡ path_price says (record { state = record { documents = all; lists = lists }; version = version }) p
+planned-prices says lists version all p planned plan =
+    (λ i. sum_by (λ d. total_price (element_price (priced-as lists version p planned.plans.items plan.plans i))
+    (selected_tests (planned-as says lists planned.plans.items (selections_of p) plan.plans i) (plan.steps i) d.root)) (documents (plan.root i) all))
 
 -- the reply to a path whose lists are there, and which plans decide
-pub answer-lines : (shown : Shown) (state : State) (p : PathForm) → missing_list state.lists (selections_of p) ≡ None → list_all is_decided (selections_of p) ≡ true
-    → answer_listed shown state p (missing_list state.lists (selections_of p)) ≡ reply_with shown (lines_for shown state p)
-answer-lines shown state p lists decided = ap (answer_listed shown state p) lists ∙ ap (λ t. cond t (reply_with shown (lines_for shown state p)) (Refused NotYet)) decided
+pub answer-lines : (says : Judgement) (shown : Shown) (state : State) (p : PathForm) → missing_list state.lists (selections_of p) ≡ None → list_all is_decided (selections_of p) ≡ true
+    → answer_listed says shown state p (missing_list state.lists (selections_of p)) ≡ reply_with shown (lines_for says shown state p)
+answer-lines says shown state p lists decided = ap (answer_listed says shown state p) lists ∙ ap (λ t. cond t (reply_with shown (lines_for says shown state p)) (Refused NotYet)) decided

@@ -5,6 +5,7 @@ use Rattle.std.specs.List.{slice_get}
 use Rattle.std.specs.Option.{option_map}
 use Rattle.path_subset.specs.Answer.{path_read}
 use Rattle.path_subset.specs.Paths.{PathForm}
+use Rattle.plan_compiler.specs.Judgement.{Judgement}
 use Rattle.session_text.specs.Commands.{commands}
 use Rattle.session_text.specs.declared.command.Command.{Command}
 use Rattle.session_text.specs.declared.command.Command.TheVariants.{Query}
@@ -18,27 +19,27 @@ use Rattle.ft_session.specs.Queries.{IsAnswered, state_before}
 use Rattle.ft_session.specs.State.{State, opening}
 use Rattle.ft_session.specs.Step.{replies, state_after, step}
 
-reply_at : (state : State) (all : List Command) (number : ℕ) (c : Command) → Some c ≡ slice_get all number
-    → slice_get (replies state all) number ≡ Some (step (state_after state (take number all)) c).1
-reply_at state [] number c h = elim (none-some c (sym h)) [ ]
-reply_at state (x ∷ xs) zero c h = ap (λ (o : Option Command). option_map (λ y. (step state y).1) o) (sym h)
-reply_at state (x ∷ xs) (suc number) c h = reply_at (step state x).0 xs number c h
+reply_at : (says : Judgement) (state : State) (all : List Command) (number : ℕ) (c : Command) → Some c ≡ slice_get all number
+    → slice_get (replies says state all) number ≡ Some (step says (state_after says state (take number all)) c).1
+reply_at says state [] number c h = elim (none-some c (sym h)) [ ]
+reply_at says state (x ∷ xs) zero c h = ap (λ (o : Option Command). option_map (λ y. (step says state y).1) o) (sym h)
+reply_at says state (x ∷ xs) (suc number) c h = reply_at says (step says state x).0 xs number c h
 
-decided : Bool → State → PathForm → Reply
-decided b state p = if b then reply_with Names (lines_for Names state p) else Refused refusal.NotYet
+decided : Judgement → Bool → State → PathForm → Reply
+decided says b state p = if b then reply_with Names (lines_for says Names state p) else Refused refusal.NotYet
 
-answered : (state : State) (text : List ℕ) (p : PathForm) → Ok p ≡ path_read text → IsAnswered state p
-    → (step state (Query text)).1 ≡ Nodes (lines_for Names state p)
+answered : (says : Judgement) (state : State) (text : List ℕ) (p : PathForm) → Ok p ≡ path_read text → IsAnswered state p
+    → (step says state (Query text)).1 ≡ Nodes (lines_for says Names state p)
 unfolding step decided
-answered state text p read all =
-    ap (answer_read Names state) (sym read)
-    ∙ ap (answer_rooted Names state p) all.document
-    ∙ ap (answer_listed Names state p) all.lists
-    ∙ ap (λ b. decided b state p) all.decided
+answered says state text p read all =
+    ap (answer_read says Names state) (sym read)
+    ∙ ap (answer_rooted says Names state p) all.document
+    ∙ ap (answer_listed says Names state p) all.lists
+    ∙ ap (λ b. decided says b state p) all.decided
 
-pub query : (session : List ℕ) (number : ℕ) (text : List ℕ) (p : PathForm)
-    → Some (Query text) ≡ slice_get (commands session) number → Ok p ≡ path_read text → IsAnswered (state_before session number) p
-    → slice_get (replies_to session) number ≡ Some (Nodes (lines_for Names (state_before session number) p))
+pub query : (says : Judgement) (session : List ℕ) (number : ℕ) (text : List ℕ) (p : PathForm)
+    → Some (Query text) ≡ slice_get (commands session) number → Ok p ≡ path_read text → IsAnswered (state_before says session number) p
+    → slice_get (replies_to says session) number ≡ Some (Nodes (lines_for says Names (state_before says session number) p))
 unfolding replies_to
-query session number text p there read all =
-    reply_at opening (commands session) number (Query text) there ∙ ap Some (answered (state_before session number) text p read all)
+query says session number text p there read all =
+    reply_at says opening (commands session) number (Query text) there ∙ ap Some (answered says (state_before says session number) text p read all)

@@ -6,7 +6,6 @@ use Rattle.std.proofs.lemmas.List.{drop-map, length-map, take-map}
 use Rattle.std.proofs.lemmas.Bool.Decides.{nat_tests}
 use Rattle.std.proofs.lemmas.List.Elements.{All-contains}
 use Rattle.std.proofs.lemmas.Bool.{and_parts, ltb-true}
-use Rattle.all_matches.specs.Meaning.{sat}
 use Rattle.ft_base.specs.declared.span.Span.{Span}
 use Rattle.ft_base.specs.declared.token.Token.{Token}
 use Rattle.index_meaning.specs.Documents as indexed
@@ -14,7 +13,7 @@ use Rattle.index_meaning.specs.Documents.{document_at, token_count, words_of}
 use Rattle.index_updates.specs.Follows.{Follows}
 use Rattle.index_updates.proofs.WordsLemmas.{count-tree, words-tree}
 use Rattle.ordered_tree.specs.Counts.{word_count}
-use Rattle.ordered_tree.specs.Numbered.{Numbered, plain, reference}
+use Rattle.ordered_tree.specs.Numbered.{Numbered, plain}
 use Rattle.ordered_tree.specs.Part.{counted_from, part, renumbered}
 use Rattle.ordered_tree.specs.Stands.{Stand, references, span, stands_in}
 use Rattle.ft_base.specs.declared.ids.NodeRef.{NodeRef}
@@ -23,11 +22,12 @@ use Rattle.path_meaning.specs.Elements.{Element, placed}
 use Rattle.path_nodes.specs.References.{Spot, spots_in, spot_element, spot_reference, found_in, element_of, IsElement}
 use Rattle.path_nodes.specs.Says.{Meaning}
 use Rattle.path_nodes.proofs.SpotLemmas.{spot-there}
-use Rattle.plan_compiler.specs.Lexicon.{lexicon}
+use Rattle.plan_compiler.specs.Judgement.{Judgement}
 use Rattle.plan_compiler.specs.RunMeaning.{RunMeaning, words_at}
 use Rattle.plan_compiler.specs.declared.plan.Plan.{Plan}
 use Rattle.tokenizer.specs.Tokens.{tokens}
-use Rattle.ft_session.specs.PlannedPaths.{is_meant, meant, run_meant, run_over}
+use Rattle.ft_session.specs.PathPrices.{element_price, words_of as element_words}
+use Rattle.ft_session.specs.PlannedPaths.{is_meant, meant, run_meant, run_over, run_price}
 use Rattle.ft_session.specs.SelectionTests.{asked_of, is_there, may_ask, AreOver, AreOverEach}
 use Rattle.ft_session.specs.steps.Numbering.{FollowsEach}
 
@@ -111,23 +111,30 @@ as-many plans runs same = sym (length-map plans meant) ∙ (ap length (sym same)
 
 -- ---- the run of a number
 
-pub met-at : (runs : List RunMeaning) (k : ℕ) (run : RunMeaning) (e : Element) → k < length runs → get_or runs k run ≡ run
-    → is_meant (map run_meant runs) k e ≡ sat (lexicon run.lists) run.form (tokens e.node)
+pub met-at : (says : Judgement) (runs : List RunMeaning) (k : ℕ) (run : RunMeaning) (e : Element) → k < length runs → get_or runs k run ≡ run
+    → is_meant says (map run_meant runs) k e ≡ says run.form run.lists (tokens e.node)
 unfolding is_meant
-met-at [] k run e more is = absurd (omega (arith, more))
-met-at (r ∷ runs) zero run e more is = ap (λ q. sat (lexicon q.lists) q.form (tokens e.node)) is
-met-at (r ∷ runs) (suc k) run e more is = met-at runs k run e (omega (arith, more)) is
+met-at says [] k run e more is = absurd (omega (arith, more))
+met-at says (r ∷ runs) zero run e more is = ap (λ q. says q.form q.lists (tokens e.node)) is
+met-at says (r ∷ runs) (suc k) run e more is = met-at says runs k run e (omega (arith, more)) is
+
+pub priced-at : (runs : List RunMeaning) (k : ℕ) (run : RunMeaning) (e : Element) → k < length runs → get_or runs k run ≡ run
+    → element_price (map run_price runs) k e ≡ run_price run (element_words e)
+unfolding element_price
+priced-at [] k run e more is = absurd (omega (arith, more))
+priced-at (r ∷ runs) zero run e more is = ap (λ q. run_price q (element_words e)) is
+priced-at (r ∷ runs) (suc k) run e more is = priced-at runs k run e (omega (arith, more)) is
 
 pub over-at : (runs : List RunMeaning) (k : ℕ) (run : RunMeaning) (t : ℕ × Numbered) → k < length runs → get_or runs k run ≡ run → AreOver runs t → Follows run.version t.0 t.1
 over-at runs k run t more is over = subst (λ (q : RunMeaning). Follows q.version t.0 t.1) is (over k run more)
 
 -- ---- the loans of a test
 
-pub runs-loan : (runs : List RunMeaning) (root root₂ : Numbered) (x y x₂ y₂ : ℕ) → asked_of runs root x y ≡ asked_of runs root₂ x₂ y₂ → x ≡ x₂
-runs-loan runs root root₂ x y x₂ y₂ same = ap (λ (m : Meaning). get_or m.lent 0 x) same
+pub runs-loan : (says : Judgement) (runs : List RunMeaning) (root root₂ : Numbered) (x y x₂ y₂ : ℕ) → asked_of says runs root x y ≡ asked_of says runs root₂ x₂ y₂ → x ≡ x₂
+runs-loan says runs root root₂ x y x₂ y₂ same = ap (λ (m : Meaning). get_or m.lent 0 x) same
 
-pub moves-loan : (runs : List RunMeaning) (root root₂ : Numbered) (x y x₂ y₂ : ℕ) → asked_of runs root x y ≡ asked_of runs root₂ x₂ y₂ → y ≡ y₂
-moves-loan runs root root₂ x y x₂ y₂ same = ap (λ (m : Meaning). get_or m.lent 1 y) same
+pub moves-loan : (says : Judgement) (runs : List RunMeaning) (root root₂ : Numbered) (x y x₂ y₂ : ℕ) → asked_of says runs root x y ≡ asked_of says runs root₂ x₂ y₂ → y ≡ y₂
+moves-loan says runs root root₂ x y x₂ y₂ same = ap (λ (m : Meaning). get_or m.lent 1 y) same
 
 -- ---- the words at the span of a node
 

@@ -4,6 +4,7 @@ use Rattle.std.specs.Prelude.{Some, Result, Ok, Err, is_some, nat_le}
 use Rattle.std.specs.Map.{lookup, remove_entry}
 use Rattle.std.specs.Str.{bytes_eq}
 use Rattle.std.proofs.lemmas.Bool.{lt-ltb, le-ltb}
+use Rattle.std.proofs.lemmas.List.{length-map}
 use Rattle.doc_profile.specs.declared.fault.DocFault.{DocFault}
 use Rattle.doc_profile.specs.declared.fault.DocFault.TheVariants as faults
 use Rattle.doc_grammar.specs.Limits.{node_count}
@@ -33,21 +34,35 @@ has_name-lookup name (e ∷ es) =
     elim (bytes_eq name e.0) as (λ t. (t || has_name name (map to_document es)) ≡ is_some (cond t (Some e.1) (lookup (bytes_eq name) es)))
     [ true ↦ refl | false ↦ has_name-lookup name es ]
 
--- the two tests decide, before the block is looked at
-pub loaded-tests : (documents : List Named) (name : List ℕ) (read : Result Node Refusal) (taken full : Bool) → has_name name documents ≡ taken → nat_le max_documents (length documents) ≡ full
-    → loaded documents name read ≡ cond taken (documents, Refused (NameTaken name)) (cond full (documents, Refused (Full Documents)) (added documents name read))
-loaded-tests documents name read taken full has long =
-    ap (λ t. cond t (documents, Refused (NameTaken name)) (cond (nat_le max_documents (length documents)) (documents, Refused (Full Documents)) (added documents name read))) has
-    ∙ ap (λ t. cond taken (documents, Refused (NameTaken name)) (cond t (documents, Refused (Full Documents)) (added documents name read))) long
+-- a name is taken in the documents of entries where a look-up for the same name finds it
+pub name-taken : (entries : List (List ℕ × Loaded)) (documents : List Named) (name asked : List ℕ) → map to_document entries ≡ documents → name ≡ asked
+    → has_name asked documents ≡ is_some (lookup (bytes_eq name) entries)
+name-taken entries documents name asked there same = ap (has_name asked) (sym there) ∙ (ap (λ n. has_name n (map to_document entries)) (sym same) ∙ has_name-lookup name entries)
+
+-- what is looked for before a document is loaded: whether its name is taken, and whether there is no room for one more
+module _ (entries : List (List ℕ × Loaded)) (documents : List Named) (name asked : List ℕ) (there : map to_document entries ≡ documents) (same : name ≡ asked)
+    (taken full : Bool) (found : is_some (lookup (bytes_eq name) entries) ≡ taken) (long : nat_le max_documents (length entries) ≡ full) where
+  has : has_name asked documents ≡ taken
+  has = name-taken entries documents name asked there same ∙ found
+
+  count : nat_le max_documents (length documents) ≡ full
+  count = ap (λ ds. nat_le max_documents (length ds)) (sym there) ∙ (ap (nat_le max_documents) (length-map entries to_document) ∙ long)
+
+  -- the two tests decide, before the block is looked at
+  pub loaded-by : (read : Result Node Refusal)
+      → loaded documents asked read ≡ cond taken (documents, Refused (NameTaken asked)) (cond full (documents, Refused (Full Documents)) (added documents asked read))
+  loaded-by read =
+      ap (λ t. cond t (documents, Refused (NameTaken asked)) (cond (nat_le max_documents (length documents)) (documents, Refused (Full Documents)) (added documents asked read))) has
+      ∙ ap (λ t. cond taken (documents, Refused (NameTaken asked)) (cond t (documents, Refused (Full Documents)) (added documents asked read))) count
+
+  -- the tokens of a document that comes
+  pub tokens-come : (root : Node) → tokens_loaded documents asked (Ok root) ≡ cond (taken || full) 0 (length (tokens root))
+  tokens-come root =
+      ap (λ t. cond (t || nat_le max_documents (length documents)) 0 (length (tokens root))) has ∙ ap (λ t. cond (taken || t) 0 (length (tokens root))) count
 
 pub dropped-test : (documents : List Named) (name : List ℕ) (there : Bool) → has_name name documents ≡ there
     → dropped documents name ≡ cond there (without name documents, Done) (documents, Refused (NoSuchName name))
 dropped-test documents name there has = ap (λ t. cond t (without name documents, Done) (documents, Refused (NoSuchName name))) has
-
--- the tokens of a document that comes
-pub tokens-loaded : (documents : List Named) (name : List ℕ) (root : Node) → has_name name documents ≡ false → nat_le max_documents (length documents) ≡ false → tokens_loaded documents name (Ok root) ≡ length (tokens root)
-tokens-loaded documents name root has long =
-    ap (λ t. cond (t || nat_le max_documents (length documents)) 0 (length (tokens root))) has ∙ ap (λ t. cond t 0 (length (tokens root))) long
 
 -- the entries without the first of the name
 pub without-removed : (name : List ℕ) (entries : List (List ℕ × Loaded)) → map to_document (remove_entry (bytes_eq name) entries) ≡ without name (map to_document entries)

@@ -4,6 +4,7 @@ pub mod StateView
 pub mod Indexed
 pub mod Held
 pub mod Paths
+pub mod PathPrices
 pub mod PlannedPaths
 pub mod SelectionTests
 pub mod Lists

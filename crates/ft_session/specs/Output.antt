@@ -1,6 +1,7 @@
--- The output of a session.
+-- The output of a session, by what is said of selections.
 use Rattle.std.specs.Prelude.{ℕ, Bool, List}
 use Rattle.std.specs.List.{flat_map, list_any}
+use Rattle.plan_compiler.specs.Judgement.{Judgement}
 use Rattle.session_text.specs.declared.reply.Reply.{Reply}
 use Rattle.session_text.specs.Commands.{commands, whole}
 use Rattle.session_text.specs.Replies.{reply_text, is_refusal}
@@ -12,19 +13,19 @@ abbrev pub texts_of : List Reply → List ℕ
 texts_of replies = flat_map reply_text replies
 
 -- the replies to a session's commands, from the opening state
-unfoldable pub replies_to : List ℕ → List Reply
-replies_to session = replies opening (commands session)
+unfoldable pub replies_to : Judgement → List ℕ → List Reply
+replies_to says session = replies says opening (commands session)
 
-abbrev pub output : List ℕ → List ℕ
-output session = texts_of (replies_to session)
+abbrev pub output : Judgement → List ℕ → List ℕ
+output says session = texts_of (replies_to says session)
 
 -- whether some reply to a session is a refusal
-abbrev pub has_refusal : List ℕ → Bool
-has_refusal session = list_any is_refusal (replies_to session)
+abbrev pub has_refusal : Judgement → List ℕ → Bool
+has_refusal says session = list_any is_refusal (replies_to says session)
 
 -- the replies to the commands that are whole in the bytes at a session's start
-unfoldable pub replies_to_whole : List ℕ → List Reply
-replies_to_whole taken = replies opening (whole taken)
+unfoldable pub replies_to_whole : Judgement → List ℕ → List Reply
+replies_to_whole says taken = replies says opening (whole taken)
 
-abbrev pub output_of_whole : List ℕ → List ℕ
-output_of_whole taken = texts_of (replies_to_whole taken)
+abbrev pub output_of_whole : Judgement → List ℕ → List ℕ
+output_of_whole says taken = texts_of (replies_to_whole says taken)

@@ -1,7 +1,6 @@
--- The reply to a path: the elements that it selects, or why it is refused.
+-- The reply to a path: the elements that it selects, or why it is refused. `says` says whether tokens satisfy a selection under lists.
 use Rattle.std.specs.Prelude.{ℕ, zero, suc, Bool, false, if◌then◌else◌, List, [], ◌∷◌, map, flat_map, Option, Some, None, Result, Ok, Err}
 use Rattle.std.specs.List.{list_all}
-use Rattle.all_matches.specs.Meaning.{sat}
 use Rattle.element_lines.specs.Lines.{element_line, printed_line}
 use Rattle.ft_base.specs.Selection.{Form}
 use Rattle.ft_base.specs.declared.fault.QueryFault.{QueryFault}
@@ -14,7 +13,7 @@ use Rattle.path_subset.specs.Answer.{path_read}
 use Rattle.path_subset.specs.Paths.{PathForm}
 use Rattle.plain_tree.specs.Document.{Node}
 use Rattle.plan_compiler.specs.Decided.{is_decided}
-use Rattle.plan_compiler.specs.Lexicon.{lexicon}
+use Rattle.plan_compiler.specs.Judgement.{Judgement}
 use Rattle.plan_compiler.specs.Missing.{missing_among, names}
 use Rattle.plan_compiler.specs.NamedLists.{NamedLists}
 use Rattle.session_text.specs.declared.reply.Refusal.TheVariants as refusal
@@ -32,16 +31,15 @@ use Rattle.ft_session.specs.State.{State, has_name}
 abbrev pub selections_of : PathForm → List Form
 selections_of p = map (λ s. s.form) p.selections
 
--- whether an element's tokens satisfy the selection of that number, under these lists (section 4.3, FTContainsExpr). They
--- don't satisfy one that isn't there
-unfoldable pub satisfies : NamedLists → List Form → ℕ → Element → Bool
-satisfies lists [] k e = false
-satisfies lists (first ∷ rest) zero e = sat (lexicon lists) first (tokens e.node)
-satisfies lists (first ∷ rest) (suc k) e = satisfies lists rest k e
+-- whether an element's tokens satisfy the selection of that number, under these lists. They don't satisfy one that isn't there
+unfoldable pub satisfies : Judgement → NamedLists → List Form → ℕ → Element → Bool
+satisfies says lists [] k e = false
+satisfies says lists (first ∷ rest) zero e = says first lists (tokens e.node)
+satisfies says lists (first ∷ rest) (suc k) e = satisfies says lists rest k e
 
 -- the elements of a document that a path selects
-abbrev pub selected_in : NamedLists → PathForm → Node → List Element
-selected_in lists p root = selected (satisfies lists (selections_of p)) p.path.steps root
+abbrev pub selected_in : Judgement → NamedLists → PathForm → Node → List Element
+selected_in says lists p root = selected (satisfies says lists (selections_of p)) p.path.steps root
 
 -- ---- how they are shown
 
@@ -51,9 +49,9 @@ lines_of Names name root found = map (element_line name root) found
 lines_of Texts name root found = map (λ e. printed_line e.node) found
 
 -- the lines for a path, document by document in the order of loading
-abbrev pub lines_for : Shown → State → PathForm → List (List ℕ)
-lines_for shown state p =
-    flat_map (λ d. lines_of shown d.name d.root (selected_in state.lists p d.root)) (documents p.path.root state.documents)
+abbrev pub lines_for : Judgement → Shown → State → PathForm → List (List ℕ)
+lines_for says shown state p =
+    flat_map (λ d. lines_of shown d.name d.root (selected_in says state.lists p d.root)) (documents p.path.root state.documents)
 
 abbrev pub reply_with : Shown → List (List ℕ) → Reply
 reply_with Names lines = reply.Nodes lines
@@ -71,22 +69,22 @@ abbrev pub missing_list : NamedLists → List Form → Option (List ℕ)
 missing_list lists selections = missing_among lists (flat_map names selections)
 
 -- Selections that plans don't decide aren't carried out yet.
-abbrev pub answer_decided : Shown → State → PathForm → Reply
-answer_decided shown state p =
-    if list_all is_decided (selections_of p) then reply_with shown (lines_for shown state p) else Refused refusal.NotYet
+abbrev pub answer_decided : Judgement → Shown → State → PathForm → Reply
+answer_decided says shown state p =
+    if list_all is_decided (selections_of p) then reply_with shown (lines_for says shown state p) else Refused refusal.NotYet
 
-abbrev pub answer_listed : Shown → State → PathForm → Option (List ℕ) → Reply
-answer_listed shown state p (Some missing) = Refused (refusal.NoSuchList missing)
-answer_listed shown state p None = answer_decided shown state p
+abbrev pub answer_listed : Judgement → Shown → State → PathForm → Option (List ℕ) → Reply
+answer_listed says shown state p (Some missing) = Refused (refusal.NoSuchList missing)
+answer_listed says shown state p None = answer_decided says shown state p
 
-abbrev pub answer_rooted : Shown → State → PathForm → Option (List ℕ) → Reply
-answer_rooted shown state p (Some missing) = Refused (refusal.NoSuchDoc missing)
-answer_rooted shown state p None = answer_listed shown state p (missing_list state.lists (selections_of p))
+abbrev pub answer_rooted : Judgement → Shown → State → PathForm → Option (List ℕ) → Reply
+answer_rooted says shown state p (Some missing) = Refused (refusal.NoSuchDoc missing)
+answer_rooted says shown state p None = answer_listed says shown state p (missing_list state.lists (selections_of p))
 
-abbrev pub answer_read : Shown → State → Result PathForm QueryFault → Reply
-answer_read shown state (Err fault) = Refused (refusal.Query fault)
-answer_read shown state (Ok p) = answer_rooted shown state p (missing_document p.path.root state.documents)
+abbrev pub answer_read : Judgement → Shown → State → Result PathForm QueryFault → Reply
+answer_read says shown state (Err fault) = Refused (refusal.Query fault)
+answer_read says shown state (Ok p) = answer_rooted says shown state p (missing_document p.path.root state.documents)
 
 -- the reply to a path
-abbrev pub answer : Shown → State → List ℕ → Reply
-answer shown state text = answer_read shown state (path_read text)
+abbrev pub answer : Judgement → Shown → State → List ℕ → Reply
+answer says shown state text = answer_read says shown state (path_read text)

@@ -1,22 +1,27 @@
 -- A path with a plan for each of its selections, and what it selects.
 use Rattle.std.specs.Prelude.{◌≡◌, ℕ, zero, suc, ◌<◌, Bool, false, List, [], ◌∷◌, length, map}
-use Rattle.all_matches.specs.Meaning.{sat}
+use Rattle.std.specs.List.{sum_by}
 use Rattle.ft_base.specs.Selection.{Form}
 use Rattle.index_meaning.specs.Documents.{Numbered}
 use Rattle.path_meaning.specs.Collection.{Named}
 use Rattle.path_meaning.specs.Elements.{Element}
 use Rattle.path_grammar.specs.Form.{Steps, steps}
 use Rattle.path_meaning.specs.Meaning.{selected}
+use Rattle.path_meaning.specs.Tests.{selected_tests}
 use Rattle.path_grammar.specs.View.{step}
 use Rattle.path_nodes.specs.Asked.{OfEach}
+use Rattle.path_nodes.specs.Prices.{total_price}
 use Rattle.path_subset.specs.Paths.{PathForm}
 use Rattle.plain_tree.specs.Document.{Node}
+use Rattle.plan_compiler.specs.Judgement.{Judgement}
 use Rattle.plan_compiler.specs.Lexicon.{lexicon}
 use Rattle.plan_compiler.specs.NamedLists.{NamedLists}
 use Rattle.plan_compiler.specs.PlanMeaning.{plan_form, plan_lists}
+use Rattle.plan_compiler.specs.Price.{price}
 use Rattle.plan_compiler.specs.RunMeaning.{RunMeaning}
 use Rattle.plan_compiler.specs.declared.plan.Plan.{Plan}
 use Rattle.tokenizer.specs.Tokens.{tokens}
+use Rattle.ft_session.specs.PathPrices.{element_price}
 use Rattle.ft_session.specs.Paths.{lines_of, selections_of}
 use Rattle.ft_session.specs.declared.planned.PlannedPath.{PlannedPath}
 use Rattle.ft_session.specs.declared.shown.Shown.{Shown}
@@ -55,15 +60,28 @@ abbrev pub AreRunsOf : PlannedPath → List RunMeaning → Type 0
 AreRunsOf path runs = map run_meant runs ≡ map meant path.plans.items
 
 -- whether an element's tokens satisfy the selection of that number, under its lists
-unfoldable pub is_meant : List (NamedLists × Form) → ℕ → Element → Bool
-is_meant [] k e = false
-is_meant (first ∷ rest) zero e = sat (lexicon first.0) first.1 (tokens e.node)
-is_meant (first ∷ rest) (suc k) e = is_meant rest k e
+unfoldable pub is_meant : Judgement → List (NamedLists × Form) → ℕ → Element → Bool
+is_meant says [] k e = false
+is_meant says (first ∷ rest) zero e = says first.1 first.0 (tokens e.node)
+is_meant says (first ∷ rest) (suc k) e = is_meant says rest k e
 
 -- the elements of a document to which the steps lead
-abbrev pub planned_in : PlannedPath → Node → List Element
-planned_in path root = selected (is_meant (map meant path.plans.items)) (steps (map step path.steps.now)) root
+abbrev pub planned_in : Judgement → PlannedPath → Node → List Element
+planned_in says path root = selected (is_meant says (map meant path.plans.items)) (steps (map step path.steps.now)) root
 
 -- their lines
-abbrev pub planned_lines : Shown → PlannedPath → Named → List (List ℕ)
-planned_lines shown path d = lines_of shown d.name d.root (planned_in path d.root)
+abbrev pub planned_lines : Judgement → Shown → PlannedPath → Named → List (List ℕ)
+planned_lines says shown path d = lines_of shown d.name d.root (planned_in says path d.root)
+
+-- what a run costs at words
+abbrev pub run_price : RunMeaning → List (List ℕ) → ℕ
+run_price run text = price (lexicon run.lists) run.form run.version text
+
+-- the prices of the tests for which the steps ask in a document, of these runs
+abbrev pub planned_price : Judgement → PlannedPath → List RunMeaning → Node → ℕ
+planned_price says path runs root =
+    total_price (element_price (map run_price runs)) (selected_tests (is_meant says (map meant path.plans.items)) (steps (map step path.steps.now)) root)
+
+-- in some documents
+abbrev pub prices_in : Judgement → PlannedPath → List RunMeaning → List Named → ℕ
+prices_in says path runs documents = sum_by (λ d. planned_price says path runs d.root) documents

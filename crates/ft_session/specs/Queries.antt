@@ -3,14 +3,15 @@ use Rattle.std.specs.Prelude.{◌≡◌, ℕ, true, List, take, None}
 use Rattle.std.specs.List.{list_all}
 use Rattle.path_subset.specs.Paths.{PathForm}
 use Rattle.plan_compiler.specs.Decided.{is_decided}
+use Rattle.plan_compiler.specs.Judgement.{Judgement}
 use Rattle.session_text.specs.Commands.{commands}
 use Rattle.ft_session.specs.Paths.{missing_document, missing_list, selections_of}
 use Rattle.ft_session.specs.State.{State, opening}
 use Rattle.ft_session.specs.Step.{state_after}
 
 -- what a session holds before its command of that number, which counts from 0
-abbrev pub state_before : List ℕ → ℕ → State
-state_before session number = state_after opening (take number (commands session))
+abbrev pub state_before : Judgement → List ℕ → ℕ → State
+state_before says session number = state_after says opening (take number (commands session))
 
 -- All that a path names is there, and its selections are carried out.
 pub record IsAnswered (state : State) (p : PathForm) : Type 0 where

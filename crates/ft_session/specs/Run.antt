@@ -3,6 +3,7 @@ use Rattle.std.specs.Prelude.{◌≡◌, ◌⊎◌, ℕ, Bool, ◌&&◌, not, na
 use Rattle.std.specs.Prelude.{◌++◌, length, take, codes, Option, Some, None, IfSome, option_map}
 use Rattle.std.specs.List.{starts_with}
 use Rattle.ft_base.specs.Lists.{is_empty}
+use Rattle.plan_compiler.specs.Judgement.{Judgement}
 use Rattle.ft_session.specs.declared.status.Status.{Status}
 use Rattle.ft_session.specs.declared.status.Status.TheVariants.{Done, SomeRefused}
 use Rattle.ft_session.specs.Output.{output, has_refusal}
@@ -42,7 +43,7 @@ abbrev pub IsFinished : Status → Type 0
 IsFinished status = (status ≡ Done) ⊎ (status ≡ SomeRefused)
 
 -- a run over this session read it to its end and wrote all replies, and the status says whether one is a refusal
-pub record AnswersAll (session : List ℕ) (reached : ℕ) (before after : Option (List ℕ)) (status : Status) : Type 0 where
+pub record AnswersAll (says : Judgement) (session : List ℕ) (reached : ℕ) (before after : Option (List ℕ)) (status : Status) : Type 0 where
   pub whole : reached ≡ length session
-  pub written : after ≡ with_text before (output session)
-  pub refused : status ≡ (if has_refusal session then SomeRefused else Done)
+  pub written : after ≡ with_text before (output says session)
+  pub refused : status ≡ (if has_refusal says session then SomeRefused else Done)

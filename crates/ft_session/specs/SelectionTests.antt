@@ -1,15 +1,15 @@
--- What runs say of the nodes of a document.
+-- What is said of the nodes of a document, by runs and the judge that is asked with them.
 use Rattle.std.specs.Prelude.{ℕ, ◌==◌, Bool, ◌&&◌, nat_lt, List, [], ◌∷◌, length, map, All}
 use Rattle.std.specs.List.{list_any, AllByRecursion}
-use Rattle.ft_base.specs.Selection.{Form}
 use Rattle.index_updates.specs.Follows.{Follows}
 use Rattle.ordered_tree.specs.Numbered.{Numbered}
 use Rattle.ft_base.specs.declared.ids.NodeRef.{NodeRef}
 use Rattle.path_nodes.specs.References.{element_of, spot_reference, spots_in}
 use Rattle.path_nodes.specs.Says.{Meaning}
-use Rattle.plan_compiler.specs.NamedLists.{NamedLists}
+use Rattle.plan_compiler.specs.Judgement.{Judgement}
 use Rattle.plan_compiler.specs.RunMeaning.{RunMeaning}
-use Rattle.ft_session.specs.PlannedPaths.{is_meant, run_meant}
+use Rattle.ft_session.specs.PathPrices.{element_price}
+use Rattle.ft_session.specs.PlannedPaths.{is_meant, run_meant, run_price}
 
 -- whether a reference names a node of a document
 abbrev pub is_there : Numbered → NodeRef → Bool
@@ -19,13 +19,13 @@ is_there root r = list_any (λ s. (spot_reference s).0 == r.0) (spots_in root)
 abbrev pub may_ask : List RunMeaning → Numbered → ℕ → NodeRef → Bool
 may_ask runs root k r = nat_lt k (length runs) && is_there root r
 
--- They say whether the element that the reference names satisfies the selection, for no price yet. The runs and a count of steps are lent,
--- under these names.
-abbrev pub asked_of : List RunMeaning → Numbered → ℕ → ℕ → Meaning
-asked_of runs root runs_loan moves_loan = record {
+-- It is said whether the element that the reference names satisfies the selection, for the price of the run at its words. The runs and a count
+-- of steps are lent, under these names.
+abbrev pub asked_of : Judgement → List RunMeaning → Numbered → ℕ → ℕ → Meaning
+asked_of says runs root runs_loan moves_loan = record {
   may_ask = may_ask runs root;
-  says = λ k r. is_meant (map run_meant runs) k (element_of root r);
-  price = λ k r. 0;
+  says = λ k r. is_meant says (map run_meant runs) k (element_of root r);
+  price = λ k r. element_price (map run_price runs) k (element_of root r);
   lent = runs_loan ∷ moves_loan ∷ [];
 }
 

@@ -1,6 +1,7 @@
 -- What a command does to what a session holds.
 use Rattle.std.specs.Prelude.{ℕ, Bool, true, false, ◌||◌, nat_le, nat_lt, if◌then◌else◌, List, [], ◌∷◌, ◌++◌, length, Result, Ok, Err}
 use Rattle.std.specs.Str.{bytes_eq}
+use Rattle.plan_compiler.specs.Judgement.{Judgement}
 use Rattle.plan_compiler.specs.NamedLists.{NamedLists}
 use Rattle.doc_profile.specs.declared.fault.DocFault.{DocFault}
 use Rattle.doc_profile.specs.Readings.{document_of}
@@ -61,18 +62,18 @@ with_documents state (documents, reply) = (record { documents = documents; lists
 abbrev pub with_lists : State → NamedLists × Reply → State × Reply
 with_lists state (lists, reply) = (record { documents = state.documents; lists = lists }, reply)
 
--- the state that a command leaves, and its reply
-unfoldable pub step : State → Command → State × Reply
-step state (command.Load name block) = with_documents state (loaded state.documents name (loadable block))
-step state (command.Drop name) = with_documents state (dropped state.documents name)
-step state (command.Stop name block) = with_lists state (stop_list_put state.lists name (stop_list_of block))
-step state (command.Stems block) = with_lists state (stems_put state.lists (stems_of block))
-step state (command.Thesaurus name block) = with_lists state (thesaurus_put state.lists name (thesaurus_of block))
-step state (command.Query path) = (state, answer Names state path)
-step state (command.Print path) = (state, answer Texts state path)
-step state (command.BadCommand line) = (state, Refused (refusal.BadCommand line))
-step state (command.BadName line) = (state, Refused (refusal.BadName line))
-step state _ = (state, Refused refusal.NotYet)
+-- the state that a command leaves, and its reply, by what is said of selections
+unfoldable pub step : Judgement → State → Command → State × Reply
+step says state (command.Load name block) = with_documents state (loaded state.documents name (loadable block))
+step says state (command.Drop name) = with_documents state (dropped state.documents name)
+step says state (command.Stop name block) = with_lists state (stop_list_put state.lists name (stop_list_of block))
+step says state (command.Stems block) = with_lists state (stems_put state.lists (stems_of block))
+step says state (command.Thesaurus name block) = with_lists state (thesaurus_put state.lists name (thesaurus_of block))
+step says state (command.Query path) = (state, answer says Names state path)
+step says state (command.Print path) = (state, answer says Texts state path)
+step says state (command.BadCommand line) = (state, Refused (refusal.BadCommand line))
+step says state (command.BadName line) = (state, Refused (refusal.BadName line))
+step says state _ = (state, Refused refusal.NotYet)
 
 -- ---- the rows of the index, and the steps of its cursors
 
@@ -108,11 +109,11 @@ rows_for state _ = 0
 -- ---- commands one after the other
 
 -- the replies to commands, in order
-abbrev pub replies : State → List Command → List Reply
-replies state [] = []
-replies state (command ∷ commands) = (step state command).1 ∷ replies (step state command).0 commands
+abbrev pub replies : Judgement → State → List Command → List Reply
+replies says state [] = []
+replies says state (command ∷ commands) = (step says state command).1 ∷ replies says (step says state command).0 commands
 
 -- the state that commands leave
-abbrev pub state_after : State → List Command → State
-state_after state [] = state
-state_after state (command ∷ commands) = state_after (step state command).0 commands
+abbrev pub state_after : Judgement → State → List Command → State
+state_after says state [] = state
+state_after says state (command ∷ commands) = state_after says (step says state command).0 commands

@@ -9,6 +9,7 @@ use crate::session::Session;
 use crate::writing::write_all;
 use ft_base::{Memory, Steps};
 use ft_io::{Failed, Sink};
+use plan_compiler::Judge;
 use session_text::{Command, Commands, Reply, print_reply};
 use std::alloc::Global;
 use std::sync::ledger::Ledger;
@@ -41,19 +42,19 @@ impl From<Failed> for AnswerError {
 }
 
 /// Steps one command, writes its reply, and says whether that is a refusal.
-pub(crate) fn answer<K: Sink, L: Ledger, M: Ledger>(
+pub(crate) fn answer<J: Judge + Drop, K: Sink, L: Ledger, M: Ledger>(
     alloc: Global,
-    session: &mut Session,
+    session: &mut Session<J>,
     command: &Command,
     sink: &mut K,
     moves: &mut Steps<M>,
     rows: &mut Steps<L>,
 ) -> Result<bool, AnswerError>
     requires { K.faults sink.old + 1 < 2 ^ 64 }
-    ensures state { OnOk result (session.new.state ≡ (step session.old.state command.now).0) }
-    ensures refused { IfOk result (λ refused. refused ≡ is_refusal (step session.old.state command.now).1) }
-    ensures written { OnOk result (K.written sink.new ≡ with_text (K.written sink.old) (reply_text (step session.old.state command.now).1)) }
-    ensures prefix { OnErr result (TookPrefix (K.written sink.old) (K.written sink.new) (reply_text (step session.old.state command.now).1)) }
+    ensures state { OnOk result (session.new.state ≡ (step J.says session.old.state command.now).0) }
+    ensures refused { IfOk result (λ refused. refused ≡ is_refusal (step J.says session.old.state command.now).1) }
+    ensures written { OnOk result (K.written sink.new ≡ with_text (K.written sink.old) (reply_text (step J.says session.old.state command.now).1)) }
+    ensures prefix { OnErr result (TookPrefix (K.written sink.old) (K.written sink.new) (reply_text (step J.says session.old.state command.now).1)) }
     ensures faults { OnOk result (K.faults sink.new ≡ K.faults sink.old) }
     ensures cause { IsErrOf result AnswerError.Fault → K.faults sink.old < K.faults sink.new }
 {
@@ -78,19 +79,19 @@ fn write_reply<K: Sink>(alloc: Global, reply: &Reply, sink: &mut K) -> Result<bo
 }
 
 /// Answers the commands, one after the other, and says whether a reply is a refusal.
-pub(crate) fn answer_all<K: Sink, L: Ledger, M: Ledger>(
+pub(crate) fn answer_all<J: Judge + Drop, K: Sink, L: Ledger, M: Ledger>(
     alloc: Global,
-    session: &mut Session,
+    session: &mut Session<J>,
     commands: &[Command],
     sink: &mut K,
     moves: &mut Steps<M>,
     rows: &mut Steps<L>,
 ) -> Result<bool, AnswerError>
     requires { K.faults sink.old + 1 < 2 ^ 64 }
-    ensures state { OnOk result (session.new.state ≡ state_after session.old.state commands.now) }
-    ensures refused { IfOk result (λ refused. refused ≡ list_any is_refusal (replies session.old.state commands.now)) }
-    ensures written { OnOk result (K.written sink.new ≡ with_text (K.written sink.old) (texts_of (replies session.old.state commands.now))) }
-    ensures prefix { OnErr result (TookPrefix (K.written sink.old) (K.written sink.new) (texts_of (replies session.old.state commands.now))) }
+    ensures state { OnOk result (session.new.state ≡ state_after J.says session.old.state commands.now) }
+    ensures refused { IfOk result (λ refused. refused ≡ list_any is_refusal (replies J.says session.old.state commands.now)) }
+    ensures written { OnOk result (K.written sink.new ≡ with_text (K.written sink.old) (texts_of (replies J.says session.old.state commands.now))) }
+    ensures prefix { OnErr result (TookPrefix (K.written sink.old) (K.written sink.new) (texts_of (replies J.says session.old.state commands.now))) }
     ensures faults { OnOk result (K.faults sink.new ≡ K.faults sink.old) }
     ensures cause { IsErrOf result AnswerError.Fault → K.faults sink.old < K.faults sink.new }
 {

@@ -7,7 +7,7 @@ ghost use Rattle.ft_session.specs.SelectionTests.{AreOver};
 use ft_base::{DocId, Memory, Steps};
 use ordered_tree::{DocTree, NodeRef};
 use path_nodes::TextTest;
-use plan_compiler::Run;
+use plan_compiler::{Judge, Run};
 use std::marker::{Brand, PhantomData};
 use std::sync::ledger::Ledger;
 
@@ -26,9 +26,10 @@ impl Loan for Brand {
     ghost moves = { 0 };
 }
 
-/// Asks the runs of a path's selections, each by its number, of the nodes of a document.
+/// Asks a judge, with the runs of a path's selections, each by its number, of the nodes of a document.
 #[derive(Drop)]
-pub(crate) struct SelectionTest<'t, 'r, 'v, 'm, B: Loan, M: Ledger> {
+pub(crate) struct SelectionTest<'j, 't, 'r, 'v, 'm, J: Judge, B: Loan, M: Ledger> {
+    pub(crate) judge: &'j J,
     /// The document's number in the version of the runs
     pub(crate) doc: DocId,
     pub(crate) tree: &'t DocTree,
@@ -40,15 +41,17 @@ pub(crate) struct SelectionTest<'t, 'r, 'v, 'm, B: Loan, M: Ledger> {
     ghost raised: { B.moves ≤ moves.now },
 }
 
-impl<'t, 'r, 'v, 'm, B: Loan, M: Ledger> TextTest for SelectionTest<'t, 'r, 'v, 'm, B, M> {
+impl<'j, 't, 'r, 'v, 'm, J: Judge, B: Loan, M: Ledger> TextTest
+    for SelectionTest<'j, 't, 'r, 'v, 'm, J, B, M> {
     ghost use Rattle.ft_session.specs.SelectionTests.{asked_of};
 
-    ghost meaning = { λ test. asked_of B.runs test.tree.now.root test.runs.ghost_name test.moves.ghost_name };
+    ghost meaning = { λ test. asked_of J.says B.runs test.tree.now.root test.runs.ghost_name test.moves.ghost_name };
 
-    ghost cost = { λ test. 0 };
+    ghost cost = { λ test. test.moves.now };
 
     fn contains(&mut self, selection: usize, node: NodeRef) -> Result<bool, Memory> {
         let span = self.tree.span_of(node);
-        Ok(self.runs[selection].test(self.doc, span, self.moves))
+        let run = &mut self.runs[selection];
+        Ok(self.judge.judge(run, self.doc, span, self.moves))
     }
 }

@@ -27,9 +27,9 @@ pub(crate) struct Collection {
     alloc: Global,
     documents: IndexMap<Line, Loaded>,
     version: Version,
-    /// Where the version's dictionary has words: what a document that comes looks at first
+    /// Where the version's dictionary has words: what a document that comes looks at first.
     hints: WordHints,
-    /// The number of the document that is loaded next
+    /// The number of the document that is loaded next.
     next: u32,
 }
 
@@ -138,7 +138,7 @@ impl Collection {
             drop((name, tree));
             return Err(Memory);
         };
-        match self.documents.insert(name, Loaded::new(doc, tree)) {
+        match self.documents.insert(name, Loaded { doc, tree }) {
             Ok(before) => {
                 drop(before);
                 drop(std::mem::replace(&mut self.version, version));

@@ -1,15 +1,17 @@
 //! The reply to a path: the elements that it selects, or why it is refused.
 
-ghost use Rattle.std.specs.Prelude.{◌≡◌, ◌≢◌, ◌≤◌, IfOk, IsTrue, Ok, OnOk, flat_map, length, map};
+ghost use Rattle.std.specs.Prelude.{◌≡◌, ◌≢◌, ◌≤◌, ◌+◌, IfOk, IsTrue, Ok, OnOk, flat_map, length, map};
 ghost use Rattle.std.specs.List.{list_all};
 ghost use Rattle.std.specs.Option.{option_copied};
 ghost use Rattle.path_meaning.specs.Collection.{documents as documents_of};
 ghost use Rattle.plan_compiler.specs.Decided.{is_decided};
+ghost use Rattle.path_subset.specs.Answer.{path_read};
 ghost use Rattle.path_subset.specs.Paths.{read_form};
+ghost use Rattle.ft_session.specs.PathPrices.{path_price, read_price};
 ghost use Rattle.ft_session.specs.Paths as paths;
-ghost use Rattle.ft_session.specs.PlannedPaths.{planned_lines, AskBelow, HasItsPlans};
+ghost use Rattle.ft_session.specs.PlannedPaths.{planned_lines, prices_in, run_over, AskBelow, HasItsPlans};
 ghost use Rattle.ft_session.specs.State.{to_document};
-ghost use Rattle.ft_session.specs.StateView.{state_of};
+ghost use Rattle.ft_session.specs.StateView.{held_of, state_of};
 
 use crate::collection::Collection;
 use crate::loaded::Loaded;
@@ -20,25 +22,27 @@ use ft_base::{Line, Memory, QueryFault, Steps};
 use indexmap::IndexMap;
 use path_grammar::PathRoot;
 use path_subset::{ReadPath, read_path};
-use plan_compiler::{CompileFault, Lists, is_decided, missing_list};
+use plan_compiler::{CompileFault, Judge, Lists, is_decided, missing_list};
 use session_text::{Refusal, Reply};
 use std::alloc::Global;
 use std::sync::ledger::Ledger;
 
-/// The reply to a path, by the documents and the lists that are there.
-pub(crate) fn answer_path<M: Ledger>(
+/// The reply to a path, by the documents and the lists that are there, and by what the judge says.
+pub(crate) fn answer_path<J: Judge, M: Ledger>(
     alloc: Global,
+    judge: &J,
     collection: &Collection,
     lists: &Lists,
     shown: Shown,
     text: &str,
     moves: &mut Steps<M>,
 ) -> Result<Reply, Memory>
-    ensures reply { IfOk result (λ reply. reply ≡ paths.answer shown (state_of collection.now lists.now) text.now) }
+    ensures reply { IfOk result (λ reply. reply ≡ paths.answer J.says shown (state_of collection.now lists.now) text.now) }
     ensures moves { moves.old ≤ moves.new }
+    ensures price { moves.new ≤ moves.old + read_price J.says (held_of collection.now lists.now) (path_read text.now) }
 {
     match read_path(alloc, text) {
-        Ok(path) => answer_read(alloc, collection, lists, shown, &path, moves),
+        Ok(path) => answer_read(alloc, judge, collection, lists, shown, &path, moves),
         Err(fault) => refuse(fault),
     }
 }
@@ -55,8 +59,9 @@ fn refuse(fault: QueryFault) -> Result<Reply, Memory>
 }
 
 /// The reply to a path that was read.
-fn answer_read<M: Ledger>(
+fn answer_read<J: Judge, M: Ledger>(
     alloc: Global,
+    judge: &J,
     collection: &Collection,
     lists: &Lists,
     shown: Shown,
@@ -64,15 +69,16 @@ fn answer_read<M: Ledger>(
     moves: &mut Steps<M>,
 ) -> Result<Reply, Memory>
     requires { AskBelow (length (read_form path.now).selections) (read_form path.now).path.steps }
-    ensures reply { IfOk result (λ reply. reply ≡ paths.answer_read shown (state_of collection.now lists.now) (Ok (read_form path.now))) }
+    ensures reply { IfOk result (λ reply. reply ≡ paths.answer_read J.says shown (state_of collection.now lists.now) (Ok (read_form path.now))) }
     ensures moves { moves.old ≤ moves.new }
+    ensures price { moves.new ≤ moves.old + path_price J.says (held_of collection.now lists.now) (read_form path.now) }
 {
     if let Some(name) = missing_document(collection.documents(), path.root()) {
         let name = Line::read(alloc, name)?;
         return Ok(Reply::Refused(Refusal::NoSuchDoc { name }));
     }
     if are_decided(path) {
-        return answer_decided(alloc, collection, lists, shown, path, moves);
+        return answer_decided(alloc, judge, collection, lists, shown, path, moves);
     }
     // Nothing is compiled where plans don't decide each selection, so that the lists are looked for here.
     if let Some(name) = missing_list_of(path, lists) {
@@ -83,8 +89,9 @@ fn answer_read<M: Ledger>(
 }
 
 /// The reply to a path whose document is there and whose selections plans decide. All of them are compiled before one is asked.
-fn answer_decided<M: Ledger>(
+fn answer_decided<J: Judge, M: Ledger>(
     alloc: Global,
+    judge: &J,
     collection: &Collection,
     lists: &Lists,
     shown: Shown,
@@ -94,20 +101,22 @@ fn answer_decided<M: Ledger>(
     requires decided { IsTrue (list_all is_decided (paths.selections_of (read_form path.now))) }
     requires numbered { AskBelow (length (read_form path.now).selections) (read_form path.now).path.steps }
     ensures reply { IfOk result (λ reply. reply
-        ≡ paths.answer_listed shown (state_of collection.now lists.now) (read_form path.now)
+        ≡ paths.answer_listed J.says shown (state_of collection.now lists.now) (read_form path.now)
         (paths.missing_list lists.now (paths.selections_of (read_form path.now)))) }
     ensures moves { moves.old ≤ moves.new }
+    ensures price { moves.new ≤ moves.old + path_price J.says (held_of collection.now lists.now) (read_form path.now) }
 {
     match compile_path(alloc, path, lists) {
-        Ok(planned) => answer_planned(alloc, collection, shown, &planned, moves),
+        Ok(planned) => answer_planned(judge, collection, shown, &planned, moves),
         Err(CompileFault::NoSuchList { name }) => Ok(Reply::Refused(Refusal::NoSuchList { name })),
         Err(CompileFault::Memory) => Err(Memory),
     }
 }
 
-/// The reply to a path by its plans. A run of each is opened once, over the version of the index, and asked of the elements.
-fn answer_planned<M: Ledger>(
-    alloc: Global,
+/// The reply to a path by its plans. A run of each is opened once, over the version of the index, and with it the judge is asked of
+/// the elements.
+fn answer_planned<J: Judge, M: Ledger>(
+    judge: &J,
     collection: &Collection,
     shown: Shown,
     planned: &PlannedPath<'_>,
@@ -115,12 +124,20 @@ fn answer_planned<M: Ledger>(
 ) -> Result<Reply, Memory>
     requires { HasItsPlans planned.now }
     ensures reply { IfOk result (λ reply. reply
-        ≡ paths.reply_with shown (flat_map (planned_lines shown planned.now) (documents_of planned.now.root.now collection.now.documents))) }
+        ≡ paths.reply_with shown (flat_map (planned_lines J.says shown planned.now) (documents_of planned.now.root.now collection.now.documents))) }
     ensures moves { moves.old ≤ moves.new }
+    ensures price { moves.new
+        ≤ moves.old
+        + prices_in J.says planned.now (map (run_over collection.now.version) planned.now.plans.items)
+        (documents_of planned.now.root.now collection.now.documents) }
 {
     let documents = collection.documents();
-    let mut runs = open_runs(alloc, planned.plans.as_slice(), collection.version())?;
-    let lines = collect_lines(alloc, documents, shown, planned, &mut runs, moves);
+    let mut runs = open_runs(
+        planned.alloc,
+        planned.plans.as_slice(),
+        collection.version(),
+    )?;
+    let lines = collect_lines(judge, documents, shown, planned, &mut runs, moves);
     drop(runs);
     match lines {
         Ok(lines) => Ok(reply_with(shown, lines)),

@@ -13,6 +13,7 @@ use crate::reading::{MOST, buffer, read_piece};
 use crate::session::Session;
 use ft_base::{MAX_PIECE_BYTES, Memory, Steps};
 use ft_io::{Shelf, Sink};
+use plan_compiler::Judge;
 use session_text::Lines_;
 use std::alloc::{AllocError, Global};
 use std::sync::ledger::{Blank, Ledger};
@@ -61,16 +62,16 @@ impl From<AllocError> for Stopped {
 
 /// A session that is being answered: the reader of its bytes, and what it holds.
 #[derive(Drop)]
-struct Answering {
+struct Answering<J: Judge + Drop> {
     alloc: Global,
     lines: Lines_,
-    session: Session,
+    session: Session<J>,
 }
 
 /// Takes the next piece of the session and answers the commands that became whole with it. It says whether a reply is a
 /// refusal.
-fn answer_piece<K: Sink, L: Ledger, M: Ledger>(
-    answering: &mut Answering,
+fn answer_piece<J: Judge + Drop, K: Sink, L: Ledger, M: Ledger>(
+    answering: &mut Answering<J>,
     piece: &[u8],
     sink: &mut K,
     moves: &mut Steps<M>,
@@ -79,10 +80,10 @@ fn answer_piece<K: Sink, L: Ledger, M: Ledger>(
     requires countable { K.faults sink.old + 1 < 2 ^ 64 }
     requires room { answering.old.lines.bytes + length piece.now < 2 ^ 63 }
     ensures answered { IfOk result (λ refused.
-        Answered answering.old.lines answering.new.lines answering.old.session.state answering.new.session.state piece.now refused (K.written sink.old)
+        Answered J.says answering.old.lines answering.new.lines answering.old.session.state answering.new.session.state piece.now refused (K.written sink.old)
         (K.written sink.new)) }
     ensures prefix { OnErr result ((more : List ℕ) → TookPrefix (K.written sink.old) (K.written sink.new)
-        (texts_of (replies answering.old.session.state (commands_left answering.old.lines (piece.now ++ more))))) }
+        (texts_of (replies J.says answering.old.session.state (commands_left answering.old.lines (piece.now ++ more))))) }
     ensures bytes { answering.new.lines.bytes ≡ answering.old.lines.bytes + length piece.now }
     ensures faults { OnOk result (K.faults sink.new ≡ K.faults sink.old) }
     ensures cause { IsErrOf result AnswerError.Fault → K.faults sink.old < K.faults sink.new }
@@ -100,18 +101,19 @@ fn answer_piece<K: Sink, L: Ledger, M: Ledger>(
 
 /// Takes the session's end and answers the command that an unfinished line or block is then. It says whether a reply is a
 /// refusal.
-fn answer_end<K: Sink, L: Ledger, M: Ledger>(
-    answering: &mut Answering,
+fn answer_end<J: Judge + Drop, K: Sink, L: Ledger, M: Ledger>(
+    answering: &mut Answering<J>,
     sink: &mut K,
     moves: &mut Steps<M>,
     rows: &mut Steps<L>,
 ) -> Result<bool, AnswerError>
     requires { K.faults sink.old + 1 < 2 ^ 64 }
-    ensures refused { IfOk result (λ refused. refused ≡ list_any is_refusal (replies answering.old.session.state (commands_left answering.old.lines []))) }
+    ensures refused { IfOk result (λ refused. refused
+        ≡ list_any is_refusal (replies J.says answering.old.session.state (commands_left answering.old.lines []))) }
     ensures written { OnOk result (K.written sink.new
-        ≡ with_text (K.written sink.old) (texts_of (replies answering.old.session.state (commands_left answering.old.lines [])))) }
+        ≡ with_text (K.written sink.old) (texts_of (replies J.says answering.old.session.state (commands_left answering.old.lines [])))) }
     ensures prefix { OnErr result (TookPrefix (K.written sink.old) (K.written sink.new)
-        (texts_of (replies answering.old.session.state (commands_left answering.old.lines [])))) }
+        (texts_of (replies J.says answering.old.session.state (commands_left answering.old.lines [])))) }
     ensures faults { OnOk result (K.faults sink.new ≡ K.faults sink.old) }
     ensures cause { IsErrOf result AnswerError.Fault → K.faults sink.old < K.faults sink.new }
 {
@@ -128,9 +130,10 @@ fn answer_end<K: Sink, L: Ledger, M: Ledger>(
 
 /// Reads a session's file piece by piece, until its end comes or one byte more than a session may have was read, and answers
 /// each command before the next piece is read. It says whether a reply is a refusal.
-pub(crate) fn answer_file<S: Shelf, K: Sink, L: Ledger, M: Ledger>(
+pub(crate) fn answer_file<J: Judge + Drop, S: Shelf, K: Sink, L: Ledger, M: Ledger>(
     alloc: Global,
     name: &String,
+    judge: J,
     shelf: &mut S,
     sink: &mut K,
     moves: Blank,
@@ -145,11 +148,11 @@ pub(crate) fn answer_file<S: Shelf, K: Sink, L: Ledger, M: Ledger>(
     requires rows_name { rows.name ≡ L.name }
     requires rows_parts { rows.parts ≡ L.parts }
     requires rows_whole { 0 < rows.parts }
-    ensures { FileAnswered (S.files shelf.old) (string_bytes name.now) (S.reached shelf.new (string_bytes name.now))
+    ensures { FileAnswered J.says (S.files shelf.old) (string_bytes name.now) (S.reached shelf.new (string_bytes name.now))
         (S.faults shelf.old (string_bytes name.now)) (S.faults shelf.new (string_bytes name.now)) (K.faults sink.old) (K.faults sink.new)
         (K.written sink.old) (K.written sink.new) result }
 {
-    let session = Session::new(alloc)?;
+    let session = Session::new(alloc, judge)?;
     let mut answering = Answering {
         alloc,
         lines: Lines_::new(alloc),
@@ -163,8 +166,8 @@ pub(crate) fn answer_file<S: Shelf, K: Sink, L: Ledger, M: Ledger>(
 }
 
 /// The same for a session of which nothing was taken yet.
-fn answer_pieces<S: Shelf, K: Sink, L: Ledger, M: Ledger>(
-    answering: &mut Answering,
+fn answer_pieces<J: Judge + Drop, S: Shelf, K: Sink, L: Ledger, M: Ledger>(
+    answering: &mut Answering<J>,
     name: &String,
     shelf: &mut S,
     sink: &mut K,
@@ -176,7 +179,7 @@ fn answer_pieces<S: Shelf, K: Sink, L: Ledger, M: Ledger>(
     requires fresh { S.reached shelf.old (string_bytes name.now) ≡ 0 }
     requires shelf_countable { S.faults shelf.old (string_bytes name.now) + 1 < 2 ^ 64 }
     requires sink_countable { K.faults sink.old + 1 < 2 ^ 64 }
-    ensures { FileAnswered (S.files shelf.old) (string_bytes name.now) (S.reached shelf.new (string_bytes name.now))
+    ensures { FileAnswered J.says (S.files shelf.old) (string_bytes name.now) (S.reached shelf.new (string_bytes name.now))
         (S.faults shelf.old (string_bytes name.now)) (S.faults shelf.new (string_bytes name.now)) (K.faults sink.old) (K.faults sink.new)
         (K.written sink.old) (K.written sink.new) result }
 {

@@ -18,6 +18,7 @@ use std::alloc::Global;
 /// A path with a plan for each of its selections, by their numbers.
 #[derive(Drop)]
 pub(crate) struct PlannedPath<'a> {
+    pub(crate) alloc: Global,
     pub(crate) root: &'a PathRoot,
     pub(crate) steps: &'a Steps,
     pub(crate) plans: Vec<Plan>,
@@ -39,6 +40,7 @@ pub(crate) fn compile_path<'a>(
 {
     match compile_all(alloc, path, lists) {
         Ok(plans) => Ok(PlannedPath {
+            alloc,
             root: path.root(),
             steps: path.steps(),
             plans,

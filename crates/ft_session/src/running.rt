@@ -8,6 +8,7 @@ ghost use Rattle.ft_session.specs.Run.{AnswersAll, IsFinished, TookPrefix, first
 use crate::pieces::{Stopped, answer_file};
 use crate::status::Status;
 use ft_io::{Shelf, Sink};
+use plan_compiler::Judge;
 use std::alloc::Global;
 use std::marker::Brand;
 use std::sync::ledger::Blank;
@@ -25,10 +26,12 @@ fn file_of(words: &[String]) -> Option<&String>
 /// Reads the session's file that the words name, does its commands in order and writes the reply to each.
 ///
 /// The words are the arguments of a call, without the program's name. The file is read in pieces of at most `MAX_PIECE_BYTES`, and
-/// each command is answered before the piece behind its last byte is read.
-pub fn run<S: Shelf, K: Sink>(
+/// each command is answered before the piece behind its last byte is read. The judge is asked of each `contains text`, and the
+/// clauses hold for any: what a path selects is told by what its judge says.
+pub fn run<J: Judge + Drop, S: Shelf, K: Sink>(
     alloc: Global,
     words: &[String],
+    judge: J,
     shelf: &mut S,
     sink: &mut K,
 ) -> Status
@@ -39,12 +42,12 @@ pub fn run<S: Shelf, K: Sink>(
     // The headline: the replies to the session's commands, in order, and which of the two statuses it is.
     ensures answers { IsFinished result → IfSome (session_file (map string_bytes words.now)) (λ name.
         IfSome (S.files shelf.old) (λ files. IsSomeAnd (bytes_of files name) (λ session.
-        AnswersAll session (S.reached shelf.new name) (K.written sink.old) (K.written sink.new) result))) }
+        AnswersAll J.says session (S.reached shelf.new name) (K.written sink.old) (K.written sink.new) result))) }
     ensures limit { IsFinished result → IfSome (session_file (map string_bytes words.now)) (λ name. S.reached shelf.new name ≤ max_session_bytes) }
 
     // Whatever the status, no more than a front of those replies is written.
     ensures prefix { IfSome (session_file (map string_bytes words.now)) (λ name. IfSome (known_bytes (S.files shelf.old) name) (λ session.
-        TookPrefix (K.written sink.old) (K.written sink.new) (output session))) }
+        TookPrefix (K.written sink.old) (K.written sink.new) (output J.says session))) }
 
     // The words name no session's file.
     ensures usage { (result ≡ Status.Usage) ↔ (session_file (map string_bytes words.now) ≡ None) }
@@ -56,7 +59,7 @@ pub fn run<S: Shelf, K: Sink>(
         S.faults shelf.old name < S.faults shelf.new name) }
     ensures read_fault_writes { result ≡ Status.ReadFault → IfSome (session_file (map string_bytes words.now)) (λ name.
         IfSome (known_bytes (S.files shelf.old) name) (λ session.
-        K.written sink.new ≡ with_text (K.written sink.old) (output_of_whole (take (S.reached shelf.new name) session)))) }
+        K.written sink.new ≡ with_text (K.written sink.old) (output_of_whole J.says (take (S.reached shelf.new name) session)))) }
     ensures write_fault { result ≡ Status.WriteFault → K.faults sink.old < K.faults sink.new }
 
     // The session is too long: one byte more than it may have was read. Then too the commands that were whole are answered.
@@ -66,7 +69,7 @@ pub fn run<S: Shelf, K: Sink>(
         S.reached shelf.new name ≡ max_session_bytes + 1 → K.faults sink.new ≡ K.faults sink.old → (result ≡ Status.TooLong) ⊎ (result ≡ Status.Memory)) }
     ensures too_long_writes { result ≡ Status.TooLong → IfSome (session_file (map string_bytes words.now)) (λ name.
         IfSome (known_bytes (S.files shelf.old) name) (λ session.
-        K.written sink.new ≡ with_text (K.written sink.old) (output_of_whole (take (S.reached shelf.new name) session)))) }
+        K.written sink.new ≡ with_text (K.written sink.old) (output_of_whole J.says (take (S.reached shelf.new name) session)))) }
 
     // Where nothing fails and the session isn't too long, it is answered, unless memory runs out.
     ensures complete { IfSome (session_file (map string_bytes words.now)) (λ name.
@@ -80,9 +83,10 @@ pub fn run<S: Shelf, K: Sink>(
     let Some(name) = file_of(words) else {
         return Status::Usage;
     };
-    match answer_file::<S, K, Brand, Brand>(
+    match answer_file::<J, S, K, Brand, Brand>(
         alloc,
         name,
+        judge,
         shelf,
         sink,
         Blank::new(1),

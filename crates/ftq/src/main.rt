@@ -4,6 +4,7 @@
 use ft_base::Memory;
 use ft_io::{FileShelf, StdSink};
 use ft_session::{Status, exit_of, line_of, run};
+use plan_compiler::Direct;
 use std::alloc::Global;
 use std::env;
 use std::io::ErrorKind;
@@ -30,7 +31,7 @@ fn answer(rt: HostRuntime, alloc: Global) -> Status {
     };
     let mut shelf = FileShelf::new(rt, alloc);
     let mut sink = StdSink::new(rt);
-    run(alloc, words.as_slice(), &mut shelf, &mut sink)
+    run(alloc, words.as_slice(), Direct, &mut shelf, &mut sink)
 }
 
 fn main(rt: HostRuntime) -> ExitCode {

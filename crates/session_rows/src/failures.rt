@@ -2,6 +2,7 @@
 use crate::rows::{NEVER, is_answered};
 use ft_io::{MemoryShelf, MemorySink};
 use ft_session::{Status, exit_of, line_of, run};
+use plan_compiler::Direct;
 use std::alloc::{AllocError, Global};
 use std::process::Abort;
 use std::test::Fail;
@@ -93,7 +94,7 @@ fn expect_call(rt: &impl Abort, alloc: Global, row: CallRow) -> Result<(), Fail>
     let words = owned_words(alloc, texts)?;
     let mut shelf = MemoryShelf::new(alloc);
     let mut sink = MemorySink::new(alloc, 16)?;
-    let ended = run(alloc, words.as_slice(), &mut shelf, &mut sink);
+    let ended = run(alloc, words.as_slice(), Direct, &mut shelf, &mut sink);
     assert!(rt; ended == status && sink.written().is_empty());
     Ok(())
 }

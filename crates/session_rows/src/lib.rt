@@ -18,6 +18,8 @@ mod elements;
 #[cfg(test)]
 mod failures;
 #[cfg(test)]
+mod judges;
+#[cfg(test)]
 mod limits;
 #[cfg(test)]
 mod list_files;

@@ -5,7 +5,7 @@ use std::alloc::{AllocError, Global};
 use std::process::Abort;
 use std::test::Fail;
 
-const LIST_SESSIONS: [Row; 6] = [
+const LIST_SESSIONS: [Row; 7] = [
     // the line of a block that is no list
     (
         r#"stop s
@@ -134,6 +134,28 @@ query collection()//a[. contains text "a" using thesaurus at "e"]
         "ok\nok\nok\n= 0\n= 0\n! 9 no such list: E\n! 9 no such list: t\n! 9 no such list: \n= 0\n\
          ! 9 no such list: f\n! 9 no such list: e\nok\n= 0\n",
         Status::SomeRefused,
+    ),
+    // what a thesaurus reaches stands for the phrase once, however many lines and choices lead to it
+    (
+        r#"load one
+<a>b c b</a>
+.
+thesaurus t
+r | a | b
+s | a | b
+r | a | c
+.
+thesaurus u
+r | a | c
+r | c | b
+.
+query collection()/a[. contains text "a" occurs exactly 3 times using thesaurus (at "t", at "t", at "u", at "t" at most 1 levels)]
+query collection()/a[. contains text "a" occurs exactly 2 times using thesaurus (at "t" relationship "s", at "t" relationship "s")]
+query collection()/a[. contains text "a" occurs exactly 1 times using thesaurus (at "u" exactly 1 levels, at "u" exactly 1 levels)]
+query collection()/a[. contains text "a" occurs exactly 3 times using thesaurus (at "u" exactly 1 levels, at "u" exactly 2 levels)]
+"#,
+        "ok\nok\nok\n= 1\ndoc(\"one\")/a[1]\n= 1\ndoc(\"one\")/a[1]\n= 1\ndoc(\"one\")/a[1]\n= 1\ndoc(\"one\")/a[1]\n",
+        Status::Done,
     ),
 ];
 

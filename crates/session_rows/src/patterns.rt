@@ -1,6 +1,6 @@
 // Patterns with wildcards: which parts of a string are patterns, which are badly formed, and which words they cover.
 use ft_base::{Case, Options};
-use match_options::{Wild, WildFault, has_bad_pattern, items_of};
+use match_options::{PlaceRow, Wild, WildFault, has_bad_pattern, items_of};
 use std::alloc::Global;
 use std::process::Abort;
 use std::test::Fail;
@@ -67,10 +67,11 @@ fn patterns_are_read(rt: HostRuntime) -> Result<(), Fail> {
     Ok(())
 }
 
-/// Compares whether the pattern, read under the case option, covers the form.
+/// Compares whether the pattern, read under the case option, covers the form, in the row of places and without it.
 fn expect_covered(
     rt: &impl Abort,
     alloc: Global,
+    row: &mut PlaceRow,
     case: Case,
     pattern: &str,
     form: &str,
@@ -79,7 +80,10 @@ fn expect_covered(
     let mut options = Options::none();
     options.case = Some(case);
     match Wild::read(alloc, pattern, &options) {
-        Ok(wild) => assert!(rt; wild.accepts(form) == covered, "{pattern}"),
+        Ok(wild) => {
+            assert!(rt; wild.accepts(form) == covered, "{pattern}");
+            assert!(rt; wild.accepts_in(form, row)? == covered, "{pattern}");
+        }
         Err(_) => assert!(rt; false, "{pattern}"),
     }
     Ok(())
@@ -114,8 +118,9 @@ const COVERED: [(Case, &str, &str, bool); 24] = [
 
 #[test]
 fn patterns_cover_words(rt: HostRuntime) -> Result<(), Fail> {
+    let mut row = PlaceRow::new(rt.alloc());
     for (case, pattern, form, covered) in COVERED {
-        expect_covered(&rt, rt.alloc(), case, pattern, form, covered)?;
+        expect_covered(&rt, rt.alloc(), &mut row, case, pattern, form, covered)?;
     }
     Ok(())
 }
@@ -135,10 +140,12 @@ fn patterns_cover_long_words(rt: HostRuntime) -> Result<(), Fail> {
     for _ in 0..1100 {
         word.push('a')?;
     }
+    let mut row = PlaceRow::new(rt.alloc());
     for (pattern, covered) in LONG {
         expect_covered(
             &rt,
             rt.alloc(),
+            &mut row,
             Case::Insensitive,
             pattern,
             word.as_str(),

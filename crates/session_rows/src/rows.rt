@@ -4,6 +4,7 @@ ghost use Rattle.std.specs.Prelude.{◌<◌, ◌^◌};
 use ft_base::{Line, Memory, QueryFault};
 use ft_io::{MemoryShelf, MemorySink};
 use ft_session::{Status, run};
+use plan_compiler::{Direct, Judge};
 use session_text::{Refusal, Reply, print_reply};
 use std::alloc::{AllocError, Global};
 use std::process::Abort;
@@ -73,13 +74,26 @@ pub(crate) fn is_answered(
     output: &[&str],
     status: Status,
 ) -> Result<bool, Fail> {
+    is_answered_by(alloc, session, Direct, failing_read, room, output, status)
+}
+
+/// The same where another judge may be asked of selections.
+pub(crate) fn is_answered_by<J: Judge + Drop>(
+    alloc: Global,
+    session: &[u8],
+    judge: J,
+    failing_read: u64,
+    room: u64,
+    output: &[&str],
+    status: Status,
+) -> Result<bool, Fail> {
     let words = [String::from_str(alloc, "s")?];
     let mut shelf = MemoryShelf::new(alloc);
     shelf.add("s", session)?;
     shelf.fail_call(failing_read);
     let mut sink = MemorySink::new(alloc, 65_536)?;
     sink.fail_after(room);
-    let ended = run(alloc, words.as_slice(), &mut shelf, &mut sink);
+    let ended = run(alloc, words.as_slice(), judge, &mut shelf, &mut sink);
     Ok(are_parts(sink.written(), output) && ended == status)
 }
 

@@ -4,12 +4,13 @@ ghost use Rattle.ordered_tree.specs.Numbered.{is_element};
 ghost use Rattle.ordered_tree.specs.Stands.{references};
 
 use doc_profile::{print_doc, print_tree, read_doc};
-use ft_base::{Line, Span};
+use ft_base::Span;
 use ordered_tree::{DocTree, LeafId, LeafWords, NodeRef};
 use plain_tree::{PlainDoc, Tree};
 use std::alloc::Global;
 use std::process::Abort;
 use std::test::Fail;
+use text_list::TextList;
 use tokenizer::tokens_of;
 
 /// Compares the root's name, and how many attributes and children it has.
@@ -250,17 +251,19 @@ fn leaf_number(leaf: Option<LeafId>) -> Option<u32> {
 
 fn is_leaf(leaf: &LeafWords, wanted: &Leaf) -> bool {
     let (number, after, words) = wanted;
-    leaf.leaf.0 == *number
-        && leaf_number(leaf.after) == *after
-        && are(leaf.words.as_slice(), *words)
+    leaf.leaf.0 == *number && leaf_number(leaf.after) == *after && are(&leaf.words, *words)
 }
 
-fn are(lines: &[Line], wanted: &[&str]) -> bool {
-    lines.len() == wanted.len()
-        && lines
-            .iter()
-            .zip(wanted)
-            .all(|(line, text)| line.as_str() == *text)
+fn are(texts: &TextList, wanted: &[&str]) -> bool {
+    if texts.len() != wanted.len() {
+        return false;
+    }
+    for number in 0..texts.len() {
+        if texts.get(number) != wanted[number] {
+            return false;
+        }
+    }
+    true
 }
 
 /// Compares a copy's numbers of nodes and levels, its leaves, and its printed form.

@@ -12,7 +12,7 @@ use Rattle.ft_session.proofs.answering.answer_all.Goals as goal
 
 pub loop-command-init : goal.loop-command-init
 loop-command-init g c =
-    let all = texts_of (replies c.args.session.now.state c.args.commands.now) in
+    let all = texts_of (replies g.J.Judge.says c.args.session.now.state c.args.commands.now) in
     record {
       state = refl;
       written = written_start (g.K.Sink.written c.args.sink.now) all all refl;
@@ -24,12 +24,12 @@ pub loop-command-preserved : goal.loop-command-preserved
 loop-command-preserved g c =
     let items = c.args.commands.now in
     let at = c.loop-command.command-index in
-    let all = texts_of (replies c.args.session.now.state items) in
-    let reply = (step c.loop-command.session.state c.command-item.result).1 in
-    let left = replies c.answer.new.session.state (drop (at + 1) items) in
-    let next = replies-next c.loop-command.session.state c.answer.new.session.state items at c.command-item.result c.loop-command-test.true c.command-item.is c.in_ok-refused.ensures.state in
+    let all = texts_of (replies g.J.Judge.says c.args.session.now.state items) in
+    let reply = (step g.J.Judge.says c.loop-command.session.state c.command-item.result).1 in
+    let left = replies g.J.Judge.says c.answer.new.session.state (drop (at + 1) items) in
+    let next = replies-next g.J.Judge.says c.loop-command.session.state c.answer.new.session.state items at c.command-item.result c.loop-command-test.true c.command-item.is c.in_ok-refused.ensures.state in
     record {
-      state = sym (state_after-next c.loop-command.session.state c.answer.new.session.state items at c.command-item.result c.loop-command-test.true c.command-item.is c.in_ok-refused.ensures.state)
+      state = sym (state_after-next g.J.Judge.says c.loop-command.session.state c.answer.new.session.state items at c.command-item.result c.loop-command-test.true c.command-item.is c.in_ok-refused.ensures.state)
           ∙ c.loop-command.invariant.state;
       written = written_more (g.K.Sink.written c.args.sink.now) (g.K.Sink.written c.loop-command.sink) (g.K.Sink.written c.answer.new.sink) (reply_text reply) (texts_of left) all
           (subst (λ (rs : List Reply). WrittenSoFar (g.K.Sink.written c.args.sink.now) (g.K.Sink.written c.loop-command.sink) (texts_of rs) all) next c.loop-command.invariant.written)
@@ -45,10 +45,10 @@ returns-in_err-refused-clause-prefix g c =
     let p = err_from_is_err_and c.from_residual.result c.from_residual.ensures.1 in
     let items = c.args.commands.now in
     let at = c.loop-command.command-index in
-    let all = texts_of (replies c.args.session.now.state items) in
-    let now = step c.loop-command.session.state c.command-item.result in
-    let left = replies now.0 (drop (at + 1) items) in
-    let next = replies-next c.loop-command.session.state now.0 items at c.command-item.result c.loop-command-test.true c.command-item.is refl in
+    let all = texts_of (replies g.J.Judge.says c.args.session.now.state items) in
+    let now = step g.J.Judge.says c.loop-command.session.state c.command-item.result in
+    let left = replies g.J.Judge.says now.0 (drop (at + 1) items) in
+    let next = replies-next g.J.Judge.says c.loop-command.session.state now.0 items at c.command-item.result c.loop-command-test.true c.command-item.is refl in
     rw p.1 (prefix_more (g.K.Sink.written c.args.sink.now) (g.K.Sink.written c.loop-command.sink) (g.K.Sink.written c.answer.new.sink) (reply_text now.1) (texts_of left) all
     (subst (λ (rs : List Reply). WrittenSoFar (g.K.Sink.written c.args.sink.now) (g.K.Sink.written c.loop-command.sink) (texts_of rs) all) next c.loop-command.invariant.written)
     c.in_err-refused.ensures.prefix)

@@ -9,8 +9,8 @@ use Rattle.ft_session.proofs.answering.answer_all.Given as goal
 
 abbrev pub invariant-loop-command : goal.invariant-loop-command
 invariant-loop-command g l = record {
-  state : state_after l.session.state (drop l.command-index l.commands) ≡ state_after l.fn.session.state l.commands;
-  written : WrittenSoFar (g.K.Sink.written l.fn.sink) (g.K.Sink.written l.sink) (texts_of (replies l.session.state (drop l.command-index l.commands))) (texts_of (replies l.fn.session.state l.commands));
-  refused : (l.refused || list_any is_refusal (replies l.session.state (drop l.command-index l.commands))) ≡ list_any is_refusal (replies l.fn.session.state l.commands);
+  state : state_after g.J.Judge.says l.session.state (drop l.command-index l.commands) ≡ state_after g.J.Judge.says l.fn.session.state l.commands;
+  written : WrittenSoFar (g.K.Sink.written l.fn.sink) (g.K.Sink.written l.sink) (texts_of (replies g.J.Judge.says l.session.state (drop l.command-index l.commands))) (texts_of (replies g.J.Judge.says l.fn.session.state l.commands));
+  refused : (l.refused || list_any is_refusal (replies g.J.Judge.says l.session.state (drop l.command-index l.commands))) ≡ list_any is_refusal (replies g.J.Judge.says l.fn.session.state l.commands);
   faults : g.K.Sink.faults l.sink ≡ g.K.Sink.faults l.fn.sink;
 }

@@ -1,10 +1,9 @@
--- The document with references, which has few tokens, or too many, and what was found of it.
-use Rattle.std.proofs.Common.{◌∙◌, sym, ap, subst, ◌≤◌, length, Ok}
+-- The document with references and what was found of it, or too many tokens.
+use Rattle.std.proofs.Common.{◌∙◌, sym, ap, Ok}
 use Rattle.std.specs.Prelude.{Err}
 use Rattle.tokenizer.specs.Tokens.{tokens, paragraph_starts, sentence_starts}
 use Rattle.ordered_tree.specs.Leaves.{leaves}
 use Rattle.ordered_tree.specs.Stored.{Stored}
-use Rattle.ft_base.specs.Limits.{max_tokens}
 use Rattle.ft_session.proofs.SessionLemmas.{tree-is, with_few_tokens-few, with_few_tokens-many}
 use Rattle.ft_session.proofs.loading.load.Goals as goal
 
@@ -12,7 +11,6 @@ pub invariant_of-result : goal.invariant_of-result
 invariant_of-result c =
     let is = sym (tree-is c.in-Ok.read.tree c.args.document c.in-Ok.ensures.tree) in
     record {
-      few = subst (λ n. length (tokens n) ≤ max_tokens) is c.in-Ok.ensures.few;
       found = record {
         leaves = c.in-Ok.ensures.leaves ∙ sym (ap (λ (t : Stored). leaves t.root) c.in-Ok.ensures.tree);
         sentences = c.in-Ok.ensures.sentences ∙ ap (λ n. sentence_starts (tokens n)) is;

@@ -14,4 +14,4 @@ returns-then-are_decided-clause-reply g c =
     ap (λ r. missing_document r all) (sym c.root.ensures)
     ∙ (ap (missing_document c.root.result.now) (sym c.documents.ensures.documents) ∙ (sym c.missing_document.ensures ∙ ap option_copied c.in_default.is)) in
     subst (λ e. IfOk c.answer_decided.result (λ reply. reply ≡ e))
-    (sym (ap (answer_rooted c.args.shown (state_of c.args.collection.now c.args.lists.now) p) document)) c.answer_decided.ensures.reply
+    (sym (ap (answer_rooted g.J.Judge.says c.args.shown (state_of c.args.collection.now c.args.lists.now) p) document)) c.answer_decided.ensures.reply

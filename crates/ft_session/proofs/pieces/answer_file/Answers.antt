@@ -8,5 +8,5 @@ use Rattle.ft_session.proofs.pieces.answer_file.Goals as goal
 pub returns-in_err-session : goal.returns-in_err-session
 returns-in_err-session g c =
     let few = c.requires.fresh in
-    memory_stopped _ _ _ _ _ _ _ _ _ c.from_residual.result c.from_residual.ensures.1
-    (nothing_written (known_bytes (g.S.Shelf.files c.args.shelf.now) (string_bytes c.args.name.now)) (g.K.Sink.written c.args.sink.now)) (omega (arith, few))
+    memory_stopped g.J.Judge.says _ _ _ _ _ _ _ _ _ c.from_residual.result c.from_residual.ensures.1
+    (nothing_written g.J.Judge.says (known_bytes (g.S.Shelf.files c.args.shelf.now) (string_bytes c.args.name.now)) (g.K.Sink.written c.args.sink.now)) (omega (arith, few))

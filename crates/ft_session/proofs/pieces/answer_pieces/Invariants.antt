@@ -15,7 +15,7 @@ invariant-loop-taken g l = record {
   files : g.S.Shelf.files l.shelf ≡ g.S.Shelf.files l.fn.shelf;
   write_faults : g.K.Sink.faults l.sink ≡ g.K.Sink.faults l.fn.sink;
   bytes : l.answering.lines.bytes ≡ l.taken;
-  progress : Progress (known_bytes (g.S.Shelf.files l.fn.shelf) (string_bytes l.name)) (g.K.Sink.written l.fn.sink) (g.K.Sink.written l.sink) l.taken l.answering.lines l.answering.session.state l.refused;
+  progress : Progress g.J.Judge.says (known_bytes (g.S.Shelf.files l.fn.shelf) (string_bytes l.name)) (g.K.Sink.written l.fn.sink) (g.K.Sink.written l.sink) l.taken l.answering.lines l.answering.session.state l.refused;
 }
 
 abbrev pub decreases-loop-taken : goal.decreases-loop-taken

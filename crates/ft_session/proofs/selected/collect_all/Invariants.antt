@@ -1,7 +1,7 @@
--- The lines of the documents so far, and those of the others, are all; the runs are as they were, over the others too.
-use Rattle.std.proofs.Common.{◌≡◌, ◌≤◌, ◌++◌, map}
+-- The lines of the documents so far, and those of the others, are all, and so are the prices; the runs are as they were, over the others too.
+use Rattle.std.proofs.Common.{◌≡◌, ◌≤◌, ◌+◌, ◌++◌, map}
 use Rattle.std.specs.List.{flat_map}
-use Rattle.ft_session.specs.PlannedPaths.{planned_lines}
+use Rattle.ft_session.specs.PlannedPaths.{planned_lines, prices_in}
 use Rattle.ft_session.specs.SelectionTests.{AreOverEach}
 use Rattle.ft_session.specs.State.{to_document}
 use Rattle.ft_session.specs.steps.Numbering.{trees_of}
@@ -9,9 +9,11 @@ use Rattle.ft_session.proofs.selected.collect_all.Given as goal
 
 abbrev pub invariant-loop-name : goal.invariant-loop-name
 invariant-loop-name g l = record {
-  lines : l.lines ++ flat_map (planned_lines l.shown l.path) (map to_document l.name-iterator)
-      ≡ flat_map (planned_lines l.shown l.path) (map to_document l.documents.entries);
+  lines : l.lines ++ flat_map (planned_lines g.J.Judge.says l.shown l.path) (map to_document l.name-iterator)
+      ≡ flat_map (planned_lines g.J.Judge.says l.shown l.path) (map to_document l.documents.entries);
   runs : l.runs.items ≡ l.fn.runs.items;
   over : AreOverEach l.fn.runs.items (trees_of l.name-iterator);
   moves : l.fn.moves ≤ l.moves;
+  price : l.moves + prices_in g.J.Judge.says l.path l.fn.runs.items (map to_document l.name-iterator)
+      ≤ l.fn.moves + prices_in g.J.Judge.says l.path l.fn.runs.items (map to_document l.documents.entries);
 }

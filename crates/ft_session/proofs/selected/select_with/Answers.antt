@@ -1,9 +1,12 @@
 -- The test may be asked for each selection that the steps name, and what it was lent comes back.
-use Rattle.std.proofs.Common.{rules, ◌<◌, ap, ◌∙◌, length, map, arith, IsTrue}
+use Rattle.std.proofs.Common.{rules, ◌≡◌, ◌<◌, ap, sym, refl, ◌∙◌, length, map, arith, IsTrue}
 use Rattle.ft_base.specs.declared.ids.NodeRef.{NodeRef}
 use Rattle.path_grammar.specs.Form.{steps}
 use Rattle.path_grammar.specs.View.{step}
-use Rattle.path_nodes.specs.References.{IsElement}
+use Rattle.ordered_tree.specs.Numbered.{plain}
+use Rattle.path_nodes.specs.References.{IsElement, element_of}
+use Rattle.ft_session.specs.PathPrices.{element_price}
+use Rattle.ft_session.specs.PlannedPaths.{is_meant, meant, planned_price, run_meant, run_price}
 use Rattle.ft_session.specs.SelectionTests.{may_ask}
 use Rattle.ft_session.proofs.PathLemmas.{asked-weaker}
 use Rattle.ft_session.proofs.SelectionTestLemmas.{as-many, may-asked, moves-loan, runs-loan}
@@ -19,10 +22,23 @@ nodes-requires-clause-asked g c =
 
 pub returns-clause-runs : goal.returns-clause-runs
 returns-clause-runs g c =
-    let same = runs-loan g.B.Loan.runs _ _ _ _ _ _ c.nodes.ensures.meaning in
+    let same = runs-loan g.J.Judge.says g.B.Loan.runs _ _ _ _ _ _ c.nodes.ensures.meaning in
     search rules
 
 pub returns-clause-moves : goal.returns-clause-moves
 returns-clause-moves g c =
-    let same = moves-loan g.B.Loan.runs _ _ _ _ _ _ c.nodes.ensures.meaning in
+    let same = moves-loan g.J.Judge.says g.B.Loan.runs _ _ _ _ _ _ c.nodes.ensures.meaning in
+    search rules
+
+pub returns-clause-price : goal.returns-clause-price
+returns-clause-price g c =
+    let says = g.J.Judge.says in
+    let path = c.args.path.now in
+    let runs = g.B.Loan.runs in
+    let root = c.args.document.now.tree.root in
+    let plans = map meant path.plans.items in
+    let meant_same : map run_meant runs ≡ plans = ap (map run_meant) (sym c.requires.lent_runs) ∙ c.requires.runs in
+    let bound = c.nodes.ensures.costs (is_meant says plans) (element_price (map run_price runs)) (λ k r e. ap (λ ms. is_meant says ms k (element_of root r)) meant_same) (λ k r e. refl) in
+    let lent = ap (λ rs. planned_price says path rs (plain root)) c.requires.lent_runs in
+    let same = moves-loan says runs _ _ _ _ _ _ c.nodes.ensures.meaning in
     search rules

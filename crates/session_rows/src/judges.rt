@@ -1,0 +1,125 @@
+// Judges of the tests' own: what a path selects follows what its judge says.
+ghost use Rattle.std.specs.Prelude.{not, true};
+ghost use Rattle.plan_compiler.specs.Judgement.{by_definition};
+
+use crate::rows::{NEVER, is_answered_by, joined};
+use ft_base::{DocId, Span, Steps};
+use ft_session::Status;
+use plan_compiler::{Direct, Judge, Run};
+use std::alloc::Global;
+use std::process::Abort;
+use std::sync::ledger::Ledger;
+use std::test::Fail;
+
+/// Says the contrary of what the run says.
+#[derive(Clone, Copy)]
+struct Contrary;
+
+impl Judge for Contrary {
+    ghost says = { λ form lists tokens. not (by_definition form lists tokens) };
+
+    fn judge<L: Ledger>(
+        &self,
+        run: &mut Run<'_>,
+        doc: DocId,
+        span: Span,
+        moves: &mut Steps<L>,
+    ) -> bool {
+        !run.test(doc, span, moves)
+    }
+}
+
+/// Says that each element satisfies each selection, and asks no run.
+#[derive(Clone, Copy)]
+struct Content;
+
+impl Judge for Content {
+    ghost says = { λ form lists tokens. true };
+
+    fn judge<L: Ledger>(
+        &self,
+        _run: &mut Run<'_>,
+        _doc: DocId,
+        _span: Span,
+        _moves: &mut Steps<L>,
+    ) -> bool {
+        true
+    }
+}
+
+const LOAD: &str = "load one\n<a>Hello <b>world</b></a>\n.\n";
+
+const A: &str = "= 1\ndoc(\"one\")/a[1]\n";
+
+const B: &str = "= 1\ndoc(\"one\")/a[1]/b[1]\n";
+
+const BOTH: &str = "= 2\ndoc(\"one\")/a[1]\ndoc(\"one\")/a[1]/b[1]\n";
+
+const NONE: &str = "= 0\n";
+
+/// A command, and its reply where `Direct`, `Contrary` and `Content` are asked.
+type JudgedRow = (&'static str, &'static str, &'static str, &'static str);
+
+const JUDGED: [JudgedRow; 6] = [
+    (
+        "query collection()//a[. contains text \"hello\"]",
+        A,
+        NONE,
+        A,
+    ),
+    ("query collection()//a[. contains text \"bye\"]", NONE, A, A),
+    (
+        "query collection()//*[. contains text \"hello\"]",
+        A,
+        B,
+        BOTH,
+    ),
+    (
+        "query collection()//a[not(. contains text \"hello\")]",
+        NONE,
+        A,
+        NONE,
+    ),
+    (
+        "print collection()//b[. contains text \"hello\"]",
+        NONE,
+        "= 1\n<b>world</b>\n",
+        "= 1\n<b>world</b>\n",
+    ),
+    // where there is no selection no judge is asked
+    ("query collection()//b", B, B, B),
+];
+
+/// Compares the reply to a command where this judge is asked.
+fn expect_judged<J: Judge + Drop>(
+    rt: &impl Abort,
+    alloc: Global,
+    judge: J,
+    command: &str,
+    reply: &str,
+) -> Result<(), Fail> {
+    let session = joined(alloc, &[LOAD, command])?;
+    let output = ["ok\n", reply];
+    let answered = is_answered_by(
+        alloc,
+        session.as_bytes(),
+        judge,
+        NEVER,
+        NEVER,
+        &output,
+        Status::Done,
+    )?;
+    assert!(rt; answered, "{command}");
+    Ok(())
+}
+
+#[test]
+fn what_a_path_selects_follows_its_judge(rt: HostRuntime) -> Result<(), Fail> {
+    let alloc = rt.alloc();
+    for (command, direct, contrary, content) in &JUDGED {
+        expect_judged(&rt, alloc, Direct, command, direct)?;
+        expect_judged(&rt, alloc, Contrary, command, contrary)?;
+        expect_judged(&rt, alloc, Content, command, content)?;
+    }
+    Ok(())
+}
