@@ -22,3 +22,4 @@ pub use includes::Includes;
 pub use joining::join;
 pub use keeping::keeps;
 pub use passing::passes;
+pub use positions::{end_in, start_in};

@@ -7,7 +7,7 @@ use all_matches::Window;
 use ft_base::{Hit, Range, Unit};
 
 /// The first number of a hit in a unit.
-pub(crate) fn start_in(unit: Unit, hit: &Hit) -> u32
+pub fn start_in(unit: Unit, hit: &Hit) -> u32
     ensures { result ≡ start_in unit hit.now }
 {
     match unit {
@@ -18,7 +18,7 @@ pub(crate) fn start_in(unit: Unit, hit: &Hit) -> u32
 }
 
 /// The last number of a hit in a unit.
-pub(crate) fn end_in(unit: Unit, hit: &Hit) -> u32
+pub fn end_in(unit: Unit, hit: &Hit) -> u32
     ensures { result ≡ end_in unit hit.now }
 {
     match unit {

@@ -1,0 +1,267 @@
+-- The ways of a mild not: those of the left side that stand out of each of the right side.
+use Rattle.std.proofs.Common.{◌≡◌, refl, ap, sym, ◌∙◌, subst, ℕ, ◌+◌, ◌<◌, ◌≤◌, List, [], ◌∷◌, ◌++◌, Bool, true, false, not, ◌&&◌, ◌||◌, cond, take, drop, length, arith}
+use Rattle.std.proofs.lemmas.List.{take_at, drop_at}
+use Rattle.std.specs.Prelude.{filter, fold}
+use Rattle.std.specs.List.{list_any, list_all}
+use Rattle.std.proofs.Math.Bool.{or_assoc, and_assoc, or-false, and-true}
+use Rattle.ft_base.specs.Lists.{is_not_empty}
+use Rattle.ft_base.specs.declared.hit.Hit.{Hit}
+use Rattle.ft_base.specs.declared.span.Span.{Span}
+use Rattle.all_matches.specs.MildNot.{stands_out}
+use Rattle.all_matches.specs.Ways.{Way, apart, way_includes, standing_out, ways_of}
+use Rattle.ft_operators.specs.declared.standing_out.Tried.{Tried}
+use Rattle.ft_operators.specs.Standing.{Frame, Standing, frame, two_aims, at_front, one_on, includes_now}
+use Rattle.ft_operators.specs.steps.Apart.{with_includes, none_tried, tried_ways, admitted, IsTried, MayTry, Trying, Sifting}
+use Rattle.ft_operators.specs.steps.Forms.{apart_of, apart_left, apart_shape, apart_sifted}
+use Rattle.ft_operators.specs.steps.Walking.{Gathered, Moved, MayGoOn}
+use Rattle.ft_operators.proofs.SieveLemmas.{fewer}
+
+with_rest : Standing → List Way → Standing
+with_rest s rest = record { aims = s.aims; shape = s.shape; operator = s.operator; rest = rest }
+
+some_includes : List Way → Bool
+some_includes ways = list_any (λ way. is_not_empty (way_includes way)) ways
+
+-- ---- one way after the other
+
+tried_is : (left : List Hit) (tried : Tried) (ways : List Way)
+    → tried_ways left tried ways ≡ record { some = tried.some || list_any (λ way. is_not_empty (way_includes way)) ways; all = tried.all && list_all (λ way. stands_out left (way_includes way)) ways }
+tried_is left tried [] = λ i. record { some = sym (or-false tried.some) i; all = sym (and-true tried.all) i }
+tried_is left tried (way ∷ rest) =
+    tried_is left (with_includes left (way_includes way) tried) rest
+    ∙ (λ i. record {
+      some = or_assoc tried.some (is_not_empty (way_includes way)) (list_any (λ w. is_not_empty (way_includes w)) rest) i;
+      all = and_assoc tried.all (stands_out left (way_includes way)) (list_all (λ w. stands_out left (way_includes w)) rest) i;
+    })
+
+pub tried_all : (left : List Hit) (right : List Way) (so_far : Tried) → so_far ≡ tried_ways left none_tried right → (not so_far.some || so_far.all) ≡ admitted right left
+tried_all left right so_far is = ap (λ t. not t.some || t.all) (is ∙ tried_is left none_tried right)
+
+-- ---- the ways that stand out
+
+out_is : (left right : List Way) → standing_out left right ≡ filter (λ a. admitted right (way_includes a)) left
+out_is left right = by_test (list_any (λ way. is_not_empty (way_includes way)) right) left
+  where
+    by_test : (b : Bool) (ways : List Way) → cond b (filter (λ a. list_all (λ w. stands_out (way_includes a) (way_includes w)) right) ways) ways
+        ≡ filter (λ a. not b || list_all (λ w. stands_out (way_includes a) (way_includes w)) right) ways
+    by_test true ways = refl
+    by_test false [] = refl
+    by_test false (a ∷ more) = ap (λ ws. a ∷ ws) (by_test false more)
+
+admitted_first : (a : Way) (more right : List Way) → admitted right (way_includes a) ≡ true → apart_left (a ∷ more) right ≡ standing_out (a ∷ more) right
+admitted_first a more right verdict =
+    ap (λ ws. a ∷ ws) (out_is more right)
+    ∙ ap (λ b. cond b (a ∷ filter (λ x. admitted right (way_includes x)) more) (filter (λ x. admitted right (way_includes x)) more)) (sym verdict)
+    ∙ sym (out_is (a ∷ more) right)
+
+passed_first : (a : Way) (more right : List Way) → admitted right (way_includes a) ≡ false → standing_out more right ≡ standing_out (a ∷ more) right
+passed_first a more right bars =
+    out_is more right
+    ∙ ap (λ b. cond b (a ∷ filter (λ x. admitted right (way_includes x)) more) (filter (λ x. admitted right (way_includes x)) more)) (sym bars)
+    ∙ sym (out_is (a ∷ more) right)
+
+here_admitted : (left right : List Way) → is_not_empty left ≡ true → admitted right (includes_now left) ≡ true → apart_left left right ≡ standing_out left right
+here_admitted [] right there verdict = cc
+here_admitted (a ∷ more) right there verdict = admitted_first a more right verdict
+
+here_passed : (left right : List Way) → admitted right (includes_now left) ≡ false → standing_out (drop 1 left) right ≡ standing_out left right
+here_passed [] right bars = refl
+here_passed (a ∷ more) right bars = passed_first a more right bars
+
+none_out : (left right : List Way) → is_not_empty left ≡ false → apart_left left right ≡ standing_out left right
+none_out [] right none = sym (out_is [] right)
+none_out (a ∷ more) right none = cc
+
+one_out : (left right : List Way) → standing_out (drop 1 left) right ≡ drop 1 (apart_left left right)
+one_out [] right = out_is [] right
+one_out (a ∷ more) right = refl
+
+pub apart_there : (left right : List Way) → is_not_empty (apart_left left right) ≡ is_not_empty left
+apart_there [] right = refl
+apart_there (a ∷ more) right = refl
+
+pub apart_includes : (left right : List Way) → includes_now (apart_left left right) ≡ includes_now left
+apart_includes [] right = refl
+apart_includes (a ∷ more) right = refl
+
+-- ---- moves
+
+rest_there : Standing → Bool
+rest_there s = is_not_empty s.rest
+
+module _ (item : Span) (left left_now right now : Standing) (room mid_room new_room start mid end : ℕ) (answer second_answer : Bool) where
+  pub apart_first : Moved (at_front item left) left_now room mid_room start mid answer → Moved (apart_sifted item left_now right) now mid_room new_room mid end second_answer
+      → Moved (at_front item (apart_of item left right)) now room new_room start end second_answer
+  unfolding ways_of
+  apart_first m n = record {
+    stand = n.stand ∙ ap (λ s. apart_sifted item s right) m.stand;
+    there = n.there;
+    kept_room = omega (arith, m.kept_room, n.kept_room);
+    grown = omega (arith, m.grown, n.grown);
+  }
+
+  pub apart_next : Moved (one_on left) left_now room mid_room start mid answer → Moved (apart_sifted item left_now right) now mid_room new_room mid end second_answer
+      → Moved (one_on (apart_of item left right)) now room new_room start end second_answer
+  unfolding with_rest
+  apart_next m n = record {
+    stand = n.stand ∙ ap (λ s. apart_sifted item s right) m.stand ∙ ap (with_rest (apart_of item left right)) (one_out left.rest (ways_of item right.operator));
+    there = n.there;
+    kept_room = omega (arith, m.kept_room, n.kept_room);
+    grown = omega (arith, m.grown, n.grown);
+  }
+
+-- mild not of two operands, with these ways
+made : Frame → Frame → List Way → Standing
+made left right rest = record {
+  aims = two_aims apart left.aims right.aims;
+  shape = apart_shape left.shape right.shape;
+  operator = apart left.operator right.operator;
+  rest = rest;
+}
+
+module _ (item : Span) (left right left_now right_now : Standing) (room now_room start end : ℕ) (answer : Bool) (l : Sifting item left right left_now right_now room now_room start end answer) where
+  pub sifting_may : (first_room : ℕ) → (apart_of item left right).shape.room ≤ first_room → first_room ≤ room → answer ≡ true → MayGoOn (apart_of item left_now right_now) now_room
+  sifting_may first_room fits grew there = record {
+    there = apart_there left_now.rest (ways_of item right_now.operator) ∙ sym l.there_now ∙ there;
+    fits =
+        let a = ap (λ f. f.shape.room) l.same_left in
+        let b = ap (λ f. f.shape.room) l.same_right in
+        omega (arith, fits, grew, a, b, l.kept_room);
+  }
+
+  module _ (left_tried right_tried : Standing) (tried_room tried_end : ℕ) (verdict : Bool) (e : IsTried item left_now right_now left_tried right_tried now_room tried_room end tried_end verdict) where
+    known : verdict ≡ admitted (ways_of item right.operator) (includes_now left_now.rest)
+    known = e.tried ∙ ap (λ f. admitted (ways_of item f.operator) (includes_now left_now.rest)) l.same_right
+
+    pub apart_settled : answer ≡ true → verdict ≡ true → Moved (apart_sifted item left right) (apart_of item left_tried right_tried) room tried_room start tried_end true
+    unfolding made rest_there
+    apart_settled there admits = record {
+      stand = (λ i. made (frame (e.same_left i)) (e.same_right i) (apart_left (e.same_left i).rest (ways_of item (e.same_right i).operator)))
+          ∙ (λ i. made (l.same_left i) (l.same_right i) (apart_left left_now.rest (ways_of item (l.same_right i).operator)))
+          ∙ ap (made (frame left) (frame right)) (here_admitted left_now.rest (ways_of item right.operator) (sym l.there_now ∙ there) (sym known ∙ admits) ∙ l.passed);
+      there = sym there ∙ l.there_now ∙ ap rest_there (sym e.same_left) ∙ sym (apart_there left_tried.rest (ways_of item right_tried.operator));
+      kept_room = omega (arith, l.kept_room, e.kept_room);
+      grown = omega (arith, l.grown, e.grown);
+    }
+
+    pub sifting_left_may : (first_room : ℕ) → (apart_of item left right).shape.room ≤ first_room → first_room ≤ room → answer ≡ true → MayGoOn left_tried tried_room
+    sifting_left_may first_room fits grew there = subst (λ s. MayGoOn s tried_room) (sym e.same_left) record {
+      there = sym l.there_now ∙ there;
+      fits =
+          let a = ap (λ f. f.shape.room) l.same_left in
+          omega (arith, fits, grew, a, l.kept_room, e.kept_room);
+    }
+
+    pub sifting_weight : left_tried.shape.weight ≡ left.shape.weight
+    sifting_weight = ap (λ s. s.shape.weight) e.same_left ∙ ap (λ f. f.shape.weight) l.same_left
+
+    module _ (next : Standing) (next_room next_end : ℕ) (next_answer : Bool) (m : Moved (one_on left_tried) next tried_room next_room tried_end next_end next_answer) where
+      pub sifting_on : verdict ≡ false → Sifting item left right next right_tried room next_room start next_end next_answer
+      sifting_on bars =
+          let same = m.stand ∙ ap one_on e.same_left in record {
+            passed = ap (λ s. standing_out s.rest (ways_of item right.operator)) same ∙ here_passed left_now.rest (ways_of item right.operator) (sym known ∙ bars) ∙ l.passed;
+            same_left = ap frame same ∙ l.same_left;
+            same_right = e.same_right ∙ l.same_right;
+            there_now = m.there;
+            kept_room = omega (arith, l.kept_room, e.kept_room, m.kept_room);
+            grown = omega (arith, l.grown, e.grown, m.grown);
+          }
+
+      pub sifting_fewer : answer ≡ true → length next.rest < length left_now.rest
+      sifting_fewer there =
+          let same = ap (λ s. length s.rest) (m.stand ∙ ap one_on e.same_left) in
+          omega (arith, same, fewer left_now.rest (sym l.there_now ∙ there))
+
+  pub apart_end : answer ≡ false → Moved (apart_sifted item left right) (apart_of item left_now right_now) room now_room start end false
+  unfolding made
+  apart_end none = record {
+    stand = (λ i. made (l.same_left i) (l.same_right i) (apart_left left_now.rest (ways_of item (l.same_right i).operator)))
+        ∙ ap (made (frame left) (frame right)) (none_out left_now.rest (ways_of item right.operator) (sym l.there_now ∙ none) ∙ l.passed);
+    there = sym none ∙ l.there_now ∙ sym (apart_there left_now.rest (ways_of item right_now.operator));
+    kept_room = l.kept_room;
+    grown = l.grown;
+  }
+
+pub sifting_starts : (item : Span) (left right : Standing) (room start : ℕ) (there : Bool) → there ≡ is_not_empty left.rest → Sifting item left right left right room room start start there
+sifting_starts item left right room start there is = record { passed = refl; same_left = refl; same_right = refl; there_now = is; kept_room = omega arith; grown = omega arith }
+
+-- ---- the right side
+
+pub trying_starts : (item : Span) (left right now : Standing) (room now_room start end : ℕ) (answer : Bool) → Moved (at_front item right) now room now_room start end answer
+    → Trying item left right left now room now_room start end none_tried answer
+trying_starts item left right now room now_room start end answer m = record {
+  same_left = refl;
+  same_right = ap frame m.stand;
+  tried = ap (λ s. tried_ways (includes_now left.rest) none_tried s.rest) m.stand;
+  there_now = m.there;
+  kept_room = m.kept_room;
+  grown = m.grown;
+}
+
+tried_more : (left : List Hit) (tried : Tried) (ways : List Way) → is_not_empty ways ≡ true
+    → tried_ways left (with_includes left (includes_now ways) tried) (drop 1 ways) ≡ tried_ways left tried ways
+tried_more left tried [] there = cc
+tried_more left tried (way ∷ rest) there = refl
+
+tried_end : (left : List Hit) (tried : Tried) (ways : List Way) → is_not_empty ways ≡ false → tried ≡ tried_ways left tried ways
+tried_end left tried [] none = refl
+tried_end left tried (way ∷ rest) none = cc
+
+module _ (item : Span) (left right left_now right_now : Standing) (room now_room start end : ℕ) (so_far : Tried) (answer : Bool) (l : Trying item left right left_now right_now room now_room start end so_far answer) where
+  pub trying_may : (first_room : ℕ) → MayGoOn (apart_of item left right) first_room → first_room ≤ room → answer ≡ true → MayTry left_now right_now now_room
+  unfolding rest_there
+  trying_may first_room may grew there = record {
+    left_there = ap rest_there l.same_left ∙ sym (apart_there left.rest (ways_of item right.operator)) ∙ may.there;
+    right_there = sym l.there_now ∙ there;
+    fits =
+        let a = ap (λ s. s.shape.room) l.same_left in
+        let b = ap (λ f. f.shape.room) l.same_right in
+        omega (arith, may.fits, grew, a, b, l.kept_room);
+  }
+
+  pub trying_weight : right_now.shape.weight ≡ right.shape.weight
+  trying_weight = ap (λ f. f.shape.weight) l.same_right
+
+  pub trying_on : (tried : Tried) (next : Standing) (mid_room next_room next_end : ℕ) (next_answer : Bool) → answer ≡ true
+      → tried ≡ with_includes (includes_now left_now.rest) (includes_now right_now.rest) so_far → now_room ≤ mid_room
+      → Moved (one_on right_now) next mid_room next_room end next_end next_answer → Trying item left right left_now next room next_room start next_end tried next_answer
+  trying_on tried next mid_room next_room next_end next_answer there is grew m = record {
+    same_left = l.same_left;
+    same_right = ap frame m.stand ∙ l.same_right;
+    tried = (λ i. tried_ways (includes_now left.rest) ((is ∙ ap (λ s. with_includes (includes_now s.rest) (includes_now right_now.rest) so_far) l.same_left) i) (m.stand i).rest)
+        ∙ tried_more (includes_now left.rest) so_far right_now.rest (sym l.there_now ∙ there) ∙ l.tried;
+    there_now = m.there;
+    kept_room = omega (arith, grew, l.kept_room, m.kept_room);
+    grown = omega (arith, l.grown, m.grown);
+  }
+
+  pub trying_fewer : (next : Standing) (mid_room next_room next_end : ℕ) (next_answer : Bool) → answer ≡ true
+      → Moved (one_on right_now) next mid_room next_room end next_end next_answer → length next.rest < length right_now.rest
+  trying_fewer next mid_room next_room next_end next_answer there m =
+      let same = ap (λ s. length s.rest) m.stand in omega (arith, same, fewer right_now.rest (sym l.there_now ∙ there))
+
+  pub tried_out : (verdict : Bool) → verdict ≡ (not so_far.some || so_far.all) → answer ≡ false → IsTried item left right left_now right_now room now_room start end verdict
+  tried_out verdict is none = record {
+    same_left = l.same_left;
+    same_right = l.same_right;
+    tried = is ∙ tried_all (includes_now left.rest) (ways_of item right.operator) so_far
+        (tried_end (includes_now left.rest) so_far right_now.rest (sym l.there_now ∙ none) ∙ l.tried);
+    kept_room = l.kept_room;
+    grown = l.grown;
+  }
+
+-- the includes of both sides, one behind the other
+pub tried_pair : (left right : Standing) (room cleared_room left_room new_room : ℕ) (cleared held new : List Hit) (tried : Tried) (middle : ℕ) → cleared ≡ [] → cleared_room ≡ room → MayTry left right room
+    → Gathered left cleared_room left_room cleared held → Gathered right left_room new_room held new → middle ≡ length held
+    → with_includes (take middle new) (drop middle new) tried ≡ with_includes (includes_now left.rest) (includes_now right.rest) tried
+tried_pair left right room cleared_room left_room new_room cleared held new tried middle none same may g h at =
+    let few = g.few may.left_there in
+    let empty = ap length none in
+    let first = g.hits may.left_there (omega (arith, may.fits, same, empty)) ∙ ap (λ hits. hits ++ includes_now left.rest) none in
+    let size = ap length first in
+    let both = h.hits may.right_there (omega (arith, may.fits, same, few, size, g.kept_room)) ∙ ap (λ hits. hits ++ includes_now right.rest) first in
+    let middle_at : length (includes_now left.rest) ≡ middle = omega (arith, at, size) in
+    (λ i. with_includes
+    ((ap (take middle) both ∙ take_at (includes_now left.rest) (includes_now right.rest) middle middle_at) i)
+    ((ap (drop middle) both ∙ drop_at (includes_now left.rest) (includes_now right.rest) middle middle_at) i)
+    tried)

@@ -1,0 +1,84 @@
+-- The ways of an And: each of the left side with each of the right one.
+use Rattle.std.proofs.Common.{◌≡◌, refl, ap, sym, ◌∙◌, List, [], ◌∷◌, ◌++◌, Bool, true, false, map, drop}
+use Rattle.std.specs.Prelude.{flat_map}
+use Rattle.ft_base.specs.Lists.{is_not_empty}
+use Rattle.ft_base.specs.declared.span.Span.{Span}
+use Rattle.all_matches.specs.Ways.{Way, Operator, together, two_ways, ways_of}
+use Rattle.ft_operators.specs.Standing.{Standing, at_front, one_on}
+use Rattle.ft_operators.specs.steps.Forms.{both_of, pairs_left}
+
+with_rest : Standing → List Way → Standing
+with_rest s rest = record { aims = s.aims; shape = s.shape; operator = s.operator; rest = rest }
+
+-- each of the left side with each of the right one
+abbrev pub all_pairs : List Way → List Way → List Way
+all_pairs left right = flat_map (λ a. map (two_ways a) right) left
+
+no_pairs : (xs : List Way) → [] ≡ all_pairs xs []
+no_pairs [] = refl
+no_pairs (x ∷ xs) = no_pairs xs
+
+pairs_all : (xs ys : List Way) → pairs_left xs ys ys ≡ all_pairs xs ys
+pairs_all [] ys = refl
+pairs_all (x ∷ xs) [] = no_pairs xs
+pairs_all (x ∷ xs) (y ∷ ys) = refl
+
+pairs_on : (xs ys all : List Way) → is_not_empty xs ≡ true → is_not_empty (drop 1 ys) ≡ true → pairs_left xs (drop 1 ys) all ≡ drop 1 (pairs_left xs ys all)
+pairs_on [] ys all there on = cc
+pairs_on (x ∷ xs) [] all there on = cc
+pairs_on (x ∷ xs) (y ∷ []) all there on = cc
+pairs_on (x ∷ xs) (y ∷ z ∷ ys) all there on = refl
+
+pairs_over : (xs ys all : List Way) → is_not_empty xs ≡ true → is_not_empty ys ≡ true → is_not_empty (drop 1 ys) ≡ false → pairs_left (drop 1 xs) all all ≡ drop 1 (pairs_left xs ys all)
+pairs_over [] ys all there right over = cc
+pairs_over (x ∷ xs) [] all there right over = cc
+pairs_over (x ∷ xs) (y ∷ []) all there right over = pairs_all xs all
+pairs_over (x ∷ xs) (y ∷ z ∷ ys) all there right over = cc
+
+pairs_end : (xs ys now all : List Way) → is_not_empty xs ≡ true → is_not_empty ys ≡ true → is_not_empty (drop 1 ys) ≡ false → is_not_empty (drop 1 xs) ≡ false → pairs_left (drop 1 xs) now all ≡ drop 1 (pairs_left xs ys all)
+pairs_end [] ys now all there right over end = cc
+pairs_end (x ∷ z ∷ xs) ys now all there right over end = cc
+pairs_end (x ∷ []) [] now all there right over end = cc
+pairs_end (x ∷ []) (y ∷ z ∷ ys) now all there right over end = cc
+pairs_end (x ∷ []) (y ∷ []) now all there right over end = refl
+
+none_left : (xs ys zs all : List Way) → is_not_empty xs ≡ false → pairs_left xs ys all ≡ all_pairs xs zs
+none_left [] ys zs all none = refl
+none_left (x ∷ xs) ys zs all none = cc
+
+-- there is a way where each side has one
+pub pairs_there : (xs ys all : List Way) → is_not_empty xs ≡ true → is_not_empty (pairs_left xs ys all) ≡ is_not_empty ys
+pairs_there [] ys all there = cc
+pairs_there (x ∷ xs) [] all there = refl
+pairs_there (x ∷ xs) (y ∷ ys) all there = refl
+
+pub pairs_none : (xs ys all : List Way) → is_not_empty xs ≡ false → is_not_empty (pairs_left xs ys all) ≡ false
+pairs_none [] ys all none = refl
+pairs_none (x ∷ xs) ys all none = cc
+
+pub pairs_sides : (xs ys all : List Way) → is_not_empty (pairs_left xs ys all) ≡ true → (is_not_empty xs ≡ true) × (is_not_empty ys ≡ true)
+pairs_sides [] ys all there = cc
+pairs_sides (x ∷ xs) [] all there = cc
+pairs_sides (x ∷ xs) (y ∷ ys) all there = (refl, refl)
+
+module _ (item : Span) (left right : Standing) where
+  pub both_front : both_of item (at_front item left) (at_front item right) ≡ at_front item (both_of item left right)
+  unfolding ways_of with_rest
+  both_front = ap (with_rest (both_of item left right)) (pairs_all (ways_of item left.operator) (ways_of item right.operator))
+
+  pub both_front_none : is_not_empty ((at_front item left).rest) ≡ false → both_of item (at_front item left) right ≡ at_front item (both_of item left right)
+  unfolding ways_of with_rest
+  both_front_none none = ap (with_rest (both_of item left right)) (none_left (ways_of item left.operator) right.rest (ways_of item right.operator) (ways_of item right.operator) none)
+
+  pub both_on_right : is_not_empty left.rest ≡ true → is_not_empty ((one_on right).rest) ≡ true → both_of item left (one_on right) ≡ one_on (both_of item left right)
+  unfolding with_rest
+  both_on_right there on = ap (with_rest (both_of item left right)) (pairs_on left.rest right.rest (ways_of item right.operator) there on)
+
+  pub both_on_left : is_not_empty left.rest ≡ true → is_not_empty right.rest ≡ true → is_not_empty ((one_on right).rest) ≡ false → both_of item (one_on left) (at_front item right) ≡ one_on (both_of item left right)
+  unfolding with_rest
+  both_on_left there second over = ap (with_rest (both_of item left right)) (pairs_over left.rest right.rest (ways_of item right.operator) there second over)
+
+  pub both_end : is_not_empty left.rest ≡ true → is_not_empty right.rest ≡ true → is_not_empty ((one_on right).rest) ≡ false → is_not_empty ((one_on left).rest) ≡ false
+      → both_of item (one_on left) (one_on right) ≡ one_on (both_of item left right)
+  unfolding with_rest
+  both_end there second over end = ap (with_rest (both_of item left right)) (pairs_end left.rest right.rest (drop 1 right.rest) (ways_of item right.operator) there second over end)

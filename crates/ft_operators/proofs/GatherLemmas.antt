@@ -1,0 +1,169 @@
+-- The includes of a way, put one after the other.
+use Rattle.std.proofs.Common.{◌≡◌, refl, ap, sym, ◌∙◌, subst, ℕ, ◌+◌, ◌≤◌, List, [], ◌∷◌, ◌++◌, Bool, true, false, length, drop, take, arith, max}
+use Rattle.std.specs.Prelude.{Option, Some, None, option_to_list, flat_map}
+use Rattle.std.proofs.lemmas.List.{append_assoc, append-nil, length-append, take_at, drop_at}
+use Rattle.ft_base.specs.Lists.{is_not_empty}
+use Rattle.ft_base.specs.declared.filter.Filter.{Filter}
+use Rattle.ft_base.specs.declared.filter.Filter.TheVariants as F
+use Rattle.ft_base.specs.declared.hit.Hit.{Hit}
+use Rattle.ft_base.specs.declared.span.Span.{Span}
+use Rattle.all_matches.specs.declared.window.Window.{Window}
+use Rattle.all_matches.specs.Filters.{after}
+use Rattle.all_matches.specs.Join.{join}
+use Rattle.all_matches.specs.Ways.{Way, way_includes, ways_of, filtered_ways}
+use Rattle.ft_operators.specs.Phrases.{PhraseState, first_hit}
+use Rattle.ft_operators.specs.Standing.{Standing, includes_now}
+use Rattle.ft_operators.specs.steps.Forms.{phrase_of, choice_of, first_left, both_of, pairs_left, apart_of, negation_of, sieve_of, sieve_left, chosen_left, choices_at}
+use Rattle.ft_operators.specs.steps.Walking.{Gathered, IsHeld, Replaced}
+use Rattle.ft_operators.proofs.ApartLemmas.{apart_there, apart_includes}
+use Rattle.ft_operators.proofs.BothLemmas.{pairs_sides}
+use Rattle.ft_operators.proofs.SieveLemmas.{sieve_operand_there}
+
+pub gathered_phrase : (s : PhraseState) (hit : Hit) (room new_room : ℕ) (old new : List Hit) → Some hit ≡ first_hit s.rest
+    → length old ≤ length new → room ≤ new_room → (length old + 1 ≤ room → new ≡ old ++ hit ∷ []) → Gathered (phrase_of s) room new_room old new
+gathered_phrase s hit room new_room old new there from kept put = of s.rest there
+  where
+    of : (rest : List Hit) → Some hit ≡ first_hit rest → Gathered (phrase_of (record { aims = s.aims; hits = s.hits; rest = rest })) room new_room old new
+    of [] there = cc
+    of (first ∷ rest) there = record {
+      from = from;
+      kept_room = kept;
+      few = λ _. omega arith;
+      hits = λ _ fits. put fits ∙ ap (λ h. old ++ h ∷ []) (some there);
+    }
+      where
+        some : {a b : Hit} → Some a ≡ Some b → a ≡ b
+        some e = cc
+
+pub gathered_no_phrase : (s : PhraseState) (room : ℕ) (old : List Hit) → None ≡ first_hit s.rest → Gathered (phrase_of s) room room old old
+gathered_no_phrase s room old none = of s.rest none
+  where
+    of : (rest : List Hit) → None ≡ first_hit rest → Gathered (phrase_of (record { aims = s.aims; hits = s.hits; rest = rest })) room room old old
+    of [] none = record { from = omega arith; kept_room = omega arith; few = λ there. cc; hits = λ there. cc }
+    of (first ∷ rest) none = cc
+
+first_includes : (xs ys : List Way) → is_not_empty (first_left xs ys) ≡ true → (is_not_empty xs ≡ true) × (includes_now (first_left xs ys) ≡ includes_now xs)
+first_includes [] ys there = cc
+first_includes (x ∷ xs) ys there = (refl, refl)
+
+pub gathered_left : (item : Span) (left right : Standing) (room new_room : ℕ) (old new : List Hit) → Gathered left room new_room old new → Gathered (choice_of item false left right) room new_room old new
+gathered_left item left right room new_room old new g =
+    let side = first_includes left.rest (ways_of item right.operator) in record {
+      from = g.from;
+      kept_room = g.kept_room;
+      few = λ there. let few = subst (λ hits. length hits ≤ left.shape.room) (sym (side there).1) (g.few (side there).0) in omega (arith, few);
+      hits = λ there fits. g.hits (side there).0 (omega (arith, fits)) ∙ ap (λ hits. old ++ hits) (sym (side there).1);
+    }
+
+pub gathered_right : (item : Span) (left right : Standing) (room new_room : ℕ) (old new : List Hit) → Gathered right room new_room old new → Gathered (choice_of item true left right) room new_room old new
+gathered_right item left right room new_room old new g = record {
+  from = g.from;
+  kept_room = g.kept_room;
+  few = λ there. let few = g.few there in omega (arith, few);
+  hits = λ there fits. g.hits there (omega (arith, fits));
+}
+
+pair_includes : (xs ys all : List Way) → is_not_empty (pairs_left xs ys all) ≡ true → includes_now (pairs_left xs ys all) ≡ includes_now xs ++ includes_now ys
+pair_includes [] ys all there = cc
+pair_includes (x ∷ xs) [] all there = cc
+pair_includes (x ∷ xs) (y ∷ ys) all there = refl
+
+pub gathered_both : (item : Span) (left right : Standing) (room mid_room new_room : ℕ) (old mid new : List Hit)
+    → Gathered left room mid_room old mid → Gathered right mid_room new_room mid new → Gathered (both_of item left right) room new_room old new
+gathered_both item left right room mid_room new_room old mid new l r =
+    let sides = pairs_sides left.rest right.rest (ways_of item right.operator) in
+    let includes = pair_includes left.rest right.rest (ways_of item right.operator) in
+    record {
+      from = omega (arith, l.from, r.from);
+      kept_room = omega (arith, l.kept_room, r.kept_room);
+      few = λ there.
+          let a = l.few (sides there).0 in
+          let b = r.few (sides there).1 in
+          subst (λ hits. length hits ≤ left.shape.room + right.shape.room) (sym (includes there))
+          (omega (arith, a, b, length-append (includes_now left.rest) (includes_now right.rest)));
+      hits = λ there fits.
+          let a = l.few (sides there).0 in
+          let first = l.hits (sides there).0 (omega (arith, fits)) in
+          let long = ap length first ∙ length-append old (includes_now left.rest) in
+          r.hits (sides there).1 (omega (arith, fits, a, long, l.kept_room))
+          ∙ ap (λ hits. hits ++ includes_now right.rest) first
+          ∙ append_assoc old (includes_now left.rest) (includes_now right.rest)
+          ∙ ap (λ hits. old ++ hits) (sym (includes there));
+    }
+
+pub gathered_apart : (item : Span) (left right : Standing) (room new_room : ℕ) (old new : List Hit) → Gathered left room new_room old new → Gathered (apart_of item left right) room new_room old new
+gathered_apart item left right room new_room old new g =
+    let inner = apart_there left.rest (ways_of item right.operator) in
+    let includes = apart_includes left.rest (ways_of item right.operator) in
+    record {
+      from = g.from;
+      kept_room = g.kept_room;
+      few = λ there. let few = subst (λ hits. length hits ≤ left.shape.room) (sym includes) (g.few (sym inner ∙ there)) in omega (arith, few);
+      hits = λ there fits. g.hits (sym inner ∙ there) (omega (arith, fits)) ∙ ap (λ hits. old ++ hits) (sym includes);
+    }
+
+pub gathered_negated : (item : Span) (there : Bool) (operand : Standing) (room : ℕ) (old : List Hit) → Gathered (negation_of item there operand) room room old old
+gathered_negated item true operand room old = record { from = omega arith; kept_room = omega arith; few = λ _. omega arith; hits = λ _ _. sym (append-nil old) }
+gathered_negated item false operand room old = record { from = omega arith; kept_room = omega arith; few = λ there. cc; hits = λ there. cc }
+
+sieve_includes : (kind : Filter) (item : Span) (lead : ℕ) (ways : List Way) → is_not_empty (sieve_left kind item lead ways) ≡ true → includes_now (sieve_left kind item lead ways) ≡ after kind (includes_now ways)
+sieve_includes kind item lead [] there = cc
+sieve_includes kind item lead (way ∷ more) there = of (drop lead (choices_at kind item way)) there
+  where
+    of : (cs : List (Option Window)) → is_not_empty (chosen_left kind way cs (flat_map (filtered_ways kind item) more)) ≡ true
+        → includes_now (chosen_left kind way cs (flat_map (filtered_ways kind item) more)) ≡ after kind (way_includes way)
+    of [] there = cc
+    of (c ∷ cs) there = refl
+
+joined_few : (hits : List Hit) → length (option_to_list (join hits)) ≤ length hits
+joined_few [] = omega arith
+joined_few (hit ∷ rest) = omega arith
+
+-- a filter leaves no more includes than there are in front of it
+pub after_few : (kind : Filter) (hits : List Hit) → length (after kind hits) ≤ length hits
+after_few F.Ordered hits = omega arith
+after_few (F.Window size kind) hits = joined_few hits
+after_few (F.Distance range kind) hits = joined_few hits
+after_few F.SameSentence hits = omega arith
+after_few F.SameParagraph hits = omega arith
+after_few F.DifferentSentence hits = omega arith
+after_few F.DifferentParagraph hits = omega arith
+after_few F.AtStart hits = omega arith
+after_few F.AtEnd hits = omega arith
+after_few F.EntireContent hits = omega arith
+
+pub gathered_filtered : (item : Span) (kind : Filter) (lead : ℕ) (operand : Standing) (room mid_room new_room : ℕ) (old mid new : List Hit)
+    → Gathered operand room mid_room old mid → Replaced (length old) (after kind (drop (length old) mid)) mid_room new_room mid new
+    → Gathered (sieve_of item kind lead operand) room new_room old new
+gathered_filtered item kind lead operand room mid_room new_room old mid new g r =
+    let inner = sieve_operand_there kind item lead operand.rest in
+    let includes = sieve_includes kind item lead operand.rest in
+    record {
+      from = r.from;
+      kept_room = omega (arith, g.kept_room, r.kept_room);
+      few = λ there.
+          let few = g.few (inner there) in
+          subst (λ hits. length hits ≤ operand.shape.room) (sym (includes there)) (omega (arith, few, after_few kind (includes_now operand.rest)));
+      hits = λ there fits.
+          let few = g.few (inner there) in
+          let held = g.hits (inner there) (omega (arith, fits)) in
+          let behind = ap (drop (length old)) held ∙ drop_at old (includes_now operand.rest) (length old) refl in
+          let front = ap (take (length old)) held ∙ take_at old (includes_now operand.rest) (length old) refl in
+          let others = ap (λ hits. length (after kind hits)) behind in
+          r.hits (omega (arith, fits, few, others, g.kept_room, after_few kind (includes_now operand.rest)))
+          ∙ (λ i. front i ++ after kind (behind i))
+          ∙ ap (λ hits. old ++ hits) (sym (includes there));
+    }
+
+-- what was put for the inside of a node was put for the node
+pub gathered_inside : (inside node : Standing) (room new_room : ℕ) (old new : List Hit) → node ≡ inside → Gathered inside room new_room old new → Gathered node room new_room old new
+gathered_inside inside node room new_room old new is g = subst (λ s. Gathered s room new_room old new) (sym is) g
+
+-- what was put where nothing was held is held alone
+pub gathered_alone : (there : Bool) (now : Standing) (room cleared_room new_room : ℕ) (cleared new : List Hit) → cleared ≡ [] → cleared_room ≡ room → Gathered now cleared_room new_room cleared new
+    → IsHeld there now room new_room new
+gathered_alone there now room cleared_room new_room cleared new none same g =
+    let size = ap length none in record {
+      kept_room = omega (arith, same, g.kept_room);
+      hits = λ _ way fits. g.hits way (omega (arith, size, same, fits)) ∙ ap (λ hits. hits ++ includes_now now.rest) none;
+    }

@@ -1,0 +1,12 @@
+pub mod PhraseLemmas
+pub mod ChoiceLemmas
+pub mod BothLemmas
+pub mod SieveLemmas
+pub mod NodeLemmas
+pub mod GatherLemmas
+pub mod WindowLemmas
+pub mod WalkLemmas
+pub mod FrameLemmas
+pub mod ApartLemmas
+pub mod TupleLemmas
+pub mod FreeLemmas

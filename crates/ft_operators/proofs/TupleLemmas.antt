@@ -1,0 +1,80 @@
+-- What a walk shows, after the node inside has moved.
+use Rattle.std.proofs.Common.{◌≡◌, refl, ap, sym, ◌∙◌, ℕ, ◌≤◌, List, [], ◌∷◌, Bool, true, false, cond, drop, arith}
+use Rattle.std.specs.Prelude.{Option, Some, None}
+use Rattle.ft_base.specs.Lists.{is_not_empty}
+use Rattle.ft_base.specs.declared.hit.Hit.{Hit}
+use Rattle.ft_base.specs.declared.span.Span.{Span}
+use Rattle.all_matches.specs.Ways.{Way, ways_of}
+use Rattle.ft_operators.specs.declared.node.Node.{Node}
+use Rattle.ft_operators.specs.Phrases.{PhraseState}
+use Rattle.ft_operators.specs.Standing.{Frame, Standing, frame, aimed, at_front, one_on, includes_now}
+use Rattle.ft_operators.specs.Walk.{Walk, tuple_of}
+use Rattle.ft_operators.specs.steps.Nodes.{standing, frame_of, shape_of}
+use Rattle.ft_operators.specs.steps.Walking.{Moved, MayGoOn, IsAimed, IsHeld}
+use Rattle.ft_operators.proofs.FrameLemmas.{frame_same, shape_same}
+
+-- a walk at some ways, or at none
+abbrev pub shown : Span → Frame → List Way → Option (List Hit) → Walk
+shown item f rest tuple = record { item = item; aims = f.aims; operator = f.operator; rest = rest; tuple = tuple }
+
+shown_ways : (item : Span) (f : Frame) (rest : List Way) (there : Bool) (held : List Hit) → there ≡ is_not_empty rest → (there ≡ true → held ≡ includes_now rest)
+    → shown item f (cond there rest []) (cond there (Some held) None) ≡ shown item f rest (tuple_of rest)
+shown_ways item f [] true held is same = cc
+shown_ways item f [] false held is same = refl
+shown_ways item f (way ∷ rest) true held is same = ap (λ hits. shown item f (way ∷ rest) (Some hits)) (same refl)
+shown_ways item f (way ∷ rest) false held is same = cc
+
+module _ {P : Type 0} (state : P → PhraseState) (item : Span) (old new : Node P) where
+  pub standing_room : (standing state item old).shape.room ≡ (shape_of old).room
+  standing_room = ap (λ f. f.shape.room) (frame_same state item old) ∙ ap (λ s. s.room) (shape_same state old)
+
+  module _ (wanted : Standing) (same : frame wanted ≡ frame (standing state item old)) (room mid_room new_room start end : ℕ) (answer : Bool) (held : List Hit)
+      (m : Moved wanted (standing state item new) room mid_room start end answer) where
+    moved_frame : frame_of state new ≡ frame_of state old
+    moved_frame = sym (frame_same state item new) ∙ ap frame m.stand ∙ same ∙ frame_same state item old
+
+    pub moved_room : (shape_of new).room ≡ (shape_of old).room
+    moved_room = sym (ap (λ s. s.room) (shape_same state new)) ∙ ap (λ f. f.shape.room) moved_frame ∙ ap (λ s. s.room) (shape_same state old)
+
+    pub moved_shown : IsHeld answer (standing state item new) mid_room new_room held → (shape_of old).room ≤ room
+        → shown item (frame_of state new) (cond answer (standing state item new).rest []) (cond answer (Some held) None) ≡ shown item (frame_of state old) wanted.rest (tuple_of wanted.rest)
+    moved_shown h fits =
+        shown_ways item (frame_of state new) (standing state item new).rest answer held m.there
+        (λ there.
+        let same_room = ap (λ s. s.shape.room) m.stand in
+        let start_room = ap (λ f. f.shape.room) same in
+        h.hits there (sym m.there ∙ there) (omega (arith, same_room, start_room, standing_room, fits, m.kept_room)))
+        ∙ (λ i. shown item (moved_frame i) (m.stand i).rest (tuple_of (m.stand i).rest))
+
+  pub first_shown : (room mid_room new_room start end : ℕ) (answer : Bool) (held : List Hit) → Moved (at_front item (standing state item old)) (standing state item new) room mid_room start end answer
+      → IsHeld answer (standing state item new) mid_room new_room held → (shape_of old).room ≤ room
+      → shown item (frame_of state new) (cond answer (standing state item new).rest []) (cond answer (Some held) None)
+      ≡ shown item (frame_of state old) (ways_of item (frame_of state old).operator) (tuple_of (ways_of item (frame_of state old).operator))
+  first_shown room mid_room new_room start end answer held m h fits =
+      moved_shown (at_front item (standing state item old)) refl room mid_room new_room start end answer held m h fits
+      ∙ (λ i. shown item (frame_of state old) (ways_of item (frame_same state item old i).operator) (tuple_of (ways_of item (frame_same state item old i).operator)))
+
+  -- a walk that is at a way
+
+  pub walk_there : (there : Bool) → is_not_empty (cond there (standing state item old).rest []) ≡ true → is_not_empty (standing state item old).rest ≡ true
+  walk_there true h = h
+  walk_there false h = cc
+
+  pub walk_may : (there : Bool) (room : ℕ) → is_not_empty (cond there (standing state item old).rest []) ≡ true → (shape_of old).room ≤ room → MayGoOn (standing state item old) room
+  walk_may there room h fits = record { there = walk_there there h; fits = omega (arith, standing_room, fits) }
+
+  pub next_shown : (there : Bool) → is_not_empty (cond there (standing state item old).rest []) ≡ true
+      → (room mid_room new_room start end : ℕ) (answer : Bool) (held : List Hit) → Moved (one_on (standing state item old)) (standing state item new) room mid_room start end answer
+      → IsHeld answer (standing state item new) mid_room new_room held → (shape_of old).room ≤ room
+      → shown item (frame_of state new) (cond answer (standing state item new).rest []) (cond answer (Some held) None)
+      ≡ shown item (frame_of state old) (drop 1 (cond there (standing state item old).rest [])) (tuple_of (drop 1 (cond there (standing state item old).rest [])))
+  next_shown true h room mid_room new_room start end answer held m g fits = moved_shown (one_on (standing state item old)) refl room mid_room new_room start end answer held m g fits
+  next_shown false h room mid_room new_room start end answer held m g fits = cc
+
+  pub aimed_room : (doc : ℕ) (span : Span) (start end : ℕ) → IsAimed doc span (frame_of state old) (frame_of state new) start end → (shape_of new).room ≡ (shape_of old).room
+  aimed_room doc span start end a =
+      sym (ap (λ s. s.room) (shape_same state new)) ∙ ap (λ f. f.shape.room) a.framed ∙ ap (λ s. s.room) (shape_same state old)
+
+pub answer_shown : (there : Bool) (rest : List Way) → there ≡ is_not_empty rest → there ≡ is_not_empty (cond there rest [])
+answer_shown true rest is = is
+answer_shown false rest is = refl

@@ -1,0 +1,14 @@
+-- The node has the frame of both sides together, and the memory of both is enough for its hits.
+use Rattle.std.proofs.Common.{◌∙◌, ap, arith}
+use Rattle.ft_operators.specs.Walk.{before_first, nowhere}
+use Rattle.ft_operators.proofs.tuples.Tuples.both.Goals as goal
+
+pub unaimed-requires : goal.unaimed-requires
+unaimed-requires g c =
+    let room = ap (λ s. s.room) c.in_ok-node.ensures.shaped in
+    let left = c.args.left.fits in
+    let right = c.args.right.fits in
+    omega (arith, c.in-Ok.ensures)
+
+pub returns : goal.returns
+returns g c = c.unaimed.ensures ∙ ap (λ f. before_first nowhere f.aims f.operator) c.in_ok-node.ensures.framed

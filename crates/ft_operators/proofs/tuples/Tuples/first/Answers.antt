@@ -1,0 +1,31 @@
+-- The node inside moves, and its includes are held.
+use Rattle.std.proofs.Common.{◌∙◌, ap, sym, refl, arith, vec_capacity}
+use Rattle.ft_operators.specs.Standing.{at_front, one_on}
+use Rattle.ft_operators.specs.steps.Nodes.{standing}
+use Rattle.ft_operators.proofs.TupleLemmas.{standing_room, moved_room, answer_shown, first_shown}
+use Rattle.ft_operators.proofs.tuples.Tuples.first.Goals as goal
+
+pub first-self-requires : goal.first-self-requires
+first-self-requires g c =
+    let self = c.args.self.now in
+    let room = standing_room g.P.PhraseHits.state self.item self.node self.node in
+    let fits = self.fits in
+    omega arith
+
+pub invariant_of-self : goal.invariant_of-self
+invariant_of-self g c =
+    let self = c.args.self.now in
+    let at = standing g.P.PhraseHits.state self.item in
+    let same = moved_room g.P.PhraseHits.state self.item self.node c.first-self.new.node (at_front self.item (at self.node)) refl _ _ 0 _ _ c.first-self.result c.hold.new.held.items c.first-self.ensures in
+    let fits = self.fits in
+    let kept = c.first-self.ensures.kept_room in
+    let held = (c.hold.ensures self.item).kept_room in
+    record { fits = omega arith }
+
+pub returns-clause-walk : goal.returns-clause-walk
+returns-clause-walk g c =
+    let self = c.args.self.now in
+    first_shown g.P.PhraseHits.state self.item self.node c.first-self.new.node _ _ _ _ _ c.first-self.result c.hold.new.held.items c.first-self.ensures (c.hold.ensures self.item) self.fits
+
+pub returns-clause-there : goal.returns-clause-there
+returns-clause-there g c = answer_shown c.first-self.result ((standing g.P.PhraseHits.state c.args.self.now.item c.first-self.new.node).rest) c.first-self.ensures.there

@@ -1,0 +1,6 @@
+pub mod Phrases
+pub mod Standing
+pub mod Walk
+pub mod Tuples
+pub mod Examples
+pub mod steps

@@ -1,0 +1,69 @@
+-- Where the walk through the ways of a node stands.
+use Rattle.std.specs.Prelude.{Bool, ℕ}
+use Rattle.ft_base.specs.declared.span.Span.{Span}
+use Rattle.ft_operators.specs.declared.node.Node.{Node, Phrase, Choice', Both', MildNot', Negated', Filtered'}
+use Rattle.ft_operators.specs.declared.node.Fork.{Fork}
+use Rattle.ft_operators.specs.declared.node.Pair.{Pair}
+use Rattle.ft_operators.specs.declared.node.Negation.{Negation}
+use Rattle.ft_operators.specs.declared.node.Sieve.{Sieve}
+use Rattle.ft_operators.specs.Phrases.{PhraseState}
+use Rattle.ft_operators.specs.Standing.{Shape, Frame, Standing, frame}
+use Rattle.ft_operators.specs.steps.Forms.{phrase_of, choice_of, both_of, apart_of, negation_of, sieve_of}
+use Rattle.ft_operators.specs.steps.Forms.{phrase_shape, choice_shape, both_shape, apart_shape, negated_shape, filtered_shape}
+use Rattle.ft_operators.specs.steps.Forms.{choice_frame, both_frame, apart_frame, negated_frame, filtered_frame}
+
+unfoldable pub standing : {P : Type 0} → (P → PhraseState) → Span → Node P → Standing
+standing state item (Phrase found) = phrase_of (state found)
+standing state item (Choice' p left right second) = choice_of item second (standing state item left) (standing state item right)
+standing state item (Both' p left right) = both_of item (standing state item left) (standing state item right)
+standing state item (MildNot' p left right) = apart_of item (standing state item left) (standing state item right)
+standing state item (Negated' p operand there) = negation_of item there (standing state item operand)
+standing state item (Filtered' p operand kind lead) = sieve_of item kind lead (standing state item operand)
+
+abbrev pub fork_standing : {P : Type 0} → (P → PhraseState) → Span → Fork P → Standing
+fork_standing state item fork = choice_of item fork.second (standing state item fork.left) (standing state item fork.right)
+
+abbrev pub pair_standing : {P : Type 0} → (P → PhraseState) → Span → Pair P → Standing
+pair_standing state item pair = both_of item (standing state item pair.left) (standing state item pair.right)
+
+abbrev pub apart_standing : {P : Type 0} → (P → PhraseState) → Span → Pair P → Standing
+apart_standing state item pair = apart_of item (standing state item pair.left) (standing state item pair.right)
+
+abbrev pub negation_standing : {P : Type 0} → (P → PhraseState) → Span → Negation P → Standing
+negation_standing state item negation = negation_of item negation.there (standing state item negation.operand)
+
+abbrev pub sieve_standing : {P : Type 0} → (P → PhraseState) → Span → Sieve P → Standing
+sieve_standing state item sieve = sieve_of item sieve.kind sieve.lead (standing state item sieve.operand)
+
+-- the frame of a node, whatever the place of the walk
+unfoldable pub frame_of : {P : Type 0} → (P → PhraseState) → Node P → Frame
+frame_of state (Phrase found) = frame (phrase_of (state found))
+frame_of state (Choice' p left right second) = choice_frame (frame_of state left) (frame_of state right)
+frame_of state (Both' p left right) = both_frame (frame_of state left) (frame_of state right)
+frame_of state (MildNot' p left right) = apart_frame (frame_of state left) (frame_of state right)
+frame_of state (Negated' p operand there) = negated_frame (frame_of state operand)
+frame_of state (Filtered' p operand kind lead) = filtered_frame kind (frame_of state operand)
+
+abbrev pub fork_frame : {P : Type 0} → (P → PhraseState) → Fork P → Frame
+fork_frame state fork = choice_frame (frame_of state fork.left) (frame_of state fork.right)
+
+abbrev pub both_pair_frame : {P : Type 0} → (P → PhraseState) → Pair P → Frame
+both_pair_frame state pair = both_frame (frame_of state pair.left) (frame_of state pair.right)
+
+abbrev pub apart_pair_frame : {P : Type 0} → (P → PhraseState) → Pair P → Frame
+apart_pair_frame state pair = apart_frame (frame_of state pair.left) (frame_of state pair.right)
+
+abbrev pub negation_frame : {P : Type 0} → (P → PhraseState) → Negation P → Frame
+negation_frame state negation = negated_frame (frame_of state negation.operand)
+
+abbrev pub sieve_frame : {P : Type 0} → (P → PhraseState) → Sieve P → Frame
+sieve_frame state sieve = filtered_frame sieve.kind (frame_of state sieve.operand)
+
+-- the shape of a node, whatever its phrases
+unfoldable pub shape_of : {P : Type 0} → Node P → Shape
+shape_of (Phrase found) = phrase_shape
+shape_of (Choice' p left right second) = choice_shape (shape_of left) (shape_of right)
+shape_of (Both' p left right) = both_shape (shape_of left) (shape_of right)
+shape_of (MildNot' p left right) = apart_shape (shape_of left) (shape_of right)
+shape_of (Negated' p operand there) = negated_shape (shape_of operand)
+shape_of (Filtered' p operand kind lead) = filtered_shape (shape_of operand)

@@ -1,0 +1,27 @@
+//! Walks through the ways in which a selection with filters may be satisfied: in each way one hit of each phrase that it
+//! needs is chosen, one side of each Or, and one window of each window filter.
+//!
+//! A selection is a tree of nodes over lists of hits (`node`), and each node goes through its ways by those of its
+//! operands, from the first to the last (`walking`): it looks at one way at a time and keeps no list of them. The includes
+//! of the present way are put into memory that was taken when the tree was made (`gathering`), and a filter is asked of
+//! them (`choosing`). What a node has left says what its operands have left, so that no fact about their places is kept
+//! beside it (`specs/steps/Forms.antt`).
+#![tactic(auto)]
+
+mod aiming;
+mod building;
+mod choosing;
+pub mod examples;
+mod gathering;
+mod joining;
+mod node;
+mod own_span;
+mod phrase_hits;
+mod standing_out;
+#[cfg(test)]
+mod tests;
+mod tuples;
+mod walking;
+
+pub use phrase_hits::PhraseHits;
+pub use tuples::Tuples;
