@@ -166,7 +166,8 @@ fn edit_below(
     requires allowed { holds_of_child (place_allows change (drop 1 place.now)) (slice_index_or place.now 0 0) (nodes (map node row.old.items)) ≡ true }
     requires joined { IsTrue (are_joined (nodes (map node row.old.items))) }
     ensures edited { OnOk result (nodes (map node row.new.items)
-        ≡ joined (at_child (at_place (changed change (nodes (map node content))) (drop 1 place.now)) (slice_index_or place.now 0 0) (nodes (map node row.old.items)))) }
+        ≡ joined (at_child (at_place (changed change (nodes (map node content))) (drop 1 place.now))
+        (slice_index_or place.now 0 0) (nodes (map node row.old.items)))) }
     ensures kept { OnErr result (nodes (map node row.new.items) ≡ nodes (map node row.old.items)) }
 {
     let number = place[0] as usize - 1;

@@ -1,3 +1,4 @@
+-- The attributes that were copied.
 use Rattle.std.proofs.Common.{◌≡◌, take}
 use Rattle.plain_tree.proofs.copying.copy_attrs.Given as goal
 
