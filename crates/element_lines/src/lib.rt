@@ -4,9 +4,11 @@
 mod counts;
 pub mod examples;
 pub mod laws;
+mod leading;
 mod names;
 mod numbers;
 mod printed;
+mod step_texts;
 
 pub use names::push_names;
 pub use printed::push_printed;

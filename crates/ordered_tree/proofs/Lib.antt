@@ -1,5 +1,6 @@
 pub mod BuildingLemmas
 pub mod GatheringLemmas
+pub mod HeadLemmas
 pub mod LawsLemmas
 pub mod LeavesLemmas
 pub mod LinksLemmas

@@ -36,6 +36,11 @@ abbrev pub name_of : Numbered → Option (List ℕ)
 name_of (element_at r name attrs kids) = Some name
 name_of (text_at r bytes) = None
 
+-- whether it is an element of a name
+abbrev pub has_name : List ℕ → Numbered → Bool
+has_name name (element_at r own attrs kids) = bytes_eq name own
+has_name name (text_at r bytes) = false
+
 abbrev pub attrs_of : Numbered → List Attr
 attrs_of (element_at r name attrs kids) = attrs
 attrs_of (text_at r bytes) = []

@@ -1,8 +1,12 @@
+ghost use Rattle.std.specs.Prelude.{◌≡◌, map};
+ghost use Rattle.ordered_tree.specs.steps.Heads.{head_of};
+
 use crate::around::Around;
 use crate::building::add_tree;
 use crate::climbing::add_place;
 use crate::copying::copy_slots;
 use crate::counting::count_nodes;
+use crate::head::{Head, heads_of};
 use crate::leaves::add_leaves;
 use crate::plain::tree_of;
 use crate::read::Read;
@@ -20,9 +24,12 @@ use tokenizer::TokenFault;
 pub struct DocTree {
     alloc: Global,
     slots: Vec<Slot>,
+    /// The heads of the slots
+    heads: Vec<Head>,
     free: Option<NodeRef>,
     nodes: usize,
     depth: usize,
+    ghost headed: { heads.items ≡ map head_of slots.items },
 }
 
 impl Model for DocTree {
@@ -96,9 +103,14 @@ impl DocTree {
         let added = add_tree(&mut slots, &mut texts, root, Around::root(), true)?;
         let nodes = slots.len();
         let (leaves, breaks) = texts.into_parts();
+        let Ok(heads) = heads_of(alloc, &slots) else {
+            drop((slots, leaves, breaks));
+            return Err(TokenFault::Memory);
+        };
         let tree = DocTree {
             alloc,
             slots,
+            heads,
             free: None,
             nodes,
             depth: added.levels,
@@ -132,9 +144,14 @@ impl DocTree {
         ensures { IfOk result (λ copy. copy ≡ self.now) }
     {
         let slots = copy_slots(self.alloc, &self.slots)?;
+        let Ok(heads) = heads_of(self.alloc, &slots) else {
+            drop(slots);
+            return Err(Memory);
+        };
         Ok(DocTree {
             alloc: self.alloc,
             slots,
+            heads,
             free: self.free,
             nodes: self.nodes,
             depth: self.depth,
@@ -181,6 +198,18 @@ impl DocTree {
         ensures first { IfSome result.now.first_child (Contains (references self.now.root)) }
     {
         &self.slots[node.0 as usize]
+    }
+
+    /// The head of a node.
+    pub(crate) fn head(&self, node: NodeRef) -> Head
+        requires { Contains (references self.now.root) node }
+        ensures stands { OnNode self.now.root node (λ s. result ≡ head_of (slot s)) }
+        ensures next { IfSome result.next (Contains (references self.now.root)) }
+        ensures first { IfSome result.first_child (Contains (references self.now.root)) }
+    {
+        // The node's slot is there, as the clauses of `slot` say.
+        let _slot = self.slot(node);
+        self.heads[node.0 as usize]
     }
 
     /// How many nodes there are.

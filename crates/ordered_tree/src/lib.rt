@@ -8,6 +8,8 @@ mod climbing;
 mod copying;
 mod counting;
 mod doc_tree;
+mod element_name;
+mod head;
 pub mod laws;
 mod leaf;
 mod leaves;
@@ -18,6 +20,7 @@ mod slot;
 mod texts_read;
 
 pub use doc_tree::DocTree;
+pub use element_name::ElementName;
 use ft_base::Items;
 pub use ft_base::{LeafId, NodeRef};
 pub use leaf::LeafWords;

@@ -1,10 +1,11 @@
 ghost use Rattle.std.specs.Prelude.{◌≡◌, Contains, IfSome, IsTrue, Some, option_map};
-ghost use Rattle.ordered_tree.specs.Numbered.{plain, is_element, name_of, attrs_of, attribute, children, first_of};
+ghost use Rattle.ordered_tree.specs.Numbered.{plain, is_element, has_name, name_of, attrs_of, attribute, children, first_of};
 ghost use Rattle.ordered_tree.specs.Part.{part};
 ghost use Rattle.ordered_tree.specs.Stands.{OnNode, references, span};
 ghost use Rattle.tokenizer.specs.Tokens.{tokens};
 
 use crate::attrs::find_attr;
+use crate::element_name::{ElementName, LONGEST_MARKED};
 use crate::slot::Held;
 use crate::{DocTree, NodeRef};
 use ft_base::Span;
@@ -15,8 +16,27 @@ impl DocTree {
         requires { Contains (references self.now.root) node }
         ensures { OnNode self.now.root node (λ s. result ≡ is_element s.node) }
     {
+        self.head(node).mark[LONGEST_MARKED] != 0
+    }
+
+    /// Whether the node is an element of this name.
+    pub fn is_named(&self, node: NodeRef, wanted: &ElementName<'_>) -> bool
+        requires { Contains (references self.now.root) node }
+        ensures { OnNode self.now.root node (λ s. result ≡ has_name wanted.now.name.now s.node) }
+    {
+        if self.head(node).mark != wanted.mark {
+            return false;
+        }
+        wanted.name.len() <= LONGEST_MARKED || self.holds_name(node, wanted.name)
+    }
+
+    /// The same, by the name itself.
+    fn holds_name(&self, node: NodeRef, wanted: &str) -> bool
+        requires { Contains (references self.now.root) node }
+        ensures { OnNode self.now.root node (λ s. result ≡ has_name wanted.now s.node) }
+    {
         match &self.slot(node).held {
-            Held::Element { .. } => true,
+            Held::Element { name, .. } => name.as_str() == wanted,
             Held::Text { .. } | Held::Free => false,
         }
     }
@@ -50,7 +70,7 @@ impl DocTree {
         ensures first { OnNode self.now.root node (λ s. result ≡ first_of (children s.node)) }
         ensures there { IfSome result (Contains (references self.now.root)) }
     {
-        self.slot(node).first_child
+        self.head(node).first_child
     }
 
     /// The sibling behind a node.
@@ -59,7 +79,7 @@ impl DocTree {
         ensures next { OnNode self.now.root node (λ s. result ≡ s.around.next) }
         ensures there { IfSome result (Contains (references self.now.root)) }
     {
-        self.slot(node).around.next
+        self.head(node).next
     }
 
     /// The element of which a node is a child; the root has none.

@@ -15,10 +15,10 @@ use Rattle.ordered_tree.specs.Stands.{stands, stands_in}
 use Rattle.ordered_tree.proofs.BuildingLemmas.{plain-numbered, length-filled-root}
 use Rattle.ordered_tree.proofs.ShiftLemmas.{length-tokens}
 use Rattle.ordered_tree.proofs.SlotsLemmas.{IsDocument-numbered, root_of-numbered}
-use Rattle.ordered_tree.proofs.doc_tree.DocTree.read.Goals.{After-into_parts-leaves}
+use Rattle.ordered_tree.proofs.doc_tree.DocTree.read.Goals.{After-tree-1}
 use Rattle.ordered_tree.proofs.doc_tree.DocTree.read.Goals as goal
 
-filled : (c : After-into_parts-leaves) → c.add_tree.new.slots.items ≡ map slot (stands_in (numbered 0 c.args.doc))
+filled : (c : After-tree-1) → c.add_tree.new.slots.items ≡ map slot (stands_in (numbered 0 c.args.doc))
 filled c =
     let root = node c.into_tree-root.result in
     c.in_ok-added.ensures.slots
@@ -27,7 +27,7 @@ filled c =
     ∙ ap (λ n. map slot (stands_in (numbered 0 n))) c.into_tree-root.ensures.tree
 
 -- all words that were seen are the document's
-counted : (c : After-into_parts-leaves) → words_seen c.add_tree.new.read.starts ≡ length (tokens c.args.doc)
+counted : (c : After-tree-1) → words_seen c.add_tree.new.read.starts ≡ length (tokens c.args.doc)
 counted c =
     omega (arith, c.in_ok-added.ensures.counted, c.new-texts.ensures.words, ap word_count c.into_tree-root.ensures.tree, length-tokens c.args.doc)
 

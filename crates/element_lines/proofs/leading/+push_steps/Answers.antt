@@ -7,12 +7,12 @@ use Rattle.ordered_tree.specs.Stands.{OnNode}
 use Rattle.path_nodes.specs.References.{element_of}
 use Rattle.path_nodes.proofs.ChildrenLemmas.{element_there}
 use Rattle.path_nodes.proofs.PlaceLemmas.{one-stand}
-use Rattle.path_nodes.proofs.WayLemmas.{Parent, parent-of, root-of, shorter}
+use Rattle.path_nodes.proofs.WayLemmas.{Parent, root-of, shorter}
 use Rattle.element_lines.specs.Lines.{step_text}
 use Rattle.element_lines.specs.LocationSteps.{step, steps_to}
 use Rattle.element_lines.proofs.StepLemmas.{element-name}
-use Rattle.element_lines.proofs.TextLemmas.{text-further, text-root}
-use Rattle.element_lines.proofs.names.+push_steps.Goals as goal
+use Rattle.element_lines.proofs.TextLemmas.{parent-found, text-further, text-root}
+use Rattle.element_lines.proofs.leading.+push_steps.Goals as goal
 
 pub parent-requires : goal.parent-requires
 parent-requires t c = element_there c.args.tree.now.root c.args.node c.requires.node
@@ -21,21 +21,21 @@ pub push_steps-requires : goal.push_steps-requires
 push_steps-requires t c =
     let root = c.args.tree.now.root in
     let p : Parent root c.args.node c.in-Some.parent =
-    parent-of root c.args.node c.requires.node c.in-Some.parent (subst (λ o. OnNode root c.args.node (λ s. o ≡ s.around.parent)) c.in-Some.is c.parent.ensures.parent) in
+    parent-found root c.args.node c.in-Some.parent c.requires.node c.parent.result c.in-Some.is c.parent.ensures.parent in
     (omega (arith, c.decreases, shorter root c.args.node c.in-Some.parent p), (p.there, c.requires.numbers))
 
 pub number_of-requires-clause-parent : goal.number_of-requires-clause-parent
 number_of-requires-clause-parent t c =
     let root = c.args.tree.now.root in
     let p : Parent root c.args.node c.in-Some.parent =
-    parent-of root c.args.node c.requires.node c.in-Some.parent (subst (λ o. OnNode root c.args.node (λ s. o ≡ s.around.parent)) c.in-Some.is c.parent.ensures.parent) in
+    parent-found root c.args.node c.in-Some.parent c.requires.node c.parent.result c.in-Some.is c.parent.ensures.parent in
     p.there
 
 pub number_of-requires-clause-node : goal.number_of-requires-clause-node
 number_of-requires-clause-node t c =
     let root = c.args.tree.now.root in
     let p : Parent root c.args.node c.in-Some.parent =
-    parent-of root c.args.node c.requires.node c.in-Some.parent (subst (λ o. OnNode root c.args.node (λ s. o ≡ s.around.parent)) c.in-Some.is c.parent.ensures.parent) in
+    parent-found root c.args.node c.in-Some.parent c.requires.node c.parent.result c.in-Some.is c.parent.ensures.parent in
     (c.requires.node, p.number, p.place)
 
 pub name-requires-clause-there : goal.name-requires-clause-there
@@ -57,7 +57,7 @@ returns-in_ok-number-in-Some-clause-text t c =
     let root = c.args.tree.now.root in
     let node = c.args.node in
     let x = c.requires.node in
-    let p : Parent root node c.in-Some.parent = parent-of root node x c.in-Some.parent (subst (λ o. OnNode root node (λ s. o ≡ s.around.parent)) c.in-Some.is c.parent.ensures.parent) in
+    let p : Parent root node c.in-Some.parent = parent-found root node c.in-Some.parent x c.parent.result c.in-Some.is c.parent.ensures.parent in
     let before = string_bytes c.args.text.now in
     let own = step_text (step c.name.result.now c.in_ok-number-in-Some.number) in
     let all : string_bytes c.push_steps.new.text ++ own ≡ before ++ flat_map step_text (steps_to (plain root) (element_of root node).place) =

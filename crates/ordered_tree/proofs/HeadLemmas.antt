@@ -1,0 +1,55 @@
+-- What heads tell of nodes: a short name is all in its mark, and no element has the mark of a text.
+use Rattle.std.proofs.Common.{◌≡◌, ◌≢◌, ◌≤◌, ◌<◌, ℕ, zero, suc, Bool, true, false, List, [], ◌∷◌, length, get_or, refl, sym, ap, ap₂, ◌∙◌, arith}
+use Rattle.std.specs.Prelude.{nat_eq, not, bytes_eq}
+use Rattle.std.proofs.lemmas.Bool.Decides.{nat_tests}
+use Rattle.std.proofs.lemmas.Slice.Eq.{bytes_eq-Decides}
+use Rattle.ordered_tree.specs.Numbered.{Numbered, element_at, text_at, is_element, has_name}
+use Rattle.ordered_tree.specs.Slots.{held}
+use Rattle.ordered_tree.specs.steps.Heads.{mark_of, mark_of_held}
+
+-- lists as long as each other, and no longer than a number, that have the same at each place in front of it
+same-to : (k : ℕ) (a b : List ℕ) → length a ≡ length b → length a ≤ k → ((i : ℕ) → i < k → get_or a i 0 ≡ get_or b i 0) → a ≡ b
+same-to k [] [] long few alike = refl
+same-to k [] (y ∷ b) long few alike = absurd (omega (arith, long))
+same-to k (x ∷ a) [] long few alike = absurd (omega (arith, long))
+same-to zero (x ∷ a) (y ∷ b) long few alike = absurd (omega (arith, few))
+same-to (suc k) (x ∷ a) (y ∷ b) long few alike =
+    ap₂ (λ z zs. z ∷ zs) (alike 0 (omega arith)) (same-to k a b (omega (arith, long)) (omega (arith, few)) (λ i less. alike (suc i) (omega (arith, less))))
+
+marked-byte : (name : List ℕ) (i : ℕ) → i < 7 → get_or (mark_of name) i 0 ≡ get_or name i 0
+unfolding mark_of
+marked-byte name zero less = refl
+marked-byte name (suc zero) less = refl
+marked-byte name (suc (suc zero)) less = refl
+marked-byte name (suc (suc (suc zero))) less = refl
+marked-byte name (suc (suc (suc (suc zero)))) less = refl
+marked-byte name (suc (suc (suc (suc (suc zero))))) less = refl
+marked-byte name (suc (suc (suc (suc (suc (suc zero)))))) less = refl
+marked-byte name (suc (suc (suc (suc (suc (suc (suc i))))))) less = absurd (omega (arith, less))
+
+marked-length : (a b : List ℕ) → length b ≤ 7 → mark_of a ≡ mark_of b → length a ≡ length b
+unfolding mark_of
+marked-length a b short same = omega (arith, short, ap (λ m. get_or m 7 0) same)
+
+short-is : (a b : List ℕ) → length b ≤ 7 → mark_of a ≡ mark_of b → a ≡ b
+short-is a b short same =
+    let long = marked-length a b short same in
+    same-to 7 a b long (omega (arith, long, short)) (λ i less. sym (marked-byte a i less) ∙ (ap (λ m. get_or m i 0) same ∙ marked-byte b i less))
+
+pub element-marked : (n : Numbered) → not (nat_eq (get_or (mark_of_held (held n)) 7 0) 0) ≡ is_element n
+unfolding mark_of
+element-marked (element_at r name attrs kids) = grind (arith, nat_tests)
+element-marked (text_at r bytes) = refl
+
+pub name-marked : (n : Numbered) (name : List ℕ) → length name ≤ 7 → mark_of_held (held n) ≡ mark_of name → has_name name n ≡ true
+unfolding mark_of
+name-marked (element_at r own attrs kids) name short same = (bytes_eq-Decides name own).1 (sym (short-is own name short same))
+name-marked (text_at r bytes) name short same = absurd (omega (arith, ap (λ m. get_or m 7 0) same))
+
+pub other-mark : (n : Numbered) (name : List ℕ) → (mark_of_held (held n) ≢ mark_of name) → has_name name n ≡ false
+other-mark (element_at r own attrs kids) name other = by_test (bytes_eq name own) (λ same. other (ap mark_of (sym ((bytes_eq-Decides name own).0 same))))
+  where
+    by_test : (b : Bool) → (b ≡ true → ⊥) → b ≡ false
+    by_test true wrong = absurd (wrong refl)
+    by_test false wrong = refl
+other-mark (text_at r bytes) name other = refl

@@ -1,0 +1,52 @@
+//! What walks over elements look at of each node, side by side in memory.
+
+ghost use Rattle.std.specs.Prelude.{◌≡◌, IfOk, map};
+ghost use Rattle.ordered_tree.specs.steps.Heads as spec;
+
+use crate::NodeRef;
+use crate::element_name::mark_of;
+use crate::slot::{Held, Slot};
+use ft_base::Memory;
+use std::alloc::Global;
+
+/// The links of a node that lead on, and the mark of its name. A slot is several times as long, so that a walk which looks at heads
+/// alone goes through less memory.
+#[derive(Clone, Copy)]
+pub(crate) struct Head {
+    pub(crate) first_child: Option<NodeRef>,
+    pub(crate) next: Option<NodeRef>,
+    /// The mark of an element's name; of a text, zeros
+    pub(crate) mark: [u8; 8],
+}
+
+/// The heads of slots, in their order.
+pub(crate) fn heads_of(alloc: Global, slots: &Vec<Slot>) -> Result<Vec<Head>, Memory>
+    ensures { IfOk result (λ heads. heads.items ≡ map spec.head_of slots.now.items) }
+{
+    let mut heads = Vec::with_capacity(alloc, slots.len())?;
+    for slot in slots.as_slice() {
+        heads.push(head_of(slot))?;
+    }
+    Ok(heads)
+}
+
+/// The head of a slot.
+fn head_of(slot: &Slot) -> Head
+    ensures { result ≡ spec.head_of slot.now }
+{
+    Head {
+        first_child: slot.first_child,
+        next: slot.around.next,
+        mark: mark_of_held(&slot.held),
+    }
+}
+
+/// The mark of what a slot holds.
+fn mark_of_held(held: &Held) -> [u8; 8]
+    ensures { result ≡ spec.mark_of_held held.now }
+{
+    match held {
+        Held::Element { name, .. } => mark_of(name.as_str()),
+        Held::Text { .. } | Held::Free => [0; 8],
+    }
+}
