@@ -41,7 +41,7 @@ count_here : (test : ℕ → Bool) (place size : ℕ) → test place ≡ true �
 unfolding count
 count_here test place size h = count_by-cons test place (range_with_len (place + 1) size) ∙ ap (λ b. cond b 1 0 + count test (place + 1) size) h
 
-any_that_counts : {H : Type 0} (p : Variant H → Bool) (variants : List (Variant H)) → list_any p (filter (λ variant. variant.counts) variants) ≡ list_any (λ variant. variant.counts && p variant) variants
+pub any_that_counts : {H : Type 0} (p : Variant H → Bool) (variants : List (Variant H)) → list_any p (filter (λ variant. variant.counts) variants) ≡ list_any (λ variant. variant.counts && p variant) variants
 any_that_counts p [] = refl
 any_that_counts p (variant ∷ variants) =
     let rest = any_that_counts p variants in

@@ -4,3 +4,6 @@ pub mod UnionLemmas
 pub mod VariantLemmas
 pub mod CountLemmas
 pub mod PlacesLaw
+pub mod SpotLemmas
+pub mod SpotSearch
+pub mod SpotWalk

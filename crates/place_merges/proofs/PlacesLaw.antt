@@ -22,7 +22,7 @@ module _ {X Y : Type 0} (passes : X → Y → Bool) (want : X → Wanted) where
       let at : from ≡ from + 0 = omega arith in
       ap (λ p. fits p (want item)) at ∙ agrees item 0 word (omega arith)
 
-  variant_law : (items : List X) (from to : ℕ) (words : List Y) → to ≡ from + length words → Agrees from words → stands_before to from (map want items) ≡ begins_as passes items words
+  pub variant_law : (items : List X) (from to : ℕ) (words : List Y) → to ≡ from + length words → Agrees from words → stands_before to from (map want items) ≡ begins_as passes items words
   variant_law [] from to words e agrees = ap (λ b. b && true) (le-leb (from + 0) to (omega arith))
   variant_law (item ∷ items) from to [] e agrees =
       let size = length-map items want in

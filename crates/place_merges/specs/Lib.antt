@@ -1,4 +1,5 @@
 pub mod Places
 pub mod Sources
+pub mod Spots
 pub mod Examples
 pub mod steps

@@ -1,9 +1,10 @@
 //! Where variants stand and how many places count, on small lists of places, by computation.
-ghost use Rattle.std.specs.Prelude.{◌≡◌, ◌∷◌, [], true, false};
+ghost use Rattle.std.specs.Prelude.{◌≡◌, ◌∷◌, [], None, Some, true, false};
 ghost use Rattle.std.specs.declared.alloc.Global.{Global};
 ghost use Rattle.std.specs.declared.vec.Vec.{Vec};
 ghost use Rattle.ft_base.specs.Hits.{HitPlace, hit_place};
 ghost use Rattle.place_merges.specs.Places.{one_of, fits, stands_at, stands_before, places_between};
+ghost use Rattle.place_merges.specs.Spots.{from_found, some_at, spot, spots_behind, spots_between, spots_left};
 ghost use Rattle.place_merges.specs.Sources.{all_left, places_left, wanted_words};
 ghost use Rattle.place_merges.specs.declared.item.Item.{Item};
 ghost use Rattle.place_merges.specs.Examples.{a, b, any, hit};
@@ -58,4 +59,25 @@ pub fn sources()
 pub fn variants_left_out()
     ensures wants { (items : Vec (Item HitPlace) Global) → wanted_words (λ at. at) (record { items = items; lead = 0; counts = false } ∷ []) ≡ [] }
     ensures left { (items : Vec (Item HitPlace) Global) → all_left (λ at. at) (record { items = items; lead = 0; counts = false } ∷ []) ≡ 0 }
+{}
+
+/// Spots come place after place, and at a place by their numbers of words; they end in front of the end.
+pub fn spots()
+    ensures all { spots_between 1 3 ≡ spot 1 1 ∷ spot 1 2 ∷ spot 2 1 ∷ [] }
+    ensures none { spots_between 3 3 ≡ [] }
+    ensures behind { spots_behind 4 (spot 2 1) ≡ spot 2 2 ∷ spot 3 1 ∷ [] }
+    ensures behind_no_words { spots_behind 4 (spot 2 0) ≡ spot 2 1 ∷ spot 2 2 ∷ spot 3 1 ∷ [] }
+    ensures behind_the_last { spots_behind 4 (spot 3 1) ≡ [] }
+{}
+
+/// A variant stands on a spot of as many words, and a spot comes once, however many variants stand there.
+pub fn variants_on_spots()
+    ensures two_words { some_at 8 ((a ∷ b ∷ []) ∷ []) (spot 1 2) ≡ true }
+    ensures of_another_length { some_at 8 ((a ∷ b ∷ []) ∷ []) (spot 1 1) ≡ false }
+    ensures elsewhere { some_at 8 ((a ∷ b ∷ []) ∷ []) (spot 4 2) ≡ false }
+    ensures past_the_end { some_at 7 ((a ∷ b ∷ []) ∷ []) (spot 6 2) ≡ false }
+    ensures left { spots_left 8 ((a ∷ b ∷ []) ∷ (a ∷ []) ∷ []) (spot 1 1) ≡ spot 1 2 ∷ spot 4 1 ∷ spot 6 1 ∷ spot 6 2 ∷ [] }
+    ensures once { spots_left 6 ((a ∷ []) ∷ (a ∷ []) ∷ []) (spot 1 0) ≡ spot 1 1 ∷ spot 4 1 ∷ [] }
+    ensures found { from_found (spots_behind 4) (Some (spot 2 2)) ≡ spot 2 2 ∷ spot 3 1 ∷ [] }
+    ensures none_found { from_found (spots_behind 4) None ≡ [] }
 {}

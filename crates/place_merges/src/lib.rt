@@ -13,12 +13,16 @@
 
 mod counting;
 pub mod examples;
+mod finding;
 mod item;
 pub mod laws;
 mod source;
+mod spot;
 #[cfg(test)]
 mod tests;
 mod variant;
 
 pub use counting::count_places;
+pub use finding::next_spot;
 pub use item::{Item, Variant};
+pub use spot::Spot;
