@@ -3,7 +3,8 @@
 //!
 //! `term_leaf` is one leaf, `doc_index` the index, `term_places` the places of one term. Inside, `parts` is what an index
 //! is made of: `leaves` with `slots`, where each leaf is found by its number, and `terms` with the rows of each. `entry` makes
-//! words into rows; `changes`, `put_rows`, `take_rows` and `groups` put the rows of a leaf in, or take them out.
+//! words into rows, and `numbers` keeps numbers in 32 bits; `changes`, `put_rows`, `take_rows` and `groups` put the
+//! rows of a leaf in, or take them out.
 #![tactic(auto)]
 
 mod changes;

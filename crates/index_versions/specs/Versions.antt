@@ -1,5 +1,5 @@
 -- What the calls on a version speak of: the terms of its documents by number, and where one of them stands in a span.
-use Rattle.std.specs.Prelude.{ℕ, [], List, slice_index_or}
+use Rattle.std.specs.Prelude.{ℕ, Bool, nat_lt, [], List, length, slice_index_or}
 use Rattle.ft_base.specs.declared.hit.Hit.{Hit}
 use Rattle.ft_base.specs.declared.span.Span.{Span}
 use Rattle.text_forms.specs.Forms.{key_of}
@@ -21,6 +21,10 @@ term_at number documents = slice_index_or (terms_of documents) number (entry [] 
 abbrev pub term_hits : ℕ → ℕ → Span → List Numbered → List Hit
 term_hits term id span documents =
     hits_in (breaks_of (document_at id documents)) span (places (term_at term documents).word (document_at id documents))
+
+-- whether the term stands in the document of that number
+abbrev pub stands_in : ℕ → ℕ → List Numbered → Bool
+stands_in term id documents = nat_lt 0 (length (places (term_at term documents).word (document_at id documents)))
 
 -- a hit for each place of the span
 abbrev pub all_hits : ℕ → Span → List Numbered → List Hit

@@ -1,11 +1,13 @@
 //! The definitions on small documents, by computation.
-ghost use Rattle.std.specs.Prelude.{◌≡◌, ◌∷◌, [], codes, Some, None};
+ghost use Rattle.std.specs.Prelude.{◌≡◌, ◌∷◌, [], codes, false, true, Some, None};
+ghost use Rattle.ft_base.specs.Hits.{hit_place};
 ghost use Rattle.text_forms.specs.Forms.{key_of};
 ghost use Rattle.index_cursors.specs.Examples.{hit, span};
 ghost use Rattle.index_meaning.specs.Entries.{entry};
 ghost use Rattle.index_meaning.specs.Documents.{document_of, leaf_of};
 ghost use Rattle.index_meaning.specs.Examples.{greeting, short, bare};
-ghost use Rattle.index_versions.specs.Versions.{all_hits, term_at, term_hits, terms_of};
+ghost use Rattle.index_versions.specs.Terms.{aimed_at, is_in, version_term};
+ghost use Rattle.index_versions.specs.Versions.{all_hits, stands_in, term_at, term_hits, terms_of};
 ghost use Rattle.index_versions.specs.steps.Held.{document_under, documents_with, held_at, ids_of_leaf, listed, listed_ids};
 ghost use Rattle.index_versions.specs.steps.Held.{nothing_held, numbers, place_behind, word_of};
 ghost use Rattle.index_versions.specs.steps.Exchange.{exchanged, in_back, in_front, of_number};
@@ -21,6 +23,16 @@ pub fn terms_of_documents()
     ensures outside { term_hits 0 3 (span 1 1) (short ∷ bare ∷ []) ≡ [] }
     ensures another_document { term_hits 0 5 (span 1 2) (short ∷ bare ∷ []) ≡ [] }
     ensures all_places { all_hits 7 (span 2 4) (short ∷ greeting ∷ []) ≡ hit 2 1 1 ∷ hit 3 1 1 ∷ [] }
+{}
+
+/// A term stands in a document where it has a place; in one that isn't there it doesn't. With its version it says where a cursor is aimed.
+pub fn terms_in_documents()
+    ensures there { stands_in 0 3 (short ∷ bare ∷ []) ≡ true }
+    ensures not_there { stands_in 0 5 (short ∷ bare ∷ []) ≡ false }
+    ensures no_document { stands_in 0 9 (short ∷ bare ∷ []) ≡ false }
+    ensures of_its_version { is_in 3 (version_term (short ∷ bare ∷ []) 0) ≡ true }
+    ensures elsewhere { is_in 5 (version_term (short ∷ bare ∷ []) 0) ≡ false }
+    ensures aimed { aimed_at 3 (span 1 2) (version_term (short ∷ bare ∷ []) 0) ≡ hit_place (hit 1 1 1 ∷ []) 0 }
 {}
 
 /// An id names a word, and a document over ids means what its ids name.

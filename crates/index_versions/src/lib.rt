@@ -2,10 +2,10 @@
 //! clone, and neither sees a change to the other.
 //!
 //! `version` is the type with its terms, `reading` has the calls that read a document, `changing` those that change one.
-//! `word_leaf` is a text that comes in. Inside, `parts` is what a version is made of, `held` one of its documents,
-//! `documents` finds one, and `terms` has the terms and their ids; `words` makes words into ids, `hints` says where to look
-//! for one first, `leaves` puts leaves in and takes them out, `exchange` puts a document in the place of another, and `changes` keeps the dictionary and the
-//! counts with it.
+//! `term_source` and `term_sources` aim cursors at the hits of terms, which `term_cursor` has. `word_leaf` is a text that comes in. Inside,
+//! `parts` is what a version is made of, `held` one of its documents, `documents` finds one, and `terms` has the terms and
+//! their ids; `words` makes words into ids, `hints` says where to look for one first, `leaves` puts leaves in and takes them
+//! out, `exchange` puts a document in the place of another, and `changes` keeps the dictionary and the counts with it.
 #![tactic(auto)]
 
 mod changes;
@@ -18,6 +18,9 @@ mod hints;
 mod leaves;
 mod parts;
 mod reading;
+mod term_cursor;
+mod term_source;
+mod term_sources;
 mod terms;
 #[cfg(test)]
 mod tests;
@@ -27,7 +30,10 @@ mod words;
 
 pub use hints::WordHints;
 pub use index_cursors::{BreakView, Cursor, Every};
+pub use term_cursor::TermCursor;
 pub use term_dict::Term;
+pub use term_source::TermSource;
+pub use term_sources::TermSources;
 pub use version::Version;
 pub use word_leaf::WordLeaf;
 

@@ -3,13 +3,15 @@ ghost use Rattle.ft_base.specs.Hits.{hit_place};
 ghost use Rattle.ft_base.specs.Places.{is_ascending};
 ghost use Rattle.index_meaning.specs.Documents.{breaks_of, document_at, document_ids, has_document, has_leaf, leaf_ids, token_count};
 ghost use Rattle.index_meaning.specs.Postings.{places};
-ghost use Rattle.index_versions.specs.Versions.{all_hits, term_at, term_hits, terms_of};
+ghost use Rattle.index_versions.specs.Versions.{all_hits, stands_in, term_at, term_hits, terms_of};
+ghost use Rattle.index_versions.specs.steps.Found.{IsFoundTerm};
 ghost use Rattle.index_versions.specs.steps.Held.{document_under, held_at};
 ghost use Rattle.index_versions.specs.steps.Sound.{IsSound, meaning};
 
 use crate::documents::{document, has_document};
 use crate::held::HeldDocument;
 use crate::parts::Parts;
+use crate::term_source::FoundTerm;
 use crate::terms::term_id;
 use crate::version::Version;
 use doc_index::TermPlaces;
@@ -60,6 +62,18 @@ impl Version {
         BreakView::new(held(&self.parts, doc).breaks())
     }
 
+    /// Whether the term of that number, counted from 0, stands in the document. In one that isn't there no term does.
+    pub fn has_term(&self, doc: DocId, term: usize) -> bool
+        requires { term < length (terms_of self.now) }
+        ensures { result ≡ stands_in term doc.0 self.now }
+    {
+        if !self.has_doc(doc) {
+            return false;
+        }
+        let (places, _breaks) = self.places(term, doc);
+        places.len() > 0
+    }
+
     /// A cursor over the places of the term of that number in a span of the document, at the first of them. Counts one
     /// step, for which it searches the rows of the term by halves.
     pub fn cursor<'v, L: Ledger>(
@@ -76,25 +90,6 @@ impl Version {
     {
         let (places, breaks) = self.places(term, doc);
         Cursor::new(places, breaks, span, steps)
-    }
-
-    /// Makes the cursor the one that `cursor` makes, and counts one step. It searches from the place at which it stands,
-    /// so that a later span of the same document and term is found at once.
-    pub fn aim_cursor<'v, L: Ledger>(
-        &'v self,
-        cursor: &mut Cursor<'v>,
-        term: usize,
-        doc: DocId,
-        span: Span,
-        steps: &mut Steps<L>,
-    )
-        requires term { term < length (terms_of self.now) }
-        requires there { has_document doc.0 self.now ≡ true }
-        ensures cursor { cursor.new ≡ hit_place (term_hits term doc.0 span self.now) 0 }
-        ensures counted { steps.new ≡ steps.old + 1 }
-    {
-        let (places, breaks) = self.places(term, doc);
-        cursor.aim(places, breaks, span, steps);
     }
 
     /// All places of a span of the document, at the first of them. Counts one step.
@@ -116,6 +111,24 @@ impl Version {
         let held = held(&self.parts, doc);
         let places = held.index().places(term_id(&self.parts, term));
         (places, BreakView::new(held.breaks()))
+    }
+
+    /// The term of that number and the document, looked up.
+    pub(crate) fn find(&self, term: usize, doc: DocId) -> FoundTerm<'_>
+        requires term { term < length (terms_of self.now) }
+        requires there { has_document doc.0 self.now ≡ true }
+        ensures doc { result.doc ≡ doc }
+        ensures found { IsFoundTerm self.now term result }
+    {
+        let held = held(&self.parts, doc);
+        let id = term_id(&self.parts, term);
+        let stands = held.index().places(id).len() > 0;
+        FoundTerm {
+            doc,
+            held,
+            id,
+            stands,
+        }
     }
 }
 

@@ -3,7 +3,7 @@
 ghost use Rattle.std.specs.Prelude.{◌≡◌, ◌<◌, ◌∷◌, [], IfOk};
 ghost use Rattle.index_meaning.specs.Documents.{leaf_ids};
 
-use crate::{Version, WordHints, WordLeaf, WordLeaves};
+use crate::{TermCursor, TermSource, Version, WordHints, WordLeaf, WordLeaves};
 use ft_base::{Breaks, DocId, Hits, LeafId, Memory, Places, Span, Steps};
 use std::alloc::Global;
 use std::marker::Brand;
@@ -153,14 +153,23 @@ fn stands_at<L: Ledger>(
         return false;
     }
     let whole = Span { from: 1, to: 3 };
-    let mut cursor = version.cursor(number, doc, whole, steps);
+    let cursor = version.cursor(number, doc, whole, steps);
     let first = match cursor.here() {
         Some(hit) => hit.from,
         None => 0,
     };
     let behind = Span { from: 3, to: 3 };
-    version.aim_cursor(&mut cursor, number, doc, behind, steps);
-    if cursor.here().is_some() {
+    let mut source = TermSource::new(version, number);
+    let mut aimed = TermCursor::new();
+    source.aim(&mut aimed, doc, whole, steps);
+    if aimed.here().is_none() {
+        return false;
+    }
+    source.aim(&mut aimed, doc, behind, steps);
+    if aimed.here().is_some() {
+        return false;
+    }
+    if !source.stands_in(doc) {
         return false;
     }
     first == place

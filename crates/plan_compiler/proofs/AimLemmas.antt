@@ -1,23 +1,32 @@
 -- Variants whose cursors were aimed, one after the other.
-use Rattle.std.proofs.Common.{◌≡◌, ◌≤◌, ◌<◌, ◌+◌, ◌*◌, ◌++◌, ◌||◌, ℕ, Bool, true, false, cond, ◌&&◌, List, [], ◌∷◌, map, length, get_or, set, take, refl, sym, ap, ◌∙◌, arith}
-use Rattle.std.specs.List.{list_any, sum_by}
+use Rattle.std.proofs.Common.{◌≡◌, ◌≤◌, ◌<◌, ◌+◌, ◌*◌, ◌++◌, ◌||◌, ℕ, suc, subst, Bool, true, false, cond, ◌&&◌, List, [], ◌∷◌, map, length, get_or, set, take, refl, sym, ap, ◌∙◌, arith}
+use Rattle.std.specs.List.{All, list_any, sum_by}
 use Rattle.std.proofs.lemmas.List.{length-map, map_more, take_more_set}
 use Rattle.std.proofs.lemmas.List.Folds.{list_any-append}
 use Rattle.std.proofs.lemmas.List.Sums.{sum_by_push, sum_by_more}
-use Rattle.ft_base.specs.Hits.{HitPlace}
+use Rattle.ft_base.specs.Hits.{HitPlace, hit_place}
 use Rattle.ft_base.specs.declared.hit.Hit.{Hit}
+use Rattle.index_meaning.specs.Documents.{Numbered, has_document}
+use Rattle.index_versions.specs.Terms.{VersionTerm, aimed_at}
+use Rattle.index_versions.specs.Versions.{term_hits}
 use Rattle.place_merges.specs.Places.{Wanted, any_word, one_of, stands_before, some_stands}
 use Rattle.place_merges.specs.Sources.{all_left, hits_left, places_left, variant_left, wanted}
 use Rattle.place_merges.specs.declared.item.Item.{Item}
 use Rattle.place_merges.specs.declared.item.Item.TheVariants as Merged
 use Rattle.place_merges.specs.declared.item.Variant.{Variant}
 use Rattle.place_merges.specs.steps.Searching.{one_stands, variant_stands}
-use Rattle.plan_compiler.specs.steps.AskedPlaces.{AreAimed, IsAimed, hits_at, wanted_at}
+use Rattle.plan_compiler.specs.steps.AskedPlaces.{AreAimed, IsAimed, aimed, hits_at, wanted_at}
+use Rattle.plan_compiler.specs.steps.ChosenTerms.{numbers_of}
 use Rattle.plan_compiler.specs.steps.RunCosts.{hit_count, moves_for, term_count}
 use Rattle.plan_compiler.specs.declared.asked_place.AskedPlace.{AskedPlace}
 use Rattle.plan_compiler.specs.declared.run_node.WordTerms.{WordTerms}
 use Rattle.plan_compiler.specs.declared.run_node.WordTerms.TheVariants as Terms
 use Rattle.plan_compiler.proofs.SumLemmas.{sum_over, sum_with_twice}
+
+-- a document of the version is one of each term's version
+pub all_there : (version : List Numbered) (doc : ℕ) (sources : List VersionTerm) → has_document doc version ≡ true → All (λ source. source.version ≡ version) sources
+    → All (λ source. has_document doc source.version ≡ true) sources
+all_there version doc sources there own = λ k d h. subst (λ v. has_document doc v ≡ true) (sym (own k d h)) there
 
 -- ---- the hits that items have
 
@@ -33,9 +42,16 @@ item_left (Merged.Of cursors) = sum_over length (λ (cursor : HitPlace). length 
 module _ (place : AskedPlace) where
   hits_of : (word : WordTerms) → places_of (wanted_at place word) ≡ hit_count place word
   hits_of Terms.Any = refl
-  hits_of (Terms.Of numbers) =
+  hits_of (Terms.Of sources) =
       sum_over length (λ number. length (hits_at place number)) (λ number. map (λ (hit : Hit). hit.from) (hits_at place number))
-      (λ number. length-map (hits_at place number) (λ (hit : Hit). hit.from)) numbers
+      (λ number. length-map (hits_at place number) (λ (hit : Hit). hit.from)) (numbers_of sources)
+
+  -- terms of the version have the hits of their numbers
+  pub aimed_are : (sources : List VersionTerm) → All (λ source. source.version ≡ place.version.now) sources
+      → map (aimed_at place.doc.0 place.span) sources ≡ map (aimed place) (numbers_of sources)
+  aimed_are [] own = refl
+  aimed_are (source ∷ sources) own =
+      λ i. hit_place (term_hits source.term place.doc.0 place.span (own 0 source (omega arith) i)) 0 ∷ aimed_are sources (λ k d h. own (suc k) d (omega arith)) i
 
   -- cursors that were aimed have the hits of their terms
   pub items_left : (items : List (Item HitPlace)) (terms : List WordTerms) → map (wanted (λ cursor. cursor)) items ≡ map (wanted_at place) terms

@@ -17,7 +17,7 @@ use Rattle.place_merges.specs.declared.item.Item.TheVariants as Merged
 use Rattle.place_merges.specs.declared.item.Variant.{Variant}
 use Rattle.place_merges.proofs.CountLemmas.{as_wanted}
 use Rattle.place_merges.proofs.PlacesLaw.{places_law}
-use Rattle.plan_compiler.specs.steps.ChosenTerms.{is_among}
+use Rattle.plan_compiler.specs.steps.ChosenTerms.{is_among, numbers_of}
 use Rattle.plan_compiler.specs.steps.RunShapes.{size_of, sizes_of}
 use Rattle.plan_compiler.specs.steps.RunTruth.{is_wanted}
 use Rattle.plan_compiler.specs.steps.AskedPlaces.{AreAimed, hits_at, text_at, wanted_at}
@@ -101,7 +101,7 @@ module _ (place : AskedPlace) where
       → fits (place.span.from + k) (wanted_at place item) ≡ is_wanted place.version.now item (get_or (text_at place) k word)
   unfolding is_wanted
   fits_at_word Terms.Any k word h = refl
-  fits_at_word (Terms.Of numbers) k word h = some_at_word numbers k word h
+  fits_at_word (Terms.Of sources) k word h = some_at_word (numbers_of sources) k word h
 
   pub group_law : (terms : List (List WordTerms)) → places_between place.span.from place.span.to (map (map (wanted_at place)) terms) ≡ places (is_wanted place.version.now) terms (text_at place)
   group_law terms =

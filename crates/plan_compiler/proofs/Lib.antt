@@ -20,6 +20,7 @@ mod AimLemmas
 mod TermCosts
 mod OpenedLemmas
 mod RunLaw
+mod RuledOutLaw
 mod TellingLemmas
 mod ChoosingLemmas
 mod TreeLemmas

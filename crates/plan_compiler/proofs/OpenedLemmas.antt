@@ -10,6 +10,7 @@ use Rattle.all_matches.specs.Compositional.{enough}
 use Rattle.all_matches.specs.Counting.{begins_as, places}
 use Rattle.all_matches.proofs.ListTests.{list_any-map}
 use Rattle.index_meaning.specs.Documents.{Numbered}
+use Rattle.index_versions.specs.Terms.{VersionTerm, version_term}
 use Rattle.index_versions.specs.Versions.{term_at, terms_of}
 use Rattle.match_options.specs.WordTests as tests
 use Rattle.match_options.specs.declared.word_forms.Forms.{Forms}
@@ -17,7 +18,7 @@ use Rattle.match_options.specs.declared.word_matching.WordTest.{WordTest}
 use Rattle.match_options.specs.declared.word_matching.WordTest.TheVariants as The
 use Rattle.word_lists.specs.Stems.{Stem}
 use Rattle.plan_compiler.specs.steps.AskedKeys.{asks_nothing, forms_pass}
-use Rattle.plan_compiler.specs.steps.ChosenTerms.{AreKnown, IsKnown, terms_for}
+use Rattle.plan_compiler.specs.steps.ChosenTerms.{AreKnown, IsKnown, is_among, terms_for}
 use Rattle.plan_compiler.specs.ItemTests.{passes}
 use Rattle.plan_compiler.specs.NodeCosts.{node_cost}
 use Rattle.plan_compiler.specs.NodeCosts as node
@@ -43,6 +44,7 @@ use Rattle.plan_compiler.specs.declared.text_word.TextWord.{TextWord}
 use Rattle.plan_compiler.specs.declared.words_plan.WordsPlan.{WordsPlan}
 use Rattle.plan_compiler.proofs.NodeViews.{truth-Words, truth-Or, truth-And, truth-Not, cost-Words, cost-Or, cost-And, cost-Not}
 use Rattle.plan_compiler.proofs.SumLemmas.{sum_over_le}
+use Rattle.plan_compiler.proofs.TermLaws.{numbers_again}
 use Rattle.plan_compiler.proofs.TreeLemmas.{costs_are}
 use Rattle.plan_compiler.proofs.RunViews.{shape-Words, shape-Or, shape-And, shape-Not}
 
@@ -94,15 +96,21 @@ unfolding passes
 any_passes (Test.ByForms test) w h = any_form_passes test w.forms h
 any_passes (Test.ByStem stem case) w h = absurd (true≢false (sym h))
 
+-- terms that pass a test are terms of the version
+pub chosen_there : (test : List ℕ → Bool) (version : List Numbered) → All (λ number. number < length (terms_of version)) (terms_for test version)
+chosen_there test version =
+    All-filter (λ number. test (term_at number version).word) (λ number. number < length (terms_of version)) (range_with_len 0 (length (terms_of version)))
+    (below_end (length (terms_of version)))
+
 module _ (looks : Looks) (stems : List Stem) (version : List Numbered) where
   -- ---- what opened words say
 
   item_says : (word : List ℕ) → IsKnown version word → (test : ItemTest) → is_wanted version (opened_item looks stems version test) word ≡ passes test (word_as looks stems word)
   unfolding is_wanted
   item_says word known test =
-      elim (asks_nothing test) as (λ b. asks_nothing test ≡ b → is_wanted version (cond b Terms.Any (Terms.Of (terms_for (word_test looks stems test) version))) word ≡ passes test (word_as looks stems word)) [
+      elim (asks_nothing test) as (λ b. asks_nothing test ≡ b → is_wanted version (cond b Terms.Any (Terms.Of (map (version_term version) (terms_for (word_test looks stems test) version)))) word ≡ passes test (word_as looks stems word)) [
         | true ↦ λ h. sym (any_passes test (word_as looks stems word) h)
-        | false ↦ λ h. known (word_test looks stems test)
+        | false ↦ λ h. ap (λ ns. is_among version ns word) (numbers_again version (terms_for (word_test looks stems test) version)) ∙ known (word_test looks stems test)
       ] refl
 
   all_say : (text : List (List ℕ)) → AreKnown version text → All (Agrees (is_wanted version) passes (opened_item looks stems version) (word_as looks stems)) text
@@ -125,9 +133,10 @@ module _ (looks : Looks) (stems : List Stem) (version : List Numbered) where
 
   item_there : (test : ItemTest) → AreThere version (opened_item looks stems version test)
   item_there test =
-      elim (asks_nothing test) as (λ b. AreThere version (cond b Terms.Any (Terms.Of (terms_for (word_test looks stems test) version)))) [
+      elim (asks_nothing test) as (λ b. AreThere version (cond b Terms.Any (Terms.Of (map (version_term version) (terms_for (word_test looks stems test) version))))) [
         | true ↦ tt
-        | false ↦ All-filter (λ number. word_test looks stems test (term_at number version).word) (λ number. number < length (terms_of version)) (range_with_len 0 (length (terms_of version))) (below_end (length (terms_of version)))
+        | false ↦ All-map (λ (source : VersionTerm). source.version ≡ version) (version_term version) (terms_for (word_test looks stems test) version)
+            (every (λ (number : ℕ). version ≡ version) (λ number. refl) (terms_for (word_test looks stems test) version))
       ]
 
   group_fits : (variants : List (List ItemTest)) → IsGroup version (opened_group looks stems version variants)

@@ -3,7 +3,7 @@ use Rattle.std.proofs.Common.{◌≡◌, sym, ap, subst, ◌∙◌, ℕ, ◌+◌
 use Rattle.std.specs.List.{All}
 use Rattle.std.proofs.Math.ListN.{get_or-map}
 use Rattle.std.proofs.Math.Seq.{map-set_same}
-use Rattle.std.proofs.lemmas.List.{length-map, map_more, map_push, take_more_set, get_or-map as get_or_map}
+use Rattle.std.proofs.lemmas.List.{length-map, map_more, map_push, set-get_or, take_more_set, get_or-map as get_or_map}
 use Rattle.std.proofs.lemmas.List.Elements.{All-get_or}
 
 module _ {A B : Type 0} (f : A → B) where
@@ -35,6 +35,10 @@ module _ {A B C : Type 0} (f : A → B) (g : C → B) where
       ∙ (λ j. before j ++ is j ∷ [])
       ∙ ap (λ (c : C). map g (take i wanted) ++ g c ∷ []) told
       ∙ sym (map_more g wanted i t within)
+
+-- a part that stays as it is
+pub set_kept : {A : Type 0} (now views : List A) (i : ℕ) (x y : A) → now ≡ views → x ≡ get_or now i x → y ≡ x → set now i y ≡ views
+set_kept now views i x y same is kept = ap (set now i) (kept ∙ is) ∙ set-get_or now i x ∙ same
 
 -- lists of two kinds that look the same
 module _ {A B C : Type 0} (f : A → B) (g : C → B) where

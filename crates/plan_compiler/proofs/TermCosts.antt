@@ -14,6 +14,7 @@ use Rattle.index_cursors.specs.SpanHits.{is_inside, word_hit}
 use Rattle.index_meaning.specs.Documents.{Numbered, breaks_of, document_at, token_count, words_of}
 use Rattle.index_meaning.specs.Entries.{Entry, entry, entry_cmp, is_below, is_sorted}
 use Rattle.index_meaning.specs.Postings.{places, places_from, same_word}
+use Rattle.index_versions.specs.Terms.{version_term}
 use Rattle.index_versions.specs.Versions.{term_at, term_hits, terms_of}
 use Rattle.index_versions.proofs.PlacesLemmas.{same_word_is}
 use Rattle.term_dict.proofs.OrderLemmas.{entry_total, equal_turned}
@@ -31,7 +32,7 @@ use Rattle.plan_compiler.specs.declared.item_matching.ItemTest.{ItemTest}
 use Rattle.plan_compiler.specs.declared.looks.Looks.{Looks}
 use Rattle.plan_compiler.specs.declared.run_node.WordTerms.TheVariants as Terms
 use Rattle.plan_compiler.proofs.SumLemmas.{sum_of_two}
-use Rattle.plan_compiler.proofs.TermLaws.{term_keyed, terms_sorted}
+use Rattle.plan_compiler.proofs.TermLaws.{numbers_again, term_keyed, terms_sorted}
 
 -- ---- the hits of a term
 
@@ -212,13 +213,15 @@ module _ (version : List Numbered) (test : List ℕ → Bool) where
 pub item_law : (place : AskedPlace) (looks : Looks) (stems : List Stem) (test : ItemTest)
     → moves_for place (opened_item looks stems place.version.now test) ≤ compiled_price looks stems (terms_of place.version.now) (text_at place) test
 item_law place looks stems test =
-    elim (asks_nothing test) as (λ b. moves_for place (cond b Terms.Any (Terms.Of numbers)) ≤ compiled_price looks stems (terms_of version) text test) [
+    elim (asks_nothing test) as (λ b. moves_for place (cond b Terms.Any (Terms.Of (map (version_term version) numbers))) ≤ compiled_price looks stems (terms_of version) text test) [
       | true ↦ omega arith
       | false ↦
           let terms = terms_count version passes in
           let hits = sum_by-le-sum_by (λ number. length (hits_at place number)) (λ number. count_by (λ word. same_word (term_at number version).word word) text) numbers few in
           let words = words_count version passes numbers text (one_term version passes) in
-          omega (arith, terms, hits, words)
+          let many = length-map numbers (version_term version) in
+          let same = ap (sum_by (λ number. length (hits_at place number))) (numbers_again version numbers) in
+          omega (arith, terms, hits, words, many, same)
     ]
   where
     version : List Numbered

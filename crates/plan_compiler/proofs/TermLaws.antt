@@ -23,15 +23,21 @@ use Rattle.term_dict.specs.declared.places.Place.TheVariants.{AtKey, BehindKey}
 use Rattle.term_dict.proofs.OrderLemmas.{equal_turned}
 use Rattle.term_dict.proofs.RankLemmas.{rank_above, rank_upto, rank_within, upto_key}
 use Rattle.index_cursors.specs.SpanHits.{is_inside, word_hit}
+use Rattle.index_versions.specs.Terms.{version_term}
 use Rattle.index_versions.specs.Versions.{term_at, term_hits, terms_of}
 use Rattle.index_versions.proofs.EntryLemmas.{equal_is, equal_same}
 use Rattle.index_versions.proofs.NamingLemmas.{has_with_entries}
 use Rattle.index_versions.proofs.PlacesLemmas.{same_word_is, same_word_same}
 use Rattle.index_versions.proofs.TermsLemmas.{sorted_all}
-use Rattle.plan_compiler.specs.steps.ChosenTerms.{is_among, numbers_in, passing, terms_for}
+use Rattle.plan_compiler.specs.steps.ChosenTerms.{is_among, numbers_in, numbers_of, passing, terms_for}
 use Rattle.plan_compiler.specs.RunMeaning.{words_at}
 
 -- ---- the terms of a version
+
+-- the numbers with which terms were made
+pub numbers_again : (version : List Numbered) (numbers : List ℕ) → numbers_of (map (version_term version) numbers) ≡ numbers
+numbers_again version [] = refl
+numbers_again version (number ∷ numbers) = λ i. number ∷ numbers_again version numbers i
 
 -- the words of all documents
 abbrev all_words : List Numbered → List (List ℕ)

@@ -34,6 +34,8 @@ module _ (looks : Looks) (lists : NamedLists) (options : Options) where
   -- the same of lists of both
   pub record CompileAll (nodes : List Node) (parts : List Selection) : Type 0 where
     pub says : (tokens : List Token)
-        → map (λ node. truth node (words_of_tokens looks lists.stems tokens)) nodes ≡ map (λ part. sat_under (lexicon lists) options (form part) tokens) parts
+        → map (λ node. truth node (words_of_tokens looks lists.stems tokens)) nodes
+        ≡ map (λ part. sat_under (lexicon lists) options (form part) tokens) parts
     pub price : (terms : List Entry) → (text : List (List ℕ))
-        → sum_by (node_cost (compiled_price looks lists.stems terms text)) nodes ≤ sum_by (λ part. price_under (lexicon lists) options terms text (form part)) parts
+        → sum_by (node_cost (compiled_price looks lists.stems terms text)) nodes
+        ≤ sum_by (λ part. price_under (lexicon lists) options terms text (form part)) parts

@@ -3,8 +3,8 @@ pub mod ChosenTerms
 pub mod AskedKeys
 pub mod RunShapes
 pub mod RunTruth
+pub mod RuledOut
 pub mod OpenedWords
-pub mod CursorPlace
 pub mod AskedPlaces
 pub mod RunCosts
 pub mod Telling

@@ -9,7 +9,8 @@ ghost use Rattle.ft_base.specs.declared.options.ThesaurusChoice.TheVariants as T
 ghost use Rattle.ft_base.specs.declared.range.Range.TheVariants as R;
 ghost use Rattle.ft_base.specs.declared.words.Mode.TheVariants as M;
 ghost use Rattle.ft_base.specs.Selection.{Form, filtered, mild_not, not_of, with_options, words};
-ghost use Rattle.all_matches.specs.Examples.{plain, quoted, span, stemmed, stopped, twice_a, two_and, two_or, value, with_thesaurus, word_a, word_b, word_c, word_x};
+ghost use Rattle.all_matches.specs.Examples.{plain, quoted, span, stemmed, stopped, twice_a, two_and, two_or};
+ghost use Rattle.all_matches.specs.Examples.{value, with_thesaurus, word_a, word_b, word_c, word_x};
 ghost use Rattle.index_meaning.specs.Examples.{bare, greeting, short};
 ghost use Rattle.plan_compiler.specs.Lexicon.{lexicon};
 ghost use Rattle.plan_compiler.specs.NamedLists.{NamedLists};

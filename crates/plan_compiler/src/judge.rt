@@ -1,7 +1,8 @@
 //! Who says whether the words of an element satisfy a selection.
 
-ghost use Rattle.std.specs.Prelude.{◌≡◌, ◌≤◌, ◌+◌, List, map, true};
+ghost use Rattle.std.specs.Prelude.{◌≡◌, ◌≤◌, ◌+◌, List, map, true, false};
 ghost use Rattle.ft_base.specs.Selection.{Form};
+ghost use Rattle.ft_base.specs.declared.span.Span.{Span};
 ghost use Rattle.ft_base.specs.declared.token.Token.{Token};
 ghost use Rattle.all_matches.specs.Meaning.{sat};
 ghost use Rattle.index_meaning.specs.Documents.{document_at, has_document, token_count};
@@ -37,6 +38,14 @@ pub trait Judge {
         ensures same { run.new ≡ run.old }
         ensures grown { moves.old ≤ moves.new }
         ensures price { moves.new ≤ moves.old + price_at run.old doc.0 span };
+
+    /// Whether it is known at once that `judge` says of no span of the document that its words satisfy the selection of the run.
+    /// `false` says nothing. It moves no cursor and takes no memory.
+    fn rules_out(&self, run: &Run<'_>, doc: DocId) -> bool
+        requires there { has_document doc.0 run.now.version ≡ true }
+        ensures none { result ≡ true → (span : Span) → (1 ≤ span.from) × (span.from ≤ span.to) × (span.to ≤ token_count (document_at doc.0 run.now.version) + 1)
+            → (tokens : List Token) → map (λ token. token.word) tokens ≡ words_at span (document_at doc.0 run.now.version)
+            → says run.now.form run.now.lists tokens ≡ false };
 }
 
 /// The judge that asks the run itself. It says what the standard's definitions say.
@@ -56,6 +65,10 @@ impl Judge for Direct {
         moves: &mut Steps<L>,
     ) -> bool {
         run.test(doc, span, moves)
+    }
+
+    fn rules_out(&self, run: &Run<'_>, doc: DocId) -> bool {
+        run.rules_out(doc)
     }
 }
 

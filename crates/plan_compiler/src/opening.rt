@@ -1,9 +1,12 @@
 //! Plans opened over a version of the index.
 
-ghost use Rattle.std.specs.Prelude.{◌≡◌, map, length, IfOk};
+ghost use Rattle.std.specs.Prelude.{◌≡◌, ◌<◌, map, length, IfOk};
+ghost use Rattle.std.specs.List.{All};
+ghost use Rattle.index_versions.specs.Terms.{version_term};
+ghost use Rattle.index_versions.specs.Versions.{terms_of};
 ghost use Rattle.plan_compiler.specs.steps.AskedKeys as keys;
 ghost use Rattle.plan_compiler.specs.steps.OpenedWords as spec;
-ghost use Rattle.plan_compiler.specs.steps.RunShapes.{group_shape, phrase_shape, shape, size_of, sizes_of, wanted_size, words_shape};
+ghost use Rattle.plan_compiler.specs.steps.RunShapes.{group_shape, phrase_shape, shape, size_of, sizes_of, variant_words, wanted_size, words_shape};
 
 use crate::choosing::{Opening, terms_for};
 use crate::item_matching::ItemTest;
@@ -11,15 +14,15 @@ use crate::node::Node;
 use crate::phrase_plan::PhrasePlan;
 use crate::rarity::rarest;
 use crate::run_node::{RunGroup, RunNode, RunPhrase, RunWords, WordTerms};
-use crate::term_cursor::TermCursor;
 use crate::words_plan::WordsPlan;
 use ft_base::{Items, Memory};
+use index_versions::{TermCursor, TermSource, TermSources};
 use match_options::WordTest;
 use place_merges::{Item, Variant};
 
 /// The compiled selection, opened.
 #[cycle(open)]
-pub(crate) fn open_node<'v>(opening: &Opening<'_>, node: &Node) -> Result<RunNode<'v>, Memory>
+pub(crate) fn open_node<'v>(opening: &Opening<'v>, node: &Node) -> Result<RunNode<'v>, Memory>
     ensures { IfOk result (λ run. spec.IsOpened opening.now.looks opening.now.lists.now.stems opening.now.version.now (shape run) node.now) }
 {
     match node {
@@ -31,7 +34,7 @@ pub(crate) fn open_node<'v>(opening: &Opening<'_>, node: &Node) -> Result<RunNod
 }
 
 #[cycle(open)]
-fn open_boxed<'v>(opening: &Opening<'_>, node: &Box<Node>) -> Result<Box<RunNode<'v>>, Memory>
+fn open_boxed<'v>(opening: &Opening<'v>, node: &Box<Node>) -> Result<Box<RunNode<'v>>, Memory>
     ensures { IfOk result (λ run. spec.IsOpened opening.now.looks opening.now.lists.now.stems opening.now.version.now (shape run.value) node.now.value) }
 {
     let run = open_node(opening, node)?;
@@ -39,7 +42,7 @@ fn open_boxed<'v>(opening: &Opening<'_>, node: &Box<Node>) -> Result<Box<RunNode
 }
 
 #[cycle(open)]
-fn open_all<'v>(opening: &Opening<'_>, parts: &Items<Node>) -> Result<Vec<RunNode<'v>>, Memory>
+fn open_all<'v>(opening: &Opening<'v>, parts: &Items<Node>) -> Result<Vec<RunNode<'v>>, Memory>
     ensures { IfOk result (λ runs. spec.AreOpened opening.now.looks opening.now.lists.now.stems opening.now.version.now (map shape runs.items) parts.now) }
 {
     let mut runs = Vec::new(opening.alloc);
@@ -49,7 +52,7 @@ fn open_all<'v>(opening: &Opening<'_>, parts: &Items<Node>) -> Result<Vec<RunNod
     Ok(runs)
 }
 
-fn open_words<'v>(opening: &Opening<'_>, plan: &WordsPlan) -> Result<RunWords<'v>, Memory>
+fn open_words<'v>(opening: &Opening<'v>, plan: &WordsPlan) -> Result<RunWords<'v>, Memory>
     ensures { IfOk result (λ run. words_shape run ≡ spec.opened_words opening.now.looks opening.now.lists.now.stems opening.now.version.now plan.now) }
 {
     let phrases = open_phrases(opening, plan.phrases.as_slice())?;
@@ -61,7 +64,7 @@ fn open_words<'v>(opening: &Opening<'_>, plan: &WordsPlan) -> Result<RunWords<'v
 }
 
 fn open_phrases<'v>(
-    opening: &Opening<'_>,
+    opening: &Opening<'v>,
     plans: &[PhrasePlan],
 ) -> Result<Vec<RunPhrase<'v>>, Memory>
     ensures { IfOk result (λ runs. map phrase_shape runs.items ≡
@@ -76,7 +79,7 @@ fn open_phrases<'v>(
 }
 
 fn open_groups<'v>(
-    opening: &Opening<'_>,
+    opening: &Opening<'v>,
     groups: &[Items<Items<ItemTest>>],
 ) -> Result<Vec<RunGroup<'v>>, Memory>
     ensures { IfOk result (λ runs. map group_shape runs.items ≡
@@ -85,42 +88,57 @@ fn open_groups<'v>(
     let mut runs = Vec::new(opening.alloc);
     for group in groups {
         let terms = open_variants(opening, group.as_slice())?;
-        let variants = cursors_of_variants(opening, terms.as_slice())?;
+        let variants = cursors_of_variants(opening, &terms)?;
         runs.push(RunGroup { terms, variants })?;
     }
     Ok(runs)
 }
 
-fn open_variants(
-    opening: &Opening<'_>,
+fn open_variants<'v>(
+    opening: &Opening<'v>,
     variants: &[Items<ItemTest>],
-) -> Result<Items<Items<WordTerms>>, Memory>
-    ensures { IfOk result (λ terms. terms ≡ map (spec.opened_variant opening.now.looks opening.now.lists.now.stems opening.now.version.now) variants.now) }
+) -> Result<Vec<Vec<WordTerms<'v>>>, Memory>
+    ensures { IfOk result (λ terms. map variant_words terms.items ≡
+        map (spec.opened_variant opening.now.looks opening.now.lists.now.stems opening.now.version.now) variants.now) }
 {
-    let mut terms = Items::new(opening.alloc);
+    let mut terms = Vec::new(opening.alloc);
     for variant in variants {
         terms.push(open_items(opening, variant.as_slice())?)?;
     }
     Ok(terms)
 }
 
-fn open_items(opening: &Opening<'_>, tests: &[ItemTest]) -> Result<Items<WordTerms>, Memory>
-    ensures { IfOk result (λ terms. terms ≡ map (spec.opened_item opening.now.looks opening.now.lists.now.stems opening.now.version.now) tests.now) }
+fn open_items<'v>(opening: &Opening<'v>, tests: &[ItemTest]) -> Result<Vec<WordTerms<'v>>, Memory>
+    ensures { IfOk result (λ terms. terms.items ≡ map (spec.opened_item opening.now.looks opening.now.lists.now.stems opening.now.version.now) tests.now) }
 {
-    let mut terms = Items::new(opening.alloc);
+    let mut terms = Vec::new(opening.alloc);
     for test in tests {
         terms.push(open_item(opening, test)?)?;
     }
     Ok(terms)
 }
 
-fn open_item(opening: &Opening<'_>, test: &ItemTest) -> Result<WordTerms, Memory>
+fn open_item<'v>(opening: &Opening<'v>, test: &ItemTest) -> Result<WordTerms<'v>, Memory>
     ensures { IfOk result (λ terms. terms ≡ spec.opened_item opening.now.looks opening.now.lists.now.stems opening.now.version.now test.now) }
 {
     if asks_nothing(test) {
         return Ok(WordTerms::Any);
     }
-    Ok(WordTerms::Of(terms_for(opening, test)?))
+    let numbers = terms_for(opening, test)?;
+    Ok(WordTerms::Of(sources_of(opening, numbers.as_slice())?))
+}
+
+/// The terms of these numbers.
+fn sources_of<'v>(opening: &Opening<'v>, numbers: &[usize]) -> Result<TermSources<'v>, Memory>
+    requires { All (λ number. number < length (terms_of opening.now.version.now)) numbers.now }
+    ensures { IfOk result (λ sources. sources ≡ map (version_term opening.now.version.now) numbers.now) }
+{
+    let version = opening.version;
+    let mut sources = TermSources::new(opening.alloc);
+    for number in numbers {
+        sources.push(TermSource::new(version, *number))?;
+    }
+    Ok(sources)
 }
 
 /// Whether each word passes, whatever it is.
@@ -144,15 +162,15 @@ fn forms_pass(test: &WordTest) -> bool
 
 /// A cursor for each term of each word of each variant. The word that the fewest documents have leads.
 fn cursors_of_variants<'v>(
-    opening: &Opening<'_>,
-    variants: &[Items<WordTerms>],
+    opening: &Opening<'v>,
+    variants: &Vec<Vec<WordTerms<'v>>>,
 ) -> Result<Vec<Variant<TermCursor<'v>>>, Memory>
-    ensures { IfOk result (λ made. map sizes_of made.items ≡ map (map wanted_size) variants.now) }
+    ensures { IfOk result (λ made. map sizes_of made.items ≡ map (map wanted_size) (map variant_words variants.now.items)) }
 {
     let mut made = Vec::new(opening.alloc);
     for variant in variants {
-        let items = cursors_of_words(opening, variant.as_slice())?;
-        let lead = rarest(opening.version, variant.as_slice());
+        let items = cursors_of_words(opening, variant)?;
+        let lead = rarest(variant);
         made.push(Variant {
             items,
             lead,
@@ -163,10 +181,10 @@ fn cursors_of_variants<'v>(
 }
 
 fn cursors_of_words<'v>(
-    opening: &Opening<'_>,
-    words: &[WordTerms],
+    opening: &Opening<'v>,
+    words: &Vec<WordTerms<'v>>,
 ) -> Result<Vec<Item<TermCursor<'v>>>, Memory>
-    ensures { IfOk result (λ items. map size_of items.items ≡ map wanted_size words.now) }
+    ensures { IfOk result (λ items. map size_of items.items ≡ map wanted_size words.now.items) }
 {
     let mut items = Vec::new(opening.alloc);
     for terms in words {
@@ -175,16 +193,19 @@ fn cursors_of_words<'v>(
     Ok(items)
 }
 
-fn cursors_of<'v>(opening: &Opening<'_>, terms: &WordTerms) -> Result<Item<TermCursor<'v>>, Memory>
+fn cursors_of<'v>(
+    opening: &Opening<'v>,
+    terms: &WordTerms<'v>,
+) -> Result<Item<TermCursor<'v>>, Memory>
     ensures { IfOk result (λ item. size_of item ≡ wanted_size terms.now) }
 {
     match terms {
         WordTerms::Any => Ok(Item::Any),
-        WordTerms::Of(numbers) => Ok(Item::Of(new_cursors(opening, numbers.len())?)),
+        WordTerms::Of(sources) => Ok(Item::Of(new_cursors(opening, sources.len())?)),
     }
 }
 
-fn new_cursors<'v>(opening: &Opening<'_>, count: usize) -> Result<Vec<TermCursor<'v>>, Memory>
+fn new_cursors<'v>(opening: &Opening<'v>, count: usize) -> Result<Vec<TermCursor<'v>>, Memory>
     ensures { IfOk result (λ cursors. length cursors.items ≡ count) }
 {
     let mut cursors = Vec::new(opening.alloc);

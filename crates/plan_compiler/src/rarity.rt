@@ -1,15 +1,13 @@
 //! Which words are rare, so that they are asked first. No answer depends on it.
 
 use crate::run_node::WordTerms;
-use ft_base::Items;
-use index_versions::Version;
 
 /// The number of the word, from 0, that the fewest documents have; the first of several. Documents count once for each term.
-pub(crate) fn rarest(version: &Version, words: &[WordTerms]) -> usize {
+pub(crate) fn rarest(words: &Vec<WordTerms<'_>>) -> usize {
     let mut number = 0;
     let mut fewest = u64::MAX;
     for index in 0..words.len() {
-        let documents = documents_with(version, &words[index]);
+        let documents = documents_with(&words[index]);
         if documents < fewest {
             fewest = documents;
             number = index;
@@ -19,19 +17,9 @@ pub(crate) fn rarest(version: &Version, words: &[WordTerms]) -> usize {
 }
 
 /// In how many documents the word stands, the documents of each of its terms together; any word is in more than all.
-fn documents_with(version: &Version, word: &WordTerms) -> u64 {
+fn documents_with(word: &WordTerms<'_>) -> u64 {
     match word {
         WordTerms::Any => u64::MAX,
-        WordTerms::Of(terms) => documents_of(version, terms),
+        WordTerms::Of(sources) => sources.document_count(),
     }
-}
-
-fn documents_of(version: &Version, terms: &Items<usize>) -> u64 {
-    let mut documents: u64 = 0;
-    for term in terms.as_slice() {
-        if *term < version.term_count() {
-            documents = documents.saturating_add(version.document_count(*term) as u64);
-        }
-    }
-    documents
 }

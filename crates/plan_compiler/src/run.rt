@@ -1,6 +1,7 @@
 //! Plans opened over a version of the index, and tested at spans of its documents.
 
-ghost use Rattle.std.specs.Prelude.{◌≡◌, ◌≤◌, ◌+◌, List, map, true};
+ghost use Rattle.std.specs.Prelude.{◌≡◌, ◌≤◌, ◌+◌, List, map, true, false};
+ghost use Rattle.ft_base.specs.declared.span.Span.{Span};
 ghost use Rattle.ft_base.specs.declared.token.Token.{Token};
 ghost use Rattle.all_matches.specs.Meaning.{sat};
 ghost use Rattle.index_meaning.specs.Documents.{document_at, has_document, token_count};
@@ -11,6 +12,7 @@ ghost use Rattle.plan_compiler.specs.RunMeaning.{words_at};
 use crate::asked_place::AskedPlace;
 use crate::holding::node_holds;
 use crate::plan::Plan;
+use crate::ruling_out::is_ruled_out;
 use crate::run_node::RunNode;
 use ft_base::{DocId, Span, Steps};
 use index_versions::Version;
@@ -58,5 +60,17 @@ impl<'v> Run<'v> {
         let version = self.version;
         let place = AskedPlace { version, doc, span };
         node_holds(&place, &mut self.root, moves)
+    }
+
+    /// Whether it is known at once that no span of the document satisfies the plan's selection, since words that it needs don't stand
+    /// in the document. `false` says nothing. It moves no cursor and takes no memory.
+    pub fn rules_out(&self, doc: DocId) -> bool
+        requires there { has_document doc.0 self.now.version ≡ true }
+        ensures none { result ≡ true → (span : Span)
+            → (1 ≤ span.from) × (span.from ≤ span.to) × (span.to ≤ token_count (document_at doc.0 self.now.version) + 1)
+            → (tokens : List Token) → map (λ token. token.word) tokens ≡ words_at span (document_at doc.0 self.now.version)
+            → sat (lexicon self.now.lists) self.now.form tokens ≡ false }
+    {
+        is_ruled_out(doc, &self.root)
     }
 }

@@ -1,7 +1,7 @@
 //! The tree of a run: the compiled selection, with the terms of a version and cursors in place of tests of words.
 
-use crate::term_cursor::TermCursor;
-use ft_base::{Items, Range};
+use ft_base::Range;
+use index_versions::{TermCursor, TermSources};
 use place_merges::Variant;
 
 /// A selection, opened over a version.
@@ -34,13 +34,13 @@ pub(crate) struct RunPhrase<'v> {
 /// Variants of one length: what their words may be, and a cursor for each of the terms.
 #[derive(Drop)]
 pub(crate) struct RunGroup<'v> {
-    pub(crate) terms: Items<Items<WordTerms>>,
+    pub(crate) terms: Vec<Vec<WordTerms<'v>>>,
     pub(crate) variants: Vec<Variant<TermCursor<'v>>>,
 }
 
-/// Which words may stand at a place: any, or those of the terms of these numbers, which count from 0.
+/// Which words may stand at a place: any, or those of these terms.
 #[derive(Drop)]
-pub(crate) enum WordTerms {
+pub(crate) enum WordTerms<'v> {
     Any,
-    Of(Items<usize>),
+    Of(TermSources<'v>),
 }

@@ -162,6 +162,6 @@ fn count_group<'v, L: Ledger>(
     ensures price { moves.new ≤ moves.old + group_cost (moves_for place.now) (group_shape group.old) }
     ensures grown { moves.old ≤ moves.new }
 {
-    aim_variants(place, &group.terms, &mut group.variants, moves);
+    aim_variants(place, &mut group.terms, &mut group.variants, moves);
     count_places(&mut group.variants, place.span, most, moves)
 }

@@ -8,6 +8,7 @@ use Rattle.place_merges.specs.Places.{Wanted, any_word, one_of, some_stands, sta
 use Rattle.place_merges.specs.declared.item.Variant.{Variant}
 use Rattle.place_merges.specs.steps.Searching.{SameFrom, one_stands, variant_stands}
 use Rattle.plan_compiler.specs.RunMeaning.{words_at}
+use Rattle.plan_compiler.specs.steps.ChosenTerms.{numbers_of}
 use Rattle.plan_compiler.specs.declared.run_node.WordTerms.{WordTerms}
 use Rattle.plan_compiler.specs.declared.run_node.WordTerms.TheVariants as Terms
 use Rattle.plan_compiler.specs.declared.asked_place.AskedPlace.{AskedPlace}
@@ -27,14 +28,16 @@ aimed place term = hit_place (hits_at place term) 0
 -- the places of the terms of a word
 abbrev pub wanted_at : AskedPlace → WordTerms → Wanted
 wanted_at place Terms.Any = any_word
-wanted_at place (Terms.Of numbers) = one_of (map (λ number. map (λ hit. hit.from) (hits_at place number)) numbers)
+wanted_at place (Terms.Of sources) = one_of (map (λ number. map (λ hit. hit.from) (hits_at place number)) (numbers_of sources))
 
 -- a variant stands in the span where the terms of its words do
 abbrev pub IsAimed : AskedPlace → List WordTerms → Variant HitPlace → Type 0
 IsAimed place terms variant =
-    SameFrom place.span.from (variant_stands (λ cursor. cursor) place.span.to variant) (λ other. stands_before place.span.to other (map (wanted_at place) terms))
+    SameFrom place.span.from (variant_stands (λ cursor. cursor) place.span.to variant)
+    (λ other. stands_before place.span.to other (map (wanted_at place) terms))
 
 -- one of some variants does
 abbrev pub AreAimed : AskedPlace → List (List WordTerms) → List (Variant HitPlace) → Type 0
 AreAimed place terms variants =
-    SameFrom place.span.from (one_stands (λ cursor. cursor) place.span.to variants) (some_stands place.span.to (map (map (wanted_at place)) terms))
+    SameFrom place.span.from (one_stands (λ cursor. cursor) place.span.to variants)
+    (some_stands place.span.to (map (map (wanted_at place)) terms))

@@ -2,6 +2,7 @@
 use Rattle.std.specs.Prelude.{◌≡◌, ◌≤◌, ℕ, Bool, cond, List, map}
 use Rattle.std.specs.List.{All, sum_by}
 use Rattle.index_meaning.specs.Documents.{Numbered}
+use Rattle.index_versions.specs.Terms.{version_term}
 use Rattle.word_lists.specs.Stems.{Stem}
 use Rattle.plan_compiler.specs.steps.AskedKeys.{asks_nothing}
 use Rattle.plan_compiler.specs.steps.ChosenTerms.{AreKnown, terms_for}
@@ -26,7 +27,7 @@ word_test looks stems test word = passes test (word_as looks stems word)
 
 module _ (looks : Looks) (stems : List Stem) (version : List Numbered) where
   abbrev pub opened_item : ItemTest → WordTerms
-  opened_item test = cond (asks_nothing test) Terms.Any (Terms.Of (terms_for (word_test looks stems test) version))
+  opened_item test = cond (asks_nothing test) Terms.Any (Terms.Of (map (version_term version) (terms_for (word_test looks stems test) version)))
 
   abbrev pub opened_variant : List ItemTest → List WordTerms
   opened_variant tests = map opened_item tests

@@ -2,6 +2,7 @@
 use Rattle.std.specs.Prelude.{ℕ, ◌+◌, ◌*◌, List, length}
 use Rattle.std.specs.List.{sum_by}
 use Rattle.plan_compiler.specs.steps.AskedPlaces.{hits_at}
+use Rattle.plan_compiler.specs.steps.ChosenTerms.{numbers_of}
 use Rattle.plan_compiler.specs.steps.RunShapes.{GroupShape, WordsShape, Shape, Shapes, words, any_of, all_of, not_of, none, more}
 use Rattle.plan_compiler.specs.declared.asked_place.AskedPlace.{AskedPlace}
 use Rattle.plan_compiler.specs.declared.run_node.WordTerms.{WordTerms}
@@ -31,11 +32,11 @@ module _ (cost : WordTerms → ℕ) where
 -- how many cursors are aimed for a word, and how many hits they have at the place
 abbrev pub term_count : WordTerms → ℕ
 term_count Terms.Any = 0
-term_count (Terms.Of numbers) = length numbers
+term_count (Terms.Of sources) = length sources
 
 abbrev pub hit_count : AskedPlace → WordTerms → ℕ
 hit_count place Terms.Any = 0
-hit_count place (Terms.Of numbers) = sum_by (λ number. length (hits_at place number)) numbers
+hit_count place (Terms.Of sources) = sum_by (λ number. length (hits_at place number)) (numbers_of sources)
 
 -- a move for each cursor that is aimed, and at most two for each hit
 abbrev pub moves_for : AskedPlace → WordTerms → ℕ

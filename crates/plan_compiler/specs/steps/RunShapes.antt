@@ -1,5 +1,7 @@
 -- A run's tree as plain data: what it is, whatever its cursors stand at.
 use Rattle.std.specs.Prelude.{ℕ, Bool, List, [], ◌∷◌, map, length, Option, Some, None}
+use Rattle.std.specs.declared.alloc.Global.{Global}
+use Rattle.std.specs.declared.vec.Vec.{Vec}
 use Rattle.ft_base.specs.Hits.{HitPlace}
 use Rattle.ft_base.specs.declared.range.Range.{Range}
 use Rattle.place_merges.specs.declared.item.Item.{Item}
@@ -48,10 +50,14 @@ sizes_of variant = map size_of variant.items.items
 
 abbrev pub wanted_size : WordTerms → Option ℕ
 wanted_size Terms.Any = None
-wanted_size (Terms.Of numbers) = Some (length numbers)
+wanted_size (Terms.Of sources) = Some (length sources)
+
+-- the words of a variant as a list
+abbrev pub variant_words : Vec WordTerms Global → List WordTerms
+variant_words terms = terms.items
 
 abbrev pub group_shape : RunGroup → GroupShape
-group_shape group = record { terms = group.terms; sizes = map sizes_of group.variants.items }
+group_shape group = record { terms = map variant_words group.terms.items; sizes = map sizes_of group.variants.items }
 
 abbrev pub phrase_shape : RunPhrase → List GroupShape
 phrase_shape phrase = map group_shape phrase.groups.items

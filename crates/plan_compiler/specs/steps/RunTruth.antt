@@ -1,11 +1,10 @@
 -- What a run's tree says of the words of a span, and when it fits a version.
-use Rattle.std.specs.Prelude.{◌≡◌, ◌<◌, ⊤, ℕ, Bool, true, false, not, ◌&&◌, ◌||◌, List, map, sum, length}
+use Rattle.std.specs.Prelude.{◌≡◌, ⊤, ℕ, Bool, true, false, not, ◌&&◌, ◌||◌, List, map, sum}
 use Rattle.std.specs.List.{All}
 use Rattle.all_matches.specs.Counting.{places}
 use Rattle.all_matches.specs.Compositional.{enough}
 use Rattle.index_meaning.specs.Documents.{Numbered}
-use Rattle.index_versions.specs.Versions.{terms_of}
-use Rattle.plan_compiler.specs.steps.ChosenTerms.{is_among}
+use Rattle.plan_compiler.specs.steps.ChosenTerms.{is_among, numbers_of}
 use Rattle.plan_compiler.specs.steps.RunShapes.{GroupShape, WordsShape, Shape, Shapes, words, any_of, all_of, not_of, none, more, wanted_size}
 use Rattle.plan_compiler.specs.WordsMeaning.{joined}
 use Rattle.plan_compiler.specs.declared.run_node.WordTerms.{WordTerms}
@@ -16,7 +15,7 @@ use Rattle.plan_compiler.specs.declared.run_node.WordTerms.TheVariants as Terms
 -- whether a word may stand where these terms are wanted
 unfoldable pub is_wanted : List Numbered → WordTerms → List ℕ → Bool
 is_wanted version Terms.Any word = true
-is_wanted version (Terms.Of numbers) word = is_among version numbers word
+is_wanted version (Terms.Of sources) word = is_among version (numbers_of sources) word
 
 abbrev pub group_count : List Numbered → GroupShape → List (List ℕ) → ℕ
 group_count version group text = places (is_wanted version) group.terms text
@@ -47,10 +46,10 @@ unfoldable mutual
 
 -- ---- when it fits
 
--- the numbers are those of terms of the version
+-- the terms are those of the version
 abbrev pub AreThere : List Numbered → WordTerms → Type 0
 AreThere version Terms.Any = ⊤
-AreThere version (Terms.Of numbers) = All (λ number. number < length (terms_of version)) numbers
+AreThere version (Terms.Of sources) = All (λ source. source.version ≡ version) sources
 
 -- each word has as many cursors as terms, which are those of the version
 pub record IsGroup (version : List Numbered) (group : GroupShape) : Type 0 where

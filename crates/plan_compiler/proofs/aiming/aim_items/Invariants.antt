@@ -9,8 +9,9 @@ use Rattle.plan_compiler.proofs.aiming.aim_items.Given as goal
 
 abbrev pub invariant-loop-number : goal.invariant-loop-number
 invariant-loop-number g l = record {
-  sized : map size_of l.items.items ≡ map wanted_size l.terms;
-  done : map (wanted (λ cursor. cursor)) (take l.number l.items.items) ≡ map (wanted_at l.place) (take l.number l.terms);
-  price : l.moves ≤ l.fn.moves + sum_by term_count (take l.number l.terms);
+  terms : l.terms.items ≡ l.fn.terms.items;
+  sized : map size_of l.items.items ≡ map wanted_size l.fn.terms.items;
+  done : map (wanted (λ cursor. cursor)) (take l.number l.items.items) ≡ map (wanted_at l.place) (take l.number l.fn.terms.items);
+  price : l.moves ≤ l.fn.moves + sum_by term_count (take l.number l.fn.terms.items);
   grown : l.fn.moves ≤ l.moves;
 }

@@ -5,9 +5,9 @@ use Rattle.plan_compiler.proofs.aiming.aim_variant.Goals as goal
 
 pub returns-clause-aimed : goal.returns-clause-aimed
 returns-clause-aimed g c =
-    aimed_stands c.args.place.now (record { items = c.aim_items.new.items; lead = c.args.variant.now.lead; counts = true }) c.args.terms.now refl c.aim_items.ensures.aimed
+    aimed_stands c.args.place.now (record { items = c.aim_items.new.items; lead = c.args.variant.now.lead; counts = true }) c.args.terms.now.items refl c.aim_items.ensures.aimed
 
 pub returns-clause-price : goal.returns-clause-price
 returns-clause-price g c =
-    aimed_price c.args.place.now (record { items = c.aim_items.new.items; lead = c.args.variant.now.lead; counts = true }) c.args.terms.now c.args.moves.now c.aim_items.new.moves refl
+    aimed_price c.args.place.now (record { items = c.aim_items.new.items; lead = c.args.variant.now.lead; counts = true }) c.args.terms.now.items c.args.moves.now c.aim_items.new.moves refl
     c.aim_items.ensures.aimed c.aim_items.ensures.price

@@ -4,4 +4,4 @@ use Rattle.plan_compiler.specs.steps.OpenedWords.{opened_item}
 use Rattle.plan_compiler.proofs.opening.open_items.Given as goal
 
 abbrev pub invariant-loop-test : goal.invariant-loop-test
-invariant-loop-test l = l.terms ≡ map (opened_item l.opening.looks l.opening.lists.now.stems l.opening.version.now) (take l.test-index l.tests)
+invariant-loop-test l = l.terms.items ≡ map (opened_item l.opening.looks l.opening.lists.now.stems l.opening.version.now) (take l.test-index l.tests)

@@ -1,24 +1,23 @@
-//! Cursors over the places of a term in a span.
-
-ghost use Rattle.std.specs.Prelude.{◌≡◌, ◌+◌, ◌<◌, length, true};
+ghost use Rattle.std.specs.Prelude.{◌≡◌, ◌+◌, [], true};
 ghost use Rattle.ft_base.specs.Hits.{hit_place};
-ghost use Rattle.index_versions.specs.Versions.{term_hits, terms_of};
+ghost use Rattle.index_cursors.specs.SpanHits.{hits_in};
 
-use crate::asked_place::AskedPlace;
-use ft_base::{Hit, Hits, Steps};
-use index_cursors::Cursor;
+use doc_index::TermPlaces;
+use ft_base::{Hit, Hits, Span, Steps};
+use index_cursors::{BreakView, Cursor};
 use std::marker::Model;
 use std::sync::ledger::Ledger;
 
-/// The places of a term in the span at which the cursor was aimed last. Before that it has none.
+/// The hits of a term in the span at which the cursor was aimed last, and a place among them. Before that it has none. A
+/// `TermSource` aims it.
 #[derive(Drop)]
-pub(crate) struct TermCursor<'v> {
+pub struct TermCursor<'v> {
     cursor: Option<Cursor<'v>>,
 }
 
 impl<'v> Model for TermCursor<'v> {
     ghost use Rattle.ft_base.specs.Hits.{HitPlace};
-    ghost use Rattle.plan_compiler.specs.steps.CursorPlace.{place_of};
+    ghost use Rattle.index_versions.specs.steps.Found.{place_of};
 
     ghost Value = { HitPlace };
 
@@ -27,28 +26,36 @@ impl<'v> Model for TermCursor<'v> {
 
 impl<'v> TermCursor<'v> {
     /// A cursor that wasn't aimed yet.
-    pub(crate) fn new() -> TermCursor<'v> {
+    pub fn new() -> TermCursor<'v> {
         TermCursor { cursor: None }
     }
 
-    /// Aims it at the places of the term of that number, at the first of them. A cursor that was aimed before searches on from
+    /// Aims it at those of the places that are in the span, at the first of them, and counts one step. It searches from
     /// where it stands.
     pub(crate) fn aim<L: Ledger>(
         &mut self,
-        place: &AskedPlace<'v>,
-        term: usize,
-        moves: &mut Steps<L>,
+        places: TermPlaces<'v>,
+        breaks: BreakView<'v>,
+        span: Span,
+        steps: &mut Steps<L>,
     )
-        requires { term < length (terms_of place.now.version.now) }
-        ensures aimed { self.new ≡ hit_place (term_hits term place.now.doc.0 place.now.span place.now.version.now) 0 }
-        ensures counted { moves.new ≡ moves.old + 1 }
+        ensures aimed { self.new ≡ hit_place (hits_in breaks.entry.breaks.now span places.entry) 0 }
+        ensures counted { steps.new ≡ steps.old + 1 }
     {
-        let version = place.version;
         if let Some(cursor) = &mut self.cursor {
-            version.aim_cursor(cursor, term, place.doc, place.span, moves);
+            cursor.aim(places, breaks, span, steps);
             return;
         }
-        self.cursor = Some(version.cursor(term, place.doc, place.span, moves));
+        self.cursor = Some(Cursor::new(places, breaks, span, steps));
+    }
+
+    /// Aims it at no place, and counts one step.
+    pub(crate) fn empty<L: Ledger>(&mut self, steps: &mut Steps<L>)
+        ensures aimed { self.new ≡ hit_place [] 0 }
+        ensures counted { steps.new ≡ steps.old + 1 }
+    {
+        steps.tick();
+        self.cursor = None;
     }
 }
 
