@@ -17,11 +17,11 @@ use Rattle.ordered_tree.specs.Numbered.{Numbered, plain}
 use Rattle.ordered_tree.specs.Part.{counted_from, part, renumbered}
 use Rattle.ordered_tree.specs.Stands.{Stand, references, span, stands_in}
 use Rattle.ft_base.specs.declared.ids.NodeRef.{NodeRef}
-use Rattle.ordered_tree.proofs.ShiftLemmas.{length-tokens, stands-few}
+use Rattle.ordered_tree.proofs.ShiftLemmas.{length-tokens, shift, stands-few}
 use Rattle.path_meaning.specs.Elements.{Element, placed}
 use Rattle.path_nodes.specs.References.{Spot, spots_in, spot_element, spot_reference, found_in, element_of, IsElement}
 use Rattle.path_nodes.specs.Says.{Meaning}
-use Rattle.path_nodes.proofs.SpotLemmas.{spot-there}
+use Rattle.path_nodes.proofs.SpotLemmas.{spot-stand, spot-there}
 use Rattle.plan_compiler.specs.Judgement.{Judgement}
 use Rattle.plan_compiler.specs.RunMeaning.{RunMeaning, words_at}
 use Rattle.plan_compiler.specs.declared.plan.Plan.{Plan}
@@ -167,6 +167,24 @@ module _ (version : List indexed.Numbered) (doc : ℕ) (root : Numbered) (follow
       let below = All-contains (λ s. s.around.before + word_count (plain s.node) ≤ word_count (plain root)) (stands_in root) s (stands-few root) among in
       let count : token_count (document_at doc version) ≡ length (tokens (plain root)) = ap token_count follows.document ∙ count-tree root in
       omega (arith, below, count, length-tokens (plain root))
+
+-- ---- what is said of the words at each span is said of each node
+
+pub ruled-out : (says : Judgement) (runs : List RunMeaning) (root : Numbered) (k : ℕ) (run : RunMeaning) (doc : ℕ) → get_or runs k run ≡ run → AreOver runs (doc, root)
+    → ((at : Span) → (1 ≤ at.from) × (at.from ≤ at.to) × (at.to ≤ token_count (document_at doc run.version) + 1)
+    → (ts : List Token) → map (λ token. token.word) ts ≡ words_at at (document_at doc run.version) → says run.form run.lists ts ≡ false)
+    → (r : NodeRef) → IsTrue (may_ask runs root k r) → is_meant says (map run_meant runs) k (element_of root r) ≡ false
+ruled-out says runs root k run doc is over none r asked =
+    let n = asked-node runs root k r asked in
+    let among = spot-stand root n.spot n.among in
+    let less = asked-run runs root k r asked in
+    let follows = over-at runs k run (doc, root) less is over in
+    let ts = tokens (plain n.spot.stand.node) in
+    let here = All-contains (λ t. part (tokens (plain root)) (span t) ≡ tokens (plain t.node)) (stands_in root) n.spot.stand (shift root) among in
+    let words = words-at-span run.version doc root follows (span n.spot.stand) ts here in
+    let below = span-inside run.version doc root follows n.spot.stand among in
+    met-at says runs k run (element_of root r) less is
+    ∙ (ap (λ (e : Element). says run.form run.lists (tokens e.node)) n.is ∙ none (span n.spot.stand) (omega arith, omega arith, below) ts words)
 
 -- ---- runs of plans over one version
 

@@ -15,3 +15,4 @@ pub mod Output
 pub mod Run
 pub mod Queries
 pub mod steps
+pub mod PriceExamples

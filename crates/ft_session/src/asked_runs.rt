@@ -54,4 +54,12 @@ impl<'j, 't, 'r, 'v, 'm, J: Judge, B: Loan, M: Ledger> TextTest
         let run = &mut self.runs[selection];
         Ok(self.judge.judge(run, self.doc, span, self.moves))
     }
+
+    fn rules_out(&self, selection: usize) -> bool {
+        if selection >= self.runs.len() {
+            return false;
+        }
+        let run = &self.runs[selection];
+        self.judge.rules_out(run, self.doc)
+    }
 }

@@ -5,6 +5,7 @@
 mod answering;
 mod asked_runs;
 mod collection;
+pub mod examples;
 pub mod laws;
 mod lists;
 mod loaded;

@@ -71,7 +71,7 @@ all-lists-in root deep [] h = All-nil (All (In root))
 all-lists-in root deep (c ∷ cs) h =
     All-append (All (In root)) (lists deep c) (flat_map (lists deep) cs) (lists-in root deep c (All-head (ContextIn root) c cs h)) (all-lists-in root deep cs (All-tail (ContextIn root) c cs h))
 
-map-alike : (f g : List Element → List Element) (ls : List (List Element)) → All (λ l. f l ≡ g l) ls → map f ls ≡ map g ls
+pub map-alike : (f g : List Element → List Element) (ls : List (List Element)) → All (λ l. f l ≡ g l) ls → map f ls ≡ map g ls
 map-alike f g [] same = refl
 map-alike f g (l ∷ ls) same = ap (λ x. x ∷ map f ls) (All-head (λ l. f l ≡ g l) l ls same) ∙ ap (λ x. g l ∷ x) (map-alike f g ls (All-tail (λ l. f l ≡ g l) l ls same))
 

@@ -24,3 +24,4 @@ pub mod OrderLemmas
 pub mod OfferedLemmas
 pub mod OutermostLemmas
 pub mod NamingLemmas
+pub mod RulingOutLemmas

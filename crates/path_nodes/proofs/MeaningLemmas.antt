@@ -32,6 +32,18 @@ module _ (sat : ℕ → Element → Bool) (all : List Element) where
   filtered-next xs i d lt items new e =
       ap (filtered sat all (form.predicates (map predicate (drop (i + 1) xs)))) e ∙ sym (ap (λ l. filtered sat all (form.predicates (map predicate l)) items) (drop_more xs i d lt))
 
+  -- ---- nothing is kept of nothing
+
+  pub by-none : (p : form.Predicate) → filtered_by sat all p [] ≡ []
+  unfolding filtered_by
+  by-none (form.number k) = refl
+  by-none (form.holds c) = refl
+
+  pub filtered-none : (ps : form.Predicates) → filtered sat all ps [] ≡ []
+  unfolding filtered
+  filtered-none form.no_predicates = refl
+  filtered-none (form.predicate_then p ps) = ap (filtered sat all ps) (by-none p) ∙ filtered-none ps
+
   -- ---- conditions that one of them decides: the first one, or one of the rest
 
   module _ (e : Element) where

@@ -51,7 +51,7 @@ module _ (root : Numbered) (apart : AllPairs (λ a b. a ≢ b) (references root)
       (spot_reference h.0, record { spot = h.0; among = h.1; refers = refl; element = h.2; apart = apart }, element_of-is root h.0 h.1 apart ∙ h.3)
 
   -- what is said of each reference is said of each element
-  said-there : {A : Type 0} (f : ℕ → NodeRef → A) (g : ℕ → Element → A) → ((k : ℕ) (r : NodeRef) → IsElement root r → f k r ≡ g k (element_of root r))
+  pub said-there : {A : Type 0} (f : ℕ → NodeRef → A) (g : ℕ → Element → A) → ((k : ℕ) (r : NodeRef) → IsElement root r → f k r ≡ g k (element_of root r))
       → All (λ e. (k : ℕ) → f k (reference_of root e) ≡ g k e) (elements (plain root))
   said-there f g agree = λ i d within k.
       let e = get_or (elements (plain root)) i d in

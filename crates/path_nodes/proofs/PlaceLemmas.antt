@@ -1,5 +1,5 @@
 -- No two nodes of a document have the same place.
-use Rattle.std.proofs.Common.{◌≡◌, ◌+◌, ◌==◌, ℕ, suc, true, List, [], ◌∷◌, ◌++◌, Some, refl, sym, ap, ◌∙◌, arith, append_assoc, append-nil}
+use Rattle.std.proofs.Common.{◌≡◌, ◌+◌, ◌==◌, ℕ, suc, Bool, true, List, [], ◌∷◌, ◌++◌, Some, refl, sym, ap, ◌∙◌, arith, append_assoc, append-nil}
 use Rattle.std.specs.List.{All, Contains}
 use Rattle.std.specs.Prelude.{option_and_then}
 use Rattle.std.proofs.lemmas.Bool.Decides.{nat_tests}
@@ -9,7 +9,7 @@ use Rattle.std.specs.Prelude.{bytes_eq}
 use Rattle.path_grammar.specs.declared.path.NameTest.TheVariants as T
 use Rattle.path_meaning.specs.Elements.{is_same}
 use Rattle.path_meaning.specs.Meaning.{is_named}
-use Rattle.ordered_tree.specs.Numbered.{Numbered, element_at, text_at, Children, no_children, child_then, plain, reference, first_of, is_element, name_of}
+use Rattle.ordered_tree.specs.Numbered.{Numbered, element_at, text_at, Children, no_children, child_then, plain, reference, first_of, is_element, has_name}
 use Rattle.ordered_tree.specs.Places.{at_place, child}
 use Rattle.ordered_tree.specs.Stands.{Stand, OnNode, round_root, round_first, round_next, stands_in}
 use Rattle.ordered_tree.specs.declared.around.Around.{Around}
@@ -81,15 +81,16 @@ same-element root r q x y =
 pub one-stand : (root : Numbered) (r : NodeRef) (x : IsElement root r) (s : Stand) → Contains (stands_in root) s → reference s.node ≡ r → s ≡ x.spot.stand
 one-stand root r x s among refers = one-node root x.apart s x.spot.stand among (spot-stand root x.spot x.among) (refers ∙ sym x.refers)
 
-named-by : (wanted : List ℕ) (n : Numbered) (name : List ℕ) → is_element n ≡ true → name_of n ≡ Some name → bytes_eq wanted name ≡ is_named (T.Name wanted) (plain n)
-named-by wanted (element_at r own attrs kids) name h e = let same : own ≡ name = cc in ap (bytes_eq wanted) (sym same)
-named-by wanted (text_at r bytes) name h e = cc
+named-plain : (wanted : List ℕ) (n : Numbered) → has_name wanted n ≡ is_named (T.Name wanted) (plain n)
+named-plain wanted (element_at r own attrs kids) = refl
+named-plain wanted (text_at r bytes) = refl
 
-pub element-named : (root : Numbered) (r : NodeRef) (x : IsElement root r) (wanted name : List ℕ) → OnNode root r (λ s. name_of s.node ≡ Some name)
-    → bytes_eq wanted name ≡ is_named (T.Name wanted) (element_of root r).node
-element-named root r x wanted name on =
-    named-by wanted x.spot.stand.node name x.element (on x.spot.stand (spot-stand root x.spot x.among) x.refers)
-    ∙ ap (λ e. is_named (T.Name wanted) e.node) (sym (element-is root r x))
+pub element-named : (root : Numbered) (r : NodeRef) (x : IsElement root r) (wanted : List ℕ) (b : Bool) → OnNode root r (λ s. b ≡ has_name wanted s.node)
+    → b ≡ is_named (T.Name wanted) (element_of root r).node
+element-named root r x wanted b on =
+    on x.spot.stand (spot-stand root x.spot x.among) x.refers
+    ∙ (named-plain wanted x.spot.stand.node
+    ∙ ap (λ e. is_named (T.Name wanted) e.node) (sym (element-is root r x)))
 
 -- the reference of the element that a reference names
 pub reference-back : (root : Numbered) (r : NodeRef) → IsElement root r → reference_of root (element_of root r) ≡ r

@@ -29,7 +29,7 @@ use Rattle.path_nodes.proofs.AskedLemmas.{step-is}
 use Rattle.path_nodes.proofs.ChosenLemmas.{map-map, not-in, not-itself, stepped-is}
 use Rattle.path_meaning.proofs.InOrder.{under}
 use Rattle.path_nodes.proofs.FrontLemmas.{filter-none}
-use Rattle.path_nodes.proofs.MeaningLemmas.{items-children}
+use Rattle.path_nodes.proofs.MeaningLemmas.{by-none, filtered-none, items-children}
 use Rattle.path_nodes.proofs.PriceLemmas.{step-price, own-price, deep-document-price}
 use Rattle.path_nodes.proofs.RegionLemmas.{opened}
 use Rattle.path_nodes.proofs.SpotLemmas.{element_of-is}
@@ -52,20 +52,10 @@ module _ (sat : ℕ → Element → Bool) (all : List Element) (e : Element) whe
   by-short (form.number k) = number-short e k (k == 1)
   by-short (form.holds c) = one-or-none e (is_true sat all c e)
 
-  by-none : (p : Predicate) → filtered_by sat all p [] ≡ []
-  unfolding filtered_by
-  by-none (form.number k) = refl
-  by-none (form.holds c) = refl
-
-  filtered-none : (ps : Predicates) → filtered sat all ps [] ≡ []
-  unfolding filtered
-  filtered-none no_predicates = refl
-  filtered-none (predicate_then p ps) = ap (filtered sat all ps) (by-none p) ∙ filtered-none ps
-
   filtered-short : (ps : Predicates) (xs : List Element) → Short e xs → Short e (filtered sat all ps xs)
   unfolding filtered
   filtered-short no_predicates xs h = h
-  filtered-short (predicate_then p ps) xs (inl is) = inl (ap (λ l. filtered sat all ps (filtered_by sat all p l)) is ∙ ap (filtered sat all ps) (by-none p) ∙ filtered-none ps)
+  filtered-short (predicate_then p ps) xs (inl is) = inl (ap (λ l. filtered sat all ps (filtered_by sat all p l)) is ∙ ap (filtered sat all ps) (by-none sat all p) ∙ filtered-none sat all ps)
   filtered-short (predicate_then p ps) xs (inr is) = subst (λ l. Short e (filtered sat all ps (filtered_by sat all p l))) (sym is) (filtered-short ps (filtered_by sat all p (e ∷ [])) (by-short p))
 
 kept-short : (root : Numbered) (m : Meaning) (s : Step) (e : Element) → Short e (kept root m s (e ∷ []))

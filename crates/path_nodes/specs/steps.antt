@@ -4,5 +4,6 @@ pub mod Leading
 pub mod Marks
 pub mod Members
 pub mod Regions
+pub mod RuledOut
 pub mod Ways
 pub mod Within

@@ -1,4 +1,4 @@
-ghost use Rattle.std.specs.Prelude.{◌≡◌, ◌≤◌, ◌+◌, ℕ, IfOk, IsTrue};
+ghost use Rattle.std.specs.Prelude.{◌≡◌, ◌≤◌, ◌+◌, ℕ, false, true, IfOk, IsTrue};
 ghost use Rattle.path_nodes.specs.Says.{Meaning};
 
 use ft_base::Memory;
@@ -20,4 +20,10 @@ pub trait TextTest {
         ensures says { IfOk result (λ is. is ≡ (meaning self.old).says selection node) }
         ensures meaning { meaning self.new ≡ meaning self.old }
         ensures cost { cost self.new ≤ cost self.old + (meaning self.old).price selection node };
+
+    /// Whether it is known at once that none of the nodes for which it may be asked satisfies the selection of this number: `false`
+    /// says nothing. It spends nothing.
+    fn rules_out(&self, selection: usize) -> bool
+        ensures { result ≡ true → (node : NodeRef) → IsTrue ((meaning self.now).may_ask selection node)
+            → (meaning self.now).says selection node ≡ false };
 }

@@ -13,6 +13,7 @@ mod names;
 mod naming;
 mod numbers;
 mod outermost;
+mod ruling_out;
 mod selected;
 mod walks;
 

@@ -5,7 +5,7 @@ ghost use Rattle.path_nodes.specs.References.{IsElement, element_of};
 
 use crate::Nodes;
 use crate::kept::push_if;
-use crate::names::is_named;
+use crate::names::{ReadyTest, is_named};
 use ft_base::Memory;
 use ordered_tree::{DocTree, NodeRef};
 use path_grammar::NameTest;
@@ -17,6 +17,22 @@ pub(crate) fn named_under(
     alloc: Global,
     tree: &DocTree,
     test: &NameTest,
+    deep: bool,
+    contexts: &Nodes,
+) -> Result<Nodes, Memory>
+    requires { All (IsElement tree.now.root) contexts.now }
+    ensures elements { IfOk result (λ found. map (element_of tree.now.root) found
+        ≡ filter (λ e. meaning.is_named test.now e.node) (flat_map (offered deep) (map (element_of tree.now.root) contexts.now))) }
+    ensures there { IfOk result (All (IsElement tree.now.root)) }
+{
+    under(alloc, tree, &ReadyTest::of(test), deep, contexts)
+}
+
+/// The same by the test that was made ready.
+fn under(
+    alloc: Global,
+    tree: &DocTree,
+    test: &ReadyTest<'_>,
     deep: bool,
     contexts: &Nodes,
 ) -> Result<Nodes, Memory>
@@ -37,7 +53,7 @@ pub(crate) fn named_under(
 #[cycle(naming)]
 fn add_named(
     tree: &DocTree,
-    test: &NameTest,
+    test: &ReadyTest<'_>,
     deep: bool,
     here: NodeRef,
     found: &mut Nodes,
@@ -63,7 +79,7 @@ fn add_named(
 #[cycle(naming)]
 fn add_named_from(
     tree: &DocTree,
-    test: &NameTest,
+    test: &ReadyTest<'_>,
     deep: bool,
     here: NodeRef,
     found: &mut Nodes,

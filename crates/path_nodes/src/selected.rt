@@ -16,6 +16,7 @@ use crate::evaluating::{kept, led, stepped};
 use crate::kept::append;
 use crate::known::Known;
 use crate::leading::behind_step;
+use crate::ruling_out::lead_nowhere;
 use crate::{Nodes, TextTest};
 use ft_base::Memory;
 use ordered_tree::{DocTree, NodeRef};
@@ -23,7 +24,8 @@ use path_grammar::{Step, Steps};
 use std::alloc::Global;
 
 /// The elements of a document to which steps lead from it, in document order, each once. `contains text` is answered by the
-/// test, which is asked only as long as the truth isn't known. Answers `Memory` for want of memory alone.
+/// test, which is asked only as long as the truth isn't known, and of no element where it rules out what a predicate of a step asks
+/// for. Answers `Memory` for want of memory alone.
 ///
 /// The meaning of steps is that of XQuery 3.0, section 3.3.
 pub fn nodes<T: TextTest>(
@@ -51,6 +53,9 @@ pub fn nodes<T: TextTest>(
 {
     let root = tree.root();
     if steps.is_empty() {
+        return Ok(Vec::new(alloc));
+    }
+    if lead_nowhere(tree, steps, test) {
         return Ok(Vec::new(alloc));
     }
     let mut known = Known::new(alloc, steps);

@@ -1,20 +1,12 @@
-// The elements to which the steps of a path lead, how often a test of text is asked on the way, and the lines that name elements.
-ghost use Rattle.std.specs.Prelude.{◌≡◌, All, IfOk, true};
-ghost use Rattle.ordered_tree.specs.Numbered.{is_element};
-ghost use Rattle.path_nodes.specs.References.{IsElement};
-
+// The elements to which the steps of a path lead, and the lines that name elements.
+use crate::asked_elements::{Judge, led, tree_of};
 use crate::rows::{expect_output, joined, repeated};
-use doc_profile::read_doc;
 use element_lines::push_names;
-use ft_base::{Lines, Memory};
+use ft_base::Lines;
 use ft_session::Status;
-use ordered_tree::{DocTree, NodeRef};
-use path_nodes::{TextTest, nodes};
-use path_subset::read_path;
 use std::alloc::Global;
 use std::process::Abort;
 use std::test::Fail;
-use tokenizer::tokens_of;
 
 /// A document that is loaded as `x`, a command and a path without its `collection()`, and the replies, in parts.
 type Asked = (
@@ -42,9 +34,9 @@ fn expect_elements(rt: &impl Abort, alloc: Global, row: &Asked) -> Result<(), Fa
     expect_output(rt, alloc, session.as_str(), *replies, Status::Done)
 }
 
-const LETTERS: &str = "<a><b>x</b><b>y</b><c><b>x y</b></c></a>";
+pub(crate) const LETTERS: &str = "<a><b>x</b><b>y</b><c><b>x y</b></c></a>";
 
-const NESTED: &str = "<r><a><b/><a><b/><a/><b/></a><b/></a><x><a><b/></a></x><b/></r>";
+pub(crate) const NESTED: &str = "<r><a><b/><a><b/><a/><b/></a><b/></a><x><a><b/></a></x><b/></r>";
 
 const STEPS: [Asked; 14] = [
     (LETTERS, "query", "/a", &["ok\n= 1\ndoc(\"x\")/a[1]\n"]),
@@ -226,138 +218,6 @@ fn a_predicate_inside_others_is_worked_out_once_for_an_element(
     Ok(())
 }
 
-/// A test that is true of the nodes of these numbers and counts how often it is asked; each time costs 1.
-#[derive(Drop)]
-struct Judge {
-    nodes: &'static [u32],
-    asked: usize,
-}
-
-impl TextTest for Judge {
-    ghost use Rattle.std.specs.Prelude.{◌==◌, [], true};
-    ghost use Rattle.std.specs.List.{list_any};
-
-    ghost meaning = { λ test. record {
-      may_ask = λ selection r. true;
-      says = λ selection r. list_any (λ n. n == r.0) test.nodes.now;
-      price = λ selection r. 1;
-      lent = [];
-    } };
-
-    ghost cost = { λ test. test.asked };
-
-    fn contains(&mut self, _selection: usize, node: NodeRef) -> Result<bool, Memory> {
-        self.asked = self.asked.saturating_add(1);
-        Ok(self.nodes.contains(&node.0))
-    }
-}
-
-/// The tree of the document that the text spells.
-fn tree_of(alloc: Global, text: &str) -> Result<DocTree, Fail>
-    ensures { IfOk result (λ tree. is_element tree.root ≡ true) }
-{
-    let Ok(doc) = read_doc(alloc, text.as_bytes()) else {
-        return Err(Fail::from("no document"));
-    };
-    let _root = doc.root();
-    let Ok(_tokens) = tokens_of(alloc, &doc) else {
-        return Err(Fail::from("too many tokens"));
-    };
-    Ok(DocTree::from_doc(alloc, &doc)?)
-}
-
-/// The elements to which the steps of a path lead, whatever it begins with.
-fn led(alloc: Global, tree: &DocTree, path: &str, test: &mut Judge) -> Result<Vec<NodeRef>, Fail>
-    requires { is_element tree.now.root ≡ true }
-    ensures { IfOk result (λ found. All (IsElement tree.now.root) found.items) }
-{
-    match read_path(alloc, path) {
-        Ok(path) => Ok(nodes(alloc, path.steps(), tree, test)?),
-        Err(_) => Err(Fail::from("no path")),
-    }
-}
-
-/// A document, a path, the nodes of which the test of text is true, the nodes to which the path leads, and how often the test is asked.
-type Judged = (
-    &'static str,
-    &'static str,
-    &'static [u32],
-    &'static [u32],
-    usize,
-);
-
-fn expect_asked(rt: &impl Abort, alloc: Global, row: &Judged) -> Result<(), Fail> {
-    let (document, path, true_of, wanted, asked) = row;
-    let tree = tree_of(alloc, document)?;
-    let mut test = Judge {
-        nodes: *true_of,
-        asked: 0,
-    };
-    let found = led(alloc, &tree, path, &mut test)?;
-    assert!(rt;
-        found.iter().map(|node| node.0).eq(wanted.iter().copied()),
-        "{path}"
-    );
-    assert!(rt; test.asked == *asked, "{path}");
-    Ok(())
-}
-
-const THREE: &str = "<r><a><a><a><b/></a></a></a></r>";
-
-const ASKED: [Judged; 6] = [
-    (
-        LETTERS,
-        "collection()//b[. contains text \"s\"][2]",
-        &[1, 6],
-        &[],
-        3,
-    ),
-    (
-        LETTERS,
-        "collection()//b[. contains text \"s\"][1]",
-        &[3, 6],
-        &[3, 6],
-        3,
-    ),
-    (
-        LETTERS,
-        "collection()/a[b contains text \"s\" and not(@k)]",
-        &[1, 3],
-        &[0],
-        1,
-    ),
-    (
-        NESTED,
-        "collection()//a//b[. contains text \"s\"]",
-        &[4, 10],
-        &[4, 10],
-        5,
-    ),
-    // the predicate inside is asked once for the third `a`, which is below the first and the second
-    (
-        THREE,
-        "collection()//a[.//a[.//b contains text \"s\"]]",
-        &[],
-        &[],
-        2,
-    ),
-    (
-        THREE,
-        "collection()//a[.//a[.//b contains text \"s\"]]",
-        &[4],
-        &[1, 2],
-        2,
-    ),
-];
-
-#[test]
-fn a_test_is_asked_once_and_until_the_truth_is_known(rt: HostRuntime) -> Result<(), Fail> {
-    for row in ASKED {
-        expect_asked(&rt, rt.alloc(), &row)?;
-    }
-    Ok(())
-}
-
 /// Names all elements of the document, the last one first.
 fn expect_names_backwards(
     rt: &impl Abort,
@@ -368,6 +228,7 @@ fn expect_names_backwards(
     let tree = tree_of(alloc, document)?;
     let mut test = Judge {
         nodes: &[],
+        unsatisfied: &[],
         asked: 0,
     };
     let mut found = led(alloc, &tree, "collection()//*", &mut test)?;

@@ -7,6 +7,7 @@ use ft_base::{DocId, Span, Steps};
 use ft_session::Status;
 use plan_compiler::{Direct, Judge, Run};
 use std::alloc::Global;
+use std::cell::Cell;
 use std::process::Abort;
 use std::sync::ledger::Ledger;
 use std::test::Fail;
@@ -27,6 +28,10 @@ impl Judge for Contrary {
     ) -> bool {
         !run.test(doc, span, moves)
     }
+
+    fn rules_out(&self, _run: &Run<'_>, _doc: DocId) -> bool {
+        false
+    }
 }
 
 /// Says that each element satisfies each selection, and asks no run.
@@ -45,6 +50,39 @@ impl Judge for Content {
     ) -> bool {
         true
     }
+
+    fn rules_out(&self, _run: &Run<'_>, _doc: DocId) -> bool {
+        false
+    }
+}
+
+/// Says that no element satisfies a selection, and asks no run. It counts the elements for which it is asked, and may rule out each
+/// document.
+#[derive(Clone, Copy)]
+struct Discontent<'c> {
+    rules_out: bool,
+    asked: &'c Cell<u32>,
+}
+
+impl<'c> Judge for Discontent<'c> {
+    ghost use Rattle.std.specs.Prelude.{false};
+
+    ghost says = { λ form lists tokens. false };
+
+    fn judge<L: Ledger>(
+        &self,
+        _run: &mut Run<'_>,
+        _doc: DocId,
+        _span: Span,
+        _moves: &mut Steps<L>,
+    ) -> bool {
+        self.asked.set(self.asked.get().wrapping_add(1));
+        false
+    }
+
+    fn rules_out(&self, _run: &Run<'_>, _doc: DocId) -> bool {
+        self.rules_out
+    }
 }
 
 const LOAD: &str = "load one\n<a>Hello <b>world</b></a>\n.\n";
@@ -60,7 +98,7 @@ const NONE: &str = "= 0\n";
 /// A command, and its reply where `Direct`, `Contrary` and `Content` are asked.
 type JudgedRow = (&'static str, &'static str, &'static str, &'static str);
 
-const JUDGED: [JudgedRow; 6] = [
+const JUDGED: [JudgedRow; 17] = [
     (
         "query collection()//a[. contains text \"hello\"]",
         A,
@@ -88,6 +126,74 @@ const JUDGED: [JudgedRow; 6] = [
     ),
     // where there is no selection no judge is asked
     ("query collection()//b", B, B, B),
+    // a word that isn't in the document rules the document out where it has to be there
+    (
+        "query collection()//a[. contains text ftnot \"bye\"]",
+        A,
+        NONE,
+        A,
+    ),
+    (
+        "query collection()//a[. contains text \"bye\" occurs at least 0 times]",
+        A,
+        NONE,
+        A,
+    ),
+    (
+        "query collection()//a[. contains text \"bye\" occurs at most 1 times]",
+        A,
+        NONE,
+        A,
+    ),
+    (
+        "query collection()//a[. contains text \"bye\" occurs at least 1 times]",
+        NONE,
+        A,
+        A,
+    ),
+    (
+        "query collection()//a[. contains text \"bye\" ftor \"hello\"]",
+        A,
+        NONE,
+        A,
+    ),
+    (
+        "query collection()//a[. contains text \"bye\" ftand \"hello\"]",
+        NONE,
+        A,
+        A,
+    ),
+    // and where no predicate can be true without it
+    (
+        "query collection()//a[. contains text \"bye\" or . contains text \"hello\"]",
+        A,
+        A,
+        A,
+    ),
+    (
+        "query collection()//a[. contains text \"bye\" and . contains text \"hello\"]",
+        NONE,
+        NONE,
+        A,
+    ),
+    (
+        "query collection()//a[not(. contains text \"bye\")]",
+        A,
+        NONE,
+        NONE,
+    ),
+    (
+        "query collection()//a[. contains text \"bye\"]/b",
+        NONE,
+        B,
+        B,
+    ),
+    (
+        "query collection()//a[b[. contains text \"bye\"]]",
+        NONE,
+        A,
+        A,
+    ),
 ];
 
 /// Compares the reply to a command where this judge is asked.
@@ -120,6 +226,58 @@ fn what_a_path_selects_follows_its_judge(rt: HostRuntime) -> Result<(), Fail> {
         expect_judged(&rt, alloc, Direct, command, direct)?;
         expect_judged(&rt, alloc, Contrary, command, contrary)?;
         expect_judged(&rt, alloc, Content, command, content)?;
+    }
+    Ok(())
+}
+
+/// Whether a judge rules out each document, a command, its reply, and for how many elements the judge is asked.
+type CountedRow = (bool, &'static str, &'static str, u32);
+
+const COUNTED: [CountedRow; 6] = [
+    (
+        false,
+        "query collection()//*[. contains text \"hello\"]",
+        NONE,
+        2,
+    ),
+    (
+        true,
+        "query collection()//*[. contains text \"hello\"]",
+        NONE,
+        0,
+    ),
+    (
+        true,
+        "print doc(\"one\")/a[. contains text \"hello\"]/b",
+        NONE,
+        0,
+    ),
+    (
+        true,
+        "query collection()//*[. contains text \"hello\" or . contains text \"world\"]",
+        NONE,
+        0,
+    ),
+    (
+        true,
+        "query collection()//a[not(. contains text \"hello\")]",
+        A,
+        1,
+    ),
+    (true, "query collection()//b", B, 0),
+];
+
+#[test]
+fn no_element_is_looked_at_in_documents_that_are_ruled_out(rt: HostRuntime) -> Result<(), Fail> {
+    let alloc = rt.alloc();
+    for (rules_out, command, reply, wanted) in &COUNTED {
+        let asked = Cell::new(0);
+        let judge = Discontent {
+            rules_out: *rules_out,
+            asked: &asked,
+        };
+        expect_judged(&rt, alloc, judge, command, reply)?;
+        assert!(rt; asked.get() == *wanted, "{command}");
     }
     Ok(())
 }

@@ -4,6 +4,8 @@
 #![tactic(auto)]
 
 #[cfg(test)]
+mod asked_elements;
+#[cfg(test)]
 mod commands;
 #[cfg(test)]
 mod compared_words;

@@ -37,6 +37,18 @@ returns-then-is_empty-clause-agrees g c = λ satisfies agree.
     ∙ selected-alike (satisfied root (g.T.TextTest.meaning c.args.test.now)) satisfies (plain root)
     (agrees-there root c.root-root.ensures.apart (g.T.TextTest.meaning c.args.test.now) satisfies agree) (form.steps (map view.step c.args.steps.now))
 
+pub returns-then-lead_nowhere-clause-elements : goal.returns-then-lead_nowhere-clause-elements
+returns-then-lead_nowhere-clause-elements g c =
+    let root = c.args.tree.now.root in
+    ap (map (element_of root)) c.new-then-lead_nowhere.ensures.items ∙ sym (c.lead_nowhere.ensures c.if-lead_nowhere.true).from_document
+
+pub returns-then-lead_nowhere-clause-agrees : goal.returns-then-lead_nowhere-clause-agrees
+returns-then-lead_nowhere-clause-agrees g c = λ satisfies agree.
+    let root = c.args.tree.now.root in
+    returns-then-lead_nowhere-clause-elements g c
+    ∙ selected-alike (satisfied root (g.T.TextTest.meaning c.args.test.now)) satisfies (plain root)
+    (agrees-there root c.root-root.ensures.apart (g.T.TextTest.meaning c.args.test.now) satisfies agree) (form.steps (map view.step c.args.steps.now))
+
 pub from_document-requires-clause-root : goal.from_document-requires-clause-root
 from_document-requires-clause-root g c =
     root-there c.args.tree.now.root c.root-root.result c.root-root.ensures.root c.root-root.ensures.apart c.requires.root

@@ -3,7 +3,7 @@ use Rattle.std.proofs.Common.{◌≡◌, All, filter, flat_map, map, take}
 use Rattle.path_meaning.specs.Meaning.{is_named}
 use Rattle.path_nodes.specs.References.{IsElement, element_of}
 use Rattle.path_nodes.specs.steps.Kept.{offered}
-use Rattle.path_nodes.proofs.naming.named_under.Given as goal
+use Rattle.path_nodes.proofs.naming.under.Given as goal
 
 abbrev pub invariant-loop-context : goal.invariant-loop-context
 invariant-loop-context l = record {
