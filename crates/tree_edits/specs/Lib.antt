@@ -1,0 +1,5 @@
+pub mod Changed
+pub mod Edits
+pub mod Examples
+pub mod Fresh
+pub mod Kept
