@@ -13,6 +13,7 @@ mod selection;
 pub use copying::copy_selection;
 use ft_base::Items;
 pub use ft_base::{Filter, Mode, Range, Unit, Words};
+pub use option_copying::{copy_options, copy_words};
 pub use printing::print_selection;
 pub use selection::Selection;
 

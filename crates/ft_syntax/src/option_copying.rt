@@ -123,7 +123,8 @@ fn copy_stop_words(
     }
 }
 
-pub(crate) fn copy_options(alloc: Global, options: &Options) -> Result<Options, Memory>
+/// A copy of options.
+pub fn copy_options(alloc: Global, options: &Options) -> Result<Options, Memory>
     ensures { IfOk result (λ copy. copy ≡ options.now) }
 {
     Ok(Options {
@@ -137,7 +138,8 @@ pub(crate) fn copy_options(alloc: Global, options: &Options) -> Result<Options, 
     })
 }
 
-pub(crate) fn copy_words(alloc: Global, words: &Words) -> Result<Words, Memory>
+/// A copy of words, with what is written behind them.
+pub fn copy_words(alloc: Global, words: &Words) -> Result<Words, Memory>
     ensures { IfOk result (λ copy. copy ≡ words.now) }
 {
     Ok(Words {

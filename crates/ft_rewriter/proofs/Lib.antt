@@ -1,0 +1,10 @@
+pub mod Among
+pub mod Associative
+pub mod EachSelection
+pub mod FlattenedMatches
+pub mod GivenOptions
+pub mod OperandTests
+pub mod ReadBack
+pub mod SameForms
+pub mod SimplifiedTests
+pub mod Views

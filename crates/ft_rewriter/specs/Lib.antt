@@ -1,0 +1,3 @@
+pub mod Code
+pub mod Examples
+pub mod Rewriting

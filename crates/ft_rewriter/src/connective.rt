@@ -1,0 +1,8 @@
+/// What joins the operands of a selection.
+#[derive(Clone, Copy)]
+pub(crate) enum Connective {
+    /// `ftor` (the standard's FTOr)
+    Or,
+    /// `ftand` (the standard's FTAnd)
+    And,
+}
