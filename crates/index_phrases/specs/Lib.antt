@@ -1,0 +1,5 @@
+pub mod Phrases
+pub mod Tokens
+pub mod Cursors
+pub mod Examples
+pub mod steps
