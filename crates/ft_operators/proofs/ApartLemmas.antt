@@ -1,7 +1,7 @@
 -- The ways of a mild not: those of the left side that stand out of each of the right side.
-use Rattle.std.proofs.Common.{◌≡◌, refl, ap, sym, ◌∙◌, subst, ℕ, ◌+◌, ◌<◌, ◌≤◌, List, [], ◌∷◌, ◌++◌, Bool, true, false, not, ◌&&◌, ◌||◌, cond, take, drop, length, arith}
+use Rattle.std.proofs.Common.{◌≡◌, refl, ap, sym, ◌∙◌, subst, ℕ, ◌<◌, ◌≤◌, List, [], ◌∷◌, ◌++◌, Bool, true, false, not, ◌&&◌, ◌||◌, cond, take, drop, length, arith}
 use Rattle.std.proofs.lemmas.List.{take_at, drop_at}
-use Rattle.std.specs.Prelude.{filter, fold}
+use Rattle.std.specs.Prelude.{filter}
 use Rattle.std.specs.List.{list_any, list_all}
 use Rattle.std.proofs.Math.Bool.{or_assoc, and_assoc, or-false, and-true}
 use Rattle.ft_base.specs.Lists.{is_not_empty}
@@ -18,9 +18,6 @@ use Rattle.ft_operators.proofs.SieveLemmas.{fewer}
 
 with_rest : Standing → List Way → Standing
 with_rest s rest = record { aims = s.aims; shape = s.shape; operator = s.operator; rest = rest }
-
-some_includes : List Way → Bool
-some_includes ways = list_any (λ way. is_not_empty (way_includes way)) ways
 
 -- ---- one way after the other
 

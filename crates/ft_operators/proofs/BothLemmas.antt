@@ -1,9 +1,9 @@
 -- The ways of an And: each of the left side with each of the right one.
-use Rattle.std.proofs.Common.{◌≡◌, refl, ap, sym, ◌∙◌, List, [], ◌∷◌, ◌++◌, Bool, true, false, map, drop}
+use Rattle.std.proofs.Common.{◌≡◌, refl, ap, List, [], ◌∷◌, true, false, map, drop}
 use Rattle.std.specs.Prelude.{flat_map}
 use Rattle.ft_base.specs.Lists.{is_not_empty}
 use Rattle.ft_base.specs.declared.span.Span.{Span}
-use Rattle.all_matches.specs.Ways.{Way, Operator, together, two_ways, ways_of}
+use Rattle.all_matches.specs.Ways.{Way, two_ways, ways_of}
 use Rattle.ft_operators.specs.Standing.{Standing, at_front, one_on}
 use Rattle.ft_operators.specs.steps.Forms.{both_of, pairs_left}
 

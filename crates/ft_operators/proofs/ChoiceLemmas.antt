@@ -1,9 +1,8 @@
 -- The ways of a choice: those of the left side, and then those of the right one.
-use Rattle.std.proofs.Common.{◌≡◌, refl, ap, sym, ◌∙◌, List, [], ◌∷◌, ◌++◌, Bool, true, false, drop}
-use Rattle.std.proofs.lemmas.Bool.{false≢true}
+use Rattle.std.proofs.Common.{◌≡◌, refl, ap, List, [], ◌∷◌, ◌++◌, Bool, true, false, drop}
 use Rattle.ft_base.specs.Lists.{is_not_empty}
 use Rattle.ft_base.specs.declared.span.Span.{Span}
-use Rattle.all_matches.specs.Ways.{Way, Operator, either, ways_of}
+use Rattle.all_matches.specs.Ways.{Way, ways_of}
 use Rattle.ft_operators.specs.Standing.{Standing, at_front, one_on}
 use Rattle.ft_operators.specs.steps.Forms.{choice_of, first_left}
 

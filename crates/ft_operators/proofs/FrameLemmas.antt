@@ -1,5 +1,5 @@
 -- The frame of a node is that of the walk through it, and its shape is that of the frame.
-use Rattle.std.proofs.Common.{◌≡◌, refl, ap, sym, ◌∙◌, ℕ, ◌≤◌, Bool, true, ◌&&◌, Box, Global, arith}
+use Rattle.std.proofs.Common.{◌≡◌, refl, ap, sym, ◌∙◌, ℕ, ◌≤◌, true, ◌&&◌, Box, Global, arith}
 use Rattle.std.proofs.lemmas.Bool.{and_parts}
 use Rattle.ft_base.specs.declared.filter.Filter.{Filter}
 use Rattle.ft_base.specs.declared.span.Span.{Span}
@@ -10,7 +10,7 @@ use Rattle.ft_operators.specs.declared.node.Pair.{Pair}
 use Rattle.ft_operators.specs.declared.node.Negation.{Negation}
 use Rattle.ft_operators.specs.declared.node.Sieve.{Sieve}
 use Rattle.ft_operators.specs.Phrases.{PhraseState, aimed_at}
-use Rattle.ft_operators.specs.Standing.{Aims, Frame, Standing, frame, aimed}
+use Rattle.ft_operators.specs.Standing.{Aims, Frame, frame, aimed}
 use Rattle.ft_operators.specs.steps.Forms.{phrase_of, phrase_shape, choice_frame, both_frame, apart_frame, negated_frame, filtered_frame, choice_shape, both_shape, apart_shape, negated_shape, filtered_shape}
 use Rattle.ft_operators.specs.steps.Nodes.{standing, frame_of, fork_frame, both_pair_frame, apart_pair_frame, negation_frame, sieve_frame, shape_of}
 use Rattle.ft_operators.specs.steps.Walking.{AreAimed, IsAimed}

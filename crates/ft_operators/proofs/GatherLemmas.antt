@@ -1,5 +1,5 @@
 -- The includes of a way, put one after the other.
-use Rattle.std.proofs.Common.{◌≡◌, refl, ap, sym, ◌∙◌, subst, ℕ, ◌+◌, ◌≤◌, List, [], ◌∷◌, ◌++◌, Bool, true, false, length, drop, take, arith, max}
+use Rattle.std.proofs.Common.{◌≡◌, refl, ap, sym, ◌∙◌, subst, ℕ, ◌+◌, ◌≤◌, List, [], ◌∷◌, ◌++◌, Bool, true, false, length, drop, take, arith}
 use Rattle.std.specs.Prelude.{Option, Some, None, option_to_list, flat_map}
 use Rattle.std.proofs.lemmas.List.{append_assoc, append-nil, length-append, take_at, drop_at}
 use Rattle.ft_base.specs.Lists.{is_not_empty}
@@ -106,7 +106,7 @@ pub gathered_negated : (item : Span) (there : Bool) (operand : Standing) (room :
 gathered_negated item true operand room old = record { from = omega arith; kept_room = omega arith; few = λ _. omega arith; hits = λ _ _. sym (append-nil old) }
 gathered_negated item false operand room old = record { from = omega arith; kept_room = omega arith; few = λ there. cc; hits = λ there. cc }
 
-sieve_includes : (kind : Filter) (item : Span) (lead : ℕ) (ways : List Way) → is_not_empty (sieve_left kind item lead ways) ≡ true → includes_now (sieve_left kind item lead ways) ≡ after kind (includes_now ways)
+pub sieve_includes : (kind : Filter) (item : Span) (lead : ℕ) (ways : List Way) → is_not_empty (sieve_left kind item lead ways) ≡ true → includes_now (sieve_left kind item lead ways) ≡ after kind (includes_now ways)
 sieve_includes kind item lead [] there = cc
 sieve_includes kind item lead (way ∷ more) there = of (drop lead (choices_at kind item way)) there
   where

@@ -10,3 +10,6 @@ pub mod FrameLemmas
 pub mod ApartLemmas
 pub mod TupleLemmas
 pub mod FreeLemmas
+pub mod ChainLemmas
+pub mod CleanLemmas
+pub mod AnswerLemmas

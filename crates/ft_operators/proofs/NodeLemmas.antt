@@ -1,5 +1,5 @@
 -- Where the walk through a node stands, kind by kind.
-use Rattle.std.proofs.Common.{◌≡◌, refl, ap, sym, ◌∙◌, ℕ, ◌≤◌, Bool, Box, Global}
+use Rattle.std.proofs.Common.{◌≡◌, refl, ap, sym, ◌∙◌, ℕ, Bool, Box, Global}
 use Rattle.ft_base.specs.Lists.{is_not_empty}
 use Rattle.ft_base.specs.declared.span.Span.{Span}
 use Rattle.ft_operators.specs.declared.node.Node.{Node}

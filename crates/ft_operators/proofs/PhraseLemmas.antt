@@ -1,14 +1,13 @@
 -- The ways of a phrase are its hits, one after the other.
-use Rattle.std.proofs.Common.{◌≡◌, refl, ap, sym, ◌∙◌, ℕ, ◌≤◌, List, [], ◌∷◌, Bool, map, drop}
+use Rattle.std.proofs.Common.{◌≡◌, refl, List, [], ◌∷◌, map, drop}
 use Rattle.std.specs.Option.{is_some}
 use Rattle.ft_base.specs.Lists.{is_not_empty}
 use Rattle.ft_base.specs.declared.hit.Hit.{Hit}
 use Rattle.ft_base.specs.declared.span.Span.{Span}
-use Rattle.all_matches.specs.Ways.{phrase, one_hit, ways_of}
+use Rattle.all_matches.specs.Ways.{one_hit, ways_of}
 use Rattle.ft_operators.specs.Phrases.{PhraseState, first_hit, at_first, one_further}
 use Rattle.ft_operators.specs.Standing.{at_front, one_on}
 use Rattle.ft_operators.specs.steps.Forms.{phrase_of}
-use Rattle.ft_operators.specs.steps.Walking.{Moved}
 
 pub some_hit : (hits : List Hit) → is_some (first_hit hits) ≡ is_not_empty (map one_hit hits)
 some_hit [] = refl

@@ -1,16 +1,15 @@
 -- The ways through a filter: for each way of the operand that the filter keeps, one for each choice.
-use Rattle.std.proofs.Common.{◌≡◌, refl, ap, sym, ◌∙◌, ℕ, ◌+◌, ◌<◌, ◌≤◌, suc, zero, List, [], ◌∷◌, ◌++◌, Bool, true, false, map, drop, length, arith, cond}
+use Rattle.std.proofs.Common.{◌≡◌, refl, ap, sym, ◌∙◌, ℕ, ◌+◌, ◌<◌, ◌≤◌, List, [], ◌∷◌, ◌++◌, Bool, true, false, map, drop, length, arith, cond}
 use Rattle.std.specs.Prelude.{flat_map, Option}
-use Rattle.std.proofs.lemmas.List.{drop-drop, drop_all, length-drop}
+use Rattle.std.proofs.lemmas.List.{drop-drop, length-drop}
 use Rattle.ft_base.specs.Lists.{is_not_empty}
 use Rattle.ft_base.specs.declared.filter.Filter.{Filter}
-use Rattle.ft_base.specs.declared.hit.Hit.{Hit}
 use Rattle.ft_base.specs.declared.span.Span.{Span}
 use Rattle.all_matches.specs.declared.window.Window.{Window}
 use Rattle.all_matches.specs.Filters.{passes, choices}
 use Rattle.all_matches.specs.Ways.{Way, by_filter, way_includes, filtered_ways, ways_of}
-use Rattle.ft_operators.specs.Standing.{Standing, at_front, one_on, includes_now}
-use Rattle.ft_operators.specs.steps.Forms.{sieve_of, sieve_left, chosen_left, choices_at, choices_of, count_now, sifted}
+use Rattle.ft_operators.specs.Standing.{Standing, at_front, one_on}
+use Rattle.ft_operators.specs.steps.Forms.{sieve_of, sieve_left, chosen_left, choices_at, count_now, sifted}
 
 with_rest : Standing → List Way → Standing
 with_rest s rest = record { aims = s.aims; shape = s.shape; operator = s.operator; rest = rest }

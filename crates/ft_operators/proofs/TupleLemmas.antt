@@ -7,7 +7,7 @@ use Rattle.ft_base.specs.declared.span.Span.{Span}
 use Rattle.all_matches.specs.Ways.{Way, ways_of}
 use Rattle.ft_operators.specs.declared.node.Node.{Node}
 use Rattle.ft_operators.specs.Phrases.{PhraseState}
-use Rattle.ft_operators.specs.Standing.{Frame, Standing, frame, aimed, at_front, one_on, includes_now}
+use Rattle.ft_operators.specs.Standing.{Frame, Standing, frame, at_front, one_on, includes_now}
 use Rattle.ft_operators.specs.Walk.{Walk, tuple_of}
 use Rattle.ft_operators.specs.steps.Nodes.{standing, frame_of, shape_of}
 use Rattle.ft_operators.specs.steps.Walking.{Moved, MayGoOn, IsAimed, IsHeld}
@@ -17,7 +17,7 @@ use Rattle.ft_operators.proofs.FrameLemmas.{frame_same, shape_same}
 abbrev pub shown : Span → Frame → List Way → Option (List Hit) → Walk
 shown item f rest tuple = record { item = item; aims = f.aims; operator = f.operator; rest = rest; tuple = tuple }
 
-shown_ways : (item : Span) (f : Frame) (rest : List Way) (there : Bool) (held : List Hit) → there ≡ is_not_empty rest → (there ≡ true → held ≡ includes_now rest)
+pub shown_ways : (item : Span) (f : Frame) (rest : List Way) (there : Bool) (held : List Hit) → there ≡ is_not_empty rest → (there ≡ true → held ≡ includes_now rest)
     → shown item f (cond there rest []) (cond there (Some held) None) ≡ shown item f rest (tuple_of rest)
 shown_ways item f [] true held is same = cc
 shown_ways item f [] false held is same = refl
@@ -25,16 +25,27 @@ shown_ways item f (way ∷ rest) true held is same = ap (λ hits. shown item f (
 shown_ways item f (way ∷ rest) false held is same = cc
 
 module _ {P : Type 0} (state : P → PhraseState) (item : Span) (old new : Node P) where
+  pub standing_shape : (standing state item old).shape ≡ shape_of old
+  standing_shape = ap (λ f. f.shape) (frame_same state item old) ∙ shape_same state old
+
   pub standing_room : (standing state item old).shape.room ≡ (shape_of old).room
-  standing_room = ap (λ f. f.shape.room) (frame_same state item old) ∙ ap (λ s. s.room) (shape_same state old)
+  standing_room = ap (λ s. s.room) standing_shape
+
+  -- a walk through the same operator
+  module _ (same : frame (standing state item new) ≡ frame (standing state item old)) where
+    pub kept_frame : frame_of state new ≡ frame_of state old
+    kept_frame = sym (frame_same state item new) ∙ same ∙ frame_same state item old
+
+    pub kept_shape : shape_of new ≡ shape_of old
+    kept_shape = sym (shape_same state new) ∙ ap (λ f. f.shape) kept_frame ∙ shape_same state old
 
   module _ (wanted : Standing) (same : frame wanted ≡ frame (standing state item old)) (room mid_room new_room start end : ℕ) (answer : Bool) (held : List Hit)
       (m : Moved wanted (standing state item new) room mid_room start end answer) where
     moved_frame : frame_of state new ≡ frame_of state old
-    moved_frame = sym (frame_same state item new) ∙ ap frame m.stand ∙ same ∙ frame_same state item old
+    moved_frame = kept_frame (ap frame m.stand ∙ same)
 
-    pub moved_room : (shape_of new).room ≡ (shape_of old).room
-    moved_room = sym (ap (λ s. s.room) (shape_same state new)) ∙ ap (λ f. f.shape.room) moved_frame ∙ ap (λ s. s.room) (shape_same state old)
+    pub moved_shape : shape_of new ≡ shape_of old
+    moved_shape = kept_shape (ap frame m.stand ∙ same)
 
     pub moved_shown : IsHeld answer (standing state item new) mid_room new_room held → (shape_of old).room ≤ room
         → shown item (frame_of state new) (cond answer (standing state item new).rest []) (cond answer (Some held) None) ≡ shown item (frame_of state old) wanted.rest (tuple_of wanted.rest)
@@ -71,9 +82,8 @@ module _ {P : Type 0} (state : P → PhraseState) (item : Span) (old new : Node 
   next_shown true h room mid_room new_room start end answer held m g fits = moved_shown (one_on (standing state item old)) refl room mid_room new_room start end answer held m g fits
   next_shown false h room mid_room new_room start end answer held m g fits = cc
 
-  pub aimed_room : (doc : ℕ) (span : Span) (start end : ℕ) → IsAimed doc span (frame_of state old) (frame_of state new) start end → (shape_of new).room ≡ (shape_of old).room
-  aimed_room doc span start end a =
-      sym (ap (λ s. s.room) (shape_same state new)) ∙ ap (λ f. f.shape.room) a.framed ∙ ap (λ s. s.room) (shape_same state old)
+  pub aimed_shape : (doc : ℕ) (span : Span) (start end : ℕ) → IsAimed doc span (frame_of state old) (frame_of state new) start end → shape_of new ≡ shape_of old
+  aimed_shape doc span start end a = sym (shape_same state new) ∙ ap (λ f. f.shape) a.framed ∙ shape_same state old
 
 pub answer_shown : (there : Bool) (rest : List Way) → there ≡ is_not_empty rest → there ≡ is_not_empty (cond there rest [])
 answer_shown true rest is = is

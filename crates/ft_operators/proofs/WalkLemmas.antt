@@ -1,5 +1,5 @@
 -- Moves of an operator's walk, made of moves of the walks through its operands.
-use Rattle.std.proofs.Common.{◌≡◌, refl, ap, sym, ◌∙◌, subst, ℕ, ◌+◌, ◌<◌, ◌≤◌, Bool, true, false, length, drop, arith}
+use Rattle.std.proofs.Common.{◌≡◌, refl, ap, sym, ◌∙◌, subst, ℕ, ◌+◌, ◌<◌, ◌≤◌, Bool, true, false, length, arith}
 use Rattle.ft_base.specs.Lists.{is_not_empty}
 use Rattle.ft_base.specs.declared.filter.Filter.{Filter}
 use Rattle.ft_base.specs.declared.span.Span.{Span}
@@ -7,9 +7,9 @@ use Rattle.all_matches.specs.Ways.{ways_of}
 use Rattle.ft_operators.specs.Standing.{Standing, at_front, one_on}
 use Rattle.ft_operators.specs.steps.Forms.{choice_of, both_of, negation_of, sieve_of, sifted, count_now}
 use Rattle.ft_operators.specs.steps.Walking.{Moved, MayGoOn, Settling}
-use Rattle.ft_operators.proofs.ChoiceLemmas.{choice_front_left, choice_front_right, choice_on_left, choice_over, choice_on_right, left_there}
+use Rattle.ft_operators.proofs.ChoiceLemmas.{choice_front_left, choice_front_right, left_there}
 use Rattle.ft_operators.proofs.BothLemmas.{both_front, both_front_none, both_on_right, both_on_left, both_end, pairs_there, pairs_none, pairs_sides}
-use Rattle.ft_operators.proofs.SieveLemmas.{sieve_front, sieve_settled, sieve_skip, sieve_end, sieve_on, sieve_over, sieve_there_first, sieve_there_next, sieve_none, sieve_operand_there, lead_below, fewer}
+use Rattle.ft_operators.proofs.SieveLemmas.{sieve_front, sieve_settled, sieve_skip, sieve_end, sieve_on, sieve_over, sieve_there_first, sieve_there_next, sieve_none, fewer}
 
 rest_there : Standing → Bool
 rest_there s = is_not_empty s.rest

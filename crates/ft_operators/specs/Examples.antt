@@ -1,9 +1,16 @@
--- Small walks, for the examples.
-use Rattle.std.specs.Prelude.{ℕ, true, [], ◌∷◌, None}
+-- Small walks and chains, for the examples.
+use Rattle.std.specs.Prelude.{ℕ, ℤ, Bool, true, List, [], ◌∷◌, nat_lt, Option, Some, None}
 use Rattle.ft_base.specs.declared.hit.Hit.{Hit}
 use Rattle.ft_base.specs.declared.span.Span.{Span}
+use Rattle.ft_base.specs.declared.filter.Filter.{Filter}
 use Rattle.ft_base.specs.declared.filter.Filter.TheVariants as F
-use Rattle.all_matches.specs.Ways.{phrase, Way, one_hit, two_ways, by_filter}
+use Rattle.ft_base.specs.declared.unit.TextUnit.TheVariants.{Words}
+use Rattle.all_matches.specs.declared.window.Window.{Window}
+use Rattle.all_matches.specs.Chain.{Link}
+use Rattle.all_matches.specs.Hits.{match_of_hit}
+use Rattle.all_matches.specs.Ways.{phrase, Way, one_hit, two_ways, turned_about, by_filter}
+use Rattle.all_matches.specs.Window.{window_at}
+use Rattle.ft_operators.specs.declared.chain.ChainLink.{ChainLink}
 use Rattle.ft_operators.specs.Standing.{phrase_aims}
 use Rattle.ft_operators.specs.Walk.{Walk, before_first, walk_at}
 
@@ -31,3 +38,25 @@ unmoved = before_first (span 1 3) (phrase_aims (record { may = λ doc place. tru
 -- at the first of two ways
 abbrev pub moved : Walk
 moved = walk_at (a ∷ ordered a_and_b ∷ []) unmoved
+
+-- `ftnot "a"` where `a` stands at the first word
+abbrev pub not_a : Way
+not_a = turned_about (match_of_hit (at 1) ∷ [])
+
+-- whether a hit begins behind the first word
+abbrev pub is_behind : Hit → Bool
+is_behind hit = nat_lt 1 hit.from
+
+-- two words from that one on, as a window, and chosen by a window filter
+abbrev pub two_from : ℤ → Window
+two_from number = window_at 2 number
+
+abbrev pub within : Way → ℤ → Way
+within way number = by_filter way (F.Window 2 Words) (Some (two_from number))
+
+-- a filter of a chain, with so many includes in front of its own, and with these
+abbrev pub put : Filter → Option Window → ℕ → ChainLink
+put kind window start = record { kind = kind; window = window; start = start }
+
+abbrev pub link : Filter → Option Window → List Hit → Link
+link kind window includes = record { kind = kind; includes = includes; choice = window }

@@ -2,5 +2,6 @@ pub mod Phrases
 pub mod Standing
 pub mod Walk
 pub mod Tuples
+pub mod Chains
 pub mod Examples
 pub mod steps

@@ -23,13 +23,13 @@ two_aims joined left right = record {
   operators = λ doc span. joined (left.operators doc span) (right.operators doc span);
 }
 
--- what an operator is made of: how many hits the walk has to hold at once; how large it is; whether negated selections stand
--- neither inside one another nor inside mild not; and whether there is none
+-- what an operator is made of: how many hits the walk has to hold at once; how large it is; and how many filters a chain has
+-- to hold where it is asked whether a way is clean, and how many hits in front of them
 pub record Shape : Type 0 where
   pub room : ℕ
   pub weight : ℕ
-  pub plain : Bool
-  pub bare : Bool
+  pub filters : ℕ
+  pub hits : ℕ
 
 -- an operator, whatever the place of a walk through its ways
 pub record Frame : Type 0 where

@@ -1,5 +1,6 @@
 -- The walk that a value of `Tuples` is.
 use Rattle.std.specs.Prelude.{if◌then◌else◌, [], Some, None}
+use Rattle.ft_operators.specs.declared.chain_room.ChainRoom.{ChainRoom}
 use Rattle.ft_operators.specs.declared.tuples.Tuples.{Tuples}
 use Rattle.ft_operators.specs.Phrases.{PhraseState}
 use Rattle.ft_operators.specs.Walk.{Walk}
@@ -13,3 +14,7 @@ walk_of state tuples = record {
   rest = if tuples.there then (standing state tuples.item tuples.node).rest else [];
   tuple = if tuples.there then Some tuples.held.items else None;
 }
+
+-- the room that a chain must have
+abbrev pub room_of : {P : Type 0} → Tuples P → ChainRoom
+room_of tuples = tuples.room

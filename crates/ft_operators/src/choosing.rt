@@ -1,16 +1,19 @@
 //! The choices that a filter leaves in the present way of its operand: a window filter one for each window, any other
 //! filter one.
 
-ghost use Rattle.std.specs.Prelude.{◌≡◌, ◌≤◌, length, vec_capacity};
+ghost use Rattle.std.specs.Prelude.{◌≡◌, ◌≤◌, ◌<◌, ◌+◌, ◌-◌, ◌^◌, ◌-ℤ◌, pos, suc, None, get_or, length, vec_capacity};
+ghost use Rattle.all_matches.specs.Filters.{choices};
 ghost use Rattle.all_matches.specs.Join.{join};
-ghost use Rattle.all_matches.specs.Window.{windows_round};
+ghost use Rattle.all_matches.specs.Positions.{end_in, start_in};
+ghost use Rattle.all_matches.specs.Window.{window_at, windows_round};
 ghost use Rattle.ft_operators.specs.steps.Forms.{choices_of, count_now};
 ghost use Rattle.ft_operators.specs.steps.Nodes.{standing};
 ghost use Rattle.ft_operators.specs.steps.Walking.{MayGoOn};
 
 use crate::PhraseHits;
 use crate::gathering::gather;
-use crate::node::Node;
+use crate::node::{Node, Sieve};
+use all_matches::Window;
 use ft_base::{Filter, Hit, Span, Unit};
 use window_distance::{Includes, end_in, join, passes, start_in};
 
@@ -53,5 +56,50 @@ fn window_count(size: u32, unit: Unit, hits: &[Hit]) -> u64
             let behind = u64::from(start_in(unit, &joined)) + u64::from(size);
             behind.saturating_sub(u64::from(end_in(unit, &joined)))
         }
+    }
+}
+
+/// The choice of that number, counted from 0, that the filter has with these includes: a window of a window filter.
+pub(crate) fn chosen_window(kind: &Filter, lead: u64, hits: &[Hit]) -> Option<Window>
+    requires { lead < length (choices kind.now hits.now) }
+    ensures { result ≡ get_or (choices kind.now hits.now) lead None }
+{
+    match *kind {
+        Filter::Window(size, unit) => match join(&Includes::of(hits)) {
+            None => None,
+            Some(joined) => Some(window_of(size, unit, &joined, lead)),
+        },
+        _ => None,
+    }
+}
+
+/// The window of the present way through the filter, round these includes.
+pub(crate) fn sieve_window<P: PhraseHits>(sieve: &Sieve<P>, hits: &[Hit]) -> Option<Window>
+    requires { sieve.now.lead < length (choices sieve.now.kind hits.now) }
+    ensures { result ≡ get_or (choices sieve.now.kind hits.now) sieve.now.lead None }
+{
+    chosen_window(&sieve.kind, sieve.lead, hits)
+}
+
+/// The window of that number, counted from 0, of those of the size that hold the hit.
+fn window_of(size: u32, unit: Unit, hit: &Hit, lead: u64) -> Window
+    requires { lead < (start_in unit hit.now + size) - end_in unit hit.now }
+    ensures { result ≡ window_at size (pos (suc (end_in unit hit.now) + lead) -ℤ pos size) }
+{
+    let most = u64::from(start_in(unit, hit)) + u64::from(size);
+    let last = u64::from(end_in(unit, hit)) + lead.min(most);
+    window_to(size, last)
+}
+
+/// The window of the size that ends with this number.
+fn window_to(size: u32, last: u64) -> Window
+    requires { last < 2 ^ 34 }
+    ensures from { result.from ≡ pos (suc last) -ℤ pos size }
+    ensures to { result.to ≡ pos last }
+{
+    let to = last as i64;
+    Window {
+        from: to + 1 - i64::from(size),
+        to,
     }
 }

@@ -1,7 +1,10 @@
-//! Spans told in their own numbers, and the includes of ways, by computation.
+//! Spans told in their own numbers, the includes and windows of ways, and chains of filters, by computation.
 
-ghost use Rattle.std.specs.Prelude.{◌≡◌, ◌∷◌, [], Some, None};
-ghost use Rattle.ft_operators.specs.Examples.{span, at, moved, unmoved};
+ghost use Rattle.std.specs.Prelude.{◌≡◌, ◌∷◌, [], pos, true, false, Some, None};
+ghost use Rattle.ft_base.specs.declared.filter.Filter.TheVariants as F;
+ghost use Rattle.all_matches.specs.Ways.{apart, either, negated, one_hit, phrase, through_filter, together, two_ways};
+ghost use Rattle.ft_operators.specs.Chains.{all_kept, clean_now, first_includes, links_from, outer_window, passes_now, way_window, window_now};
+ghost use Rattle.ft_operators.specs.Examples.{a, a_and_b, at, is_behind, link, moved, not_a, ordered, put, span, two_from, unmoved, within};
 ghost use Rattle.ft_operators.specs.Walk.{at_next_way, own_span};
 
 /// The first word of a span is its word 1.
@@ -19,4 +22,45 @@ pub fn walks()
     ensures at_the_next { (at_next_way moved).tuple ≡ Some (at 1 ∷ at 2 ∷ []) }
     ensures behind { (at_next_way (at_next_way moved)).tuple ≡ None }
     ensures behind_the_end { (at_next_way (at_next_way (at_next_way moved))).rest ≡ [] }
+{}
+
+/// A chain names the innermost filter first, and each filter has the includes that stand behind those of the outer ones.
+pub fn chains()
+    ensures without_filters { links_from (at 1 ∷ []) [] ≡ [] }
+    ensures one_inside_the_other { links_from (at 1 ∷ at 2 ∷ at 3 ∷ []) (put F.Ordered (Some (two_from (pos 1))) 1 ∷ put F.AtStart None 0 ∷ [])
+        ≡ link F.Ordered (Some (two_from (pos 1))) (at 2 ∷ at 3 ∷ []) ∷ link F.AtStart None (at 1 ∷ []) ∷ [] }
+    ensures of_the_innermost { first_includes (link F.Ordered None (at 2 ∷ []) ∷ link F.AtStart None (at 1 ∷ []) ∷ []) ≡ at 2 ∷ [] }
+    ensures of_none { first_includes [] ≡ [] }
+{}
+
+/// Only the first of the ways is asked.
+pub fn first_ways()
+    ensures passes { passes_now (all_kept is_behind) (one_hit (at 2) ∷ a ∷ []) ≡ true }
+    ensures fails { passes_now (all_kept is_behind) (a ∷ one_hit (at 2) ∷ []) ≡ false }
+    ensures none { passes_now (λ way. false) [] ≡ true }
+    ensures all_are_kept { all_kept is_behind (two_ways (one_hit (at 2)) (one_hit (at 3))) ≡ true }
+    ensures one_is_not_kept { all_kept is_behind a_and_b ≡ false }
+    ensures clean { clean_now is_behind (not_a ∷ a ∷ []) ≡ true }
+    ensures not_clean { clean_now (λ hit. true) (not_a ∷ a ∷ []) ≡ false }
+{}
+
+/// The window of a way is that of the outermost filter.
+pub fn windows()
+    ensures of_a_hit { way_window a ≡ None }
+    ensures of_two_ways { way_window (two_ways (within a (pos 1)) (within a (pos 1))) ≡ None }
+    ensures of_what_was_negated { way_window not_a ≡ None }
+    ensures of_two_filters { way_window (within (within a (pos 1)) (pos 0)) ≡ Some (two_from (pos 0)) }
+    ensures of_another_filter { way_window (ordered (within a (pos 1))) ≡ None }
+    ensures of_the_first_way { window_now (within a (pos 1) ∷ within a (pos 0) ∷ []) ≡ Some (two_from (pos 1)) }
+    ensures of_no_way { window_now [] ≡ None }
+{}
+
+/// Where no filter stands outermost there is no window.
+pub fn outermost_windows()
+    ensures of_a_phrase { outer_window (phrase []) (within a (pos 1) ∷ []) ≡ None }
+    ensures of_a_choice { outer_window (either (phrase []) (phrase [])) (within a (pos 1) ∷ []) ≡ None }
+    ensures of_both { outer_window (together (phrase []) (phrase [])) (within a (pos 1) ∷ []) ≡ None }
+    ensures of_mild_not { outer_window (apart (phrase []) (phrase [])) (within a (pos 1) ∷ []) ≡ None }
+    ensures of_negated { outer_window (negated (phrase [])) (within a (pos 1) ∷ []) ≡ None }
+    ensures of_a_filter { outer_window (through_filter (phrase []) F.Ordered) (within a (pos 1) ∷ []) ≡ Some (two_from (pos 1)) }
 {}

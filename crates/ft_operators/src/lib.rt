@@ -10,18 +10,24 @@
 
 mod aiming;
 mod building;
+mod chain;
+mod chain_room;
 mod choosing;
+mod cleaning;
 pub mod examples;
 mod gathering;
 mod joining;
 mod node;
 mod own_span;
 mod phrase_hits;
+mod probing;
 mod standing_out;
 #[cfg(test)]
 mod tests;
 mod tuples;
 mod walking;
 
+pub use chain::Chain;
 pub use phrase_hits::PhraseHits;
+pub use probing::probe;
 pub use tuples::Tuples;

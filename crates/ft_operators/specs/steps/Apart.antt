@@ -5,9 +5,9 @@ use Rattle.ft_base.specs.Lists.{is_not_empty}
 use Rattle.ft_base.specs.declared.hit.Hit.{Hit}
 use Rattle.ft_base.specs.declared.span.Span.{Span}
 use Rattle.all_matches.specs.MildNot.{stands_out}
-use Rattle.all_matches.specs.Ways.{Way, way_includes, standing_out, ways_of, apart}
+use Rattle.all_matches.specs.Ways.{Way, way_includes, standing_out, ways_of}
 use Rattle.ft_operators.specs.declared.standing_out.Tried.{Tried}
-use Rattle.ft_operators.specs.Standing.{Frame, Standing, frame, includes_now}
+use Rattle.ft_operators.specs.Standing.{Standing, frame, includes_now}
 
 -- what one more way of the right side makes of those before it
 abbrev pub with_includes : List Hit → List Hit → Tried → Tried

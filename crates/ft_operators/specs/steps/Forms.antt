@@ -1,13 +1,13 @@
 -- Where a walk through the ways of an operator stands, read off the walks through those of its operands. In each state of
 -- these walks, where nothing is left of the present way of an operand, nothing is left of the operator.
-use Rattle.std.specs.Prelude.{ℕ, ◌+◌, max, Bool, true, false, ◌&&◌, if◌then◌else◌, Option}
+use Rattle.std.specs.Prelude.{ℕ, ◌+◌, max, Bool, if◌then◌else◌, Option}
 use Rattle.std.specs.Prelude.{List, [], ◌∷◌, ◌++◌, map, flat_map, length, drop}
 use Rattle.ft_base.specs.declared.filter.Filter.{Filter}
 use Rattle.ft_base.specs.declared.hit.Hit.{Hit}
 use Rattle.ft_base.specs.declared.span.Span.{Span}
 use Rattle.all_matches.specs.declared.window.Window.{Window}
 use Rattle.all_matches.specs.Filters.{passes, choices}
-use Rattle.all_matches.specs.Ways.{Operator, phrase, either, together, apart, negated, through_filter, matches_of}
+use Rattle.all_matches.specs.Ways.{phrase, either, together, apart, negated, through_filter, matches_of}
 use Rattle.all_matches.specs.Ways.{Way, one_hit, two_ways, turned_about, by_filter, way_includes, filtered_ways, standing_out, ways_of}
 use Rattle.ft_operators.specs.Phrases.{PhraseState}
 use Rattle.ft_operators.specs.Standing.{Shape, Frame, Standing, phrase_aims, one_aims, two_aims}
@@ -17,34 +17,40 @@ abbrev pub choice_shape : Shape → Shape → Shape
 choice_shape left right = record {
   room = max left.room right.room;
   weight = left.weight + right.weight + 1;
-  plain = left.plain && right.plain;
-  bare = left.bare && right.bare;
+  filters = max left.filters right.filters;
+  hits = max left.hits right.hits;
 }
 
 abbrev pub both_shape : Shape → Shape → Shape
 both_shape left right = record {
   room = left.room + right.room;
   weight = left.weight + right.weight + 1;
-  plain = left.plain && right.plain;
-  bare = left.bare && right.bare;
+  filters = max left.filters right.filters;
+  hits = max left.hits right.hits;
 }
 
 abbrev pub apart_shape : Shape → Shape → Shape
 apart_shape left right = record {
   room = left.room + right.room;
   weight = left.weight + right.weight + 1;
-  plain = left.bare && right.bare;
-  bare = left.bare && right.bare;
+  filters = left.filters;
+  hits = left.hits;
 }
 
+-- a negated selection is asked of the filters round it alone
 abbrev pub negated_shape : Shape → Shape
-negated_shape operand = record { room = operand.room; weight = operand.weight + 1; plain = operand.bare; bare = false }
+negated_shape operand = record { room = operand.room; weight = operand.weight + 1; filters = 0; hits = 0 }
 
 abbrev pub filtered_shape : Shape → Shape
-filtered_shape operand = record { room = operand.room; weight = operand.weight + 1; plain = operand.plain; bare = operand.bare }
+filtered_shape operand = record {
+  room = operand.room;
+  weight = operand.weight + 1;
+  filters = operand.filters + 1;
+  hits = operand.hits + operand.room;
+}
 
 abbrev pub phrase_shape : Shape
-phrase_shape = record { room = 1; weight = 1; plain = true; bare = true }
+phrase_shape = record { room = 1; weight = 1; filters = 0; hits = 0 }
 
 abbrev pub phrase_of : PhraseState → Standing
 phrase_of state = record {

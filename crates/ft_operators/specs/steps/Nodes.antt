@@ -1,5 +1,4 @@
 -- Where the walk through the ways of a node stands.
-use Rattle.std.specs.Prelude.{Bool, ℕ}
 use Rattle.ft_base.specs.declared.span.Span.{Span}
 use Rattle.ft_operators.specs.declared.node.Node.{Node, Phrase, Choice', Both', MildNot', Negated', Filtered'}
 use Rattle.ft_operators.specs.declared.node.Fork.{Fork}

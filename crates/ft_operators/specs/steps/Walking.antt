@@ -1,5 +1,5 @@
 -- What a move of a walk does, and what it asks for.
-use Rattle.std.specs.Prelude.{◌≡◌, ℕ, ◌+◌, ◌<◌, ◌≤◌, Bool, true, List, ◌++◌, length, take}
+use Rattle.std.specs.Prelude.{◌≡◌, ℕ, ◌+◌, ◌≤◌, Bool, true, List, ◌++◌, length, take}
 use Rattle.ft_base.specs.Lists.{is_not_empty}
 use Rattle.ft_base.specs.declared.filter.Filter.{Filter}
 use Rattle.ft_base.specs.declared.hit.Hit.{Hit}

@@ -1,7 +1,7 @@
 -- A node is aimed as its inside is, and that as the operands are.
-use Rattle.std.proofs.Common.{◌≡◌, ◌∙◌, ap, sym, arith}
-use Rattle.ft_operators.specs.steps.Nodes.{frame_of, fork_frame, negation_frame, sieve_frame}
-use Rattle.ft_operators.proofs.FrameLemmas.{frame_Phrase, frame_Choice, frame_Both, frame_MildNot, frame_Negated, frame_Filtered, framed_Phrase, framed_Choice, framed_Both, framed_MildNot, framed_Negated, framed_Filtered, aimed_inside, aimed_phrase, may_both, aimed_choice, aimed_both, aimed_apart, aimed_pair, aimed_negated, aimed_filtered}
+use Rattle.std.proofs.Common.{◌∙◌, ap, sym, arith}
+use Rattle.ft_operators.specs.steps.Nodes.{frame_of}
+use Rattle.ft_operators.proofs.FrameLemmas.{frame_Phrase, frame_Choice, frame_Both, frame_MildNot, frame_Negated, frame_Filtered, framed_Phrase, framed_Choice, framed_Both, framed_MildNot, framed_Negated, framed_Filtered, aimed_inside, aimed_phrase, may_both, aimed_choice, aimed_both, aimed_apart, aimed_pair}
 use Rattle.ft_operators.proofs.aiming.+aim.Goals as goal
 
 pub aim_node-aim_fork-requires : goal.aim_node-aim_fork-requires

@@ -1,8 +1,8 @@
 -- Kind by kind, one operand after the other.
 use Rattle.std.proofs.Common.{◌≡◌, ◌∙◌, ap, sym, subst, arith, length, vec_capacity, drop, refl}
 use Rattle.all_matches.specs.Filters.{after}
-use Rattle.ft_operators.specs.steps.Forms.{phrase_of, choice_of, both_of, negation_of, sieve_of}
-use Rattle.ft_operators.specs.steps.Nodes.{standing, fork_standing, pair_standing, negation_standing, sieve_standing}
+use Rattle.ft_operators.specs.steps.Forms.{choice_of, both_of, sieve_of}
+use Rattle.ft_operators.specs.steps.Nodes.{standing}
 use Rattle.ft_operators.specs.steps.Walking.{Replaced}
 use Rattle.ft_operators.proofs.NodeLemmas.{inside_Phrase, inside_Choice, inside_Both, inside_MildNot, inside_Negated, inside_Filtered}
 use Rattle.ft_operators.proofs.GatherLemmas.{gathered_inside, gathered_left, gathered_right, gathered_both, gathered_apart, gathered_negated, gathered_filtered}

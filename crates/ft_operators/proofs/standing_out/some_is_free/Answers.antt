@@ -1,5 +1,5 @@
 -- A word that is free settles it; one that is covered leaves those behind it.
-use Rattle.std.proofs.Common.{◌∙◌, sym, ap, not, arith}
+use Rattle.std.proofs.Common.{◌∙◌, sym, ap, not}
 use Rattle.ft_operators.proofs.FreeLemmas.{is_free, any_here, any_behind, any_none}
 use Rattle.ft_operators.proofs.standing_out.some_is_free.Goals as goal
 

@@ -1,5 +1,5 @@
 -- The words in front of the place are covered, so that those from it on decide.
-use Rattle.std.proofs.Common.{◌≡◌, ◌-◌, not}
+use Rattle.std.proofs.Common.{◌≡◌, ◌-◌}
 use Rattle.std.specs.List.{list_any, range_with_len}
 use Rattle.ft_operators.proofs.FreeLemmas.{is_free}
 use Rattle.ft_operators.proofs.standing_out.some_is_free.Given as goal

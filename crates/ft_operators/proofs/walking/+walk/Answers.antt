@@ -1,13 +1,13 @@
 -- A node moves as its inside does, and that as the operands do.
-use Rattle.std.proofs.Common.{◌≡◌, ◌≤◌, ◌<◌, ◌∙◌, ap, sym, subst, arith, length, vec_capacity, refl, true}
-use Rattle.ft_operators.specs.Standing.{Standing, at_front, one_on}
+use Rattle.std.proofs.Common.{◌≤◌, ◌∙◌, ap, sym, subst, arith, vec_capacity, true}
+use Rattle.ft_operators.specs.Standing.{at_front, one_on}
 use Rattle.ft_operators.specs.steps.Forms.{phrase_of}
-use Rattle.ft_operators.specs.steps.Nodes.{standing, fork_standing, pair_standing, apart_standing, negation_standing, sieve_standing}
+use Rattle.ft_operators.specs.steps.Nodes.{standing, apart_standing, sieve_standing}
 use Rattle.ft_operators.specs.steps.Walking.{MayGoOn}
 use Rattle.ft_operators.proofs.NodeLemmas.{standing_Phrase, standing_Choice, standing_Both, standing_MildNot, standing_Negated, standing_Filtered, inside_Phrase, inside_Choice, inside_Both, inside_MildNot, inside_Negated, inside_Filtered, moved_inside}
-use Rattle.ft_operators.proofs.SieveLemmas.{lead_below, sieve_operand_there}
+use Rattle.ft_operators.proofs.SieveLemmas.{lead_below}
 use Rattle.ft_operators.proofs.ApartLemmas.{apart_first, apart_next, sifting_may, apart_settled, sifting_left_may, sifting_weight, sifting_on, sifting_fewer, apart_end, trying_may, trying_weight, trying_on, trying_fewer, tried_out}
-use Rattle.ft_operators.proofs.WalkLemmas.{choice_first_left, choice_first_right, both_first, both_first_none, both_next, both_next_left, both_next_none, negation_first, negation_next, sieve_first, sieve_next_choice, sieve_next_way, settling_may, settling_on, settled_here, settled_none, settling_fewer}
+use Rattle.ft_operators.proofs.WalkLemmas.{choice_first_left, choice_first_right, both_first, both_first_none, both_next_left, negation_first, negation_next, sieve_first, sieve_next_choice, sieve_next_way, settling_may, settling_on, settled_here, settled_none, settling_fewer}
 use Rattle.ft_operators.proofs.walking.+walk.Goals as goal
 
 pub first-first_of_fork-requires : goal.first-first_of_fork-requires

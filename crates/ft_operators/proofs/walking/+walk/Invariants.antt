@@ -1,6 +1,5 @@
 -- The ways that were passed in front of the present one have no way through the filter. Each call goes into an operand, or helps at the same node.
-use Rattle.std.proofs.Common.{◌≡◌, ◌≤◌, ◌+◌, ◌*◌, length, vec_capacity}
-use Rattle.ft_base.specs.Lists.{is_not_empty}
+use Rattle.std.proofs.Common.{◌+◌, ◌*◌, length, vec_capacity}
 use Rattle.ft_operators.specs.steps.Apart.{Sifting, Trying}
 use Rattle.ft_operators.specs.steps.Nodes.{standing}
 use Rattle.ft_operators.specs.steps.Walking.{Settling}

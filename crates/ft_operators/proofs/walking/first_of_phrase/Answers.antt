@@ -1,7 +1,6 @@
 -- Its hits from the first on.
 use Rattle.std.proofs.Common.{◌∙◌, ap, arith}
 use Rattle.std.specs.Option.{is_some}
-use Rattle.ft_operators.specs.Phrases.{first_hit}
 use Rattle.ft_operators.specs.steps.Forms.{phrase_of}
 use Rattle.ft_operators.proofs.PhraseLemmas.{some_hit, phrase_front}
 use Rattle.ft_operators.proofs.walking.first_of_phrase.Goals as goal

@@ -1,14 +1,20 @@
 -- What is aimed is the frame, and it holds as many hits at once as before.
-use Rattle.std.proofs.Common.{◌∙◌, ap, arith}
+use Rattle.std.proofs.Common.{◌≤◌, ap, sym, subst, arith}
 use Rattle.ft_operators.specs.Walk.{before_first}
-use Rattle.ft_operators.proofs.TupleLemmas.{aimed_room}
+use Rattle.ft_operators.proofs.TupleLemmas.{aimed_shape}
 use Rattle.ft_operators.proofs.tuples.Tuples.aim.Goals as goal
 
 pub invariant_of-self : goal.invariant_of-self
 invariant_of-self g c =
-    let same = aimed_room g.P.PhraseHits.state c.args.self.now.item c.args.self.now.node c.aim_node.new.node c.args.doc.0 c.args.span _ _ c.aim_node.ensures in
-    let fits = c.args.self.now.fits in
-    record { fits = omega arith }
+    let self = c.args.self.now in
+    let same = aimed_shape g.P.PhraseHits.state self.item self.node c.aim_node.new.node c.args.doc.0 c.args.span _ _ c.aim_node.ensures in
+    let room = ap (λ s. s.room) same in
+    let fits = self.fits in
+    record {
+      fits = omega arith;
+      filters = subst (λ s. s.filters ≤ self.room.filters) (sym same) self.filters;
+      hits = subst (λ s. s.hits ≤ self.room.hits) (sym same) self.hits;
+    }
 
 pub returns-clause-walk : goal.returns-clause-walk
 returns-clause-walk g c =

@@ -1,14 +1,14 @@
 -- The node inside moves, and its includes are held.
-use Rattle.std.proofs.Common.{◌∙◌, ap, sym, refl, arith, vec_capacity}
-use Rattle.ft_operators.specs.Standing.{at_front, one_on}
+use Rattle.std.proofs.Common.{◌≤◌, ap, sym, refl, subst, arith}
+use Rattle.ft_operators.specs.Standing.{at_front}
 use Rattle.ft_operators.specs.steps.Nodes.{standing}
-use Rattle.ft_operators.proofs.TupleLemmas.{standing_room, moved_room, answer_shown, first_shown}
+use Rattle.ft_operators.proofs.TupleLemmas.{standing_shape, moved_shape, answer_shown, first_shown}
 use Rattle.ft_operators.proofs.tuples.Tuples.first.Goals as goal
 
 pub first-self-requires : goal.first-self-requires
 first-self-requires g c =
     let self = c.args.self.now in
-    let room = standing_room g.P.PhraseHits.state self.item self.node self.node in
+    let room = ap (λ s. s.room) (standing_shape g.P.PhraseHits.state self.item self.node self.node) in
     let fits = self.fits in
     omega arith
 
@@ -16,11 +16,16 @@ pub invariant_of-self : goal.invariant_of-self
 invariant_of-self g c =
     let self = c.args.self.now in
     let at = standing g.P.PhraseHits.state self.item in
-    let same = moved_room g.P.PhraseHits.state self.item self.node c.first-self.new.node (at_front self.item (at self.node)) refl _ _ 0 _ _ c.first-self.result c.hold.new.held.items c.first-self.ensures in
+    let same = moved_shape g.P.PhraseHits.state self.item self.node c.first-self.new.node (at_front self.item (at self.node)) refl _ _ 0 _ _ c.first-self.result c.hold.new.held.items c.first-self.ensures in
+    let room = ap (λ s. s.room) same in
     let fits = self.fits in
     let kept = c.first-self.ensures.kept_room in
     let held = (c.hold.ensures self.item).kept_room in
-    record { fits = omega arith }
+    record {
+      fits = omega arith;
+      filters = subst (λ s. s.filters ≤ self.room.filters) (sym same) self.filters;
+      hits = subst (λ s. s.hits ≤ self.room.hits) (sym same) self.hits;
+    }
 
 pub returns-clause-walk : goal.returns-clause-walk
 returns-clause-walk g c =

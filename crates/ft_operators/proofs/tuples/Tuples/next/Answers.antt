@@ -1,8 +1,8 @@
 -- The node inside moves, and its includes are held.
-use Rattle.std.proofs.Common.{◌∙◌, ap, sym, refl, arith, vec_capacity}
-use Rattle.ft_operators.specs.Standing.{at_front, one_on}
+use Rattle.std.proofs.Common.{◌≤◌, ap, sym, refl, subst, arith, vec_capacity}
+use Rattle.ft_operators.specs.Standing.{one_on}
 use Rattle.ft_operators.specs.steps.Nodes.{standing}
-use Rattle.ft_operators.proofs.TupleLemmas.{standing_room, moved_room, answer_shown, next_shown, walk_may}
+use Rattle.ft_operators.proofs.TupleLemmas.{moved_shape, answer_shown, next_shown, walk_may}
 use Rattle.ft_operators.proofs.tuples.Tuples.next.Goals as goal
 
 pub go_on-self-requires : goal.go_on-self-requires
@@ -14,11 +14,16 @@ pub invariant_of-self : goal.invariant_of-self
 invariant_of-self g c =
     let self = c.args.self.now in
     let at = standing g.P.PhraseHits.state self.item in
-    let same = moved_room g.P.PhraseHits.state self.item self.node c.go_on-self.new.node (one_on (at self.node)) refl _ _ 0 _ _ c.go_on-self.result c.hold.new.held.items c.go_on-self.ensures in
+    let same = moved_shape g.P.PhraseHits.state self.item self.node c.go_on-self.new.node (one_on (at self.node)) refl _ _ 0 _ _ c.go_on-self.result c.hold.new.held.items c.go_on-self.ensures in
+    let room = ap (λ s. s.room) same in
     let fits = self.fits in
     let kept = c.go_on-self.ensures.kept_room in
     let held = (c.hold.ensures self.item).kept_room in
-    record { fits = omega arith }
+    record {
+      fits = omega arith;
+      filters = subst (λ s. s.filters ≤ self.room.filters) (sym same) self.filters;
+      hits = subst (λ s. s.hits ≤ self.room.hits) (sym same) self.hits;
+    }
 
 pub returns-clause-walk : goal.returns-clause-walk
 returns-clause-walk g c =

@@ -1,0 +1,440 @@
+-- Looking for a way that passes a test, and whether the present way is clean, kind by kind.
+use Rattle.std.proofs.Common.{◌≡◌, refl, ap, sym, ◌∙◌, subst, ℕ, ◌+◌, ◌<◌, ◌≤◌, List, [], ◌∷◌, ◌++◌, Bool, true, false, not, ◌&&◌, ◌||◌, cond, drop, length, get_or, arith}
+use Rattle.std.specs.Prelude.{map, flat_map, Option, None, ⊤}
+use Rattle.std.specs.List.{list_any, list_all}
+use Rattle.std.proofs.lemmas.Bool.{and_parts}
+use Rattle.std.proofs.Math.Seq.{drop-cons}
+use Rattle.ft_base.specs.Lists.{is_not_empty}
+use Rattle.ft_base.specs.declared.filter.Filter.{Filter}
+use Rattle.ft_base.specs.declared.hit.Hit.{Hit}
+use Rattle.ft_base.specs.declared.span.Span.{Span}
+use Rattle.all_matches.specs.declared.window.Window.{Window}
+use Rattle.all_matches.specs.Chain.{Link, kept_by}
+use Rattle.all_matches.specs.Filters.{passes, choices}
+use Rattle.all_matches.specs.Ways.{Operator, phrase, either, together, apart, negated, through_filter, matches_of, Way, one_hit, turned_about, by_filter, way_includes, filtered_ways, ways_of, clean_under, without_negation, is_plain, bare_match}
+use Rattle.all_matches.proofs.BareWays.{bare_matches}
+use Rattle.all_matches.proofs.ListTests.{list_any-map}
+use Rattle.ft_operators.specs.declared.chain.Chain.{Chain}
+use Rattle.ft_operators.specs.Chains.{all_kept, passes_now, clean_now, links_of, spare_filters, spare_hits, IsKept}
+use Rattle.ft_operators.specs.Phrases.{PhraseState}
+use Rattle.ft_operators.specs.Standing.{Frame, Standing, frame, at_front, one_on, includes_now, one_aims}
+use Rattle.ft_operators.specs.steps.Cleaning.{Searched, Searching, MayAsk, Asked, Deciding, Decided}
+use Rattle.ft_operators.specs.steps.Forms.{phrase_of, choice_of, first_left, both_of, pairs_left, apart_of, apart_left, negation_of, negated_shape, sieve_of, sieve_left, chosen_left, choices_of, choices_at}
+use Rattle.ft_operators.specs.steps.Walking.{Gathered, IsHeld, Moved, MayGoOn}
+use Rattle.ft_operators.proofs.ApartLemmas.{apart_there}
+use Rattle.ft_operators.proofs.BothLemmas.{pairs_sides}
+use Rattle.ft_operators.proofs.ChainLemmas.{kept_refl, kept_trans}
+use Rattle.ft_operators.proofs.ChoiceLemmas.{left_there}
+use Rattle.ft_operators.proofs.SieveLemmas.{fewer, lead_below, sieve_operand_there}
+
+-- ---- looking for a way
+
+found_here : (test : Way → Bool) (ways : List Way) → is_not_empty ways ≡ true → passes_now test ways ≡ true → true ≡ list_any test ways
+found_here test [] there passes = cc
+found_here test (way ∷ rest) there passes = ap (λ b. b || list_any test rest) (sym passes)
+
+found_behind : (test : Way → Bool) (ways : List Way) → is_not_empty ways ≡ true → passes_now test ways ≡ false → list_any test (drop 1 ways) ≡ list_any test ways
+found_behind test [] there fails = cc
+found_behind test (way ∷ rest) there fails = ap (λ b. b || list_any test rest) (sym fails)
+
+found_nowhere : (test : Way → Bool) (ways : List Way) → is_not_empty ways ≡ false → false ≡ list_any test ways
+found_nowhere test [] none = refl
+found_nowhere test (way ∷ rest) none = cc
+
+pub search_starts : (item : Span) (known : Type 0) (test : Way → Bool) (old now : Standing) (room now_room start end : ℕ) (answer : Bool) → Moved (at_front item old) now room now_room start end answer
+    → Searching item known test old now room now_room start end answer
+search_starts item known test old now room now_room start end answer m = record {
+  same = ap frame m.stand;
+  passed = λ k. ap (λ s. list_any test s.rest) m.stand;
+  there_now = m.there;
+  kept_room = m.kept_room;
+  grown = m.grown;
+}
+
+module _ (item : Span) (known : Type 0) (test : Way → Bool) (old now : Standing) (room now_room start end : ℕ) (there : Bool)
+    (l : Searching item known test old now room now_room start end there) where
+  pub search_may : (first_room : ℕ) → old.shape.room ≤ first_room → first_room ≤ room → there ≡ true → MayGoOn now now_room
+  search_may first_room fits grew is = record {
+    there = sym l.there_now ∙ is;
+    fits = let same = ap (λ f. f.shape.room) l.same in omega (arith, fits, grew, same, l.kept_room);
+  }
+
+  pub search_none : there ≡ false → Searched item known test old now room now_room start end false
+  search_none none = record {
+    same = l.same;
+    found = λ k. found_nowhere test now.rest (sym l.there_now ∙ none) ∙ l.passed k;
+    kept_room = l.kept_room;
+    grown = l.grown;
+  }
+
+  -- the present way was tried, and the walk is where it was
+  module _ (tried : Standing) (tried_room tried_end : ℕ) (same : tried ≡ now) (grew : now_room ≤ tried_room) (later : end ≤ tried_end) where
+    pub search_found : there ≡ true → (known → passes_now test now.rest ≡ true) → Searched item known test old tried room tried_room start tried_end true
+    search_found is passes = record {
+      same = ap frame same ∙ l.same;
+      found = λ k. found_here test now.rest (sym l.there_now ∙ is) (passes k) ∙ l.passed k;
+      kept_room = omega (arith, grew, l.kept_room);
+      grown = omega (arith, later, l.grown);
+    }
+
+    module _ (next : Standing) (next_room next_end : ℕ) (answer : Bool) (m : Moved (one_on tried) next tried_room next_room tried_end next_end answer) where
+      pub search_on : there ≡ true → (known → passes_now test now.rest ≡ false) → Searching item known test old next room next_room start next_end answer
+      search_on is fails =
+          let to = m.stand ∙ ap one_on same in record {
+            same = ap frame to ∙ l.same;
+            passed = λ k. ap (λ s. list_any test s.rest) to ∙ found_behind test now.rest (sym l.there_now ∙ is) (fails k) ∙ l.passed k;
+            there_now = m.there;
+            kept_room = omega (arith, grew, l.kept_room, m.kept_room);
+            grown = omega (arith, later, l.grown, m.grown);
+          }
+
+      pub search_fewer : there ≡ true → length next.rest < length now.rest
+      search_fewer is =
+          let to = ap (λ s. length s.rest) (m.stand ∙ ap one_on same) in
+          omega (arith, to, fewer now.rest (sym l.there_now ∙ is))
+
+-- the includes that are held are those of the present way
+pub held_kept : (kept : Hit → Bool) (held : List Hit) (ways : List Way) → is_not_empty ways ≡ true → held ≡ includes_now ways → list_all kept held ≡ passes_now (all_kept kept) ways
+held_kept kept held [] there is = cc
+held_kept kept held (way ∷ rest) there is = ap (list_all kept) is
+
+pub kept_verdict : (kept : Hit → Bool) (now : Standing) (there : Bool) (mid_room new_room : ℕ) (held : List Hit) → MayGoOn now mid_room → IsHeld there now mid_room new_room held → there ≡ true
+    → list_all kept held ≡ passes_now (all_kept kept) now.rest
+kept_verdict kept now there mid_room new_room held may h is = held_kept kept held now.rest may.there (h.hits is may.there may.fits)
+
+-- ---- whether the present way is clean, kind by kind
+
+plain_where_none : (operator : Operator) → without_negation operator ≡ true → is_plain operator ≡ true
+plain_where_none (phrase found) h = refl
+plain_where_none (either left right) h = let parts = and_parts (without_negation left) (without_negation right) h in λ i. plain_where_none left parts.0 i && plain_where_none right parts.1 i
+plain_where_none (together left right) h = let parts = and_parts (without_negation left) (without_negation right) h in λ i. plain_where_none left parts.0 i && plain_where_none right parts.1 i
+plain_where_none (apart left right) h = h
+plain_where_none (negated operand) h = cc
+plain_where_none (through_filter operand kind) h = plain_where_none operand h
+
+-- what is asked of what a node has inside, told of the node
+pub may_inside : (inside node : Standing) (room filters hits : ℕ) → node ≡ inside → MayAsk node room filters hits → MayAsk inside room filters hits
+may_inside inside node room filters hits is may = subst (λ s. MayAsk s room filters hits) is may
+
+pub asked_inside : (inside inside_now node node_now : Standing) (before after : Chain) (room new_room start end : ℕ) (answer : Bool) → node ≡ inside → node_now ≡ inside_now
+    → Asked inside inside_now before after room new_room start end answer → Asked node node_now before after room new_room start end answer
+asked_inside inside inside_now node node_now before after room new_room start end answer old new a = record {
+  same = new ∙ a.same ∙ sym old;
+  clean = λ plain. a.clean (ap (λ s. is_plain s.operator) (sym old) ∙ plain) ∙ ap (λ s. clean_now (kept_by (links_of before)) s.rest) (sym old);
+  kept = a.kept;
+  kept_room = a.kept_room;
+  grown = a.grown;
+}
+
+found_clean : (kept : Hit → Bool) (found : List Hit) → true ≡ clean_now kept (map one_hit found)
+found_clean kept [] = refl
+found_clean kept (hit ∷ rest) = refl
+
+pub asked_phrase : (s : PhraseState) (node : Standing) (chain : Chain) (room start : ℕ) → node ≡ phrase_of s → Asked node node chain chain room room start start true
+asked_phrase s node chain room start is = record {
+  same = refl;
+  clean = λ plain. found_clean (kept_by (links_of chain)) s.rest ∙ ap (λ n. clean_now (kept_by (links_of chain)) n.rest) (sym is);
+  kept = kept_refl chain;
+  kept_room = omega arith;
+  grown = omega arith;
+}
+
+first_clean : (kept : Hit → Bool) (xs ys : List Way) → clean_now kept xs ≡ clean_now kept (first_left xs ys)
+first_clean kept [] ys = refl
+first_clean kept (x ∷ xs) ys = refl
+
+module _ (item : Span) (left right : Standing) where
+  pub may_left : (room filters hits : ℕ) → MayAsk (choice_of item false left right) room filters hits → MayAsk left room filters hits
+  may_left room filters hits may = record {
+    there = sym (left_there left.rest (ways_of item right.operator)) ∙ may.there;
+    fits = omega (arith, may.fits);
+    filters = omega (arith, may.filters);
+    hits = omega (arith, may.hits);
+  }
+
+  pub may_right : (room filters hits : ℕ) → MayAsk (choice_of item true left right) room filters hits → MayAsk right room filters hits
+  may_right room filters hits may = record {
+    there = may.there;
+    fits = omega (arith, may.fits);
+    filters = omega (arith, may.filters);
+    hits = omega (arith, may.hits);
+  }
+
+  pub may_first : (room filters hits : ℕ) → MayAsk (both_of item left right) room filters hits → MayAsk left room filters hits
+  may_first room filters hits may = record {
+    there = (pairs_sides left.rest right.rest (ways_of item right.operator) may.there).0;
+    fits = omega (arith, may.fits);
+    filters = omega (arith, may.filters);
+    hits = omega (arith, may.hits);
+  }
+
+  -- the right side, after the left one was asked
+  pub may_second : (left_now : Standing) (before after : Chain) (room new_room start end : ℕ) (answer : Bool) → MayAsk (both_of item left right) room (spare_filters before) (spare_hits before)
+      → Asked left left_now before after room new_room start end answer → MayAsk right new_room (spare_filters after) (spare_hits after)
+  may_second left_now before after room new_room start end answer may a = record {
+    there = (pairs_sides left.rest right.rest (ways_of item right.operator) may.there).1;
+    fits = omega (arith, may.fits, a.kept_room);
+    filters = omega (arith, may.filters, a.kept.filters);
+    hits = omega (arith, may.hits, a.kept.hits);
+  }
+
+  pub may_apart : (room filters hits : ℕ) → MayAsk (apart_of item left right) room filters hits → MayAsk left room filters hits
+  may_apart room filters hits may = record {
+    there = sym (apart_there left.rest (ways_of item right.operator)) ∙ may.there;
+    fits = omega (arith, may.fits);
+    filters = may.filters;
+    hits = may.hits;
+  }
+
+  pub asked_left : (left_now : Standing) (before after : Chain) (room new_room start end : ℕ) (answer : Bool) → Asked left left_now before after room new_room start end answer
+      → Asked (choice_of item false left right) (choice_of item false left_now right) before after room new_room start end answer
+  asked_left left_now before after room new_room start end answer a = record {
+    same = ap (λ s. choice_of item false s right) a.same;
+    clean = λ plain. a.clean ((and_parts (is_plain left.operator) (is_plain right.operator) plain).0) ∙ first_clean (kept_by (links_of before)) left.rest (ways_of item right.operator);
+    kept = a.kept;
+    kept_room = a.kept_room;
+    grown = a.grown;
+  }
+
+  pub asked_right : (right_now : Standing) (before after : Chain) (room new_room start end : ℕ) (answer : Bool) → Asked right right_now before after room new_room start end answer
+      → Asked (choice_of item true left right) (choice_of item true left right_now) before after room new_room start end answer
+  asked_right right_now before after room new_room start end answer a = record {
+    same = ap (choice_of item true left) a.same;
+    clean = λ plain. a.clean ((and_parts (is_plain left.operator) (is_plain right.operator) plain).1);
+    kept = a.kept;
+    kept_room = a.kept_room;
+    grown = a.grown;
+  }
+
+-- the side on which the walk is
+module _ (item : Span) (second : Bool) (left right : Standing) where
+  pub may_on_left : (room filters hits : ℕ) → second ≡ false → MayAsk (choice_of item second left right) room filters hits → MayAsk left room filters hits
+  may_on_left room filters hits is may = may_left item left right room filters hits (subst (λ b. MayAsk (choice_of item b left right) room filters hits) is may)
+
+  pub may_on_right : (room filters hits : ℕ) → second ≡ true → MayAsk (choice_of item second left right) room filters hits → MayAsk right room filters hits
+  may_on_right room filters hits is may = may_right item left right room filters hits (subst (λ b. MayAsk (choice_of item b left right) room filters hits) is may)
+
+  pub asked_on_left : (left_now : Standing) (before after : Chain) (room new_room start end : ℕ) (answer : Bool) → second ≡ false → Asked left left_now before after room new_room start end answer
+      → Asked (choice_of item second left right) (choice_of item second left_now right) before after room new_room start end answer
+  asked_on_left left_now before after room new_room start end answer is a =
+      subst (λ b. Asked (choice_of item b left right) (choice_of item b left_now right) before after room new_room start end answer) (sym is)
+      (asked_left item left right left_now before after room new_room start end answer a)
+
+  pub asked_on_right : (right_now : Standing) (before after : Chain) (room new_room start end : ℕ) (answer : Bool) → second ≡ true → Asked right right_now before after room new_room start end answer
+      → Asked (choice_of item second left right) (choice_of item second left right_now) before after room new_room start end answer
+  asked_on_right right_now before after room new_room start end answer is a =
+      subst (λ b. Asked (choice_of item b left right) (choice_of item b left right_now) before after room new_room start end answer) (sym is)
+      (asked_right item left right right_now before after room new_room start end answer a)
+
+apart_clean : (kept : Hit → Bool) (xs ys : List Way) → clean_now kept xs ≡ clean_now kept (apart_left xs ys)
+apart_clean kept [] ys = refl
+apart_clean kept (x ∷ xs) ys = refl
+
+pub asked_apart : (item : Span) (left right left_now : Standing) (before after : Chain) (room new_room start end : ℕ) (answer : Bool) → Asked left left_now before after room new_room start end answer
+    → Asked (apart_of item left right) (apart_of item left_now right) before after room new_room start end answer
+asked_apart item left right left_now before after room new_room start end answer a = record {
+  same = ap (λ s. apart_of item s right) a.same;
+  clean = λ plain.
+      a.clean (plain_where_none left.operator (and_parts (without_negation left.operator) (without_negation right.operator) plain).0)
+      ∙ apart_clean (kept_by (links_of before)) left.rest (ways_of item right.operator);
+  kept = a.kept;
+  kept_room = a.kept_room;
+  grown = a.grown;
+}
+
+pairs_clean : (kept : Hit → Bool) (xs ys all : List Way) → is_not_empty (pairs_left xs ys all) ≡ true → (clean_now kept xs && clean_now kept ys) ≡ clean_now kept (pairs_left xs ys all)
+pairs_clean kept [] ys all there = cc
+pairs_clean kept (x ∷ xs) [] all there = cc
+pairs_clean kept (x ∷ xs) (y ∷ ys) all there = refl
+
+module _ (item : Span) (left right left_now : Standing) (before mid : Chain) (room mid_room start middle : ℕ) (first : Bool) (there : is_not_empty ((both_of item left right).rest) ≡ true)
+    (a : Asked left left_now before mid room mid_room start middle first) where
+  pub asked_first : first ≡ false → Asked (both_of item left right) (both_of item left_now right) before mid room mid_room start middle first
+  asked_first fails = record {
+    same = ap (λ s. both_of item s right) a.same;
+    clean = λ plain.
+        fails
+        ∙ ap (λ b. b && clean_now (kept_by (links_of before)) right.rest) (sym fails ∙ a.clean ((and_parts (is_plain left.operator) (is_plain right.operator) plain).0))
+        ∙ pairs_clean (kept_by (links_of before)) left.rest right.rest (ways_of item right.operator) there;
+    kept = a.kept;
+    kept_room = a.kept_room;
+    grown = a.grown;
+  }
+
+  pub asked_both : (right_now : Standing) (after : Chain) (new_room end : ℕ) (second : Bool) → first ≡ true → Asked right right_now mid after mid_room new_room middle end second
+      → Asked (both_of item left right) (both_of item left_now right_now) before after room new_room start end second
+  asked_both right_now after new_room end second holds b = record {
+    same = λ i. both_of item (a.same i) (b.same i);
+    clean = λ plain.
+        let parts = and_parts (is_plain left.operator) (is_plain right.operator) plain in
+        b.clean parts.1
+        ∙ ap (λ ls. clean_now (kept_by ls) right.rest) a.kept.links
+        ∙ ap (λ x. x && clean_now (kept_by (links_of before)) right.rest) (sym holds ∙ a.clean parts.0)
+        ∙ pairs_clean (kept_by (links_of before)) left.rest right.rest (ways_of item right.operator) there;
+    kept = kept_trans before mid after a.kept b.kept;
+    kept_room = omega (arith, a.kept_room, b.kept_room);
+    grown = omega (arith, a.grown, b.grown);
+  }
+
+-- a negated selection, wherever a walk through its operand stands
+negation_by : Span → Bool → Frame → Standing
+negation_by item there f = record {
+  aims = one_aims negated f.aims;
+  shape = negated_shape f.shape;
+  operator = negated f.operator;
+  rest = cond there (turned_about (matches_of item f.operator) ∷ []) [];
+}
+
+-- some Match has all its hits kept exactly where some way has
+pub some_kept : (item : Span) (operator : Operator) (kept : Hit → Bool) → without_negation operator ≡ true
+    → list_any (all_kept kept) (ways_of item operator) ≡ list_any (λ m. list_all kept m.includes) (matches_of item operator)
+some_kept item operator kept bare =
+    sym (list_any-map (λ m. list_all kept m.includes) bare_match (ways_of item operator)) ∙ ap (list_any (λ m. list_all kept m.includes)) (sym (bare_matches item operator bare))
+
+pub may_negated : (item : Span) (there : Bool) (operand : Standing) (room filters hits : ℕ) → MayAsk (negation_of item there operand) room filters hits → operand.shape.room ≤ room
+may_negated item there operand room filters hits may = may.fits
+
+pub asked_negated : (item : Span) (there : Bool) (operand now : Standing) (chain : Chain) (room new_room start end : ℕ) (answer : Bool) → is_not_empty ((negation_of item there operand).rest) ≡ true
+    → Searched item ⊤ (all_kept (kept_by (links_of chain))) operand now room new_room start end answer
+    → Asked (negation_of item there operand) (negation_of item there now) chain chain room new_room start end (not answer)
+unfolding negation_by
+asked_negated item true operand now chain room new_room start end answer way s = record {
+  same = ap (negation_by item true) s.same;
+  clean = λ bare. ap not (s.found tt ∙ some_kept item operand.operator (kept_by (links_of chain)) bare);
+  kept = kept_refl chain;
+  kept_room = s.kept_room;
+  grown = s.grown;
+}
+asked_negated item false operand now chain room new_room start end answer way s = cc
+
+-- ---- a filter
+
+pub kept_choices : (kind : Filter) (item : Span) (includes : List Hit) (lead : ℕ) → lead < length (choices_of kind item includes) → choices_of kind item includes ≡ choices kind includes
+kept_choices kind item includes lead below = by_test (passes kind includes item) below
+  where
+    by_test : (b : Bool) → lead < length (cond b (choices kind includes) []) → cond b (choices kind includes) [] ≡ choices kind includes
+    by_test true below = refl
+    by_test false below = absurd (omega (arith, below))
+
+-- the filter as a link of a chain, with these includes and the choice of that number
+abbrev pub link_with : Filter → ℕ → List Hit → Link
+link_with kind lead hits = record { kind = kind; includes = hits; choice = get_or (choices kind hits) lead None }
+
+choice_clean : (links : List Link) (kind : Filter) (way : Way) (cs : List (Option Window)) (lead : ℕ) (later : List Way) → lead < length cs
+    → clean_now (kept_by links) (chosen_left kind way (drop lead cs) later) ≡ clean_under (kept_by links) (by_filter way kind (get_or cs lead None))
+choice_clean links kind way cs lead later below = ap (λ ds. clean_now (kept_by links) (chosen_left kind way ds later)) (drop-cons cs lead None below)
+
+sieve_clean : (links : List Link) (kind : Filter) (item : Span) (lead : ℕ) (ways : List Way) → is_not_empty (sieve_left kind item lead ways) ≡ true
+    → clean_now (kept_by (link_with kind lead (includes_now ways) ∷ links)) ways ≡ clean_now (kept_by links) (sieve_left kind item lead ways)
+sieve_clean links kind item lead [] there = cc
+sieve_clean links kind item lead (way ∷ more) there =
+    let below = lead_below kind item lead (way ∷ more) there in
+    ap (λ cs. clean_under (kept_by links) (by_filter way kind (get_or cs lead None))) (sym (kept_choices kind item (way_includes way) lead below))
+    ∙ sym (choice_clean links kind way (choices_at kind item way) lead (flat_map (filtered_ways kind item) more) below)
+
+pub lead_chosen : (kind : Filter) (item : Span) (lead : ℕ) (ways : List Way) → is_not_empty (sieve_left kind item lead ways) ≡ true → lead < length (choices kind (includes_now ways))
+lead_chosen kind item lead [] there = cc
+lead_chosen kind item lead (way ∷ more) there =
+    let below = lead_below kind item lead (way ∷ more) there in
+    subst (λ cs. lead < length cs) (kept_choices kind item (way_includes way) lead below) below
+
+-- the includes in front of a filter, when nothing was held before them
+module _ (item : Span) (kind : Filter) (lead : ℕ) (operand : Standing) (room filters hits cleared_room new_room : ℕ) (cleared held : List Hit) (may : MayAsk (sieve_of item kind lead operand) room filters hits)
+    (none : cleared ≡ []) (same : cleared_room ≡ room) (g : Gathered operand cleared_room new_room cleared held) where
+  operand_there : is_not_empty operand.rest ≡ true
+  operand_there = sieve_operand_there kind item lead operand.rest may.there
+
+  pub held_includes : held ≡ includes_now operand.rest
+  held_includes =
+      let size = ap length none in
+      g.hits operand_there (omega (arith, size, same, may.fits)) ∙ ap (λ hits. hits ++ includes_now operand.rest) none
+
+  pub held_few : length held ≤ operand.shape.room
+  held_few = let size = ap length held_includes in omega (arith, size, g.few operand_there)
+
+  pub lead_held : lead < length (choices kind held)
+  lead_held = subst (λ hits. lead < length (choices kind hits)) (sym held_includes) (lead_chosen kind item lead operand.rest may.there)
+
+  pub may_operand : (pushed_filters pushed_hits : ℕ) → filters ≤ pushed_filters + 1 → hits ≤ pushed_hits + length held → MayAsk operand new_room pushed_filters pushed_hits
+  may_operand pushed_filters pushed_hits few_filters few_hits = record {
+    there = operand_there;
+    fits = omega (arith, same, may.fits, g.kept_room);
+    filters = omega (arith, may.filters, few_filters);
+    hits = omega (arith, may.hits, few_hits, held_few);
+  }
+
+pub asked_filtered : (item : Span) (kind : Filter) (lead : ℕ) (operand now : Standing) (old pushed asked new : Chain) (held : List Hit) (room mid_room new_room start end : ℕ) (answer : Bool)
+    → is_not_empty ((sieve_of item kind lead operand).rest) ≡ true → held ≡ includes_now operand.rest → room ≤ mid_room
+    → links_of pushed ≡ link_with kind lead held ∷ links_of old
+    → Asked operand now pushed asked mid_room new_room start end answer → IsKept old new
+    → Asked (sieve_of item kind lead operand) (sieve_of item kind lead now) old new room new_room start end answer
+asked_filtered item kind lead operand now old pushed asked new held room mid_room new_room start end answer there is grew put a kept = record {
+  same = ap (sieve_of item kind lead) a.same;
+  clean = λ plain.
+      a.clean plain
+      ∙ ap (λ ls. clean_now (kept_by ls) operand.rest) (put ∙ ap (λ hits. link_with kind lead hits ∷ links_of old) is)
+      ∙ sieve_clean (links_of old) kind item lead operand.rest there;
+  kept = kept;
+  kept_room = omega (arith, grew, a.kept_room);
+  grown = a.grown;
+}
+
+-- ---- the first way that is clean
+
+pub may_go_on : (now tried : Standing) (before after : Chain) (room filters hits new_room start end : ℕ) (verdict : Bool) → MayAsk now room filters hits
+    → Asked now tried before after room new_room start end verdict → MayGoOn tried new_room
+may_go_on now tried before after room filters hits new_room start end verdict may a =
+    subst (λ s. MayGoOn s new_room) (sym a.same) record { there = may.there; fits = omega (arith, may.fits, a.kept_room) }
+
+pub deciding_starts : (item : Span) (test : Way → Bool) (old now : Standing) (chain : Chain) (room now_room start end : ℕ) (answer : Bool) → Moved (at_front item old) now room now_room start end answer
+    → Deciding item test old now chain chain room now_room start end answer
+deciding_starts item test old now chain room now_room start end answer m = record {
+  search = search_starts item (is_plain old.operator ≡ true) test old now room now_room start end answer m;
+  kept = kept_refl chain;
+}
+
+module _ (item : Span) (old now : Standing) (before after : Chain) (room now_room start end : ℕ) (there : Bool)
+    (l : Deciding item (clean_under (kept_by (links_of before))) old now before after room now_room start end there) where
+  pub deciding_may : old.shape.room ≤ room → old.shape.filters ≤ spare_filters before → old.shape.hits ≤ spare_hits before → there ≡ true → MayAsk now now_room (spare_filters after) (spare_hits after)
+  deciding_may fits few_filters few_hits is =
+      let same = ap (λ f. f.shape) l.search.same in
+      let filters = ap (λ s. s.filters) same in
+      let hits = ap (λ s. s.hits) same in
+      record {
+        there = sym l.search.there_now ∙ is;
+        fits = (search_may item (is_plain old.operator ≡ true) (clean_under (kept_by (links_of before))) old now room now_room start end there l.search room fits (omega arith) is).fits;
+        filters = omega (arith, filters, few_filters, l.kept.filters);
+        hits = omega (arith, hits, few_hits, l.kept.hits);
+      }
+
+  pub decided_none : there ≡ false → Decided item (clean_under (kept_by (links_of before))) old now before after room now_room start end false
+  decided_none none = record {
+    search = search_none item (is_plain old.operator ≡ true) (clean_under (kept_by (links_of before))) old now room now_room start end there l.search none;
+    kept = l.kept;
+  }
+
+  -- the present way was asked
+  module _ (tried : Standing) (asked : Chain) (tried_room tried_end : ℕ) (verdict : Bool) (a : Asked now tried after asked now_room tried_room end tried_end verdict) where
+    verdict_is : is_plain old.operator ≡ true → passes_now (clean_under (kept_by (links_of before))) now.rest ≡ verdict
+    verdict_is plain =
+        ap (λ ls. clean_now (kept_by ls) now.rest) (sym l.kept.links) ∙ sym (a.clean (ap (λ f. is_plain f.operator) l.search.same ∙ plain))
+
+    pub decided_here : there ≡ true → verdict ≡ true → Decided item (clean_under (kept_by (links_of before))) old tried before asked room tried_room start tried_end true
+    decided_here is holds = record {
+      search = search_found item (is_plain old.operator ≡ true) (clean_under (kept_by (links_of before))) old now room now_room start end there l.search tried tried_room tried_end a.same a.kept_room a.grown is
+          (λ plain. verdict_is plain ∙ holds);
+      kept = kept_trans before after asked l.kept a.kept;
+    }
+
+    module _ (next : Standing) (next_room next_end : ℕ) (answer : Bool) (m : Moved (one_on tried) next tried_room next_room tried_end next_end answer) where
+      pub deciding_on : there ≡ true → verdict ≡ false → Deciding item (clean_under (kept_by (links_of before))) old next before asked room next_room start next_end answer
+      deciding_on is fails = record {
+        search = search_on item (is_plain old.operator ≡ true) (clean_under (kept_by (links_of before))) old now room now_room start end there l.search tried tried_room tried_end a.same a.kept_room a.grown
+            next next_room next_end answer m is (λ plain. verdict_is plain ∙ fails);
+        kept = kept_trans before after asked l.kept a.kept;
+      }
+
+      pub deciding_fewer : there ≡ true → length next.rest < length now.rest
+      deciding_fewer is =
+          search_fewer item (is_plain old.operator ≡ true) (clean_under (kept_by (links_of before))) old now room now_room start end there l.search tried tried_room tried_end a.same a.kept_room a.grown
+          next next_room next_end answer m is

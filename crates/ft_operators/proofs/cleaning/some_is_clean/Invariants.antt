@@ -1,0 +1,16 @@
+-- The ways that were passed over are not clean, and the chain has its filters.
+use Rattle.std.proofs.Common.{length, vec_capacity}
+use Rattle.all_matches.specs.Chain.{kept_by}
+use Rattle.all_matches.specs.Ways.{clean_under}
+use Rattle.ft_operators.specs.Chains.{links_of}
+use Rattle.ft_operators.specs.steps.Cleaning.{Deciding}
+use Rattle.ft_operators.specs.steps.Nodes.{standing}
+use Rattle.ft_operators.proofs.cleaning.some_is_clean.Given as goal
+
+abbrev pub invariant-loop-there : goal.invariant-loop-there
+invariant-loop-there g l =
+    let at = standing g.P.PhraseHits.state l.item in
+    Deciding l.item (clean_under (kept_by (links_of l.fn.chain))) (at l.fn.node) (at l.node) l.fn.chain l.chain (vec_capacity l.fn.held) (vec_capacity l.held) l.fn.steps l.steps l.there
+
+abbrev pub decreases-loop-there : goal.decreases-loop-there
+decreases-loop-there g l = length ((standing g.P.PhraseHits.state l.item l.node).rest)
