@@ -1,11 +1,17 @@
+pub mod ApartLemmas
 pub mod BuildingLemmas
+pub mod FreeLemmas
 pub mod GatheringLemmas
 pub mod HeadLemmas
 pub mod LawsLemmas
 pub mod LeavesLemmas
 pub mod LinksLemmas
 pub mod PlacesLemmas
+pub mod PlacingLemmas
 pub mod ReadingLemmas
+pub mod RefLists
+pub mod RefViews
+pub mod ReferencedLemmas
 pub mod RowLemmas
 pub mod RowsLemmas
 pub mod ShiftLemmas

@@ -167,6 +167,8 @@ IsDocument-numbered slots n document filled few_nodes few_words =
       stands = in_order slots (stands_in (numbered 0 n)) (node_count n) (length-stands n round_root 0) filled (references-stands n round_root 0);
       apart = subst (λ l. AllPairs (λ a b. a ≢ b) l) (sym refs) (apart-consecutive (node_count n));
       whole = ap length refs ∙ length-consecutive (node_count n) 0 ∙ sym count;
+      below = All-same (λ r. r.0 < length slots) (free_from (length slots) slots None) [] (free_from-none slots (length slots)) (All-nil (λ r. r.0 < length slots));
+      few_slots = omega (arith, count, few_nodes);
       few_nodes = rw (plain-numbered n 0) few_nodes;
       few_words = rw (plain-numbered n 0) few_words;
     }

@@ -4,6 +4,7 @@ pub mod Numbered
 pub mod Numbering
 pub mod Part
 pub mod Places
+pub mod RefView
 pub mod Slots
 pub mod Stands
 pub mod Stored

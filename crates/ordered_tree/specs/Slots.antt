@@ -92,6 +92,8 @@ pub record IsDocument (slots : List Slot) (free : Option NodeRef) (root : Number
   pub stands : All (IsIn slots) (stands_in root)
   pub apart : AllPairs (λ a b. a ≢ b) (references root ++ free_from (length slots) slots free)
   pub whole : length (references root ++ free_from (length slots) slots free) ≡ length slots
+  pub below : All (λ r. r.0 < length slots) (free_from (length slots) slots free)
+  pub few_slots : length slots < 2 ^ 31
   pub few_nodes : node_count (plain root) < 2 ^ 31
   pub few_words : word_count (plain root) < 2 ^ 31
 

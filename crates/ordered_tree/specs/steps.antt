@@ -1,3 +1,5 @@
 pub mod Climbing
+pub mod FreeSlots
 pub mod Gathering
 pub mod Heads
+pub mod Placing

@@ -254,7 +254,7 @@ fn sibling(is_last: bool, number: usize) -> Option<NodeRef>
 }
 
 /// The greater of the numbers.
-fn greater(left: usize, right: usize) -> usize
+pub(crate) fn greater(left: usize, right: usize) -> usize
     ensures { result ≡ max left right }
 {
     if left < right { right } else { left }

@@ -6,7 +6,7 @@ use plain_tree::Tree;
 
 /// How many nodes there are: the node and all below it.
 #[tactic(auto, using(crate::proofs::TreeCounts::tree_counts))]
-pub(crate) fn count_nodes(tree: &Tree) -> usize
+pub fn count_nodes(tree: &Tree) -> usize
     requires { node_count (node tree.now) < 2 ^ 31 }
     ensures { result ≡ node_count (node tree.now) }
 {

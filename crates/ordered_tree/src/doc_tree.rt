@@ -22,13 +22,13 @@ use tokenizer::TokenFault;
 /// A document in one vector of slots: each node has a reference, which is the number of its slot.
 #[derive(Drop)]
 pub struct DocTree {
-    alloc: Global,
-    slots: Vec<Slot>,
+    pub(crate) alloc: Global,
+    pub(crate) slots: Vec<Slot>,
     /// The heads of the slots
-    heads: Vec<Head>,
-    free: Option<NodeRef>,
-    nodes: usize,
-    depth: usize,
+    pub(crate) heads: Vec<Head>,
+    pub(crate) free: Option<NodeRef>,
+    pub(crate) nodes: usize,
+    pub(crate) depth: usize,
     ghost headed: { heads.items ≡ map head_of slots.items },
 }
 
@@ -48,7 +48,7 @@ impl Model for DocTree {
 }
 
 impl DocTree {
-    ghost use Rattle.std.specs.Prelude.{◌≡◌, ◌≢◌, ◌+◌, ◌≤◌, ◌<◌, ◌^◌, length, true, AllPairs, Contains, Err, IfOk, IfSome, OnOk, Some};
+    ghost use Rattle.std.specs.Prelude.{◌≡◌, ◌≢◌, ◌+◌, ◌≤◌, ◌<◌, ◌^◌, length, true, All, AllPairs, Contains, Err, IfOk, IfSome, OnOk, Some};
     ghost use Rattle.doc_grammar.specs.Limits.{node_count};
     ghost use Rattle.plain_tree.specs.View as view;
     ghost use Rattle.ordered_tree.specs.Counts.{element_depth};
@@ -56,7 +56,7 @@ impl DocTree {
     ghost use Rattle.ordered_tree.specs.Numbered.{is_element, plain, reference};
     ghost use Rattle.ordered_tree.specs.Numbering.{numbered};
     ghost use Rattle.ordered_tree.specs.Places.{at_place};
-    ghost use Rattle.ordered_tree.specs.Slots.{slot};
+    ghost use Rattle.ordered_tree.specs.Slots.{root_ref, slot};
     ghost use Rattle.ordered_tree.specs.Stands.{OnNode, references};
     ghost use Rattle.tokenizer.specs.Tokens.{tokens, sentence_starts, paragraph_starts};
 
@@ -180,6 +180,7 @@ impl DocTree {
     /// The root, which is an element. No two nodes have one reference.
     pub fn root(&self) -> NodeRef
         ensures root { result ≡ reference self.now.root }
+        ensures first { result ≡ root_ref }
         ensures there { Contains (references self.now.root) result }
         ensures element { is_element self.now.root ≡ true }
         ensures apart { AllPairs (λ a b. a ≢ b) (references self.now.root) }
@@ -204,6 +205,7 @@ impl DocTree {
     pub(crate) fn head(&self, node: NodeRef) -> Head
         requires { Contains (references self.now.root) node }
         ensures stands { OnNode self.now.root node (λ s. result ≡ head_of (slot s)) }
+        ensures few { result.before + result.words < 2 ^ 31 }
         ensures next { IfSome result.next (Contains (references self.now.root)) }
         ensures first { IfSome result.first_child (Contains (references self.now.root)) }
     {
@@ -227,9 +229,11 @@ impl DocTree {
         self.depth
     }
 
-    /// How many slots there are, used and free.
+    /// How many slots there are, used and free. The references of all nodes are below it.
     pub fn slot_count(&self) -> usize
-        ensures { result ≡ self.now.slots }
+        ensures count { result ≡ self.now.slots }
+        ensures below { All (λ r. r.0 < result) (references self.now.root) }
+        ensures few { result < 2 ^ 31 }
     {
         self.slots.len()
     }

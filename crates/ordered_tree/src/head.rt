@@ -1,4 +1,4 @@
-//! What walks over elements look at of each node, side by side in memory.
+//! What walks over nodes look at of each, side by side in memory.
 
 ghost use Rattle.std.specs.Prelude.{◌≡◌, IfOk, map};
 ghost use Rattle.ordered_tree.specs.steps.Heads as spec;
@@ -9,14 +9,18 @@ use crate::slot::{Held, Slot};
 use ft_base::Memory;
 use std::alloc::Global;
 
-/// The links of a node that lead on, and the mark of its name. A slot is several times as long, so that a walk which looks at heads
-/// alone goes through less memory.
+/// The links of a node that lead on, the mark of its name, and where its words stand. A slot is several times as long, so that a walk
+/// which looks at heads alone goes through less memory.
 #[derive(Clone, Copy)]
 pub(crate) struct Head {
     pub(crate) first_child: Option<NodeRef>,
     pub(crate) next: Option<NodeRef>,
     /// The mark of an element's name; of a text, zeros
     pub(crate) mark: [u8; 8],
+    /// How many words of the document stand before it.
+    pub(crate) before: u32,
+    /// How many words it has.
+    pub(crate) words: u32,
 }
 
 /// The heads of slots, in their order.
@@ -38,6 +42,8 @@ fn head_of(slot: &Slot) -> Head
         first_child: slot.first_child,
         next: slot.around.next,
         mark: mark_of_held(&slot.held),
+        before: slot.around.before,
+        words: slot.words,
     }
 }
 

@@ -9,16 +9,21 @@ mod copying;
 mod counting;
 mod doc_tree;
 mod element_name;
+mod free_slots;
 mod head;
 pub mod laws;
 mod leaf;
 mod leaves;
+mod placing;
 mod plain;
 mod read;
 mod reading;
+mod ref_tree;
+mod referenced;
 mod slot;
 mod texts_read;
 
+pub use counting::count_nodes;
 pub use doc_tree::DocTree;
 pub use element_name::ElementName;
 use ft_base::Items;
@@ -26,9 +31,13 @@ pub use ft_base::{LeafId, NodeRef};
 pub use leaf::LeafWords;
 pub use plain_tree::Place;
 pub use read::{Read, load_doc};
+pub use ref_tree::{RefKids, RefTree};
 
 /// A list of leaves.
 pub type LeafIds = Items<LeafId>;
+
+/// A list of references.
+pub type NodeRefs = Items<NodeRef>;
 
 /// A list of leaves with their words.
 pub type Leaves = Items<LeafWords>;

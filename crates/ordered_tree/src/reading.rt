@@ -97,11 +97,11 @@ impl DocTree {
         ensures positions { OnNode self.now.root node (λ s. result ≡ span s) }
         ensures tokens { OnNode self.now.root node (λ s. part (tokens (plain self.now.root)) result ≡ tokens (plain s.node)) }
     {
-        let slot = self.slot(node);
-        let from = slot.around.before + 1;
+        let head = self.head(node);
+        let from = head.before + 1;
         Span {
             from,
-            to: from + slot.words,
+            to: from + head.words,
         }
     }
 }

@@ -2,6 +2,7 @@
 use Rattle.std.proofs.Common.{◌≡◌, ◌≢◌, ◌+◌, ◌<◌, ℕ, Bool, true, false, ◌&&◌, ◌||◌, List, [], ◌∷◌, map, filter, flat_map, drop, length, get_or, refl, ap, ◌∙◌}
 use Rattle.std.specs.Prelude.{IsTrue}
 use Rattle.std.specs.List.{All, AllPairs, Contains, list_any}
+use Rattle.std.proofs.lemmas.Bool.{and_right}
 use Rattle.std.proofs.lemmas.List.{drop_more}
 use Rattle.std.proofs.lemmas.List.Elements.{All-nil, All-cons, All-map, All-filter, All-weaker, All-contains, Contains-get_or}
 use Rattle.std.proofs.lemmas.List.Folds.{list_any_none}
@@ -29,10 +30,6 @@ use Rattle.path_nodes.proofs.NamedLemmas.{said-there}
 in-empty-lists : (lists : List (List Element)) (e : Element) → is_in (map (λ l. []) lists) e ≡ false
 in-empty-lists [] e = refl
 in-empty-lists (l ∷ lists) e = in-empty-lists lists e
-
-and-false : (a b : Bool) → b ≡ false → (a && b) ≡ false
-and-false true b is = is
-and-false false b is = refl
 
 module _ (root : Numbered) (m : Meaning) where
   abbrev every : List Element
@@ -81,7 +78,7 @@ module _ (root : Numbered) (m : Meaning) where
 
   and-more : (c : form.Condition) (cs : form.Conditions) → IsFalse root m (form.and_of cs) → IsFalse root m (form.and_of (form.condition_then c cs))
   unfolding is_true each_true
-  and-more c cs rest = λ i d within. and-false (is_true sat every c (get_or every i d)) (each_true sat every cs (get_or every i d)) (rest i d within)
+  and-more c cs rest = λ i d within. and_right (is_true sat every c (get_or every i d)) (each_true sat every cs (get_or every i d)) (rest i d within)
 
   -- ---- predicates
 

@@ -1,4 +1,4 @@
--- What walks look at of a node: the links that lead on, and a mark by which its name is told from most others.
+-- What walks look at of a node: the links that lead on, a mark by which its name is told from most others, and where its words stand.
 use Rattle.std.specs.Prelude.{ℕ, suc, min, List, [], ◌∷◌, length, slice_index_or}
 use Rattle.ordered_tree.specs.declared.head.Head.{Head}
 use Rattle.ordered_tree.specs.declared.slot.Held.{Held}
@@ -22,4 +22,10 @@ mark_of_held (Text bytes) = no_mark
 mark_of_held Free = no_mark
 
 abbrev pub head_of : Slot → Head
-head_of slot = record { first_child = slot.first_child; next = slot.around.next; mark = mark_of_held slot.held }
+head_of slot = record {
+  first_child = slot.first_child;
+  next = slot.around.next;
+  mark = mark_of_held slot.held;
+  before = slot.around.before;
+  words = slot.words;
+}

@@ -42,3 +42,10 @@ returns-clause-first c =
     let f : Found c.args.self.now.root c.args.node = found c.args.self.now.root c.args.node c.requires in
     subst (λ o. IfSome o (Contains (references c.args.self.now.root)))
     (ap (λ s. s.first_child) (c.slot-slot.ensures.stands f.stand f.among f.refers) ∙ sym (ap (λ h. h.first_child) (is-head c f.stand f.among f.refers))) c.slot-slot.ensures.first
+
+pub returns-clause-few : goal.returns-clause-few
+returns-clause-few c =
+    let f : Found c.args.self.now.root c.args.node = found c.args.self.now.root c.args.node c.requires in
+    let head : c.index.result.now ≡ head_of (slot f.stand) = is-head c f.stand f.among f.refers in
+    let same : c.slot-slot.result.now ≡ slot f.stand = c.slot-slot.ensures.stands f.stand f.among f.refers in
+    omega (arith, c.slot-slot.ensures.few, ap (λ h. h.before) head, ap (λ h. h.words) head, ap (λ s. s.around.before) same, ap (λ s. s.words) same)

@@ -1,0 +1,75 @@
+-- The slots that were filled stand for the document.
+use Rattle.std.proofs.Common.{◌≡◌, ◌≢◌, ℕ, List, length, get_or, sym, ap, ap₂, ◌∙◌, arith, subst}
+use Rattle.doc_grammar.specs.Limits.{node_count}
+use Rattle.ordered_tree.specs.Counts.{element_depth}
+use Rattle.ordered_tree.specs.Numbered.{Numbered, plain}
+use Rattle.ordered_tree.specs.RefView.{ref_node}
+use Rattle.ordered_tree.specs.Slots.{root_of, free_from, IsDocument}
+use Rattle.ordered_tree.specs.declared.slot.Held.TheVariants.{Free}
+use Rattle.ordered_tree.specs.declared.slot.Slot.{Slot}
+use Rattle.ordered_tree.specs.steps.FreeSlots.{free_numbers}
+use Rattle.ordered_tree.specs.steps.Placing.{Below, placed}
+use Rattle.ordered_tree.proofs.ReferencedLemmas.{empty, filled, low-empty, nodes-fit, length-filled, root-is, IsDocument-filled}
+use Rattle.ordered_tree.proofs.ShiftLemmas.{length-tokens}
+use Rattle.ordered_tree.proofs.doc_tree.DocTree.from_referenced.Goals.{After-result-1}
+use Rattle.ordered_tree.proofs.doc_tree.DocTree.from_referenced.Goals as goal
+
+pub place_tree-requires-clause-below : goal.place_tree-requires-clause-below
+place_tree-requires-clause-below c =
+    let root = ref_node c.args.tree in
+    low-for root c.args.slots c.in-Ok.filled.items c.in-Ok.ensures (low-empty root c.args.slots c.requires.apart c.requires.below)
+  where
+    low-for : (root : Numbered) (count : ℕ) (slots : List Slot) → slots ≡ empty count → Below (length (empty count)) root → Below (length slots) root
+    low-for root count slots is h = subst (λ l. Below (length l) root) (sym is) h
+
+pub place_tree-requires-clause-few_nodes : goal.place_tree-requires-clause-few_nodes
+place_tree-requires-clause-few_nodes c = omega (arith, nodes-fit (ref_node c.args.tree) c.args.slots c.requires.apart c.requires.below, c.requires.few_slots)
+
+pub place_tree-requires-clause-few_words : goal.place_tree-requires-clause-few_words
+place_tree-requires-clause-few_words c = omega (arith, ap (λ a. a.before) c.root.ensures, length-tokens (plain (ref_node c.args.tree)), c.requires.few_words)
+
+filled-is : (c : After-result-1) → c.place_tree.new.slots.items ≡ filled c.args.slots (ref_node c.args.tree)
+filled-is c =
+    c.in_ok-done.ensures.slots ∙ ap₂ (λ a l. placed a (ref_node c.args.tree) l) c.root.ensures c.in-Ok.ensures
+
+pub link_free-free-requires : goal.link_free-free-requires
+link_free-free-requires c =
+    let root = ref_node c.args.tree in
+    let is : c.place_tree.new.slots.items ≡ filled c.args.slots root = c.in_ok-done.ensures.slots ∙ ap₂ (λ a l. placed a root l) c.root.ensures c.in-Ok.ensures in
+    omega (arith, ap length is, length-filled root c.args.slots c.requires.apart c.requires.below, c.requires.few_slots)
+
+module _ (c : After-result-1) where
+  abbrev root : Numbered
+  root = ref_node c.args.tree
+
+  abbrev new : List Slot
+  new = c.link_free-free.new.slots.items
+
+  long : length new ≡ length (filled c.args.slots root)
+  long = c.link_free-free.ensures.long ∙ ap length (filled-is c)
+
+  kept : (number : ℕ) (d : Slot) → (get_or (filled c.args.slots root) number d).held ≢ Free → get_or new number d ≡ get_or (filled c.args.slots root) number d
+  kept = subst (λ l. (number : ℕ) (d : Slot) → (get_or l number d).held ≢ Free → get_or new number d ≡ get_or l number d) (filled-is c) c.link_free-free.ensures.kept
+
+  links : free_from (length new) new c.link_free-free.result ≡ free_numbers 0 (filled c.args.slots root)
+  links = c.link_free-free.ensures.free ∙ ap (free_numbers 0) (filled-is c)
+
+  same-root : root_of new ≡ root
+  same-root = root-is root c.args.slots c.requires.apart c.requires.below new c.link_free-free.result long kept links c.requires.rooted
+
+  stored : IsDocument new c.link_free-free.result root
+  stored =
+      IsDocument-filled root c.args.slots c.requires.apart c.requires.below new c.link_free-free.result long kept links c.requires.rooted c.requires.document c.requires.few_slots
+      (omega (arith, length-tokens (plain root), c.requires.few_words))
+
+pub invariant_of-result-2 : goal.invariant_of-result-2
+invariant_of-result-2 c =
+    record {
+      stored = subst (IsDocument (new c) c.link_free-free.result) (sym (same-root c)) (stored c);
+      nodes_are = c.in_ok-done.ensures.nodes ∙ ap (λ n. node_count (plain n)) (sym (same-root c));
+      levels_are = c.in_ok-done.ensures.levels ∙ ap (λ n. element_depth (plain n)) (sym (same-root c));
+    }
+
+pub returns : goal.returns
+returns c =
+    ap₂ (λ r s. record { root = r; slots = s }) (same-root c) (long c ∙ length-filled (root c) c.args.slots c.requires.apart c.requires.below)
