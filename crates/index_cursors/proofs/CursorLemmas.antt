@@ -1,6 +1,6 @@
 -- A cursor that has passed some hits of its span: what it reads, and where it goes.
-use Rattle.std.proofs.Common.{◌≡◌, ℕ, ◌+◌, ◌-◌, ◌<◌, ◌≤◌, suc, zero, Bool, true, false, cond, ◌&&◌, List, [], ◌∷◌, length, drop, get_or, refl, ap, ◌∙◌, arith, length-drop}
-use Rattle.std.specs.Prelude.{nat_lt, take_while, map, slice_get, Some, None}
+use Rattle.std.proofs.Common.{◌≡◌, ℕ, ◌+◌, ◌-◌, ◌<◌, ◌≤◌, suc, zero, Bool, true, false, cond, ◌&&◌, List, [], ◌∷◌, length, drop, get_or, Option, refl, sym, ap, ◌∙◌, arith, length-drop}
+use Rattle.std.specs.Prelude.{nat_lt, take_while, map, slice_get, option_map, Some, None}
 use Rattle.std.specs.List.{prefix_len}
 use Rattle.std.proofs.lemmas.Bool.{lt-ltb, le-ltb}
 use Rattle.std.proofs.lemmas.List.{drop-map, drop-drop, drop_more, drop_all}
@@ -25,6 +25,10 @@ slice-drop xs zero = refl
 slice-drop [] (suc k) = refl
 slice-drop (x ∷ xs) (suc k) = slice-drop xs k
 
+first-mapped : {X Y : Type 0} (f : X → Y) (xs : List X) → slice_get (map f xs) 0 ≡ option_map f (slice_get xs 0)
+first-mapped f [] = refl
+first-mapped f (x ∷ xs) = refl
+
 module _ (breaks : Breaks) (to first at : ℕ) (xs : List ℕ) (order : first ≤ at) (within : at - first ≤ length (places_up_to to first xs)) where
   -- what is left of the places of the span
   left-places : drop (at - first) (places_up_to to first xs) ≡ places_up_to to at xs
@@ -37,26 +41,38 @@ module _ (breaks : Breaks) (to first at : ℕ) (xs : List ℕ) (order : first �
   left-hits : drop (at - first) (map (word_hit breaks) (places_up_to to first xs)) ≡ map (word_hit breaks) (places_up_to to at xs)
   left-hits = drop-map (word_hit breaks) (at - first) (places_up_to to first xs) ∙ ap (map (word_hit breaks)) left-places
 
-  reads : hit_at (cursor_place breaks to first at xs) ≡ slice_get (map (word_hit breaks) (places_up_to to at xs)) 0
-  reads = slice-drop (map (word_hit breaks) (places_up_to to first xs)) (at - first) ∙ ap (λ l. slice_get l 0) left-hits
+  reads-slice : hit_at (cursor_place breaks to first at xs) ≡ slice_get (map (word_hit breaks) (places_up_to to at xs)) 0
+  reads-slice = slice-drop (map (word_hit breaks) (places_up_to to first xs)) (at - first) ∙ ap (λ l. slice_get l 0) left-hits
 
-  pub reads-past : length xs ≤ at → hit_at (cursor_place breaks to first at xs) ≡ None
-  reads-past past = reads ∙ ap (λ l. slice_get (map (word_hit breaks) (take_while (λ p. nat_lt p to) l)) 0) (drop_all at xs past)
+  -- it reads the hit of the first place that is left
+  pub reads : (found : Option ℕ) → found ≡ slice_get (places_up_to to at xs) 0 → option_map (word_hit breaks) found ≡ hit_at (cursor_place breaks to first at xs)
+  reads found is = ap (option_map (word_hit breaks)) is ∙ (sym (first-mapped (word_hit breaks) (places_up_to to at xs)) ∙ sym reads-slice)
+
+  pub reads-first : (found : Option ℕ) → found ≡ slice_get (places_up_to to at xs) 0 → found ≡ option_map (λ (hit : Hit). hit.from) (hit_at (cursor_place breaks to first at xs))
+  reads-first found is = words-from found ∙ ap (option_map (λ (hit : Hit). hit.from)) (reads found is)
+    where
+      words-from : (o : Option ℕ) → o ≡ option_map (λ (hit : Hit). hit.from) (option_map (word_hit breaks) o)
+      words-from None = refl
+      words-from (Some x) = refl
+
+-- ---- the first place that is left
+
+module _ (to at : ℕ) (xs : List ℕ) where
+  pub first-past : length xs ≤ at → None ≡ slice_get (places_up_to to at xs) 0
+  first-past past = sym (ap (λ l. slice_get (take_while (λ p. nat_lt p to) l) 0) (drop_all at xs past))
 
   head : at < length xs → places_up_to to at xs ≡ cond (nat_lt (get_or xs at 0) to) (get_or xs at 0 ∷ places_up_to to (at + 1) xs) []
   head there = ap (take_while (λ p. nat_lt p to)) (drop_more xs at 0 there) ∙ take_while-cons (λ p. nat_lt p to) (get_or xs at 0) (drop (at + 1) xs)
 
-  pub reads-end : at < length xs → to ≤ get_or xs at 0 → hit_at (cursor_place breaks to first at xs) ≡ None
-  reads-end there behind =
-      reads
-      ∙ ap (λ l. slice_get (map (word_hit breaks) l) 0) (head there)
-      ∙ ap (λ b. slice_get (map (word_hit breaks) (cond b (get_or xs at 0 ∷ places_up_to to (at + 1) xs) [])) 0) (le-ltb (get_or xs at 0) to behind)
+  pub first-end : at < length xs → to ≤ get_or xs at 0 → None ≡ slice_get (places_up_to to at xs) 0
+  first-end there behind =
+      sym (ap (λ l. slice_get l 0) (head there)
+      ∙ ap (λ b. slice_get (cond b (get_or xs at 0 ∷ places_up_to to (at + 1) xs) []) 0) (le-ltb (get_or xs at 0) to behind))
 
-  pub reads-hit : at < length xs → get_or xs at 0 < to → hit_at (cursor_place breaks to first at xs) ≡ Some (word_hit breaks (get_or xs at 0))
-  reads-hit there less =
-      reads
-      ∙ ap (λ l. slice_get (map (word_hit breaks) l) 0) (head there)
-      ∙ ap (λ b. slice_get (map (word_hit breaks) (cond b (get_or xs at 0 ∷ places_up_to to (at + 1) xs) [])) 0) (lt-ltb (get_or xs at 0) to less)
+  pub first-place : at < length xs → get_or xs at 0 < to → Some (get_or xs at 0) ≡ slice_get (places_up_to to at xs) 0
+  first-place there less =
+      sym (ap (λ l. slice_get l 0) (head there)
+      ∙ ap (λ b. slice_get (cond b (get_or xs at 0 ∷ places_up_to to (at + 1) xs) []) 0) (lt-ltb (get_or xs at 0) to less))
 
 -- hits in front of a word are as many as places in front of it and of the span's end
 both-front : (breaks : Breaks) (from to : ℕ) (ys : List ℕ) →

@@ -1,7 +1,9 @@
-ghost use Rattle.std.specs.Prelude.{◌≡◌, ◌≤◌, ◌+◌, true, drop};
+ghost use Rattle.std.specs.Prelude.{◌≡◌, ◌≤◌, ◌<◌, ◌+◌, ◌-◌, ◌^◌, true, drop, slice_get, option_map, IsTrue};
 ghost use Rattle.std.specs.List.{prefix_len};
-ghost use Rattle.ft_base.specs.Hits.{hit_place};
-ghost use Rattle.index_cursors.specs.SpanHits.{hits_in, is_before_both};
+ghost use Rattle.std.specs.Option.{ForSome};
+ghost use Rattle.ft_base.specs.Hits.{hit_at, hit_place, is_sorted};
+ghost use Rattle.ft_base.specs.Places.{is_ascending};
+ghost use Rattle.index_cursors.specs.SpanHits.{hits_in, is_before_both, places_up_to};
 
 use crate::BreakView;
 use crate::search::first_from;
@@ -76,6 +78,14 @@ impl<'v> Cursor<'v> {
             at: first,
         };
     }
+
+    /// The word of the hit at the place, and `None` exactly at the end of the list. No sentence and no paragraph is looked up.
+    pub fn first_word(&self) -> Option<u32>
+        ensures first { result ≡ option_map (λ hit. hit.from) (hit_at self.now) }
+        ensures sorted { IsTrue (is_sorted self.now.hits) }
+    {
+        place_at(&self.places, self.at, self.to)
+    }
 }
 
 impl<'v> Hits for Cursor<'v> {
@@ -84,14 +94,10 @@ impl<'v> Hits for Cursor<'v> {
     ghost plain = { λ cursor. true };
 
     fn here(&self) -> Option<Hit> {
-        if self.at >= self.places.len() {
-            return None;
+        match place_at(&self.places, self.at, self.to) {
+            Some(place) => Some(self.breaks.hit(place)),
+            None => None,
         }
-        let place = self.places.get(self.at);
-        if place >= self.to {
-            return None;
-        }
-        Some(self.breaks.hit(place))
     }
 
     fn next<L: Ledger>(&mut self, steps: &mut Steps<L>) {
@@ -108,6 +114,22 @@ impl<'v> Hits for Cursor<'v> {
     fn rewind(&mut self) {
         self.at = self.first;
     }
+}
+
+/// The place of that number, if it is in front of the position `end`.
+fn place_at(places: &TermPlaces<'_>, at: usize, end: u32) -> Option<u32>
+    ensures place { result ≡ slice_get (places_up_to end at places.now) 0 }
+    ensures few { ForSome result (λ place. place < 2 ^ 32 - 1) }
+    ensures ascending { IsTrue (is_ascending places.now) }
+{
+    if at >= places.len() {
+        return None;
+    }
+    let place = places.get(at);
+    if place >= end {
+        return None;
+    }
+    Some(place)
 }
 
 /// The number of the first place, from that number on, that isn't in front of both positions. Counts a step for each

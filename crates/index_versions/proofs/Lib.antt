@@ -4,6 +4,7 @@ pub mod DocumentLemmas
 pub mod EntryLemmas
 pub mod ExchangeLemmas
 pub mod LeafLemmas
+pub mod LikelyLemmas
 pub mod NamingLemmas
 pub mod PlacesLemmas
 pub mod TermsLemmas

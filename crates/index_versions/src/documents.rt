@@ -18,8 +18,21 @@ const BLOCK_DOCUMENTS: usize = 64;
 /// Documents in the order of their numbers.
 pub type Documents = SharedList<HeldDocument, BLOCK_DOCUMENTS>;
 
-/// How many of the documents have a smaller number.
+/// How many of the documents have a smaller number. As long as no number was left out, that is the number itself, at which is
+/// looked first.
 pub(crate) fn place_of(documents: &Documents, doc: DocId) -> usize
+    requires { is_ascending (numbers documents.now) ≡ true }
+    ensures { result ≡ below doc.0 (numbers documents.now) }
+{
+    let likely = doc.0 as usize;
+    if stands_at(documents, likely, doc) {
+        return likely;
+    }
+    sought_place(documents, doc)
+}
+
+/// The same, found by halves.
+fn sought_place(documents: &Documents, doc: DocId) -> usize
     requires { is_ascending (numbers documents.now) ≡ true }
     ensures { result ≡ below doc.0 (numbers documents.now) }
 {

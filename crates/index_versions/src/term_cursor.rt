@@ -5,6 +5,7 @@ ghost use Rattle.index_cursors.specs.SpanHits.{hits_in};
 use doc_index::TermPlaces;
 use ft_base::{Hit, Hits, Span, Steps};
 use index_cursors::{BreakView, Cursor};
+use place_merges::FirstWords;
 use std::marker::Model;
 use std::sync::ledger::Ledger;
 
@@ -89,6 +90,15 @@ impl<'v> Hits for TermCursor<'v> {
         match &mut self.cursor {
             Some(cursor) => cursor.rewind(),
             None => {}
+        }
+    }
+}
+
+impl<'v> FirstWords for TermCursor<'v> {
+    fn first_word(&self) -> Option<u32> {
+        match &self.cursor {
+            Some(cursor) => cursor.first_word(),
+            None => None,
         }
     }
 }

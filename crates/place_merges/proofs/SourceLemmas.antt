@@ -1,5 +1,5 @@
 -- One source: the first hit from a place on, and the hits behind it.
-use Rattle.std.proofs.Common.{◌≡◌, ℕ, zero, suc, ◌+◌, ◌<◌, ◌≤◌, min, Bool, true, false, cond, ◌||◌, ◌==◌, nat_lt, IsTrue, List, [], ◌∷◌, map, length, drop, Option, Some, None, slice_get, refl, sym, ap, subst, ◌∙◌, arith, inl, inr, one-add, drop-drop, length-drop}
+use Rattle.std.proofs.Common.{◌≡◌, ℕ, zero, suc, ◌+◌, ◌<◌, ◌≤◌, min, Bool, true, false, cond, ◌||◌, ◌==◌, nat_lt, IsTrue, List, [], ◌∷◌, map, length, drop, Option, Some, None, slice_get, option_map, refl, sym, ap, subst, ◌∙◌, arith, inl, inr, one-add, drop-drop, length-drop}
 use Rattle.std.specs.List.{list_all, prefix_len}
 use Rattle.std.proofs.lemmas.Bool.{cases_lt, lt-ltb, le-ltb, eq-eqb, ne_eqb, and_parts}
 use Rattle.std.proofs.lemmas.Bool.Decides.{nat_tests}
@@ -124,6 +124,27 @@ module _ (place limit : ℕ) (order : place < limit) (at after : HitPlace) (reac
   pub leads_at_end : None ≡ hit_at after → Leads (has (places_left at)) place limit limit
   unfolding limited
   leads_at_end e = source_leads None e
+
+-- ---- the hit at the place, of which only the first word is told
+
+pub record Told (at : HitPlace) (first : ℕ) : Type 0 where
+  pub hit : Hit
+  pub is : Some hit ≡ hit_at at
+  pub from : hit.from ≡ first
+
+pub told : (at : HitPlace) (first : ℕ) → Some first ≡ option_map (λ hit. hit.from) (hit_at at) → Told at first
+told at first e = by (hit_at at) refl e
+  where
+    by : (o : Option Hit) → o ≡ hit_at at → Some first ≡ option_map (λ hit. hit.from) o → Told at first
+    by None same e = cc
+    by (Some hit) same e = record { hit = hit; is = same; from = cc }
+
+pub none_told : (at : HitPlace) → None ≡ option_map (λ hit. hit.from) (hit_at at) → None ≡ hit_at at
+none_told at e = by (hit_at at) refl e
+  where
+    by : (o : Option Hit) → o ≡ hit_at at → None ≡ option_map (λ (hit : Hit). hit.from) o → None ≡ hit_at at
+    by None same e = same
+    by (Some hit) same e = cc
 
 -- ---- moves
 

@@ -6,8 +6,9 @@ ghost use Rattle.place_merges.specs.Sources.{all_left, all_lists, all_plain, wan
 ghost use Rattle.place_merges.specs.steps.Searching.{Leads, Moved, SameFrom, one_stands, shown_variants};
 
 use crate::Variant;
+use crate::first_words::FirstWords;
 use crate::variant::lead_of_variant;
-use ft_base::{Hits, Span, Steps};
+use ft_base::{Span, Steps};
 use std::sync::ledger::Ledger;
 
 /// At how many places of the span one of the variants that count begins and ends in the span. A place counts once,
@@ -15,7 +16,7 @@ use std::sync::ledger::Ledger;
 ///
 /// The sources go forward only: from hit to hit of the item that leads, and where that fits, of the first item that
 /// doesn't. Of plain sources each hit that is passed counts two steps at most.
-pub fn count_places<H: Hits, L: Ledger>(
+pub fn count_places<H: FirstWords, L: Ledger>(
     variants: &mut Vec<Variant<H>>,
     span: Span,
     most: u64,
@@ -44,7 +45,7 @@ pub fn count_places<H: Hits, L: Ledger>(
 
 /// The place, where one of the variants begins there and ends in front of `to`; or else a later one, up to `to`, in
 /// front of which none does.
-fn lead_of_variants<H: Hits, L: Ledger>(
+fn lead_of_variants<H: FirstWords, L: Ledger>(
     variants: &mut Vec<Variant<H>>,
     place: u32,
     to: u32,

@@ -7,9 +7,10 @@ ghost use Rattle.place_merges.specs.Spots.{from_found, spots_left};
 ghost use Rattle.place_merges.specs.steps.Searching.{Moved, shown_variant, shown_variants};
 ghost use Rattle.place_merges.specs.steps.Spotting.{IsInside, LeadsBehind, SameBehind, is_before, one_at, variant_at};
 
+use crate::first_words::FirstWords;
 use crate::variant::lead_of_variant;
 use crate::{Spot, Variant};
-use ft_base::{Hits, Steps};
+use ft_base::Steps;
 use std::sync::ledger::Ledger;
 
 /// The first spot behind that one at which one of the variants that count stands, in front of `to`: the shortest one at the
@@ -18,7 +19,7 @@ use std::sync::ledger::Ledger;
 /// Spots come place after place, and at a place by their numbers of words. Behind a spot of no words are those of its place.
 /// The sources go forward only, so that the next call may ask behind the spot that was found. Of plain sources each hit that
 /// is passed counts two steps at most.
-pub fn next_spot<H: Hits, L: Ledger>(
+pub fn next_spot<H: FirstWords, L: Ledger>(
     variants: &mut Vec<Variant<H>>,
     behind: Spot,
     to: u32,
@@ -46,7 +47,7 @@ pub fn next_spot<H: Hits, L: Ledger>(
 
 /// The first spot behind that one at which one of the variants stands; or else one of no words, at a later place up to `to`, in
 /// front of which none does.
-fn lead_behind<H: Hits, L: Ledger>(
+fn lead_behind<H: FirstWords, L: Ledger>(
     variants: &mut Vec<Variant<H>>,
     at: Spot,
     to: u32,
@@ -82,7 +83,7 @@ fn sooner(first: Spot, second: Spot) -> Spot
 }
 
 /// The same of one variant.
-fn lead_of_variant_behind<H: Hits, L: Ledger>(
+fn lead_of_variant_behind<H: FirstWords, L: Ledger>(
     variant: &mut Variant<H>,
     at: Spot,
     to: u32,

@@ -14,6 +14,7 @@
 mod counting;
 pub mod examples;
 mod finding;
+mod first_words;
 mod item;
 pub mod laws;
 mod source;
@@ -24,5 +25,6 @@ mod variant;
 
 pub use counting::count_places;
 pub use finding::next_spot;
+pub use first_words::FirstWords;
 pub use item::{Item, Variant};
 pub use spot::Spot;

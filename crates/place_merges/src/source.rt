@@ -1,27 +1,33 @@
 //! The hits of one source, and of several together.
 
-ghost use Rattle.std.specs.Prelude.{◌≡◌, ◌<◌};
-ghost use Rattle.ft_base.specs.Hits.{sought};
+ghost use Rattle.std.specs.Prelude.{◌≡◌, ◌<◌, IsTrue, option_map};
+ghost use Rattle.ft_base.specs.Hits.{hit_at, is_sorted, sought};
 ghost use Rattle.place_merges.specs.Sources.{places_left};
 ghost use Rattle.place_merges.specs.steps.Searching.{Leads, Moved, SameFrom, has, shown_source, shown_sources, some_has};
 
-use ft_base::{Hits, Steps};
+use crate::first_words::FirstWords;
+use ft_base::Steps;
 use std::sync::ledger::Ledger;
 
-/// Moves the source to its first hit from the place on.
-fn reach<H: Hits, L: Ledger>(source: &mut H, place: u32, steps: &mut Steps<L>)
+/// Moves the source to its first hit from the place on, and tells the hit's first word.
+fn reach<H: FirstWords, L: Ledger>(source: &mut H, place: u32, steps: &mut Steps<L>) -> Option<u32>
+    ensures first { result ≡ option_map (λ hit. hit.from) (hit_at (H.stand source.new)) }
+    ensures sorted { IsTrue (is_sorted ((H.stand source.new).hits)) }
     ensures reached { H.stand source.new ≡ sought place (H.stand source.old) }
     ensures moved { Moved (shown_source H.stand H.plain source.old) (shown_source H.stand H.plain source.new) steps.old steps.new }
 {
-    if let Some(hit) = source.here() {
-        if hit.from < place {
-            source.seek(place, steps);
-        }
+    let Some(first) = source.first_word() else {
+        return None;
+    };
+    if first >= place {
+        return Some(first);
     }
+    source.seek(place, steps);
+    source.first_word()
 }
 
 /// The place, where the source has a hit there; or else a later one, up to the limit, in front of which it has none.
-fn lead_of_source<H: Hits, L: Ledger>(
+fn lead_of_source<H: FirstWords, L: Ledger>(
     source: &mut H,
     place: u32,
     limit: u32,
@@ -32,16 +38,15 @@ fn lead_of_source<H: Hits, L: Ledger>(
     ensures same { SameFrom place (has (places_left (H.stand source.new))) (has (places_left (H.stand source.old))) }
     ensures moved { Moved (shown_source H.stand H.plain source.old) (shown_source H.stand H.plain source.new) steps.old steps.new }
 {
-    reach(source, place, steps);
-    match source.here() {
-        Some(hit) => hit.from.min(limit),
+    match reach(source, place, steps) {
+        Some(first) => first.min(limit),
         None => limit,
     }
 }
 
 /// The place, where one of the sources has a hit there; or else a later one, up to the limit, in front of which none
 /// has one.
-pub(crate) fn lead_of_sources<H: Hits, L: Ledger>(
+pub(crate) fn lead_of_sources<H: FirstWords, L: Ledger>(
     sources: &mut Vec<H>,
     place: u32,
     limit: u32,

@@ -2,7 +2,7 @@
 ghost use Rattle.std.specs.Prelude.{◌≡◌, ◌<◌, ◌∷◌, [], if◌then◌else◌, true};
 ghost use Rattle.ft_base.specs.Hits.{hit_place};
 
-use crate::{Item, Variant, count_places};
+use crate::{FirstWords, Item, Variant, count_places};
 use ft_base::{Hit, Hits, Span, Steps};
 use std::alloc::{AllocError, Global};
 use std::marker::Brand;
@@ -38,6 +38,16 @@ impl Hits for OneHit {
 
     fn rewind(&mut self) {
         self.passed = false;
+    }
+}
+
+impl FirstWords for OneHit {
+    fn first_word(&self) -> Option<u32> {
+        if self.passed {
+            None
+        } else {
+            Some(self.hit.from)
+        }
     }
 }
 

@@ -3,13 +3,14 @@
 ghost use Rattle.std.specs.Prelude.{◌≡◌, ◌+◌, ◌<◌, ◌≤◌, ◌^◌, vec_len};
 ghost use Rattle.place_merges.specs.steps.Searching.{Leads, Moved, SameFrom, item_fits, items_stand, shown_item, shown_items, shown_variant, variant_stands};
 
+use crate::first_words::FirstWords;
 use crate::source::lead_of_sources;
 use crate::{Item, Variant};
-use ft_base::{Hits, Steps};
+use ft_base::Steps;
 use std::sync::ledger::Ledger;
 
 /// The place, where the item fits the word there; or else a later one, up to the limit, in front of which it fits none.
-fn lead_of_item<H: Hits, L: Ledger>(
+fn lead_of_item<H: FirstWords, L: Ledger>(
     item: &mut Item<H>,
     place: u32,
     limit: u32,
@@ -28,7 +29,7 @@ fn lead_of_item<H: Hits, L: Ledger>(
 
 /// The place, where the items fit the words from it on; or else a later one, up to the limit, in front of which they fit
 /// nowhere: the first item that doesn't fit says how far the place may jump.
-fn lead_of_items<H: Hits, L: Ledger>(
+fn lead_of_items<H: FirstWords, L: Ledger>(
     items: &mut Vec<Item<H>>,
     place: u32,
     limit: u32,
@@ -51,8 +52,8 @@ fn lead_of_items<H: Hits, L: Ledger>(
     place
 }
 
-/// The same, where the item of that number is asked first: the others are sought only where it fits.
-fn lead_with_first<H: Hits, L: Ledger>(
+/// The same, where the item of that number is asked first: the others are sought only where it fits. A single item is asked once.
+fn lead_with_first<H: FirstWords, L: Ledger>(
     items: &mut Vec<Item<H>>,
     first: usize,
     place: u32,
@@ -66,7 +67,11 @@ fn lead_with_first<H: Hits, L: Ledger>(
     ensures moved { Moved (shown_items H.stand H.plain items.old) (shown_items H.stand H.plain items.new) steps.old steps.new }
     ensures length { vec_len items.new ≡ vec_len items.old }
 {
-    if first >= items.len() {
+    let count = items.len();
+    if count < 2 {
+        return lead_of_items(items, place, limit, steps);
+    }
+    if first >= count {
         return lead_of_items(items, place, limit, steps);
     }
     let offset = first as u32;
@@ -79,7 +84,7 @@ fn lead_with_first<H: Hits, L: Ledger>(
 
 /// The place, where the variant counts, begins there and ends in front of `to`; or else a later one, up to `to`, in
 /// front of which it doesn't.
-pub(crate) fn lead_of_variant<H: Hits, L: Ledger>(
+pub(crate) fn lead_of_variant<H: FirstWords, L: Ledger>(
     variant: &mut Variant<H>,
     place: u32,
     to: u32,

@@ -1,5 +1,5 @@
 -- Each id that leaves is there, and the others stay.
-use Rattle.std.proofs.Common.{◌≡◌, ◌+◌, ℕ, ◌&&◌, ◌==◌, ◌∷◌, List, not, true, drop, get_or, ap, sym, ◌∙◌, arith}
+use Rattle.std.proofs.Common.{◌≡◌, ◌+◌, ℕ, ◌&&◌, ◌==◌, ◌∷◌, List, not, drop, get_or, ap, sym, ◌∙◌, arith}
 use Rattle.std.proofs.lemmas.List.{drop_more}
 use Rattle.doc_index.specs.Terms.{are_distinct, has}
 use Rattle.index_meaning.specs.Dictionaries.{ids}

@@ -13,7 +13,7 @@ returns-then-next-place-clause-leads g c =
     let items = c.args.items.now.items in
     let jump = fit_jumps want shown items items c.args.place c.args.limit c.args.first c.args.steps.now c.args.steps.now c.lead_of_item-next.new.steps
     (nothing_asked want items c.args.place) (unmoved (shown_all shown items) c.args.steps.now) c.index_mut.result.now c.lead_of_item-next.new.item
-    (omega (arith, c.if-first-len.false, c.len.ensures)) c.index_mut.ensures.value c.lead_of_item-next.result c.lead_of_item-next.ensures.leads c.lead_of_item-next.ensures.same
+    (omega (arith, c.if-first-count.false, c.len-count.ensures)) c.index_mut.ensures.value c.lead_of_item-next.result c.lead_of_item-next.ensures.leads c.lead_of_item-next.ensures.same
     c.lead_of_item-next.ensures.moved c.if-next-place.true in
     jump.leads
 
@@ -24,7 +24,7 @@ returns-then-next-place-clause-same g c =
     let items = c.args.items.now.items in
     fit_same want shown items items c.args.place c.args.limit c.args.first c.args.steps.now c.args.steps.now c.lead_of_item-next.new.steps
     (nothing_asked want items c.args.place) (unmoved (shown_all shown items) c.args.steps.now) c.index_mut.result.now c.lead_of_item-next.new.item
-    (omega (arith, c.if-first-len.false, c.len.ensures)) c.index_mut.ensures.value c.lead_of_item-next.result c.lead_of_item-next.ensures.leads c.lead_of_item-next.ensures.same
+    (omega (arith, c.if-first-count.false, c.len-count.ensures)) c.index_mut.ensures.value c.lead_of_item-next.result c.lead_of_item-next.ensures.leads c.lead_of_item-next.ensures.same
     c.lead_of_item-next.ensures.moved
 
 pub returns-then-next-place-clause-moved : goal.returns-then-next-place-clause-moved
@@ -34,7 +34,7 @@ returns-then-next-place-clause-moved g c =
     let items = c.args.items.now.items in
     fit_moved want shown items items c.args.place c.args.limit c.args.first c.args.steps.now c.args.steps.now c.lead_of_item-next.new.steps
     (nothing_asked want items c.args.place) (unmoved (shown_all shown items) c.args.steps.now) c.index_mut.result.now c.lead_of_item-next.new.item
-    (omega (arith, c.if-first-len.false, c.len.ensures)) c.index_mut.ensures.value c.lead_of_item-next.result c.lead_of_item-next.ensures.leads c.lead_of_item-next.ensures.same
+    (omega (arith, c.if-first-count.false, c.len-count.ensures)) c.index_mut.ensures.value c.lead_of_item-next.result c.lead_of_item-next.ensures.leads c.lead_of_item-next.ensures.same
     c.lead_of_item-next.ensures.moved
 
 pub returns-clause-leads : goal.returns-clause-leads
@@ -44,7 +44,7 @@ returns-clause-leads g c =
     let items = c.args.items.now.items in
     let same = fit_same want shown items items c.args.place c.args.limit c.args.first c.args.steps.now c.args.steps.now c.lead_of_item-next.new.steps
     (nothing_asked want items c.args.place) (unmoved (shown_all shown items) c.args.steps.now) c.index_mut.result.now c.lead_of_item-next.new.item
-    (omega (arith, c.if-first-len.false, c.len.ensures)) c.index_mut.ensures.value c.lead_of_item-next.result c.lead_of_item-next.ensures.leads c.lead_of_item-next.ensures.same
+    (omega (arith, c.if-first-count.false, c.len-count.ensures)) c.index_mut.ensures.value c.lead_of_item-next.result c.lead_of_item-next.ensures.leads c.lead_of_item-next.ensures.same
     c.lead_of_item-next.ensures.moved in
     leads_before (items_stand g.H.Hits.stand items) (items_stand g.H.Hits.stand (set items c.args.first c.lead_of_item-next.new.item)) c.args.place c.args.limit c.lead_of_items-2.result same c.lead_of_items-2.ensures.leads
 
@@ -55,7 +55,7 @@ returns-clause-same g c =
     let items = c.args.items.now.items in
     let same = fit_same want shown items items c.args.place c.args.limit c.args.first c.args.steps.now c.args.steps.now c.lead_of_item-next.new.steps
     (nothing_asked want items c.args.place) (unmoved (shown_all shown items) c.args.steps.now) c.index_mut.result.now c.lead_of_item-next.new.item
-    (omega (arith, c.if-first-len.false, c.len.ensures)) c.index_mut.ensures.value c.lead_of_item-next.result c.lead_of_item-next.ensures.leads c.lead_of_item-next.ensures.same
+    (omega (arith, c.if-first-count.false, c.len-count.ensures)) c.index_mut.ensures.value c.lead_of_item-next.result c.lead_of_item-next.ensures.leads c.lead_of_item-next.ensures.same
     c.lead_of_item-next.ensures.moved in
     same_on c.args.place (items_stand g.H.Hits.stand items) (items_stand g.H.Hits.stand (set items c.args.first c.lead_of_item-next.new.item)) (items_stand g.H.Hits.stand c.lead_of_items-2.new.items.items) same c.lead_of_items-2.ensures.same
 
@@ -66,6 +66,6 @@ returns-clause-moved g c =
     let items = c.args.items.now.items in
     let moved = fit_moved want shown items items c.args.place c.args.limit c.args.first c.args.steps.now c.args.steps.now c.lead_of_item-next.new.steps
     (nothing_asked want items c.args.place) (unmoved (shown_all shown items) c.args.steps.now) c.index_mut.result.now c.lead_of_item-next.new.item
-    (omega (arith, c.if-first-len.false, c.len.ensures)) c.index_mut.ensures.value c.lead_of_item-next.result c.lead_of_item-next.ensures.leads c.lead_of_item-next.ensures.same
+    (omega (arith, c.if-first-count.false, c.len-count.ensures)) c.index_mut.ensures.value c.lead_of_item-next.result c.lead_of_item-next.ensures.leads c.lead_of_item-next.ensures.same
     c.lead_of_item-next.ensures.moved in
     moved_on (shown_all shown items) (shown_all shown (set items c.args.first c.lead_of_item-next.new.item)) (shown_all shown c.lead_of_items-2.new.items.items) c.args.steps.now c.lead_of_item-next.new.steps c.lead_of_items-2.new.steps moved c.lead_of_items-2.ensures.moved

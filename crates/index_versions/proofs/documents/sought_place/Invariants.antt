@@ -2,7 +2,7 @@
 use Rattle.std.proofs.Common.{◌≤◌, ◌-◌, length}
 use Rattle.index_cursors.specs.SpanHits.{below}
 use Rattle.index_versions.specs.steps.Held.{numbers}
-use Rattle.index_versions.proofs.documents.place_of.Given as goal
+use Rattle.index_versions.proofs.documents.sought_place.Given as goal
 
 abbrev pub invariant-loop-low : goal.invariant-loop-low
 invariant-loop-low l = record {
