@@ -1,4 +1,8 @@
+pub mod BareLemmas
+pub mod ChangeLemmas
 pub mod IndexLemmas
 pub mod LeavesLemmas
+pub mod TextLemmas
+pub mod TurnLemmas
 pub mod VersionLemmas
 pub mod WordsLemmas

@@ -10,7 +10,7 @@ use Rattle.ordered_tree.specs.Leaves.{leaf_of, leaves_behind, texts, texts_of}
 use Rattle.ordered_tree.specs.Numbered.{Numbered, element_at, text_at, Children, no_children, child_then, plain, plain_children}
 use Rattle.ordered_tree.specs.steps.Gathering.{parts_of}
 use Rattle.ordered_tree.proofs.ShiftLemmas.{parts-element, parts_of-then}
-use Rattle.plain_tree.specs.Document.{Node, element, text, no_nodes}
+use Rattle.plain_tree.specs.Document.{Node, text, no_nodes}
 use Rattle.tokenizer.specs.Parts.{Part, word, gap_characters, gap_tag, events, events_of, parts, part_of_segment}
 use Rattle.tokenizer.specs.Tokens.{tokens_from, tokens}
 use Rattle.tokenizer.specs.Words.{is_word, words}

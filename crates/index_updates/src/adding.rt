@@ -5,14 +5,14 @@ ghost use Rattle.index_meaning.specs.Index.{index};
 ghost use Rattle.ordered_tree.specs.Numbered.{plain};
 ghost use Rattle.text_forms.specs.Forms.{key_of};
 ghost use Rattle.tokenizer.specs.Tokens.{tokens};
-ghost use Rattle.index_updates.specs.Follows.{AreOf, Follows, breaks_in, tree_document, word_leaf, word_leaves};
+ghost use Rattle.index_updates.specs.Follows.{AreOf, Follows, tree_document, word_leaf, word_leaves};
 
+use crate::breaks::breaks_in;
 use ft_base::{Breaks, DocId, Memory, Steps};
 use index_versions::{Version, WordHints, WordLeaf, WordLeaves};
 use ordered_tree::{DocTree, LeafWords, Leaves};
 use std::alloc::Global;
 use std::sync::ledger::Ledger;
-use tokenizer::breaks_of;
 
 /// The version with the document of a tree more, under a number that it doesn't have. The hints may be of any version, and
 /// those of the new words are noted. Counts a row for each of the tree's tokens; where memory runs out, no more than that.
@@ -44,17 +44,6 @@ pub fn add_doc<L: Ledger>(
             Err(memory)
         }
     }
-}
-
-/// Where the sentences and the paragraphs of a tree start.
-fn breaks_in(alloc: Global, tree: &DocTree) -> Result<Breaks, Memory>
-    requires { length (tokens (plain tree.now.root)) < 2 ^ 31 }
-    ensures { IfOk result (λ breaks. breaks ≡ breaks_in (plain tree.now.root)) }
-{
-    let document = tree.to_doc()?;
-    let breaks = breaks_of(alloc, &document);
-    drop(document);
-    breaks
 }
 
 /// What was found of a tree: its leaves with their words, and where its sentences and paragraphs start.

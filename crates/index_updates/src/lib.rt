@@ -1,11 +1,13 @@
 //! Documents that come into an index and go out of it: each change gives a new version of the index, and leaves the one that
 //! it was lent as it is.
 //!
-//! `adding` puts the document of a tree in, `dropping` takes a document out. A version follows a tree where it has the
-//! tree's leaves, with their words and breaks.
+//! `adding` puts the document of a tree in, `dropping` takes a document out, and `changing` follows an edit of one. A version
+//! follows a tree where it has the tree's leaves, with their words and breaks; `breaks` finds these.
 #![tactic(auto)]
 
 mod adding;
+mod breaks;
+mod changing;
 mod dropping;
 pub mod examples;
 pub mod laws;
@@ -13,4 +15,5 @@ pub mod laws;
 mod tests;
 
 pub use adding::{Found, add_doc, add_loaded};
+pub use changing::apply_change;
 pub use dropping::drop_doc;

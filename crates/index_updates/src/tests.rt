@@ -1,22 +1,40 @@
-// What no contract says: that memory suffices. `<a>Hello. Hello world</a>` is read, comes into an index and goes out of it.
-ghost use Rattle.std.specs.Prelude.{◌≡◌, ◌<◌, ◌^◌, length, IfOk};
+// What no contract says: that memory suffices. `<a>Hello. Hello world</a>` is read, comes into an index and goes out of it, and so
+// does its text alone.
+ghost use Rattle.std.specs.Prelude.{◌≡◌, ◌<◌, ◌^◌, [], length, map, IfOk};
+ghost use Rattle.doc_grammar.specs.Limits.{node_count};
+ghost use Rattle.ordered_tree.specs.Leaves.{leaves, texts};
 ghost use Rattle.ordered_tree.specs.Numbered.{plain};
+ghost use Rattle.ordered_tree.specs.Numbering.{numbered};
 ghost use Rattle.tokenizer.specs.Tokens.{tokens};
+ghost use Rattle.index_updates.specs.Follows.{Follows};
 
-use crate::{add_doc, drop_doc};
+use crate::{add_doc, apply_change, drop_doc};
 use ft_base::{Breaks, DocId, Line, Memory, Span, Steps};
 use index_versions::{Version, WordHints};
-use ordered_tree::{DocTree, Read, load_doc};
+use ordered_tree::{DocTree, LeafIds, Leaves, Read, load_doc};
 use plain_tree::{Attrs, Kids, PlainDoc, Tree};
 use std::alloc::Global;
 use std::marker::Brand;
 use std::sync::ledger::{Blank, Ledger};
+use tree_edits::Change;
 
 const DOC: DocId = DocId(3);
 
-// The document with its leaves and its breaks: an element with one text in it.
+// A document with its leaves and its breaks.
+fn read(alloc: Global, document: PlainDoc) -> Result<Read, Memory>
+    requires { node_count document < 2 ^ 31 }
+    ensures tree { IfOk result (λ read. read.tree.root ≡ numbered 0 document) }
+    ensures few { IfOk result (λ read. length (tokens (plain read.tree.root)) < 2 ^ 31) }
+{
+    match load_doc(alloc, document) {
+        Ok(read) => Ok(read),
+        Err(_) => Err(Memory),
+    }
+}
+
+// An element with one text in it.
 #[tactic(auto, using(plain_tree::proofs::Views::views))]
-fn read(alloc: Global) -> Result<Read, Memory>
+fn full(alloc: Global) -> Result<Read, Memory>
     ensures { IfOk result (λ read. length (tokens (plain read.tree.root)) < 2 ^ 31) }
 {
     let name = Line::read(alloc, "a")?;
@@ -24,11 +42,19 @@ fn read(alloc: Global) -> Result<Read, Memory>
     let mut kids = Kids::new(alloc);
     kids.push(Tree::Text { text })?;
     let attrs = Attrs::new(alloc);
-    let document = PlainDoc::from_tree(Tree::Elem { name, attrs, kids });
-    match load_doc(alloc, document) {
-        Ok(read) => Ok(read),
-        Err(_) => Err(Memory),
-    }
+    read(alloc, PlainDoc::from_tree(Tree::Elem { name, attrs, kids }))
+}
+
+// An element with nothing in it.
+#[tactic(auto, using(plain_tree::proofs::Views::views))]
+fn bare(alloc: Global) -> Result<Read, Memory>
+    ensures few { IfOk result (λ read. length (tokens (plain read.tree.root)) < 2 ^ 31) }
+    ensures none { IfOk result (λ read. texts read.tree.root ≡ []) }
+{
+    let name = Line::read(alloc, "a")?;
+    let kids = Kids::new(alloc);
+    let attrs = Attrs::new(alloc);
+    read(alloc, PlainDoc::from_tree(Tree::Elem { name, attrs, kids }))
 }
 
 // Whether two sentences start, at the first and at the second token, and one paragraph.
@@ -102,6 +128,135 @@ fn comes_and_goes<L: Ledger>(
     }
 }
 
+// The version in which the document has the texts of a tree, where it had none.
+fn texts_come<L: Ledger>(
+    alloc: Global,
+    version: &Version,
+    bare: &DocTree,
+    full: &DocTree,
+    rows: &mut Steps<L>,
+) -> Result<Version, Memory>
+    requires follows { Follows version.now 3 bare.now.root }
+    requires none { texts bare.now.root ≡ [] }
+    requires few { length (tokens (plain full.now.root)) < 2 ^ 31 }
+    ensures { IfOk result (λ new. Follows new 3 full.now.root) }
+{
+    let (_bare, _full) = (bare.root(), full.root());
+    let put = full.all_leaves()?;
+    let change = Change {
+        taken: LeafIds::new(alloc),
+        put,
+    };
+    let made = apply_change(alloc, version, DOC, full, &change, rows);
+    drop(change);
+    made
+}
+
+// The one in which it has none, where it had those of a tree.
+fn texts_go<L: Ledger>(
+    alloc: Global,
+    version: &Version,
+    full: &DocTree,
+    bare: &DocTree,
+    rows: &mut Steps<L>,
+) -> Result<Version, Memory>
+    requires follows { Follows version.now 3 full.now.root }
+    requires none { texts bare.now.root ≡ [] }
+    requires few { length (tokens (plain bare.now.root)) < 2 ^ 31 }
+    ensures { IfOk result (λ new. Follows new 3 bare.now.root) }
+{
+    let (_full, _bare) = (full.root(), bare.root());
+    let taken = leaf_ids(alloc, full)?;
+    let change = Change {
+        taken,
+        put: Leaves::new(alloc),
+    };
+    let made = apply_change(alloc, version, DOC, bare, &change, rows);
+    drop(change);
+    made
+}
+
+// The leaves of a tree.
+fn leaf_ids(alloc: Global, tree: &DocTree) -> Result<LeafIds, Memory>
+    ensures { IfOk result (λ ids. ids ≡ map (λ leaf. leaf.leaf) (leaves tree.now.root)) }
+{
+    let mut ids = LeafIds::new(alloc);
+    for leaf in tree.all_leaves()?.into_vec() {
+        ids.push(leaf.leaf)?;
+    }
+    Ok(ids)
+}
+
+// Whether the document is in the version without a word.
+fn is_bare(version: &Version) -> bool {
+    if !version.has_doc(DOC) {
+        return false;
+    }
+    version.token_count(DOC) == 0 && has_terms(version, 0, None)
+}
+
+// Takes the texts out again; the version that they are in keeps them.
+fn stays_full<L: Ledger>(
+    alloc: Global,
+    version: &Version,
+    full: &DocTree,
+    bare: &DocTree,
+    rows: &mut Steps<L>,
+) -> Result<bool, Memory>
+    requires follows { Follows version.now 3 full.now.root }
+    requires none { texts bare.now.root ≡ [] }
+    requires few { length (tokens (plain bare.now.root)) < 2 ^ 31 }
+{
+    let left = texts_go(alloc, version, full, bare, rows)?;
+    let gone = is_bare(&left);
+    drop(left);
+    Ok(gone && is_full(version))
+}
+
+// Puts the texts into a version with the bare document, which stays bare, and takes them out.
+fn changes<L: Ledger>(
+    alloc: Global,
+    version: &Version,
+    bare: &DocTree,
+    full: &DocTree,
+    rows: &mut Steps<L>,
+) -> Result<bool, Memory>
+    requires follows { Follows version.now 3 bare.now.root }
+    requires none { texts bare.now.root ≡ [] }
+    requires few { length (tokens (plain bare.now.root)) < 2 ^ 31 }
+    requires few_texts { length (tokens (plain full.now.root)) < 2 ^ 31 }
+{
+    let filled = texts_come(alloc, version, bare, full, rows)?;
+    let done = stays_full(alloc, &filled, full, bare, rows);
+    drop(filled);
+    Ok(done? && is_bare(version))
+}
+
+// The same over an index with the bare document alone.
+fn texts_come_and_go<L: Ledger>(
+    alloc: Global,
+    bare: &DocTree,
+    full: &DocTree,
+    rows: &mut Steps<L>,
+) -> Result<bool, Memory>
+    requires none { texts bare.now.root ≡ [] }
+    requires few { length (tokens (plain bare.now.root)) < 2 ^ 31 }
+    requires few_texts { length (tokens (plain full.now.root)) < 2 ^ 31 }
+{
+    let empty = Version::empty(alloc);
+    let mut hints = WordHints::new(alloc);
+    let added = add_doc(alloc, &empty, &mut hints, DOC, bare, rows);
+    drop((empty, hints));
+    match added {
+        Ok(version) => {
+            let done = changes(alloc, &version, bare, full, rows);
+            drop(version);
+            done
+        }
+        Err(memory) => Err(memory),
+    }
+}
+
 // Both.
 fn all_work<L: Ledger>(alloc: Global, blank: Blank) -> Result<bool, Memory>
     requires name { blank.name ≡ L.name }
@@ -109,11 +264,13 @@ fn all_work<L: Ledger>(alloc: Global, blank: Blank) -> Result<bool, Memory>
     requires whole { 0 < blank.parts }
 {
     let mut rows = Steps::<L>::new(blank);
-    let read = read(alloc)?;
+    let read = full(alloc)?;
     let found = has_breaks(&read.breaks);
     let done = comes_and_goes(alloc, &read.tree, &mut rows);
-    drop(read);
-    Ok(found & done?)
+    let other = bare(alloc)?;
+    let changed = texts_come_and_go(alloc, &other.tree, &read.tree, &mut rows);
+    drop((read, other));
+    Ok(found & done? & changed?)
 }
 
 #[test]

@@ -10,7 +10,7 @@ use Rattle.ordered_tree.specs.Numbered.{Numbered, element_at, text_at, Children,
 use Rattle.ordered_tree.specs.Stands.{round_root, round_first, round_next, stands, child_stands, references}
 use Rattle.ordered_tree.specs.declared.around.Around.{Around}
 use Rattle.plain_tree.specs.declared.place.How.{How}
-use Rattle.tree_edits.specs.Changed.{put, taken, put_all, take_all, index_leaf, text_leaves, is_one_of, word_total, touched}
+use Rattle.tree_edits.specs.Changed.{KeepsOrder, put, taken, put_all, take_all, index_leaf, text_leaves, is_one_of, word_total, touched}
 use Rattle.tree_edits.specs.Edits.{only, append, joined, references_in, references_of, is_same, is_among, changed, all_changed, inserted, nothing, insertion, replacement, removal}
 use Rattle.tree_edits.proofs.Gathered.{gather_all, gather-only, joined_part, removed_part, inserted_adds, replaced_adds, changed_times, no_own, with_own, text_refs, all_text_refs, insertion_kept, replacement_kept, texts-refs, references-gather, references_of-gather, texts_part, all_texts_part}
 use Rattle.tree_edits.proofs.References.{times, times-append, some_among, none_among, Distinct, distinct_from, distinct_pairs, part_whole, part_times, InOrder, in_order, in_order_part}
@@ -37,6 +37,18 @@ references-are root = references-stands round_root root
 pub root_distinct : (root : Numbered) → AllPairs (λ a b. a ≢ b) (references root) → Distinct (references_in root)
 root_distinct root apart = subst Distinct (references-are root) (distinct_from (references root) apart)
 
+pub node_pairs : (root : Numbered) → Distinct (references_in root) → AllPairs (λ a b. a ≢ b) (references root)
+node_pairs root d = distinct_pairs (references root) (subst Distinct (sym (references-are root)) d)
+
+-- ---- texts that keep their order
+
+-- no text has another one's reference
+pub texts_apart : (root : Numbered) → AllPairs (λ a b. a ≢ b) (references root) → Distinct (refs_of (texts root))
+texts_apart root apart q = omega (arith, root_distinct root apart q, part_times q (texts_part root), ap (times q) (texts-refs root))
+
+pub leaves_lead : (old new : Numbered) → KeepsOrder old new → put_all (put old new) (take_all (taken old new) (text_leaves old)) ≡ text_leaves new
+leaves_lead old new keeps = leaves_led (texts old) (texts new) (texts_apart old keeps.apart_before) (texts_apart new keeps.apart) keeps.order
+
 -- ---- what was joined
 
 times-references : (q : NodeRef) (ns : Children) → times q (references_of ns) ≡ times q (gather_all with_own ns)
@@ -50,12 +62,6 @@ module _ (raw : Children) (d : Distinct (references_of raw)) where
     new_refs : refs_of (texts new) ≡ all_text_refs (joined raw)
     new_refs = texts-refs new ∙ sym (gather-only no_own new) ∙ ap all_text_refs is
 
-    texts_distinct : Distinct (refs_of (texts root))
-    texts_distinct q = omega (arith, own q, part_times q (texts_part root), ap (times q) (texts-refs root))
-
-    new_distinct : Distinct (refs_of (texts new))
-    new_distinct q = omega (arith, joined_distinct q, part_times q (all_texts_part (joined raw)), ap (times q) new_refs)
-
     raw_texts : Distinct (all_text_refs raw)
     raw_texts q = omega (arith, d q, part_times q (all_texts_part raw))
 
@@ -64,8 +70,11 @@ module _ (raw : Children) (d : Distinct (references_of raw)) where
         subst (λ xs. InOrder xs (refs_of (texts new))) (sym (texts-refs root))
         (subst (λ ys. InOrder (text_refs root) ys) (sym new_refs) (in_order_part (text_refs root) raw_texts order (joined_part no_own raw)))
 
-    pub leaves_lead : put_all (put root new) (take_all (taken root new) (text_leaves root)) ≡ text_leaves new
-    leaves_lead = leaves_led (texts root) (texts new) texts_distinct new_distinct new_order
+    new_own : Distinct (references_in new)
+    new_own q = omega (arith, joined_distinct q, ap (λ ns. times q (references_of ns)) is, times-references q (only new), ap (times q) (gather-only with_own new), ap (times q) (references-gather new))
+
+    pub keeps_order : KeepsOrder root new
+    keeps_order = record { apart_before = node_pairs root own; apart = node_pairs new new_own; order = new_order }
 
 -- ---- insertions and replacements
 
@@ -115,17 +124,15 @@ module _ (root : Numbered) (content : Children) (apart : AllPairs (λ a b. a ≢
     pub replacement_apart : AllPairs (λ a b. a ≢ b) (references_of (replacement content r root))
     replacement_apart = distinct_pairs (references_of (replacement content r root)) (joined_distinct (changed (is_same r) (λ n. content) root) raw_replacement)
 
-    pub insertion_leaves : (how : How) (new : Numbered) → only new ≡ insertion how content r root
-        → put_all (put root new) (take_all (taken root new) (text_leaves root)) ≡ text_leaves new
-    insertion_leaves how new is =
-        leaves_lead (changed (is_same r) (inserted how content) root) (raw_insertion how) root new is own
+    pub insertion_order : (how : How) (new : Numbered) → only new ≡ insertion how content r root → KeepsOrder root new
+    insertion_order how new is =
+        keeps_order (changed (is_same r) (inserted how content) root) (raw_insertion how) root new is own
         (in_order (text_refs root) (all_text_refs (changed (is_same r) (inserted how content) root)) own_texts (part_whole (text_refs root))
         (insertion_kept (is_among (text_refs root)) content fails how r root passes))
 
-    pub replacement_leaves : (new : Numbered) → only new ≡ replacement content r root
-        → put_all (put root new) (take_all (taken root new) (text_leaves root)) ≡ text_leaves new
-    replacement_leaves new is =
-        leaves_lead (changed (is_same r) (λ n. content) root) raw_replacement root new is own
+    pub replacement_order : (new : Numbered) → only new ≡ replacement content r root → KeepsOrder root new
+    replacement_order new is =
+        keeps_order (changed (is_same r) (λ n. content) root) raw_replacement root new is own
         (in_order (text_refs root) (all_text_refs (changed (is_same r) (λ n. content) root)) own_texts (removed_part no_own (is_same r) root)
         (replacement_kept (is_among (text_refs root)) content fails (is_same r) root passes))
 
@@ -145,10 +152,10 @@ module _ (root : Numbered) (rs : List NodeRef) (apart : AllPairs (λ a b. a ≢ 
   pub removal_apart : AllPairs (λ a b. a ≢ b) (references_of (removal rs root))
   removal_apart = distinct_pairs (references_of (removal rs root)) (joined_distinct (changed (is_among rs) nothing root) raw_removal)
 
-  pub removal_leaves : (new : Numbered) → only new ≡ removal rs root → put_all (put root new) (take_all (taken root new) (text_leaves root)) ≡ text_leaves new
-  removal_leaves new is =
+  pub removal_order : (new : Numbered) → only new ≡ removal rs root → KeepsOrder root new
+  removal_order new is =
       let d : Distinct (text_refs root) = λ q. omega (arith, root_distinct root apart q, part_times q (texts_part root)) in
-      leaves_lead (changed (is_among rs) nothing root) raw_removal root new is (root_distinct root apart)
+      keeps_order (changed (is_among rs) nothing root) raw_removal root new is (root_distinct root apart)
       (in_order (text_refs root) (all_text_refs (changed (is_among rs) nothing root)) d (removed_part no_own (is_among rs) root)
       (replacement_kept (is_among (text_refs root)) no_children (λ x some. absurd (omega (arith, some))) (is_among rs) root (λ x some. some_among x (text_refs root) some)))
 
@@ -166,7 +173,7 @@ mutual
   all_chosen_same c d h no_children = refl
   all_chosen_same c d h (child_then n ns) = ap₂ append (chosen_same c d h n) (all_chosen_same c d h ns)
 
-turned : (r q : NodeRef) → is_same q r ≡ is_same r q
+pub turned : (r q : NodeRef) → is_same q r ≡ is_same r q
 turned r q = same_tests (is_same q r) (is_same r q) (λ h. eq-eqb q.0 r.0 (sym (eqb-true r.0 q.0 h))) (λ h. eq-eqb r.0 q.0 (sym (eqb-true q.0 r.0 h)))
 
 pub one_removed : (r : NodeRef) (root : Numbered) → removal (r ∷ []) root ≡ replacement no_children r root
@@ -178,5 +185,5 @@ one_removed r root =
 pub words_touched : (old new : Numbered) → AllPairs (λ a b. a ≢ b) (references old)
     → word_total (filter (is_one_of (taken old new)) (text_leaves old)) + word_total (map index_leaf (put old new)) ≡ touched old new
 words_touched old new apart =
-    let d : Distinct (refs_of (texts old)) = λ q. omega (arith, root_distinct old apart q, part_times q (texts_part old), ap (times q) (texts-refs old)) in
+    let d : Distinct (refs_of (texts old)) = texts_apart old apart in
     ap₂ (λ a b. a + b) (ap word_total (gone_taken (texts new) (texts old) d)) (ap word_total (put_leaves (texts old) None (texts new)))

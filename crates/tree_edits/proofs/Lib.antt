@@ -1,7 +1,15 @@
+pub mod ActLemmas
+pub mod ChangedLemmas
 pub mod EditLemmas
+pub mod EditedLemmas
 pub mod ElementLemmas
+pub mod ExampleLemmas
 pub mod FreshLemmas
+pub mod FreshSteps
 pub mod Gathered
+pub mod JoiningLemmas
 pub mod PlainLemmas
 pub mod References
+pub mod ReferencesKept
+pub mod RowsJoined
 pub mod TextLists

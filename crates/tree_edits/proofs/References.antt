@@ -104,7 +104,7 @@ none_same r (x ∷ xs) h = elim (cases_Bool (is_same r x)) [
   | inr fails ↦ (fails, none_same r xs (omega (arith, h)))
 ]
 
-few_times : (xs : List NodeRef) → IsDistinct is_same xs → Distinct xs
+pub few_times : (xs : List NodeRef) → IsDistinct is_same xs → Distinct xs
 unfolding IsDistinct
 few_times [] h r = omega arith
 few_times (x ∷ xs) h r = elim (cases_Bool (is_same r x)) [

@@ -103,7 +103,7 @@ same_filter os ns ((r, b) ∷ xs) ((q, c) ∷ ys) od nd wx wy e =
           ∙ sym (cond-false (stays os (q, c)) ((q, c) ∷ filter (stays os) ys) (filter (stays os) ys) (right ∙ other))
     ]
 
-refs_filter : (p : NodeRef → Bool) (ts : List Text) → refs_of (filter (λ t. p t.0) ts) ≡ filter p (refs_of ts)
+pub refs_filter : (p : NodeRef → Bool) (ts : List Text) → refs_of (filter (λ t. p t.0) ts) ≡ filter p (refs_of ts)
 refs_filter p [] = refl
 refs_filter p (t ∷ ts) = elim (cases_Bool (p t.0)) [
   | inl holds ↦ rw holds (ap (λ rs. t.0 ∷ rs) (refs_filter p ts))
@@ -158,7 +158,7 @@ gone_is ns (u ∷ os) t d h =
           ]
     ]
 
-map_cond : (b : Bool) (t : Text) (ts : List Text) → map text_leaf (cond b (t ∷ ts) ts) ≡ cond b (text_leaf t ∷ map text_leaf ts) (map text_leaf ts)
+pub map_cond : (b : Bool) (t : Text) (ts : List Text) → map text_leaf (cond b (t ∷ ts) ts) ≡ cond b (text_leaf t ∷ map text_leaf ts) (map text_leaf ts)
 map_cond true t ts = refl
 map_cond false t ts = refl
 
@@ -175,7 +175,7 @@ not_not : (b : Bool) → not (not b) ≡ b
 not_not true = refl
 not_not false = refl
 
-stay_left : (ns os : List Text) → Distinct (refs_of os) → take_all (gone ns os) (map text_leaf os) ≡ map text_leaf (filter (stays ns) os)
+pub stay_left : (ns os : List Text) → Distinct (refs_of os) → take_all (gone ns os) (map text_leaf os) ≡ map text_leaf (filter (stays ns) os)
 stay_left ns os d =
     leaves_filter (λ l. not (is_one_of (gone ns os) l)) (stays ns) os os (λ t h. ap not (gone_is ns os t d h) ∙ not_not (stays ns t)) (within_self os)
 
@@ -184,18 +184,18 @@ gone_taken ns os d = leaves_filter (is_one_of (gone ns os)) (λ t. not (stays ns
 
 -- ---- what is put
 
-behind_text : (ts : List Text) (t : Text) (new : index.Leaf) (ls : List index.Leaf) → times t.0 (refs_of ts) ≡ 0
+pub behind_text : (ts : List Text) (t : Text) (new : index.Leaf) (ls : List index.Leaf) → times t.0 (refs_of ts) ≡ 0
     → index.behind t.0.0 new (map text_leaf ts ++ text_leaf t ∷ ls) ≡ map text_leaf ts ++ text_leaf t ∷ new ∷ ls
 behind_text [] t new ls h = cond-true (t.0.0 == t.0.0) _ _ (eq-eqb t.0.0 t.0.0 refl)
 behind_text (u ∷ ts) t new ls h =
     cond-false (u.0.0 == t.0.0) _ _ (weight_zero (is_same t.0 u.0) (times t.0 (refs_of ts)) h)
     ∙ ap (λ zs. text_leaf u ∷ zs) (behind_text ts t new ls (omega (arith, h)))
 
-one_further : (ts : List Text) (t : Text) (ls : List index.Leaf) → map text_leaf (ts ++ t ∷ []) ++ ls ≡ map text_leaf ts ++ text_leaf t ∷ ls
+pub one_further : (ts : List Text) (t : Text) (ls : List index.Leaf) → map text_leaf (ts ++ t ∷ []) ++ ls ≡ map text_leaf ts ++ text_leaf t ∷ ls
 one_further [] t ls = refl
 one_further (u ∷ ts) t ls = ap (λ zs. text_leaf u ∷ zs) (one_further ts t ls)
 
-times_further : (r : NodeRef) (ts : List Text) (t : Text) → times r (refs_of (ts ++ t ∷ [])) ≡ times r (refs_of ts) + weight (is_same r t.0)
+pub times_further : (r : NodeRef) (ts : List Text) (t : Text) → times r (refs_of (ts ++ t ∷ [])) ≡ times r (refs_of ts) + weight (is_same r t.0)
 times_further r [] t = omega arith
 times_further r (u ∷ ts) t = omega (arith, times_further r ts t)
 

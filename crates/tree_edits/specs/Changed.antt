@@ -1,14 +1,17 @@
 -- What an edit changed: the texts that went and those that came, as leaves, and how many words these have.
-use Rattle.std.specs.Prelude.{ℕ, ◌+◌, ◌==◌, Bool, ◌&&◌, not, if◌then◌else◌, List, [], ◌∷◌, length, map, filter, bytes_eq, Option, Some, None}
+use Rattle.std.specs.Prelude.{◌≡◌, ◌≢◌, ℕ, ◌+◌, ◌==◌, Bool, ◌&&◌, not, if◌then◌else◌, List, [], ◌∷◌, length, map, filter, bytes_eq}
+use Rattle.std.specs.Prelude.{Option, Some, None, AllPairs}
 use Rattle.std.specs.List.{list_any, sum_by}
 use Rattle.ft_base.specs.declared.ids.LeafId.{LeafId}
 use Rattle.ft_base.specs.declared.ids.NodeRef.{NodeRef}
 use Rattle.index_meaning.specs.Documents as index
 use Rattle.ordered_tree.specs.Leaves.{leaf_of, texts}
 use Rattle.ordered_tree.specs.Numbered.{Numbered}
+use Rattle.ordered_tree.specs.Stands.{references}
 use Rattle.ordered_tree.specs.declared.leaf.LeafWords.{LeafWords}
 use Rattle.tokenizer.specs.Words.{words}
-use Rattle.tree_edits.specs.Edits.{is_same}
+use Rattle.tree_edits.specs.Edits.{is_among, is_same}
+use Rattle.tree_edits.specs.declared.change.Change.{Change}
 
 -- a text with its reference
 abbrev pub Text : Type 0
@@ -39,6 +42,23 @@ put_behind others last (t ∷ rest) =
 -- the leaves of the texts that came, in document order
 abbrev pub put : Numbered → Numbered → List LeafWords
 put old new = put_behind (texts old) None (texts new)
+
+-- ---- a document that became another one
+
+abbrev pub text_references : Numbered → List NodeRef
+text_references root = map (λ t. t.0) (texts root)
+
+-- The texts that are in both stand in one order, by their references, of which no document has one twice.
+pub record KeepsOrder (old new : Numbered) : Type 0 where
+  pub apart_before : AllPairs (λ a b. a ≢ b) (references old)
+  pub apart : AllPairs (λ a b. a ≢ b) (references new)
+  pub order : filter (is_among (text_references old)) (text_references new) ≡ filter (is_among (text_references new)) (text_references old)
+
+-- The change is what was taken and put as one document became the other.
+pub record Made (old : Numbered) (change : Change) (new : Numbered) : Type 0 where
+  pub keeps_order : KeepsOrder old new
+  pub went : change.taken ≡ taken old new
+  pub came : change.put ≡ put old new
 
 -- ---- the leaves of an index, with a change
 

@@ -1,5 +1,5 @@
 -- What an edit makes of a document whose nodes have references: that of a plain document, where each node that stays keeps its reference.
-use Rattle.std.specs.Prelude.{ℕ, Bool, if◌then◌else◌, ◌==◌, List, [], ◌∷◌, ◌++◌}
+use Rattle.std.specs.Prelude.{ℕ, Bool, false, ◌||◌, if◌then◌else◌, ◌==◌, List, [], ◌∷◌, ◌++◌}
 use Rattle.std.specs.List.{list_any}
 use Rattle.ft_base.specs.Lists.{is_empty}
 use Rattle.ft_base.specs.declared.ids.NodeRef.{NodeRef}
@@ -55,6 +55,16 @@ is_same r q = q.0 == r.0
 
 abbrev pub is_among : List NodeRef → NodeRef → Bool
 is_among refs q = list_any (is_same q) refs
+
+-- whether an element has this reference
+abbrev mutual
+  pub names_element : NodeRef → Numbered → Bool
+  names_element r (element_at q name attrs kids) = is_same r q || any_names_element r kids
+  names_element r (text_at q bytes) = false
+
+  pub any_names_element : NodeRef → Children → Bool
+  any_names_element r no_children = false
+  any_names_element r (child_then n ns) = names_element r n || any_names_element r ns
 
 -- what stands where the node stood, where those that `change` makes of an element stand in the place of each that was chosen; what is below
 -- such an element goes with it

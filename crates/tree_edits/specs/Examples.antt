@@ -4,6 +4,7 @@ use Rattle.ft_base.specs.declared.ids.LeafId.{LeafId}
 use Rattle.ft_base.specs.declared.ids.NodeRef.{NodeRef}
 use Rattle.ordered_tree.specs.declared.leaf.LeafWords.{LeafWords}
 use Rattle.ordered_tree.specs.Numbered.{Numbered, element_at, text_at, Children, no_children, child_then}
+use Rattle.tree_edits.specs.declared.change.Change.{Change}
 
 abbrev pub ref : ℕ → NodeRef
 ref number = record { 0 = number }
@@ -30,9 +31,16 @@ text number bytes = text_at (ref number) bytes
 abbrev pub put_leaf : ℕ → Option LeafId → List (List ℕ) → LeafWords
 put_leaf number after words = record { leaf = leaf_id number; after = after; words = words }
 
+abbrev pub change_of : List LeafId → List LeafWords → Change
+change_of taken put = record { taken = taken; put = put }
+
 -- `<a>x<b>y</b>z</a>`, whose nodes have references in document order
 abbrev pub letters : Numbered
 letters = a 0 (text 1 (codes "x") ∷ b 2 (text 3 (codes "y") ∷ []) ∷ text 4 (codes "z") ∷ [])
+
+-- the first without `<b>`
+abbrev pub without_b : Numbered
+without_b = a 0 (text 1 (codes "xz") ∷ [])
 
 -- `<a><b><c/></b><c/></a>`, likewise
 abbrev pub nested : Numbered

@@ -7,9 +7,9 @@ ghost use Rattle.plain_tree.specs.Document as plain;
 ghost use Rattle.plain_tree.specs.EditExamples as plain_example;
 ghost use Rattle.plain_tree.specs.declared.place.How.TheVariants as H;
 ghost use Rattle.tokenizer.specs.Words.{words};
-ghost use Rattle.tree_edits.specs.Changed.{put, put_all, take_all, taken, text_leaves, touched, word_total};
+ghost use Rattle.tree_edits.specs.Changed.{KeepsOrder, Made, put, put_all, take_all, taken, text_leaves, touched, word_total};
 ghost use Rattle.tree_edits.specs.Edits.{inserted, insertion, is_among, only, references_in, removal, replacement};
-ghost use Rattle.tree_edits.specs.Examples.{a, b, c, children_of, leaf_id, letters, nested, put_leaf, ref, text};
+ghost use Rattle.tree_edits.specs.Examples.{a, b, c, change_of, children_of, leaf_id, letters, nested, put_leaf, ref, text, without_b};
 ghost use Rattle.tree_edits.specs.Fresh.{all_fresh};
 ghost use Rattle.tree_edits.specs.Kept.{elements_in, elements_without, picked};
 
@@ -86,6 +86,21 @@ pub fn changed_leaves()
     ensures same { taken letters letters ≡ [] }
     ensures other_reference { taken letters (a 0 (text 1 (codes "x") ∷ b 2 (text 6 (codes "y") ∷ []) ∷ text 4 (codes "z") ∷ [])) ≡ leaf_id 3 ∷ [] }
     ensures other_bytes { taken letters (a 0 (text 1 (codes "x") ∷ b 2 (text 3 (codes "v") ∷ []) ∷ text 4 (codes "z") ∷ [])) ≡ leaf_id 3 ∷ [] }
+{}
+
+/// Texts keep their order where some are joined, not where two were exchanged; nor does a document with one reference twice.
+pub fn kept_order()
+    ensures joined { KeepsOrder letters without_b }
+    ensures exchanged { KeepsOrder letters (a 0 (text 3 (codes "y") ∷ b 2 (text 1 (codes "x") ∷ []) ∷ [])) → ⊥ }
+    ensures twice { KeepsOrder letters (a 0 (c 2 ∷ c 2 ∷ [])) → ⊥ }
+    ensures twice_before { KeepsOrder (a 0 (c 2 ∷ c 2 ∷ [])) (a 0 []) → ⊥ }
+{}
+
+/// A change names all leaves that went and all that came.
+pub fn made_changes()
+    ensures made { Made letters (change_of (leaf_id 1 ∷ leaf_id 3 ∷ leaf_id 4 ∷ []) (put_leaf 1 None (words (codes "xz")) ∷ [])) without_b }
+    ensures too_few_taken { Made letters (change_of [] (put_leaf 1 None (words (codes "xz")) ∷ [])) without_b → ⊥ }
+    ensures too_few_put { Made letters (change_of (leaf_id 1 ∷ leaf_id 3 ∷ leaf_id 4 ∷ []) []) without_b → ⊥ }
 {}
 
 /// How many words leaves have, and that nothing is touched where nothing changed.

@@ -9,7 +9,7 @@ ghost use Rattle.ordered_tree.specs.Stands.{references};
 ghost use Rattle.plain_tree.specs.Document.{Nodes};
 ghost use Rattle.plain_tree.specs.Edits as plain_edit;
 ghost use Rattle.plain_tree.specs.declared.place.How.{How};
-ghost use Rattle.tree_edits.specs.Changed.{index_leaf, is_one_of, put, put_all, take_all, taken, text_leaves, touched, word_total};
+ghost use Rattle.tree_edits.specs.Changed.{KeepsOrder, index_leaf, is_one_of, put, put_all, take_all, taken, text_leaves, touched, word_total};
 ghost use Rattle.tree_edits.specs.Edits.{all_changed, insertion, is_among, is_same, joined, nothing, only, references_of, removal, replacement};
 ghost use Rattle.tree_edits.specs.Fresh.{all_fresh};
 ghost use Rattle.tree_edits.specs.Kept.{elements_in, elements_of, elements_without, picked};
@@ -55,9 +55,21 @@ pub fn elements_law()
         → elements_of (removal rs root) ≡ elements_without (references_of (picked (is_among rs) root)) (elements_in root) }
 {}
 
+/// An edit leaves the texts that it keeps in their order, and no two nodes have one reference.
+pub fn order_law()
+    ensures insertion { (root : Numbered) (content : Children) → AllPairs (λ a b. a ≢ b) (references root ++ references_of content)
+        → (how : How) (r : NodeRef) (new : Numbered) → only new ≡ insertion how content r root → KeepsOrder root new }
+    ensures replacement { (root : Numbered) (content : Children) → AllPairs (λ a b. a ≢ b) (references root ++ references_of content)
+        → (r : NodeRef) (new : Numbered) → only new ≡ replacement content r root → KeepsOrder root new }
+    ensures removal { (root : Numbered) (rs : List NodeRef) → AllPairs (λ a b. a ≢ b) (references root)
+        → (new : Numbered) → only new ≡ removal rs root → KeepsOrder root new }
+{}
+
 /// Where the leaves that an edit took are taken out of those of the old document, and those that it put are put in, one after
-/// the other, they are the leaves of the new document.
+/// the other, they are the leaves of the new document. So it is where texts keep their order, whatever was done.
 pub fn leaves_law()
+    ensures in_order { (old new : Numbered) → KeepsOrder old new
+        → put_all (put old new) (take_all (taken old new) (text_leaves old)) ≡ text_leaves new }
     ensures insertion { (root : Numbered) (content : Children) → AllPairs (λ a b. a ≢ b) (references root ++ references_of content)
         → (how : How) (r : NodeRef) (new : Numbered) → only new ≡ insertion how content r root
         → put_all (put root new) (take_all (taken root new) (text_leaves root)) ≡ text_leaves new }

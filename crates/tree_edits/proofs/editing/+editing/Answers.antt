@@ -1,0 +1,86 @@
+-- Each node goes to the end as the edit leaves it.
+use Rattle.std.proofs.Common.{◌≡◌, ◌∷◌, ◌++◌, [], true, false, map, sym, ap, ◌∙◌}
+use Rattle.std.proofs.lemmas.Result.{on_ok_weaker}
+use Rattle.ordered_tree.specs.RefView.{ref_node}
+use Rattle.ordered_tree.specs.declared.ref_tree.RefTree.TheVariants.{Element}
+use Rattle.ordered_tree.proofs.RefViews.{ref_node_element, ref_node_text}
+use Rattle.plain_tree.specs.Document.{nodes}
+use Rattle.plain_tree.specs.View.{node}
+use Rattle.tree_edits.specs.Edits.{all_changed, append, changed, is_among, joined, only}
+use Rattle.tree_edits.specs.Fresh.{all_fresh}
+use Rattle.tree_edits.specs.steps.Acts.{act}
+use Rattle.tree_edits.proofs.ChangedLemmas.{all_changed_append, all_changed_only, changed_chosen, changed_other}
+use Rattle.tree_edits.proofs.JoiningLemmas.{are_joined_at}
+use Rattle.tree_edits.proofs.RowsJoined.{row, row_append, none_more, one_more, still_joined, element_after}
+use Rattle.tree_edits.proofs.editing.+editing.Goals as goal
+
+pub edit_all-loop-kid-init : goal.edit_all-loop-kid-init
+edit_all-loop-kid-init t c = record { can_next = tt; is_finite = tt; edited = none_more c.args.list.now.items }
+
+pub edit_all-loop-kid-preserved : goal.edit_all-loop-kid-preserved
+edit_all-loop-kid-preserved t c =
+    let old = row c.args.list.now.items in
+    let kid = c.in-Some.kid in
+    let done = c.loop-kid.yielded in
+    let edit = c.args.edit.now in
+    let chosen = is_among edit.chosen.now in
+    let change = act edit.how (all_fresh edit.refs.now (nodes (map node edit.content.now))) in
+    record {
+      can_next = tt;
+      is_finite = tt;
+      edited = λ h.
+          let before = c.loop-kid.invariant.edited h in
+          one_more old (row c.loop-kid.list.items) (row c.edit_tree.new.list.items) (all_changed chosen change (row done)) (changed chosen change (ref_node kid)) before
+          (c.in_ok-edit_tree.ensures (still_joined old (row c.loop-kid.list.items) (all_changed chosen change (row done)) before))
+          ∙ ap (λ ns. joined (append old (append (all_changed chosen change (row done)) ns))) (sym (all_changed_only chosen change (ref_node kid)))
+          ∙ ap (λ ns. joined (append old ns)) (sym (all_changed_append chosen change (row done) (only (ref_node kid))))
+          ∙ ap (λ ns. joined (append old (all_changed chosen change ns))) (sym (row_append done (kid ∷ [])));
+    }
+
+pub edit_tree-returns-in-Text : goal.edit_tree-returns-in-Text
+edit_tree-returns-in-Text t c =
+    let edit = c.args.edit.now in
+    let chosen = is_among edit.chosen.now in
+    let change = act edit.how (all_fresh edit.refs.now (nodes (map node edit.content.now))) in
+    let old = row c.args.list.now.items in
+    let is = ref_node_text c.in-Text.node c.in-Text.text in
+    on_ok_weaker c.join_tree.result (λ says h.
+    says h ∙ ap (λ n. joined (append old (only n))) is ∙ ap (λ n. joined (append old (changed chosen change n))) (sym (ap ref_node c.in-Text.is ∙ is))) c.join_tree.ensures
+
+pub edit_tree-returns-then-is_among : goal.edit_tree-returns-then-is_among
+edit_tree-returns-then-is_among t c =
+    let edit = c.args.edit.now in
+    let chosen = is_among edit.chosen.now in
+    let change = act edit.how (all_fresh edit.refs.now (nodes (map node edit.content.now))) in
+    let old = row c.args.list.now.items in
+    let r = c.in-Element.node in
+    let name = c.in-Element.name in
+    let attrs = c.in-Element.attrs in
+    let kids = c.in-Element.kids in
+    let is = ref_node_element r name attrs kids in
+    let holds : chosen r ≡ true = sym c.is_among.ensures ∙ c.if-is_among.true in
+    on_ok_weaker c.apply.result (λ says h.
+    says h ∙ ap (λ n. joined (append old (change n))) is
+    ∙ ap (λ ns. joined (append old ns)) (sym (changed_chosen chosen change r name attrs (row kids) holds))
+    ∙ ap (λ n. joined (append old (changed chosen change n))) (sym (ap ref_node c.in-Element.is ∙ is))) c.apply.ensures
+
+pub edit_tree-returns-in_ok-push-in-Element : goal.edit_tree-returns-in_ok-push-in-Element
+edit_tree-returns-in_ok-push-in-Element t c =
+    let edit = c.args.edit.now in
+    let chosen = is_among edit.chosen.now in
+    let change = act edit.how (all_fresh edit.refs.now (nodes (map node edit.content.now))) in
+    let old = c.args.list.now.items in
+    let r = c.in-Element.node in
+    let name = c.in-Element.name in
+    let attrs = c.in-Element.attrs in
+    let kids = c.in-Element.kids in
+    let is = ref_node_element r name attrs kids in
+    let fails : chosen r ≡ false = sym c.is_among.ensures ∙ c.if-is_among.false in
+    λ h.
+    ap row c.in_ok-push-in-Element.ensures.items
+    ∙ ap (λ made. row (old ++ Element r name attrs made ∷ [])) c.from_vec.ensures
+    ∙ element_after old r name attrs (all_changed chosen change (row kids)) c.edit_all.new.list.items h
+    (c.in_ok-edit_all-in-Element.ensures (ap (λ l. are_joined_at (row l)) c.new-inner.ensures.items)
+    ∙ ap (λ empty. joined (append (row empty) (all_changed chosen change (row kids)))) c.new-inner.ensures.items)
+    ∙ ap (λ ns. joined (append (row old) ns)) (sym (changed_other chosen change r name attrs (row kids) fails))
+    ∙ ap (λ n. joined (append (row old) (changed chosen change n))) (sym (ap ref_node c.in-Element.is ∙ is))
