@@ -1,6 +1,5 @@
 -- Numbers of one more child.
 use Rattle.std.proofs.Common.{◌≡◌, ◌+◌, ◌<◌, ◌≤◌, inl, inr, ℕ, suc, Bool, true, false, cond, List, [], ◌∷◌, ◌++◌, length, Option, Some, None, refl, sym, ap, ◌∙◌, subst, arith, zero-add, add-zero}
-use Rattle.std.specs.HashMap.{HashMap, get}
 use Rattle.std.specs.List.{Contains}
 use Rattle.std.specs.Prelude.{count_by, nat_eq, is_some, IsSome}
 use Rattle.std.specs.Str.{bytes_eq}
@@ -17,14 +16,14 @@ use Rattle.path_nodes.specs.References.{element_of, IsElement}
 use Rattle.path_nodes.proofs.ChildrenLemmas.{Reading, Next, next, there, on, left, smaller, past-text, past-element, is-child}
 use Rattle.path_nodes.proofs.PlaceLemmas.{element-is, one-place, one-reference}
 use Rattle.path_nodes.proofs.SpotLemmas.{of_number}
+use Rattle.element_lines.specs.declared.counts.Counts.{Counts}
 use Rattle.element_lines.specs.steps.Counts.{count_of}
-use Rattle.element_lines.specs.steps.Numbers.{number_of, AreNumbers, IsChild}
+use Rattle.element_lines.specs.steps.Numbers.{number_of, kept, AreNumbers, IsChild}
 use Rattle.element_lines.specs.LocationSteps as steps
 use Rattle.element_lines.specs.LocationSteps.{is_named}
 use Rattle.element_lines.proofs.ChildLemmas.{Parted, Child, next-child, all-children, spot, spot-among, on-child, child-named, parted-next, child-numbered}
 use Rattle.element_lines.proofs.FewLemmas.{prefix-few}
 use Rattle.element_lines.proofs.StepLemmas.{name-plain, number-within}
-use denote.Ref.{Bor}
 
 -- ---- counts of names
 
@@ -39,17 +38,17 @@ pub element-named : (name : List ℕ) (n : Numbered) → is_element n ≡ true �
 element-named name (element_at r own attrs kids) h = refl
 element-named name (text_at r bytes) h = cc
 
-abbrev pub AreCounts : {S : Type 0} → HashMap (Bor (List ℕ)) ℕ S → List Node → Type 0
+abbrev pub AreCounts : Counts → List Node → Type 0
 AreCounts counts prefix = (name : List ℕ) → count_of counts name ≡ count_by (is_named name) prefix
 
-module _ {S : Type 0} (counts : HashMap (Bor (List ℕ)) ℕ S) (prefix : List Node) (counted : AreCounts counts prefix) (n : Numbered) where
+module _ (counts : Counts) (prefix : List Node) (counted : AreCounts counts prefix) (n : Numbered) where
   pub counts-text : is_element n ≡ false → AreCounts counts (prefix ++ plain n ∷ [])
   counts-text h name =
       let push = count-push (is_named name) prefix (plain n) in
       let none : cond (is_named name (plain n)) 1 0 ≡ 0 = ap (λ b. cond b 1 0) (text-unnamed name n h) in
       counted name ∙ sym (push ∙ ap (λ k. count_by (is_named name) prefix + k) none ∙ add-zero (count_by (is_named name) prefix))
 
-  pub counts-element : (more : HashMap (Bor (List ℕ)) ℕ S) → is_element n ≡ true → ((other : List ℕ) → count_of more other ≡ count_of counts other + cond (bytes_eq other (steps.name_of (plain n))) 1 0) → AreCounts more (prefix ++ plain n ∷ [])
+  pub counts-element : (more : Counts) → is_element n ≡ true → ((other : List ℕ) → count_of more other ≡ count_of counts other + cond (bytes_eq other (steps.name_of (plain n))) 1 0) → AreCounts more (prefix ++ plain n ∷ [])
   counts-element more h one name =
       one name
       ∙ ap (λ k. k + cond (bytes_eq name (steps.name_of (plain n))) 1 0) (counted name)
@@ -59,13 +58,13 @@ module _ {S : Type 0} (counts : HashMap (Bor (List ℕ)) ℕ S) (prefix : List N
 -- ---- numbers by reference
 
 -- each element among the first children has a number
-abbrev pub HaveNumbers : {T : Type 0} → Numbered → NodeRef → HashMap ℕ ℕ T → List Node → Type 0
+abbrev pub HaveNumbers : Numbered → NodeRef → List ℕ → List Node → Type 0
 HaveNumbers root parent numbers prefix =
-    (r : NodeRef) (k : ℕ) → IsElement root r → (element_of root r).place ≡ (element_of root parent).place ++ k ∷ [] → 0 < k → k ≤ length prefix → IsSome (get nat_eq numbers r.0)
+    (r : NodeRef) (k : ℕ) → IsElement root r → (element_of root r).place ≡ (element_of root parent).place ++ k ∷ [] → 0 < k → k ≤ length prefix → IsSome (kept numbers r.0)
 
 -- a number was put in for a reference
-abbrev pub Puts : {T : Type 0} → HashMap ℕ ℕ T → HashMap ℕ ℕ T → NodeRef → ℕ → Type 0
-Puts numbers more c number = (q : ℕ) → get nat_eq more q ≡ cond (nat_eq c.0 q) (Some number) (get nat_eq numbers q)
+abbrev pub Puts : List ℕ → List ℕ → NodeRef → ℕ → Type 0
+Puts numbers more c number = (q : ℕ) → kept more q ≡ cond (nat_eq c.0 q) (Some number) (kept numbers q)
 
 same-some : (a b : ℕ) → Some a ≡ Some b → a ≡ b
 same-some a b h = cc
@@ -73,23 +72,23 @@ same-some a b h = cc
 same-reference : (c r : NodeRef) → nat_eq c.0 r.0 ≡ true → c ≡ r
 same-reference c r h = let e : c.0 ≡ r.0 = grind (arith, nat_tests, h) in ap of_number e
 
-module _ {T : Type 0} (root : Numbered) (numbers more : HashMap ℕ ℕ T) (c : NodeRef) (number : ℕ) (puts : Puts numbers more c number) where
+module _ (root : Numbered) (numbers more : List ℕ) (c : NodeRef) (number : ℕ) (puts : Puts numbers more c number) where
   pub numbers-more : AreNumbers root numbers → number ≡ number_of root c → AreNumbers root more
   numbers-more are is r k x h = by (nat_eq c.0 r.0) refl
     where
       by : (b : Bool) → nat_eq c.0 r.0 ≡ b → k ≡ number_of root r
-      by true e = same-some k number (sym h ∙ puts r.0 ∙ ap (λ b. cond b (Some number) (get nat_eq numbers r.0)) e) ∙ is ∙ ap (number_of root) (same-reference c r e)
-      by false e = are r k x (sym (puts r.0 ∙ ap (λ b. cond b (Some number) (get nat_eq numbers r.0)) e) ∙ h)
+      by true e = same-some k number (sym h ∙ puts r.0 ∙ ap (λ b. cond b (Some number) (kept numbers r.0)) e) ∙ is ∙ ap (number_of root) (same-reference c r e)
+      by false e = are r k x (sym (puts r.0 ∙ ap (λ b. cond b (Some number) (kept numbers r.0)) e) ∙ h)
 
-  still : (q : ℕ) → IsSome (get nat_eq numbers q) → IsSome (get nat_eq more q)
+  still : (q : ℕ) → IsSome (kept numbers q) → IsSome (kept more q)
   still q there = by (nat_eq c.0 q) refl
     where
-      by : (b : Bool) → nat_eq c.0 q ≡ b → IsSome (get nat_eq more q)
-      by true e = ap is_some (puts q ∙ ap (λ b. cond b (Some number) (get nat_eq numbers q)) e)
-      by false e = subst IsSome (sym (puts q ∙ ap (λ b. cond b (Some number) (get nat_eq numbers q)) e)) there
+      by : (b : Bool) → nat_eq c.0 q ≡ b → IsSome (kept more q)
+      by true e = ap is_some (puts q ∙ ap (λ b. cond b (Some number) (kept numbers q)) e)
+      by false e = subst IsSome (sym (puts q ∙ ap (λ b. cond b (Some number) (kept numbers q)) e)) there
 
-  itself : IsSome (get nat_eq more c.0)
-  itself = let e : nat_eq c.0 c.0 ≡ true = grind (arith, nat_tests) in ap is_some (puts c.0 ∙ ap (λ b. cond b (Some number) (get nat_eq numbers c.0)) e)
+  itself : IsSome (kept more c.0)
+  itself = let e : nat_eq c.0 c.0 ≡ true = grind (arith, nat_tests) in ap is_some (puts c.0 ∙ ap (λ b. cond b (Some number) (kept numbers c.0)) e)
 
   pub have-more : (parent : NodeRef) (prefix : List Node) (h : Child root parent c prefix) → IsElement root parent → IsElement root c → HaveNumbers root parent numbers prefix → HaveNumbers root parent more (prefix ++ plain h.n ∷ [])
   have-more parent prefix h x y have r k z at some within =
@@ -99,12 +98,12 @@ module _ {T : Type 0} (root : Numbered) (numbers more : HashMap ℕ ℕ T) (c : 
             let e : k ≡ suc (length prefix) = omega (arith, last, within, long) in
             let place : (element_of root c).place ≡ (element_of root r).place =
             ap (λ e. e.place) (child-named root parent prefix x c h) ∙ ap (λ j. (element_of root parent).place ++ j ∷ []) (sym e) ∙ sym at in
-            subst (λ q. IsSome (get nat_eq more q.0)) (one-reference root c r y z place) itself
+            subst (λ q. IsSome (kept more q.0)) (one-reference root c r y z place) itself
         | inr before ↦ still r.0 (have r k z at some (omega (arith, before)))
       ]
 
 -- a text has no number
-pub have-text : {T : Type 0} (root : Numbered) (parent c : NodeRef) (numbers : HashMap ℕ ℕ T) (prefix : List Node) (h : Child root parent c prefix) → IsElement root parent → is_element h.n ≡ false → HaveNumbers root parent numbers prefix → HaveNumbers root parent numbers (prefix ++ plain h.n ∷ [])
+pub have-text : (root : Numbered) (parent c : NodeRef) (numbers : List ℕ) (prefix : List Node) (h : Child root parent c prefix) → IsElement root parent → is_element h.n ≡ false → HaveNumbers root parent numbers prefix → HaveNumbers root parent numbers (prefix ++ plain h.n ∷ [])
 have-text root parent c numbers prefix h x text have r k z at some within =
     elim (cases_lt (length prefix) k) [
       | inl last ↦
@@ -121,7 +120,7 @@ have-text root parent c numbers prefix h x text have r k z at some within =
 -- ---- a loop over the children
 
 -- The children in front of a link are counted, and those that are elements have their numbers.
-pub record Numbering {S T : Type 0} (root : Numbered) (parent : NodeRef) (link : Option NodeRef) (counts : HashMap (Bor (List ℕ)) ℕ S) (numbers : HashMap ℕ ℕ T) : Type 0 where
+pub record Numbering (root : Numbered) (parent : NodeRef) (link : Option NodeRef) (counts : Counts) (numbers : List ℕ) : Type 0 where
   pub done : List NodeRef
   pub reading : Reading root (element_of root parent) link done
   pub prefix : List Node
@@ -130,9 +129,9 @@ pub record Numbering {S T : Type 0} (root : Numbered) (parent : NodeRef) (link :
   pub are : AreNumbers root numbers
   pub have : HaveNumbers root parent numbers prefix
 
-module _ {S T : Type 0} (root : Numbered) (parent : NodeRef) (x : IsElement root parent) (link : Option NodeRef) (counts : HashMap (Bor (List ℕ)) ℕ S) (numbers : HashMap ℕ ℕ T) (v : Numbering root parent link counts numbers) where
+module _ (root : Numbered) (parent : NodeRef) (x : IsElement root parent) (link : Option NodeRef) (counts : Counts) (numbers : List ℕ) (v : Numbering root parent link counts numbers) where
   -- all children are done
-  pub all-numbered : link ≡ None → (r : NodeRef) → IsChild root parent r → IsSome (get nat_eq numbers r.0)
+  pub all-numbered : link ≡ None → (r : NodeRef) → IsChild root parent r → IsSome (kept numbers r.0)
   all-numbered is r (y, k, at) =
       let all = ap length (all-children root parent v.prefix link is v.parted) in
       let few = number-within root parent r x y k at in
@@ -176,7 +175,7 @@ module _ {S T : Type 0} (root : Numbered) (parent : NodeRef) (x : IsElement root
             have = have-text root parent c numbers v.prefix child x e v.have;
           }
 
-      pub past-an-element : (counts' : HashMap (Bor (List ℕ)) ℕ S) (numbers' : HashMap ℕ ℕ T) (name : List ℕ) (number : ℕ)
+      pub past-an-element : (counts' : Counts) (numbers' : List ℕ) (name : List ℕ) (number : ℕ)
           → OnNode root c (λ s. true ≡ is_element s.node)
           → OnNode root c (λ s. name_of s.node ≡ Some name)
           → number ≡ count_of counts name + 1

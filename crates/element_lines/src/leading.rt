@@ -66,10 +66,10 @@ pub(crate) fn lead_to(
 ) -> Result<(), Memory>
     requires parent { IsElement tree.now.root parent }
     requires leading { IsLeading document.now tree.now.root leading.old }
-    requires numbers { AreNumbers tree.now.root numbers.old }
+    requires numbers { AreNumbers tree.now.root numbers.old.items }
     ensures text { OnOk result (string_bytes leading.new.text ≡ element_line document.now (plain tree.now.root) (element_of tree.now.root parent)) }
     ensures leading { OnOk result (IsLeading document.now tree.now.root leading.new) }
-    ensures numbers { OnOk result (AreNumbers tree.now.root numbers.new) }
+    ensures numbers { OnOk result (AreNumbers tree.now.root numbers.new.items) }
 {
     if leading.is_of(parent) {
         return Ok(());
@@ -91,10 +91,10 @@ fn push_steps(
     text: &mut String,
 ) -> Result<(), Memory>
     requires node { IsElement tree.now.root node }
-    requires numbers { AreNumbers tree.now.root numbers.old }
+    requires numbers { AreNumbers tree.now.root numbers.old.items }
     ensures text { OnOk result (string_bytes text.new
         ≡ string_bytes text.old ++ flat_map step_text (steps_to (plain tree.now.root) (element_of tree.now.root node).place)) }
-    ensures numbers { OnOk result (AreNumbers tree.now.root numbers.new) }
+    ensures numbers { OnOk result (AreNumbers tree.now.root numbers.new.items) }
 {
     match tree.parent(node) {
         Some(parent) => {

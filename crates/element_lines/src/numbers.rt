@@ -1,4 +1,4 @@
-ghost use Rattle.std.specs.Prelude.{◌≡◌, IfOk, OnOk};
+ghost use Rattle.std.specs.Prelude.{◌≡◌, ◌<◌, ◌^◌, ℕ, nat_eq, cond, length, Some, IfOk, OnOk};
 ghost use Rattle.element_lines.specs.steps.Numbers as spec;
 ghost use Rattle.element_lines.specs.steps.Numbers.{AreNumbers, HasChildren, IsChild};
 ghost use Rattle.path_nodes.specs.References.{IsElement};
@@ -7,10 +7,9 @@ use crate::counts::{Counts, count_name};
 use ft_base::Memory;
 use ordered_tree::{DocTree, NodeRef};
 use std::alloc::Global;
-use std::collections::HashMap;
 
-/// The numbers of elements among their siblings of the same name, by their references.
-pub(crate) type Numbers = HashMap<u32, u32>;
+/// The numbers of elements among their siblings of the same name, by their references; 0 where none is kept.
+pub(crate) type Numbers = Vec<u32>;
 
 /// The number of an element that is a child of the other one. If it isn't there yet, those of all children are found.
 pub(crate) fn number_of(
@@ -22,16 +21,16 @@ pub(crate) fn number_of(
 ) -> Result<u32, Memory>
     requires parent { IsElement tree.now.root parent }
     requires node { IsChild tree.now.root parent node }
-    requires numbers { AreNumbers tree.now.root numbers.old }
+    requires numbers { AreNumbers tree.now.root numbers.old.items }
     ensures number { IfOk result (λ number. number ≡ spec.number_of tree.now.root node) }
-    ensures numbers { OnOk result (AreNumbers tree.now.root numbers.new) }
+    ensures numbers { OnOk result (AreNumbers tree.now.root numbers.new.items) }
 {
-    if let Some(number) = numbers.get(&node.0) {
-        return Ok(*number);
+    if let Some(number) = kept(numbers, node) {
+        return Ok(number);
     }
     number_children(alloc, tree, parent, numbers)?;
-    match numbers.get(&node.0) {
-        Some(number) => Ok(*number),
+    match kept(numbers, node) {
+        Some(number) => Ok(number),
         None => unreachable!(),
     }
 }
@@ -44,9 +43,9 @@ fn number_children(
     numbers: &mut Numbers,
 ) -> Result<(), Memory>
     requires parent { IsElement tree.now.root parent }
-    requires numbers { AreNumbers tree.now.root numbers.old }
-    ensures numbers { OnOk result (AreNumbers tree.now.root numbers.new) }
-    ensures there { OnOk result (HasChildren tree.now.root numbers.new parent) }
+    requires numbers { AreNumbers tree.now.root numbers.old.items }
+    ensures numbers { OnOk result (AreNumbers tree.now.root numbers.new.items) }
+    ensures there { OnOk result (HasChildren tree.now.root numbers.new.items parent) }
 {
     let _nodes = tree.node_count();
     let mut counts = Counts::new(alloc);
@@ -54,9 +53,46 @@ fn number_children(
     while let Some(child) = link {
         if tree.is_element(child) {
             let number = count_name(&mut counts, tree.name(child))?;
-            numbers.insert(child.0, number)?;
+            keep(numbers, child, number)?;
         }
         link = tree.next(child);
+    }
+    Ok(())
+}
+
+/// The number that is kept for a reference.
+fn kept(numbers: &Numbers, node: NodeRef) -> Option<u32>
+    ensures { result ≡ spec.kept numbers.now.items node.0 }
+{
+    let at = node.0 as usize;
+    if at >= numbers.len() {
+        return None;
+    }
+    match numbers[at] {
+        0 => None,
+        number => Some(number),
+    }
+}
+
+/// Keeps a number for a reference.
+fn keep(numbers: &mut Numbers, node: NodeRef, number: u32) -> Result<(), Memory>
+    requires { 0 < number }
+    ensures { OnOk result ((at : ℕ) → spec.kept numbers.new.items at ≡ cond (nat_eq node.0 at) (Some number) (spec.kept numbers.old.items at)) }
+{
+    let at = node.0 as usize;
+    reach(numbers, at)?;
+    numbers[at] = number;
+    Ok(())
+}
+
+/// Makes room for a number at that place, where nothing is kept yet.
+fn reach(numbers: &mut Numbers, at: usize) -> Result<(), Memory>
+    requires { at < 2 ^ 32 }
+    ensures room { OnOk result (at < length numbers.new.items) }
+    ensures same { OnOk result ((other : ℕ) → spec.kept numbers.new.items other ≡ spec.kept numbers.old.items other) }
+{
+    if at >= numbers.len() {
+        numbers.resize(at + 1, 0)?;
     }
     Ok(())
 }

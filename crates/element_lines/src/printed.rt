@@ -1,37 +1,29 @@
-ghost use Rattle.std.specs.Prelude.{◌≡◌, ◌++◌, All, IfOk, OnErr, OnOk, map};
+ghost use Rattle.std.specs.Prelude.{◌≡◌, ◌++◌, ℕ, List, All, IfOk, OnErr, OnOk, map};
 ghost use Rattle.element_lines.specs.Lines.{printed_line};
 ghost use Rattle.path_nodes.specs.References.{IsElement, element_of};
 
 use doc_profile::print_tree;
-use ft_base::{Line, Lines, Memory};
+use ft_base::{Line, Memory};
 use ordered_tree::{DocTree, NodeRef};
 use std::alloc::Global;
+use text_list::TextList;
 
-/// Puts the printed forms of elements to the end, a line each. Where memory runs out, the lines stay as they were.
+/// Puts the printed forms of elements to the end, a line each. Where memory runs out, some lines may stand behind those that were there.
 pub fn push_printed(
     alloc: Global,
     tree: &DocTree,
     nodes: &[NodeRef],
-    lines: &mut Lines,
+    lines: &mut TextList,
 ) -> Result<(), Memory>
     requires { All (IsElement tree.now.root) nodes.now }
     ensures ok { OnOk result (lines.new ≡ lines.old ++ map (λ r. printed_line (element_of tree.now.root r).node) nodes.now) }
-    ensures err { OnErr result (lines.new ≡ lines.old) }
+    ensures err { OnErr result ((more : List (List ℕ)) × (lines.new ≡ lines.old ++ more)) }
 {
-    let printed = printed_forms(alloc, tree, nodes)?;
-    lines.append(printed)
-}
-
-/// The printed forms of elements, a line each.
-fn printed_forms(alloc: Global, tree: &DocTree, nodes: &[NodeRef]) -> Result<Lines, Memory>
-    requires { All (IsElement tree.now.root) nodes.now }
-    ensures { IfOk result (λ lines. lines ≡ map (λ r. printed_line (element_of tree.now.root r).node) nodes.now) }
-{
-    let mut lines = Lines::new(alloc);
     for node in nodes {
-        lines.push(printed_form(alloc, tree, *node)?)?;
+        let line = printed_form(alloc, tree, *node)?;
+        lines.push(line.as_str())?;
     }
-    Ok(lines)
+    Ok(())
 }
 
 /// The printed form of an element.

@@ -5,8 +5,9 @@ ghost use Rattle.session_text.specs.Replies.{limit_words, query_words, refusal_l
 
 use crate::{Counts, FullOf, LimitOf, Refusal, Reply};
 use doc_profile::DocFault;
-use ft_base::{Line, Lines, MAX_DOCUMENTS, MAX_LISTS, MAX_MARKS, Memory, QueryFault};
+use ft_base::{Line, MAX_DOCUMENTS, MAX_LISTS, MAX_MARKS, Memory, QueryFault};
 use std::alloc::Global;
+use text_list::TextList;
 
 /// The lines of a reply, each ended by a line feed. A refusal for want of memory isn't one, and is answered `Memory`.
 pub fn print_reply(alloc: Global, reply: &Reply) -> Result<Line, Memory>
@@ -23,13 +24,13 @@ pub fn print_reply(alloc: Global, reply: &Reply) -> Result<Line, Memory>
 }
 
 /// How many lines there are, and the lines.
-fn print_lines(alloc: Global, lines: &Lines) -> Result<Line, Memory>
+fn print_lines(alloc: Global, lines: &TextList) -> Result<Line, Memory>
     ensures { IfOk result (λ text. text ≡ counted_lines lines.now) }
 {
     let count = lines.len();
     let mut text = format!(in alloc; "= {count}\n")?;
-    for line in lines.as_slice() {
-        text.push_str(line.as_str())?;
+    for number in 0..count {
+        text.push_str(lines.get(number))?;
         text.push('\n')?;
     }
     Ok(Line::from_string(text))

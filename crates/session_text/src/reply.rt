@@ -2,7 +2,8 @@ ghost use Rattle.std.specs.Prelude.{◌≡◌};
 ghost use Rattle.session_text.specs.Replies.{is_refusal};
 
 use doc_profile::DocFault;
-use ft_base::{Line, Lines, QueryFault};
+use ft_base::{Line, QueryFault};
+use text_list::TextList;
 
 /// What a command is answered.
 #[derive(Drop)]
@@ -10,9 +11,9 @@ pub enum Reply {
     /// The command did what it says.
     Done,
     /// The lines that name the selected nodes, in the order of the documents.
-    Nodes(Lines),
+    Nodes(TextList),
     /// The selected nodes, each printed in one line.
-    Texts(Lines),
+    Texts(TextList),
     /// The printed form of the rewritten selection.
     Explained(Line),
     /// What the session holds.

@@ -1,13 +1,13 @@
 -- The line of an element's parent, and one step more; above the root there is nothing.
-use Rattle.std.proofs.Common.{◌≡◌, ◌++◌, ap, ◌∙◌, subst}
-use Rattle.std.specs.Prelude.{IfOk}
+use Rattle.std.proofs.Common.{◌≡◌, ◌++◌, [], ◌∷◌, ap, ◌∙◌, subst, string_bytes}
+use Rattle.std.specs.Prelude.{OnOk}
 use Rattle.ordered_tree.specs.Numbered.{plain, is_element}
 use Rattle.ordered_tree.specs.Stands.{OnNode}
 use Rattle.path_nodes.specs.References.{element_of}
 use Rattle.path_nodes.proofs.ChildrenLemmas.{element_there}
 use Rattle.path_nodes.proofs.PlaceLemmas.{one-stand}
 use Rattle.path_nodes.proofs.WayLemmas.{Parent, root-of}
-use Rattle.element_lines.specs.Lines.{element_line, step_text}
+use Rattle.element_lines.specs.Lines.{element_line, place_line, step_text}
 use Rattle.element_lines.specs.LocationSteps.{step}
 use Rattle.element_lines.proofs.StepLemmas.{element-name}
 use Rattle.element_lines.proofs.TextLemmas.{line-further, line-root, parent-found}
@@ -52,17 +52,19 @@ pub returns-in_ok-number-in-Some-clause-line : goal.returns-in_ok-number-in-Some
 returns-in_ok-number-in-Some-clause-line c =
     let root = c.args.tree.now.root in
     let own = step_text (step c.name.result.now c.in_ok-number-in-Some.number) in
-    let all : c.text.result.now ++ own ≡ element_line c.args.document.now (plain root) (element_of root c.args.node) =
-    ap (λ l. l ++ own) (c.text.ensures ∙ c.in_ok-lead_to-in-Some.ensures.text)
+    let all : string_bytes c.clear.new.self ++ c.text.result.now ++ own ≡ element_line c.args.document.now (plain root) (element_of root c.args.node) =
+    ap (λ l. l ++ c.text.result.now ++ own) c.clear.ensures.bytes
+    ∙ ap (λ l. l ++ own) (c.text.ensures ∙ c.in_ok-lead_to-in-Some.ensures.text)
     ∙ line-further c.args.document.now root c.args.node c.in-Some.parent
     (parent-found c.args.tree.now.root c.args.node c.in-Some.parent c.requires.node c.parent.result c.in-Some.is c.parent.ensures.parent) c.requires.node c.name.result.now c.in_ok-number-in-Some.number
     (element-name root c.args.node c.requires.node c.name.result.now c.name.ensures) c.in_ok-number-in-Some.ensures.number in
-    subst (λ l. IfOk c.line_behind.result (λ line. line ≡ l)) all c.line_behind.ensures
+    subst (λ l. OnOk c.push_behind.result (string_bytes c.push_behind.new.text ≡ l)) all c.push_behind.ensures
 
 pub returns-in-None-clause-line : goal.returns-in-None-clause-line
 returns-in-None-clause-line c =
     let root = c.args.tree.now.root in
     let none = root-of root c.args.node c.requires.node (subst (λ o. OnNode root c.args.node (λ s. o ≡ s.around.parent)) c.in-None.is c.parent.ensures.parent) in
-    subst (λ l. IfOk c.root_line.result (λ line. line ≡ l))
-    (line-root c.args.document.now root c.args.node c.requires.node none c.name-in-None.result.now
-    (element-name root c.args.node c.requires.node c.name-in-None.result.now c.name-in-None.ensures)) c.root_line.ensures
+    let own = place_line c.args.document.now (step c.name-in-None.result.now 1 ∷ []) in
+    subst (λ l. OnOk c.push_root.result (string_bytes c.push_root.new.text ≡ l))
+    (ap (λ l. l ++ own) c.clear.ensures.bytes ∙ line-root c.args.document.now root c.args.node c.requires.node none c.name-in-None.result.now
+    (element-name root c.args.node c.requires.node c.name-in-None.result.now c.name-in-None.ensures)) c.push_root.ensures

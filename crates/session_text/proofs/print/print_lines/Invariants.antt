@@ -1,9 +1,12 @@
 -- The count and the lines so far.
-use Rattle.std.proofs.Common.{◌≡◌, ◌++◌, drop}
+use Rattle.std.proofs.Common.{◌≡◌, ◌≤◌, ◌++◌, drop, length}
 use Rattle.std.specs.Prelude.{string_bytes}
 use Rattle.std.specs.List.{flat_map}
 use Rattle.session_text.specs.Replies.{ended_line, counted_lines}
 use Rattle.session_text.proofs.print.print_lines.Given as goal
 
-abbrev pub invariant-loop-line : goal.invariant-loop-line
-invariant-loop-line l = string_bytes l.text ++ flat_map ended_line (drop l.line-index l.lines) ≡ counted_lines l.lines
+abbrev pub invariant-loop-number : goal.invariant-loop-number
+invariant-loop-number l = record {
+  within : l.number ≤ length l.lines;
+  text : string_bytes l.text ++ flat_map ended_line (drop l.number l.lines) ≡ counted_lines l.lines;
+}
