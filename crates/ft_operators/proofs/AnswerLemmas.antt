@@ -14,12 +14,14 @@ use Rattle.all_matches.specs.declared.window.Window.{Window}
 use Rattle.all_matches.specs.Boolean.{is_clean, satisfied, survives}
 use Rattle.all_matches.specs.Chain.{Link, kept_by}
 use Rattle.all_matches.specs.Filters.{choices, after}
-use Rattle.all_matches.specs.Ways.{Operator, phrase, either, together, apart, negated, through_filter, is_plain, matches_of, Way, clean_under, filtered_ways, ways_of}
+use Rattle.all_matches.specs.Ways.{Operator, phrase, either, together, apart, negated, through_filter, is_plain, matches_of, Way, clean_under, ways_of}
 use Rattle.all_matches.proofs.ListTests.{list_any-alike}
 use Rattle.all_matches.proofs.WayLaws.{some_way}
 use Rattle.ft_operators.specs.declared.chain.Chain.{Chain}
+use Rattle.ft_operators.specs.declared.course.Course.{Course}
 use Rattle.ft_operators.specs.declared.node.Node.{Node}
 use Rattle.ft_operators.specs.Chains.{clean_now, links_of, outer_window, window_now}
+use Rattle.ft_operators.specs.Course.{every, filtered_on, tellings, ways_on}
 use Rattle.ft_operators.specs.Phrases.{PhraseState}
 use Rattle.ft_operators.specs.Standing.{frame, includes_now}
 use Rattle.ft_operators.specs.Walk.{tuple_of}
@@ -27,6 +29,7 @@ use Rattle.ft_operators.specs.steps.Cleaning.{Asked, MayAsk}
 use Rattle.ft_operators.specs.steps.Forms.{sieve_left, chosen_left, choices_at}
 use Rattle.ft_operators.specs.steps.Nodes.{standing, frame_of, shape_of}
 use Rattle.ft_operators.specs.steps.Walking.{IsHeld}
+use Rattle.ft_operators.proofs.CourseLemmas.{clean_told}
 use Rattle.ft_operators.proofs.CleanLemmas.{kept_choices, lead_chosen}
 use Rattle.ft_operators.proofs.FrameLemmas.{frame_same}
 use Rattle.ft_operators.proofs.GatherLemmas.{sieve_includes}
@@ -43,50 +46,52 @@ clean_survives m = each m.excludes m.includes
     each (hit ∷ rest) includes = refl
 
 pub satisfied_ways : (item : Span) (operator : Operator) (links : List Link) → links ≡ [] → is_plain operator ≡ true
-    → list_any (clean_under (kept_by links)) (ways_of item operator) ≡ satisfied (matches_of item operator)
+    → list_any (clean_under (kept_by links)) (ways_on (tellings item) operator) ≡ satisfied (matches_of item operator)
 satisfied_ways item operator links none plain =
-    ap (λ ls. list_any (clean_under (kept_by ls)) (ways_of item operator)) none
+    clean_told item operator (kept_by links)
+    ∙ ap (λ ls. list_any (clean_under (kept_by ls)) (ways_of item operator)) none
     ∙ sym (list_any-alike is_clean (survives (kept_by [])) (matches_of item operator) clean_survives ∙ some_way item operator (kept_by []) plain)
 
 -- ---- a walk that stays at its way
 
-module _ {P : Type 0} (state : P → PhraseState) (item : Span) (old new : Node P) where
-  pub asked_may : (there : Bool) (room filters hits : ℕ) → is_not_empty (cond there (standing state item old).rest []) ≡ true
-      → (shape_of old).room ≤ room → (shape_of old).filters ≤ filters → (shape_of old).hits ≤ hits → MayAsk (standing state item old) room filters hits
+module _ {P : Type 0} (state : P → PhraseState) (course : Course) (old new : Node P) where
+  pub asked_may : (there : Bool) (room filters hits : ℕ) → is_not_empty (cond there (standing state course old).rest []) ≡ true
+      → (shape_of old).room ≤ room → (shape_of old).filters ≤ filters → (shape_of old).hits ≤ hits → MayAsk (standing state course old) room filters hits
   asked_may there room filters hits way few few_filters few_hits =
-      let same = standing_shape state item old old in record {
-        there = walk_there state item old old there way;
+      let same = standing_shape state course old old in record {
+        there = walk_there state course old old there way;
         fits = subst (λ s. s.room ≤ room) (sym same) few;
         filters = subst (λ s. s.filters ≤ filters) (sym same) few_filters;
         hits = subst (λ s. s.hits ≤ hits) (sym same) few_hits;
       }
 
-  pub asked_answer : (there : Bool) (before after : Chain) (room new_room start end : ℕ) (answer : Bool) → is_not_empty (cond there (standing state item old).rest []) ≡ true
-      → Asked (standing state item old) (standing state item new) before after room new_room start end answer → is_plain (frame_of state old).operator ≡ true
-      → answer ≡ clean_now (kept_by (links_of before)) (cond there (standing state item old).rest [])
-  asked_answer true before after room new_room start end answer way a plain = a.clean (ap (λ f. is_plain f.operator) (frame_same state item old) ∙ plain)
+  pub asked_answer : (there : Bool) (before after : Chain) (room new_room start end : ℕ) (answer : Bool) → is_not_empty (cond there (standing state course old).rest []) ≡ true
+      → Asked (standing state course old) (standing state course new) before after room new_room start end answer → is_plain (frame_of state old).operator ≡ true
+      → answer ≡ clean_now (kept_by (links_of before)) (cond there (standing state course old).rest [])
+  asked_answer true before after room new_room start end answer way a plain = a.clean (ap (λ f. is_plain f.operator) (frame_same state course old) ∙ plain)
   asked_answer false before after room new_room start end answer way a plain = cc
 
-  pub asked_shown : (there : Bool) (mid_room new_room : ℕ) (held : List Hit) → is_not_empty (cond there (standing state item old).rest []) ≡ true → standing state item new ≡ standing state item old
-      → IsHeld there (standing state item new) mid_room new_room held → (shape_of old).room ≤ mid_room
-      → shown item (frame_of state new) (cond there (standing state item new).rest []) (cond there (Some held) None)
-      ≡ shown item (frame_of state old) (cond there (standing state item old).rest []) (tuple_of (cond there (standing state item old).rest []))
+  pub asked_shown : (there : Bool) (mid_room new_room : ℕ) (held : List Hit) → is_not_empty (cond there (standing state course old).rest []) ≡ true → standing state course new ≡ standing state course old
+      → IsHeld there (standing state course new) mid_room new_room held → (shape_of old).room ≤ mid_room
+      → shown course.item (frame_of state new) (cond there (standing state course new).rest []) (cond there (Some held) None)
+      ≡ shown course.item (frame_of state old) (cond there (standing state course old).rest []) (tuple_of (cond there (standing state course old).rest []))
   asked_shown true mid_room new_room held way same h fits =
       let there = ap (λ s. is_not_empty s.rest) same ∙ way in
       let room = ap (λ s. s.shape.room) same in
-      shown_ways item (frame_of state new) (standing state item new).rest true held (sym there) (λ t. h.hits refl there (omega (arith, room, standing_room state item old new, fits)))
-      ∙ (λ i. shown item (kept_frame state item old new (ap frame same) i) (same i).rest (tuple_of (same i).rest))
+      shown_ways course.item (frame_of state new) (standing state course new).rest true held (sym there) (λ t. h.hits refl there (omega (arith, room, standing_room state course old new, fits)))
+      ∙ (λ i. shown course.item (kept_frame state course old new (ap frame same) i) (same i).rest (tuple_of (same i).rest))
   asked_shown false mid_room new_room held way same h fits = cc
 
-  -- one that was aimed, and gone through
-  pub through_shown : (there : Bool) (held new_held : List Hit) → cond there (Some held) None ≡ None → frame (standing state item new) ≡ frame (standing state item old)
-      → shown item (frame_of state new) (cond there (standing state item new).rest []) (cond there (Some new_held) None)
-      ≡ shown item (frame_of state old) (cond there (standing state item old).rest []) (cond there (Some held) None)
-  through_shown true held new_held none same = cc
-  through_shown false held new_held none same = ap (λ f. shown item f [] None) (kept_frame state item old new same)
+-- one that was aimed, and gone through on any course
+module _ {P : Type 0} (state : P → PhraseState) (item : Span) (course : Course) (old new : Node P) (same : frame (standing state course new) ≡ frame (standing state course old)) where
+  pub through_shown : (there : Bool) (held new_held : List Hit) → cond there (Some held) None ≡ None
+      → shown item (frame_of state new) (cond there (standing state (every item) new).rest []) (cond there (Some new_held) None)
+      ≡ shown item (frame_of state old) (cond there (standing state (every item) old).rest []) (cond there (Some held) None)
+  through_shown true held new_held none = cc
+  through_shown false held new_held none = ap (λ f. shown item f [] None) (kept_frame state course old new same)
 
-  pub passed_shown : frame (standing state item new) ≡ frame (standing state item old) → shown item (frame_of state new) [] None ≡ shown item (frame_of state old) [] None
-  passed_shown same = ap (λ f. shown item f [] None) (kept_frame state item old new same)
+  pub passed_shown : shown item (frame_of state new) [] None ≡ shown item (frame_of state old) [] None
+  passed_shown = ap (λ f. shown item f [] None) (kept_frame state course old new same)
 
 -- ---- the window of a way
 
@@ -111,13 +116,13 @@ choices_behind F.EntireContent includes = refl
 choice_window : (kind : Filter) (way : Way) (cs : List (Option Window)) (lead : ℕ) (later : List Way) → lead < length cs → window_now (chosen_left kind way (drop lead cs) later) ≡ get_or cs lead None
 choice_window kind way cs lead later below = ap (λ ds. window_now (chosen_left kind way ds later)) (drop-cons cs lead None below)
 
-sieve_window : (kind : Filter) (item : Span) (lead : ℕ) (ways : List Way) → is_not_empty (sieve_left kind item lead ways) ≡ true
-    → window_now (sieve_left kind item lead ways) ≡ get_or (choices kind (includes_now ways)) lead None
+sieve_window : (kind : Filter) (item : Span) (lead : ℕ) (ways : List Way) → is_not_empty (sieve_left kind (every item) lead ways) ≡ true
+    → window_now (sieve_left kind (every item) lead ways) ≡ get_or (choices kind (includes_now ways)) lead None
 sieve_window kind item lead [] there = cc
 sieve_window kind item lead (way ∷ more) there =
-    let below = lead_below kind item lead (way ∷ more) there in
-    choice_window kind way (choices_at kind item way) lead (flat_map (filtered_ways kind item) more) below
-    ∙ ap (λ cs. get_or cs lead None) (kept_choices kind item (includes_now (way ∷ more)) lead below)
+    let below = lead_below kind (every item) lead (way ∷ more) there in
+    choice_window kind way (choices_at kind (every item) way) lead (flat_map (filtered_on kind (every item)) more) below
+    ∙ ap (λ cs. get_or cs lead None) (kept_choices kind (every item) (includes_now (way ∷ more)) lead below)
 
 pub no_outer : (operator : Operator) → None ≡ outer_window operator []
 no_outer (phrase found) = refl
@@ -137,17 +142,17 @@ held_now true (way ∷ rest) held holds is = (refl, some is)
 held_now false ways held holds is = cc
 
 module _ (kind : Filter) (item : Span) (lead : ℕ) (ways : List Way) (there : Bool) (held : List Hit) (holds : there ≡ true)
-    (is : cond there (Some held) None ≡ tuple_of (cond there (sieve_left kind item lead ways) [])) where
+    (is : cond there (Some held) None ≡ tuple_of (cond there (sieve_left kind (every item) lead ways) [])) where
   pub window_below : lead < length (choices kind held)
   window_below =
-      let now = held_now there (sieve_left kind item lead ways) held holds is in
-      let same = ap (choices kind) (now.1 ∙ sieve_includes kind item lead ways now.0) ∙ choices_behind kind (includes_now ways) in
-      subst (λ cs. lead < length cs) (sym same) (lead_chosen kind item lead ways now.0)
+      let now = held_now there (sieve_left kind (every item) lead ways) held holds is in
+      let same = ap (choices kind) (now.1 ∙ sieve_includes kind (every item) lead ways now.0) ∙ choices_behind kind (includes_now ways) in
+      subst (λ cs. lead < length cs) (sym same) (lead_chosen kind (every item) lead ways now.0)
 
-  pub window_same : get_or (choices kind held) lead None ≡ window_now (cond there (sieve_left kind item lead ways) [])
+  pub window_same : get_or (choices kind held) lead None ≡ window_now (cond there (sieve_left kind (every item) lead ways) [])
   window_same =
-      let now = held_now there (sieve_left kind item lead ways) held holds is in
-      ap (λ hits. get_or (choices kind hits) lead None) (now.1 ∙ sieve_includes kind item lead ways now.0)
+      let now = held_now there (sieve_left kind (every item) lead ways) held holds is in
+      ap (λ hits. get_or (choices kind hits) lead None) (now.1 ∙ sieve_includes kind (every item) lead ways now.0)
       ∙ ap (λ cs. get_or cs lead None) (choices_behind kind (includes_now ways))
       ∙ sym (sieve_window kind item lead ways now.0)
-      ∙ ap (λ b. window_now (cond b (sieve_left kind item lead ways) [])) (sym holds)
+      ∙ ap (λ b. window_now (cond b (sieve_left kind (every item) lead ways) [])) (sym holds)

@@ -6,9 +6,10 @@ use Rattle.std.specs.List.{list_any, list_all}
 use Rattle.std.proofs.Math.Bool.{or_assoc, and_assoc, or-false, and-true}
 use Rattle.ft_base.specs.Lists.{is_not_empty}
 use Rattle.ft_base.specs.declared.hit.Hit.{Hit}
-use Rattle.ft_base.specs.declared.span.Span.{Span}
 use Rattle.all_matches.specs.MildNot.{stands_out}
-use Rattle.all_matches.specs.Ways.{Way, apart, way_includes, standing_out, ways_of}
+use Rattle.all_matches.specs.Ways.{Way, apart, way_includes, standing_out}
+use Rattle.ft_operators.specs.declared.course.Course.{Course}
+use Rattle.ft_operators.specs.Course.{ways_on}
 use Rattle.ft_operators.specs.declared.standing_out.Tried.{Tried}
 use Rattle.ft_operators.specs.Standing.{Frame, Standing, frame, two_aims, at_front, one_on, includes_now}
 use Rattle.ft_operators.specs.steps.Apart.{with_includes, none_tried, tried_ways, admitted, IsTried, MayTry, Trying, Sifting}
@@ -86,22 +87,22 @@ apart_includes (a ∷ more) right = refl
 rest_there : Standing → Bool
 rest_there s = is_not_empty s.rest
 
-module _ (item : Span) (left left_now right now : Standing) (room mid_room new_room start mid end : ℕ) (answer second_answer : Bool) where
-  pub apart_first : Moved (at_front item left) left_now room mid_room start mid answer → Moved (apart_sifted item left_now right) now mid_room new_room mid end second_answer
-      → Moved (at_front item (apart_of item left right)) now room new_room start end second_answer
-  unfolding ways_of
+module _ (course : Course) (left left_now right now : Standing) (room mid_room new_room start mid end : ℕ) (answer second_answer : Bool) where
+  pub apart_first : Moved (at_front course left) left_now room mid_room start mid answer → Moved (apart_sifted course left_now right) now mid_room new_room mid end second_answer
+      → Moved (at_front course (apart_of course left right)) now room new_room start end second_answer
+  unfolding ways_on
   apart_first m n = record {
-    stand = n.stand ∙ ap (λ s. apart_sifted item s right) m.stand;
+    stand = n.stand ∙ ap (λ s. apart_sifted course s right) m.stand;
     there = n.there;
     kept_room = omega (arith, m.kept_room, n.kept_room);
     grown = omega (arith, m.grown, n.grown);
   }
 
-  pub apart_next : Moved (one_on left) left_now room mid_room start mid answer → Moved (apart_sifted item left_now right) now mid_room new_room mid end second_answer
-      → Moved (one_on (apart_of item left right)) now room new_room start end second_answer
+  pub apart_next : Moved (one_on left) left_now room mid_room start mid answer → Moved (apart_sifted course left_now right) now mid_room new_room mid end second_answer
+      → Moved (one_on (apart_of course left right)) now room new_room start end second_answer
   unfolding with_rest
   apart_next m n = record {
-    stand = n.stand ∙ ap (λ s. apart_sifted item s right) m.stand ∙ ap (with_rest (apart_of item left right)) (one_out left.rest (ways_of item right.operator));
+    stand = n.stand ∙ ap (λ s. apart_sifted course s right) m.stand ∙ ap (with_rest (apart_of course left right)) (one_out left.rest (ways_on course right.operator));
     there = n.there;
     kept_room = omega (arith, m.kept_room, n.kept_room);
     grown = omega (arith, m.grown, n.grown);
@@ -116,32 +117,32 @@ made left right rest = record {
   rest = rest;
 }
 
-module _ (item : Span) (left right left_now right_now : Standing) (room now_room start end : ℕ) (answer : Bool) (l : Sifting item left right left_now right_now room now_room start end answer) where
-  pub sifting_may : (first_room : ℕ) → (apart_of item left right).shape.room ≤ first_room → first_room ≤ room → answer ≡ true → MayGoOn (apart_of item left_now right_now) now_room
+module _ (course : Course) (left right left_now right_now : Standing) (room now_room start end : ℕ) (answer : Bool) (l : Sifting course left right left_now right_now room now_room start end answer) where
+  pub sifting_may : (first_room : ℕ) → (apart_of course left right).shape.room ≤ first_room → first_room ≤ room → answer ≡ true → MayGoOn (apart_of course left_now right_now) now_room
   sifting_may first_room fits grew there = record {
-    there = apart_there left_now.rest (ways_of item right_now.operator) ∙ sym l.there_now ∙ there;
+    there = apart_there left_now.rest (ways_on course right_now.operator) ∙ sym l.there_now ∙ there;
     fits =
         let a = ap (λ f. f.shape.room) l.same_left in
         let b = ap (λ f. f.shape.room) l.same_right in
         omega (arith, fits, grew, a, b, l.kept_room);
   }
 
-  module _ (left_tried right_tried : Standing) (tried_room tried_end : ℕ) (verdict : Bool) (e : IsTried item left_now right_now left_tried right_tried now_room tried_room end tried_end verdict) where
-    known : verdict ≡ admitted (ways_of item right.operator) (includes_now left_now.rest)
-    known = e.tried ∙ ap (λ f. admitted (ways_of item f.operator) (includes_now left_now.rest)) l.same_right
+  module _ (left_tried right_tried : Standing) (tried_room tried_end : ℕ) (verdict : Bool) (e : IsTried course left_now right_now left_tried right_tried now_room tried_room end tried_end verdict) where
+    known : verdict ≡ admitted (ways_on course right.operator) (includes_now left_now.rest)
+    known = e.tried ∙ ap (λ f. admitted (ways_on course f.operator) (includes_now left_now.rest)) l.same_right
 
-    pub apart_settled : answer ≡ true → verdict ≡ true → Moved (apart_sifted item left right) (apart_of item left_tried right_tried) room tried_room start tried_end true
+    pub apart_settled : answer ≡ true → verdict ≡ true → Moved (apart_sifted course left right) (apart_of course left_tried right_tried) room tried_room start tried_end true
     unfolding made rest_there
     apart_settled there admits = record {
-      stand = (λ i. made (frame (e.same_left i)) (e.same_right i) (apart_left (e.same_left i).rest (ways_of item (e.same_right i).operator)))
-          ∙ (λ i. made (l.same_left i) (l.same_right i) (apart_left left_now.rest (ways_of item (l.same_right i).operator)))
-          ∙ ap (made (frame left) (frame right)) (here_admitted left_now.rest (ways_of item right.operator) (sym l.there_now ∙ there) (sym known ∙ admits) ∙ l.passed);
-      there = sym there ∙ l.there_now ∙ ap rest_there (sym e.same_left) ∙ sym (apart_there left_tried.rest (ways_of item right_tried.operator));
+      stand = (λ i. made (frame (e.same_left i)) (e.same_right i) (apart_left (e.same_left i).rest (ways_on course (e.same_right i).operator)))
+          ∙ (λ i. made (l.same_left i) (l.same_right i) (apart_left left_now.rest (ways_on course (l.same_right i).operator)))
+          ∙ ap (made (frame left) (frame right)) (here_admitted left_now.rest (ways_on course right.operator) (sym l.there_now ∙ there) (sym known ∙ admits) ∙ l.passed);
+      there = sym there ∙ l.there_now ∙ ap rest_there (sym e.same_left) ∙ sym (apart_there left_tried.rest (ways_on course right_tried.operator));
       kept_room = omega (arith, l.kept_room, e.kept_room);
       grown = omega (arith, l.grown, e.grown);
     }
 
-    pub sifting_left_may : (first_room : ℕ) → (apart_of item left right).shape.room ≤ first_room → first_room ≤ room → answer ≡ true → MayGoOn left_tried tried_room
+    pub sifting_left_may : (first_room : ℕ) → (apart_of course left right).shape.room ≤ first_room → first_room ≤ room → answer ≡ true → MayGoOn left_tried tried_room
     sifting_left_may first_room fits grew there = subst (λ s. MayGoOn s tried_room) (sym e.same_left) record {
       there = sym l.there_now ∙ there;
       fits =
@@ -153,10 +154,10 @@ module _ (item : Span) (left right left_now right_now : Standing) (room now_room
     sifting_weight = ap (λ s. s.shape.weight) e.same_left ∙ ap (λ f. f.shape.weight) l.same_left
 
     module _ (next : Standing) (next_room next_end : ℕ) (next_answer : Bool) (m : Moved (one_on left_tried) next tried_room next_room tried_end next_end next_answer) where
-      pub sifting_on : verdict ≡ false → Sifting item left right next right_tried room next_room start next_end next_answer
+      pub sifting_on : verdict ≡ false → Sifting course left right next right_tried room next_room start next_end next_answer
       sifting_on bars =
           let same = m.stand ∙ ap one_on e.same_left in record {
-            passed = ap (λ s. standing_out s.rest (ways_of item right.operator)) same ∙ here_passed left_now.rest (ways_of item right.operator) (sym known ∙ bars) ∙ l.passed;
+            passed = ap (λ s. standing_out s.rest (ways_on course right.operator)) same ∙ here_passed left_now.rest (ways_on course right.operator) (sym known ∙ bars) ∙ l.passed;
             same_left = ap frame same ∙ l.same_left;
             same_right = e.same_right ∙ l.same_right;
             there_now = m.there;
@@ -169,24 +170,24 @@ module _ (item : Span) (left right left_now right_now : Standing) (room now_room
           let same = ap (λ s. length s.rest) (m.stand ∙ ap one_on e.same_left) in
           omega (arith, same, fewer left_now.rest (sym l.there_now ∙ there))
 
-  pub apart_end : answer ≡ false → Moved (apart_sifted item left right) (apart_of item left_now right_now) room now_room start end false
+  pub apart_end : answer ≡ false → Moved (apart_sifted course left right) (apart_of course left_now right_now) room now_room start end false
   unfolding made
   apart_end none = record {
-    stand = (λ i. made (l.same_left i) (l.same_right i) (apart_left left_now.rest (ways_of item (l.same_right i).operator)))
-        ∙ ap (made (frame left) (frame right)) (none_out left_now.rest (ways_of item right.operator) (sym l.there_now ∙ none) ∙ l.passed);
-    there = sym none ∙ l.there_now ∙ sym (apart_there left_now.rest (ways_of item right_now.operator));
+    stand = (λ i. made (l.same_left i) (l.same_right i) (apart_left left_now.rest (ways_on course (l.same_right i).operator)))
+        ∙ ap (made (frame left) (frame right)) (none_out left_now.rest (ways_on course right.operator) (sym l.there_now ∙ none) ∙ l.passed);
+    there = sym none ∙ l.there_now ∙ sym (apart_there left_now.rest (ways_on course right_now.operator));
     kept_room = l.kept_room;
     grown = l.grown;
   }
 
-pub sifting_starts : (item : Span) (left right : Standing) (room start : ℕ) (there : Bool) → there ≡ is_not_empty left.rest → Sifting item left right left right room room start start there
-sifting_starts item left right room start there is = record { passed = refl; same_left = refl; same_right = refl; there_now = is; kept_room = omega arith; grown = omega arith }
+pub sifting_starts : (course : Course) (left right : Standing) (room start : ℕ) (there : Bool) → there ≡ is_not_empty left.rest → Sifting course left right left right room room start start there
+sifting_starts course left right room start there is = record { passed = refl; same_left = refl; same_right = refl; there_now = is; kept_room = omega arith; grown = omega arith }
 
 -- ---- the right side
 
-pub trying_starts : (item : Span) (left right now : Standing) (room now_room start end : ℕ) (answer : Bool) → Moved (at_front item right) now room now_room start end answer
-    → Trying item left right left now room now_room start end none_tried answer
-trying_starts item left right now room now_room start end answer m = record {
+pub trying_starts : (course : Course) (left right now : Standing) (room now_room start end : ℕ) (answer : Bool) → Moved (at_front course right) now room now_room start end answer
+    → Trying course left right left now room now_room start end none_tried answer
+trying_starts course left right now room now_room start end answer m = record {
   same_left = refl;
   same_right = ap frame m.stand;
   tried = ap (λ s. tried_ways (includes_now left.rest) none_tried s.rest) m.stand;
@@ -204,11 +205,11 @@ tried_end : (left : List Hit) (tried : Tried) (ways : List Way) → is_not_empty
 tried_end left tried [] none = refl
 tried_end left tried (way ∷ rest) none = cc
 
-module _ (item : Span) (left right left_now right_now : Standing) (room now_room start end : ℕ) (so_far : Tried) (answer : Bool) (l : Trying item left right left_now right_now room now_room start end so_far answer) where
-  pub trying_may : (first_room : ℕ) → MayGoOn (apart_of item left right) first_room → first_room ≤ room → answer ≡ true → MayTry left_now right_now now_room
+module _ (course : Course) (left right left_now right_now : Standing) (room now_room start end : ℕ) (so_far : Tried) (answer : Bool) (l : Trying course left right left_now right_now room now_room start end so_far answer) where
+  pub trying_may : (first_room : ℕ) → MayGoOn (apart_of course left right) first_room → first_room ≤ room → answer ≡ true → MayTry left_now right_now now_room
   unfolding rest_there
   trying_may first_room may grew there = record {
-    left_there = ap rest_there l.same_left ∙ sym (apart_there left.rest (ways_of item right.operator)) ∙ may.there;
+    left_there = ap rest_there l.same_left ∙ sym (apart_there left.rest (ways_on course right.operator)) ∙ may.there;
     right_there = sym l.there_now ∙ there;
     fits =
         let a = ap (λ s. s.shape.room) l.same_left in
@@ -221,7 +222,7 @@ module _ (item : Span) (left right left_now right_now : Standing) (room now_room
 
   pub trying_on : (tried : Tried) (next : Standing) (mid_room next_room next_end : ℕ) (next_answer : Bool) → answer ≡ true
       → tried ≡ with_includes (includes_now left_now.rest) (includes_now right_now.rest) so_far → now_room ≤ mid_room
-      → Moved (one_on right_now) next mid_room next_room end next_end next_answer → Trying item left right left_now next room next_room start next_end tried next_answer
+      → Moved (one_on right_now) next mid_room next_room end next_end next_answer → Trying course left right left_now next room next_room start next_end tried next_answer
   trying_on tried next mid_room next_room next_end next_answer there is grew m = record {
     same_left = l.same_left;
     same_right = ap frame m.stand ∙ l.same_right;
@@ -237,11 +238,11 @@ module _ (item : Span) (left right left_now right_now : Standing) (room now_room
   trying_fewer next mid_room next_room next_end next_answer there m =
       let same = ap (λ s. length s.rest) m.stand in omega (arith, same, fewer right_now.rest (sym l.there_now ∙ there))
 
-  pub tried_out : (verdict : Bool) → verdict ≡ (not so_far.some || so_far.all) → answer ≡ false → IsTried item left right left_now right_now room now_room start end verdict
+  pub tried_out : (verdict : Bool) → verdict ≡ (not so_far.some || so_far.all) → answer ≡ false → IsTried course left right left_now right_now room now_room start end verdict
   tried_out verdict is none = record {
     same_left = l.same_left;
     same_right = l.same_right;
-    tried = is ∙ tried_all (includes_now left.rest) (ways_of item right.operator) so_far
+    tried = is ∙ tried_all (includes_now left.rest) (ways_on course right.operator) so_far
         (tried_end (includes_now left.rest) so_far right_now.rest (sym l.there_now ∙ none) ∙ l.tried);
     kept_room = l.kept_room;
     grown = l.grown;

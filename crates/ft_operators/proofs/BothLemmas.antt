@@ -2,8 +2,9 @@
 use Rattle.std.proofs.Common.{◌≡◌, refl, ap, List, [], ◌∷◌, true, false, map, drop}
 use Rattle.std.specs.Prelude.{flat_map}
 use Rattle.ft_base.specs.Lists.{is_not_empty}
-use Rattle.ft_base.specs.declared.span.Span.{Span}
-use Rattle.all_matches.specs.Ways.{Way, two_ways, ways_of}
+use Rattle.all_matches.specs.Ways.{Way, two_ways}
+use Rattle.ft_operators.specs.declared.course.Course.{Course}
+use Rattle.ft_operators.specs.Course.{ways_on}
 use Rattle.ft_operators.specs.Standing.{Standing, at_front, one_on}
 use Rattle.ft_operators.specs.steps.Forms.{both_of, pairs_left}
 
@@ -61,24 +62,24 @@ pairs_sides [] ys all there = cc
 pairs_sides (x ∷ xs) [] all there = cc
 pairs_sides (x ∷ xs) (y ∷ ys) all there = (refl, refl)
 
-module _ (item : Span) (left right : Standing) where
-  pub both_front : both_of item (at_front item left) (at_front item right) ≡ at_front item (both_of item left right)
-  unfolding ways_of with_rest
-  both_front = ap (with_rest (both_of item left right)) (pairs_all (ways_of item left.operator) (ways_of item right.operator))
+module _ (course : Course) (left right : Standing) where
+  pub both_front : both_of course (at_front course left) (at_front course right) ≡ at_front course (both_of course left right)
+  unfolding ways_on with_rest
+  both_front = ap (with_rest (both_of course left right)) (pairs_all (ways_on course left.operator) (ways_on course right.operator))
 
-  pub both_front_none : is_not_empty ((at_front item left).rest) ≡ false → both_of item (at_front item left) right ≡ at_front item (both_of item left right)
-  unfolding ways_of with_rest
-  both_front_none none = ap (with_rest (both_of item left right)) (none_left (ways_of item left.operator) right.rest (ways_of item right.operator) (ways_of item right.operator) none)
+  pub both_front_none : is_not_empty ((at_front course left).rest) ≡ false → both_of course (at_front course left) right ≡ at_front course (both_of course left right)
+  unfolding ways_on with_rest
+  both_front_none none = ap (with_rest (both_of course left right)) (none_left (ways_on course left.operator) right.rest (ways_on course right.operator) (ways_on course right.operator) none)
 
-  pub both_on_right : is_not_empty left.rest ≡ true → is_not_empty ((one_on right).rest) ≡ true → both_of item left (one_on right) ≡ one_on (both_of item left right)
+  pub both_on_right : is_not_empty left.rest ≡ true → is_not_empty ((one_on right).rest) ≡ true → both_of course left (one_on right) ≡ one_on (both_of course left right)
   unfolding with_rest
-  both_on_right there on = ap (with_rest (both_of item left right)) (pairs_on left.rest right.rest (ways_of item right.operator) there on)
+  both_on_right there on = ap (with_rest (both_of course left right)) (pairs_on left.rest right.rest (ways_on course right.operator) there on)
 
-  pub both_on_left : is_not_empty left.rest ≡ true → is_not_empty right.rest ≡ true → is_not_empty ((one_on right).rest) ≡ false → both_of item (one_on left) (at_front item right) ≡ one_on (both_of item left right)
+  pub both_on_left : is_not_empty left.rest ≡ true → is_not_empty right.rest ≡ true → is_not_empty ((one_on right).rest) ≡ false → both_of course (one_on left) (at_front course right) ≡ one_on (both_of course left right)
   unfolding with_rest
-  both_on_left there second over = ap (with_rest (both_of item left right)) (pairs_over left.rest right.rest (ways_of item right.operator) there second over)
+  both_on_left there second over = ap (with_rest (both_of course left right)) (pairs_over left.rest right.rest (ways_on course right.operator) there second over)
 
   pub both_end : is_not_empty left.rest ≡ true → is_not_empty right.rest ≡ true → is_not_empty ((one_on right).rest) ≡ false → is_not_empty ((one_on left).rest) ≡ false
-      → both_of item (one_on left) (one_on right) ≡ one_on (both_of item left right)
+      → both_of course (one_on left) (one_on right) ≡ one_on (both_of course left right)
   unfolding with_rest
-  both_end there second over end = ap (with_rest (both_of item left right)) (pairs_end left.rest right.rest (drop 1 right.rest) (ways_of item right.operator) there second over end)
+  both_end there second over end = ap (with_rest (both_of course left right)) (pairs_end left.rest right.rest (drop 1 right.rest) (ways_on course right.operator) there second over end)

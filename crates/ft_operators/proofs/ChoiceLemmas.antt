@@ -1,8 +1,9 @@
 -- The ways of a choice: those of the left side, and then those of the right one.
 use Rattle.std.proofs.Common.{◌≡◌, refl, ap, List, [], ◌∷◌, ◌++◌, Bool, true, false, drop}
 use Rattle.ft_base.specs.Lists.{is_not_empty}
-use Rattle.ft_base.specs.declared.span.Span.{Span}
-use Rattle.all_matches.specs.Ways.{Way, ways_of}
+use Rattle.all_matches.specs.Ways.{Way}
+use Rattle.ft_operators.specs.declared.course.Course.{Course}
+use Rattle.ft_operators.specs.Course.{ways_on}
 use Rattle.ft_operators.specs.Standing.{Standing, at_front, one_on}
 use Rattle.ft_operators.specs.steps.Forms.{choice_of, first_left}
 
@@ -30,23 +31,23 @@ pub left_there : (xs ys : List Way) → is_not_empty (first_left xs ys) ≡ is_n
 left_there [] ys = refl
 left_there (x ∷ xs) ys = refl
 
-module _ (item : Span) (second : Bool) (left right : Standing) where
-  pub choice_front_left : is_not_empty ((at_front item left).rest) ≡ true → choice_of item false (at_front item left) right ≡ at_front item (choice_of item second left right)
-  unfolding ways_of with_rest
-  choice_front_left there = ap (with_rest (choice_of item second left right)) (all_first (ways_of item left.operator) (ways_of item right.operator) there)
+module _ (course : Course) (second : Bool) (left right : Standing) where
+  pub choice_front_left : is_not_empty ((at_front course left).rest) ≡ true → choice_of course false (at_front course left) right ≡ at_front course (choice_of course second left right)
+  unfolding ways_on with_rest
+  choice_front_left there = ap (with_rest (choice_of course second left right)) (all_first (ways_on course left.operator) (ways_on course right.operator) there)
 
-  pub choice_front_right : is_not_empty ((at_front item left).rest) ≡ false → choice_of item true (at_front item left) (at_front item right) ≡ at_front item (choice_of item second left right)
-  unfolding ways_of with_rest
-  choice_front_right none = ap (with_rest (choice_of item second left right)) (none_first (ways_of item left.operator) (ways_of item right.operator) none)
+  pub choice_front_right : is_not_empty ((at_front course left).rest) ≡ false → choice_of course true (at_front course left) (at_front course right) ≡ at_front course (choice_of course second left right)
+  unfolding ways_on with_rest
+  choice_front_right none = ap (with_rest (choice_of course second left right)) (none_first (ways_on course left.operator) (ways_on course right.operator) none)
 
-module _ (item : Span) (left right : Standing) where
-  pub choice_on_left : is_not_empty ((one_on left).rest) ≡ true → choice_of item false (one_on left) right ≡ one_on (choice_of item false left right)
+module _ (course : Course) (left right : Standing) where
+  pub choice_on_left : is_not_empty ((one_on left).rest) ≡ true → choice_of course false (one_on left) right ≡ one_on (choice_of course false left right)
   unfolding with_rest
-  choice_on_left there = ap (with_rest (choice_of item false left right)) (first_on left.rest (ways_of item right.operator) there)
+  choice_on_left there = ap (with_rest (choice_of course false left right)) (first_on left.rest (ways_on course right.operator) there)
 
-  pub choice_over : is_not_empty left.rest ≡ true → is_not_empty ((one_on left).rest) ≡ false → choice_of item true (one_on left) (at_front item right) ≡ one_on (choice_of item false left right)
+  pub choice_over : is_not_empty left.rest ≡ true → is_not_empty ((one_on left).rest) ≡ false → choice_of course true (one_on left) (at_front course right) ≡ one_on (choice_of course false left right)
   unfolding with_rest
-  choice_over there over = ap (with_rest (choice_of item false left right)) (first_over left.rest (ways_of item right.operator) there over)
+  choice_over there over = ap (with_rest (choice_of course false left right)) (first_over left.rest (ways_on course right.operator) there over)
 
-  pub choice_on_right : choice_of item true left (one_on right) ≡ one_on (choice_of item true left right)
+  pub choice_on_right : choice_of course true left (one_on right) ≡ one_on (choice_of course true left right)
   choice_on_right = refl

@@ -7,13 +7,15 @@ use Rattle.std.proofs.Math.Seq.{drop-cons}
 use Rattle.ft_base.specs.Lists.{is_not_empty}
 use Rattle.ft_base.specs.declared.filter.Filter.{Filter}
 use Rattle.ft_base.specs.declared.hit.Hit.{Hit}
-use Rattle.ft_base.specs.declared.span.Span.{Span}
 use Rattle.all_matches.specs.declared.window.Window.{Window}
 use Rattle.all_matches.specs.Chain.{Link, kept_by}
 use Rattle.all_matches.specs.Filters.{passes, choices}
-use Rattle.all_matches.specs.Ways.{Operator, phrase, either, together, apart, negated, through_filter, matches_of, Way, one_hit, turned_about, by_filter, way_includes, filtered_ways, ways_of, clean_under, without_negation, is_plain, bare_match}
+use Rattle.all_matches.specs.Ways.{Operator, phrase, either, together, apart, negated, through_filter, matches_of, ways_of, Way, one_hit, turned_about, by_filter, way_includes, clean_under, without_negation, is_plain, bare_match}
 use Rattle.all_matches.proofs.BareWays.{bare_matches}
 use Rattle.all_matches.proofs.ListTests.{list_any-map}
+use Rattle.ft_operators.specs.declared.course.Course.{Course}
+use Rattle.ft_operators.specs.declared.course.Windows.{Windows}
+use Rattle.ft_operators.specs.Course.{asked_for, firsts, filtered_on, ways_on}
 use Rattle.ft_operators.specs.declared.chain.Chain.{Chain}
 use Rattle.ft_operators.specs.Chains.{all_kept, passes_now, clean_now, links_of, spare_filters, spare_hits, IsKept}
 use Rattle.ft_operators.specs.Phrases.{PhraseState}
@@ -25,6 +27,7 @@ use Rattle.ft_operators.proofs.ApartLemmas.{apart_there}
 use Rattle.ft_operators.proofs.BothLemmas.{pairs_sides}
 use Rattle.ft_operators.proofs.ChainLemmas.{kept_refl, kept_trans}
 use Rattle.ft_operators.proofs.ChoiceLemmas.{left_there}
+use Rattle.ft_operators.proofs.CourseLemmas.{kept_told}
 use Rattle.ft_operators.proofs.SieveLemmas.{fewer, lead_below, sieve_operand_there}
 
 -- ---- looking for a way
@@ -41,9 +44,9 @@ found_nowhere : (test : Way → Bool) (ways : List Way) → is_not_empty ways �
 found_nowhere test [] none = refl
 found_nowhere test (way ∷ rest) none = cc
 
-pub search_starts : (item : Span) (known : Type 0) (test : Way → Bool) (old now : Standing) (room now_room start end : ℕ) (answer : Bool) → Moved (at_front item old) now room now_room start end answer
-    → Searching item known test old now room now_room start end answer
-search_starts item known test old now room now_room start end answer m = record {
+pub search_starts : (course : Course) (known : Type 0) (test : Way → Bool) (old now : Standing) (room now_room start end : ℕ) (answer : Bool) → Moved (at_front course old) now room now_room start end answer
+    → Searching course known test old now room now_room start end answer
+search_starts course known test old now room now_room start end answer m = record {
   same = ap frame m.stand;
   passed = λ k. ap (λ s. list_any test s.rest) m.stand;
   there_now = m.there;
@@ -51,15 +54,15 @@ search_starts item known test old now room now_room start end answer m = record 
   grown = m.grown;
 }
 
-module _ (item : Span) (known : Type 0) (test : Way → Bool) (old now : Standing) (room now_room start end : ℕ) (there : Bool)
-    (l : Searching item known test old now room now_room start end there) where
+module _ (course : Course) (known : Type 0) (test : Way → Bool) (old now : Standing) (room now_room start end : ℕ) (there : Bool)
+    (l : Searching course known test old now room now_room start end there) where
   pub search_may : (first_room : ℕ) → old.shape.room ≤ first_room → first_room ≤ room → there ≡ true → MayGoOn now now_room
   search_may first_room fits grew is = record {
     there = sym l.there_now ∙ is;
     fits = let same = ap (λ f. f.shape.room) l.same in omega (arith, fits, grew, same, l.kept_room);
   }
 
-  pub search_none : there ≡ false → Searched item known test old now room now_room start end false
+  pub search_none : there ≡ false → Searched course known test old now room now_room start end false
   search_none none = record {
     same = l.same;
     found = λ k. found_nowhere test now.rest (sym l.there_now ∙ none) ∙ l.passed k;
@@ -69,7 +72,7 @@ module _ (item : Span) (known : Type 0) (test : Way → Bool) (old now : Standin
 
   -- the present way was tried, and the walk is where it was
   module _ (tried : Standing) (tried_room tried_end : ℕ) (same : tried ≡ now) (grew : now_room ≤ tried_room) (later : end ≤ tried_end) where
-    pub search_found : there ≡ true → (known → passes_now test now.rest ≡ true) → Searched item known test old tried room tried_room start tried_end true
+    pub search_found : there ≡ true → (known → passes_now test now.rest ≡ true) → Searched course known test old tried room tried_room start tried_end true
     search_found is passes = record {
       same = ap frame same ∙ l.same;
       found = λ k. found_here test now.rest (sym l.there_now ∙ is) (passes k) ∙ l.passed k;
@@ -78,7 +81,7 @@ module _ (item : Span) (known : Type 0) (test : Way → Bool) (old now : Standin
     }
 
     module _ (next : Standing) (next_room next_end : ℕ) (answer : Bool) (m : Moved (one_on tried) next tried_room next_room tried_end next_end answer) where
-      pub search_on : there ≡ true → (known → passes_now test now.rest ≡ false) → Searching item known test old next room next_room start next_end answer
+      pub search_on : there ≡ true → (known → passes_now test now.rest ≡ false) → Searching course known test old next room next_room start next_end answer
       search_on is fails =
           let to = m.stand ∙ ap one_on same in record {
             same = ap frame to ∙ l.same;
@@ -143,16 +146,16 @@ first_clean : (kept : Hit → Bool) (xs ys : List Way) → clean_now kept xs ≡
 first_clean kept [] ys = refl
 first_clean kept (x ∷ xs) ys = refl
 
-module _ (item : Span) (left right : Standing) where
-  pub may_left : (room filters hits : ℕ) → MayAsk (choice_of item false left right) room filters hits → MayAsk left room filters hits
+module _ (course : Course) (left right : Standing) where
+  pub may_left : (room filters hits : ℕ) → MayAsk (choice_of course false left right) room filters hits → MayAsk left room filters hits
   may_left room filters hits may = record {
-    there = sym (left_there left.rest (ways_of item right.operator)) ∙ may.there;
+    there = sym (left_there left.rest (ways_on course right.operator)) ∙ may.there;
     fits = omega (arith, may.fits);
     filters = omega (arith, may.filters);
     hits = omega (arith, may.hits);
   }
 
-  pub may_right : (room filters hits : ℕ) → MayAsk (choice_of item true left right) room filters hits → MayAsk right room filters hits
+  pub may_right : (room filters hits : ℕ) → MayAsk (choice_of course true left right) room filters hits → MayAsk right room filters hits
   may_right room filters hits may = record {
     there = may.there;
     fits = omega (arith, may.fits);
@@ -160,46 +163,46 @@ module _ (item : Span) (left right : Standing) where
     hits = omega (arith, may.hits);
   }
 
-  pub may_first : (room filters hits : ℕ) → MayAsk (both_of item left right) room filters hits → MayAsk left room filters hits
+  pub may_first : (room filters hits : ℕ) → MayAsk (both_of course left right) room filters hits → MayAsk left room filters hits
   may_first room filters hits may = record {
-    there = (pairs_sides left.rest right.rest (ways_of item right.operator) may.there).0;
+    there = (pairs_sides left.rest right.rest (ways_on course right.operator) may.there).0;
     fits = omega (arith, may.fits);
     filters = omega (arith, may.filters);
     hits = omega (arith, may.hits);
   }
 
   -- the right side, after the left one was asked
-  pub may_second : (left_now : Standing) (before after : Chain) (room new_room start end : ℕ) (answer : Bool) → MayAsk (both_of item left right) room (spare_filters before) (spare_hits before)
+  pub may_second : (left_now : Standing) (before after : Chain) (room new_room start end : ℕ) (answer : Bool) → MayAsk (both_of course left right) room (spare_filters before) (spare_hits before)
       → Asked left left_now before after room new_room start end answer → MayAsk right new_room (spare_filters after) (spare_hits after)
   may_second left_now before after room new_room start end answer may a = record {
-    there = (pairs_sides left.rest right.rest (ways_of item right.operator) may.there).1;
+    there = (pairs_sides left.rest right.rest (ways_on course right.operator) may.there).1;
     fits = omega (arith, may.fits, a.kept_room);
     filters = omega (arith, may.filters, a.kept.filters);
     hits = omega (arith, may.hits, a.kept.hits);
   }
 
-  pub may_apart : (room filters hits : ℕ) → MayAsk (apart_of item left right) room filters hits → MayAsk left room filters hits
+  pub may_apart : (room filters hits : ℕ) → MayAsk (apart_of course left right) room filters hits → MayAsk left room filters hits
   may_apart room filters hits may = record {
-    there = sym (apart_there left.rest (ways_of item right.operator)) ∙ may.there;
+    there = sym (apart_there left.rest (ways_on course right.operator)) ∙ may.there;
     fits = omega (arith, may.fits);
     filters = may.filters;
     hits = may.hits;
   }
 
   pub asked_left : (left_now : Standing) (before after : Chain) (room new_room start end : ℕ) (answer : Bool) → Asked left left_now before after room new_room start end answer
-      → Asked (choice_of item false left right) (choice_of item false left_now right) before after room new_room start end answer
+      → Asked (choice_of course false left right) (choice_of course false left_now right) before after room new_room start end answer
   asked_left left_now before after room new_room start end answer a = record {
-    same = ap (λ s. choice_of item false s right) a.same;
-    clean = λ plain. a.clean ((and_parts (is_plain left.operator) (is_plain right.operator) plain).0) ∙ first_clean (kept_by (links_of before)) left.rest (ways_of item right.operator);
+    same = ap (λ s. choice_of course false s right) a.same;
+    clean = λ plain. a.clean ((and_parts (is_plain left.operator) (is_plain right.operator) plain).0) ∙ first_clean (kept_by (links_of before)) left.rest (ways_on course right.operator);
     kept = a.kept;
     kept_room = a.kept_room;
     grown = a.grown;
   }
 
   pub asked_right : (right_now : Standing) (before after : Chain) (room new_room start end : ℕ) (answer : Bool) → Asked right right_now before after room new_room start end answer
-      → Asked (choice_of item true left right) (choice_of item true left right_now) before after room new_room start end answer
+      → Asked (choice_of course true left right) (choice_of course true left right_now) before after room new_room start end answer
   asked_right right_now before after room new_room start end answer a = record {
-    same = ap (choice_of item true left) a.same;
+    same = ap (choice_of course true left) a.same;
     clean = λ plain. a.clean ((and_parts (is_plain left.operator) (is_plain right.operator) plain).1);
     kept = a.kept;
     kept_room = a.kept_room;
@@ -207,36 +210,36 @@ module _ (item : Span) (left right : Standing) where
   }
 
 -- the side on which the walk is
-module _ (item : Span) (second : Bool) (left right : Standing) where
-  pub may_on_left : (room filters hits : ℕ) → second ≡ false → MayAsk (choice_of item second left right) room filters hits → MayAsk left room filters hits
-  may_on_left room filters hits is may = may_left item left right room filters hits (subst (λ b. MayAsk (choice_of item b left right) room filters hits) is may)
+module _ (course : Course) (second : Bool) (left right : Standing) where
+  pub may_on_left : (room filters hits : ℕ) → second ≡ false → MayAsk (choice_of course second left right) room filters hits → MayAsk left room filters hits
+  may_on_left room filters hits is may = may_left course left right room filters hits (subst (λ b. MayAsk (choice_of course b left right) room filters hits) is may)
 
-  pub may_on_right : (room filters hits : ℕ) → second ≡ true → MayAsk (choice_of item second left right) room filters hits → MayAsk right room filters hits
-  may_on_right room filters hits is may = may_right item left right room filters hits (subst (λ b. MayAsk (choice_of item b left right) room filters hits) is may)
+  pub may_on_right : (room filters hits : ℕ) → second ≡ true → MayAsk (choice_of course second left right) room filters hits → MayAsk right room filters hits
+  may_on_right room filters hits is may = may_right course left right room filters hits (subst (λ b. MayAsk (choice_of course b left right) room filters hits) is may)
 
   pub asked_on_left : (left_now : Standing) (before after : Chain) (room new_room start end : ℕ) (answer : Bool) → second ≡ false → Asked left left_now before after room new_room start end answer
-      → Asked (choice_of item second left right) (choice_of item second left_now right) before after room new_room start end answer
+      → Asked (choice_of course second left right) (choice_of course second left_now right) before after room new_room start end answer
   asked_on_left left_now before after room new_room start end answer is a =
-      subst (λ b. Asked (choice_of item b left right) (choice_of item b left_now right) before after room new_room start end answer) (sym is)
-      (asked_left item left right left_now before after room new_room start end answer a)
+      subst (λ b. Asked (choice_of course b left right) (choice_of course b left_now right) before after room new_room start end answer) (sym is)
+      (asked_left course left right left_now before after room new_room start end answer a)
 
   pub asked_on_right : (right_now : Standing) (before after : Chain) (room new_room start end : ℕ) (answer : Bool) → second ≡ true → Asked right right_now before after room new_room start end answer
-      → Asked (choice_of item second left right) (choice_of item second left right_now) before after room new_room start end answer
+      → Asked (choice_of course second left right) (choice_of course second left right_now) before after room new_room start end answer
   asked_on_right right_now before after room new_room start end answer is a =
-      subst (λ b. Asked (choice_of item b left right) (choice_of item b left right_now) before after room new_room start end answer) (sym is)
-      (asked_right item left right right_now before after room new_room start end answer a)
+      subst (λ b. Asked (choice_of course b left right) (choice_of course b left right_now) before after room new_room start end answer) (sym is)
+      (asked_right course left right right_now before after room new_room start end answer a)
 
 apart_clean : (kept : Hit → Bool) (xs ys : List Way) → clean_now kept xs ≡ clean_now kept (apart_left xs ys)
 apart_clean kept [] ys = refl
 apart_clean kept (x ∷ xs) ys = refl
 
-pub asked_apart : (item : Span) (left right left_now : Standing) (before after : Chain) (room new_room start end : ℕ) (answer : Bool) → Asked left left_now before after room new_room start end answer
-    → Asked (apart_of item left right) (apart_of item left_now right) before after room new_room start end answer
-asked_apart item left right left_now before after room new_room start end answer a = record {
-  same = ap (λ s. apart_of item s right) a.same;
+pub asked_apart : (course : Course) (left right left_now : Standing) (before after : Chain) (room new_room start end : ℕ) (answer : Bool) → Asked left left_now before after room new_room start end answer
+    → Asked (apart_of course left right) (apart_of course left_now right) before after room new_room start end answer
+asked_apart course left right left_now before after room new_room start end answer a = record {
+  same = ap (λ s. apart_of course s right) a.same;
   clean = λ plain.
       a.clean (plain_where_none left.operator (and_parts (without_negation left.operator) (without_negation right.operator) plain).0)
-      ∙ apart_clean (kept_by (links_of before)) left.rest (ways_of item right.operator);
+      ∙ apart_clean (kept_by (links_of before)) left.rest (ways_on course right.operator);
   kept = a.kept;
   kept_room = a.kept_room;
   grown = a.grown;
@@ -247,102 +250,112 @@ pairs_clean kept [] ys all there = cc
 pairs_clean kept (x ∷ xs) [] all there = cc
 pairs_clean kept (x ∷ xs) (y ∷ ys) all there = refl
 
-module _ (item : Span) (left right left_now : Standing) (before mid : Chain) (room mid_room start middle : ℕ) (first : Bool) (there : is_not_empty ((both_of item left right).rest) ≡ true)
+module _ (course : Course) (left right left_now : Standing) (before mid : Chain) (room mid_room start middle : ℕ) (first : Bool) (there : is_not_empty ((both_of course left right).rest) ≡ true)
     (a : Asked left left_now before mid room mid_room start middle first) where
-  pub asked_first : first ≡ false → Asked (both_of item left right) (both_of item left_now right) before mid room mid_room start middle first
+  pub asked_first : first ≡ false → Asked (both_of course left right) (both_of course left_now right) before mid room mid_room start middle first
   asked_first fails = record {
-    same = ap (λ s. both_of item s right) a.same;
+    same = ap (λ s. both_of course s right) a.same;
     clean = λ plain.
         fails
         ∙ ap (λ b. b && clean_now (kept_by (links_of before)) right.rest) (sym fails ∙ a.clean ((and_parts (is_plain left.operator) (is_plain right.operator) plain).0))
-        ∙ pairs_clean (kept_by (links_of before)) left.rest right.rest (ways_of item right.operator) there;
+        ∙ pairs_clean (kept_by (links_of before)) left.rest right.rest (ways_on course right.operator) there;
     kept = a.kept;
     kept_room = a.kept_room;
     grown = a.grown;
   }
 
   pub asked_both : (right_now : Standing) (after : Chain) (new_room end : ℕ) (second : Bool) → first ≡ true → Asked right right_now mid after mid_room new_room middle end second
-      → Asked (both_of item left right) (both_of item left_now right_now) before after room new_room start end second
+      → Asked (both_of course left right) (both_of course left_now right_now) before after room new_room start end second
   asked_both right_now after new_room end second holds b = record {
-    same = λ i. both_of item (a.same i) (b.same i);
+    same = λ i. both_of course (a.same i) (b.same i);
     clean = λ plain.
         let parts = and_parts (is_plain left.operator) (is_plain right.operator) plain in
         b.clean parts.1
         ∙ ap (λ ls. clean_now (kept_by ls) right.rest) a.kept.links
         ∙ ap (λ x. x && clean_now (kept_by (links_of before)) right.rest) (sym holds ∙ a.clean parts.0)
-        ∙ pairs_clean (kept_by (links_of before)) left.rest right.rest (ways_of item right.operator) there;
+        ∙ pairs_clean (kept_by (links_of before)) left.rest right.rest (ways_on course right.operator) there;
     kept = kept_trans before mid after a.kept b.kept;
     kept_room = omega (arith, a.kept_room, b.kept_room);
     grown = omega (arith, a.grown, b.grown);
   }
 
 -- a negated selection, wherever a walk through its operand stands
-negation_by : Span → Bool → Frame → Standing
-negation_by item there f = record {
+negation_by : Course → Bool → Frame → Standing
+negation_by course there f = record {
   aims = one_aims negated f.aims;
   shape = negated_shape f.shape;
   operator = negated f.operator;
-  rest = cond there (turned_about (matches_of item f.operator) ∷ []) [];
+  rest = cond there (turned_about (matches_of course.item f.operator) ∷ []) [];
 }
 
 -- some Match has all its hits kept exactly where some way has
-pub some_kept : (item : Span) (operator : Operator) (kept : Hit → Bool) → without_negation operator ≡ true
-    → list_any (all_kept kept) (ways_of item operator) ≡ list_any (λ m. list_all kept m.includes) (matches_of item operator)
-some_kept item operator kept bare =
-    sym (list_any-map (λ m. list_all kept m.includes) bare_match (ways_of item operator)) ∙ ap (list_any (λ m. list_all kept m.includes)) (sym (bare_matches item operator bare))
+pub some_kept : (course : Course) (operator : Operator) (kept : Hit → Bool) → without_negation operator ≡ true
+    → list_any (all_kept kept) (ways_on course operator) ≡ list_any (λ m. list_all kept m.includes) (matches_of course.item operator)
+some_kept course operator kept bare =
+    kept_told course operator kept
+    ∙ sym (list_any-map (λ m. list_all kept m.includes) bare_match (ways_of course.item operator))
+    ∙ ap (list_any (λ m. list_all kept m.includes)) (sym (bare_matches course.item operator bare))
 
-pub may_negated : (item : Span) (there : Bool) (operand : Standing) (room filters hits : ℕ) → MayAsk (negation_of item there operand) room filters hits → operand.shape.room ≤ room
-may_negated item there operand room filters hits may = may.fits
+pub may_negated : (course : Course) (there : Bool) (operand : Standing) (room filters hits : ℕ) → MayAsk (negation_of course there operand) room filters hits → operand.shape.room ≤ room
+may_negated course there operand room filters hits may = may.fits
 
-pub asked_negated : (item : Span) (there : Bool) (operand now : Standing) (chain : Chain) (room new_room start end : ℕ) (answer : Bool) → is_not_empty ((negation_of item there operand).rest) ≡ true
-    → Searched item ⊤ (all_kept (kept_by (links_of chain))) operand now room new_room start end answer
-    → Asked (negation_of item there operand) (negation_of item there now) chain chain room new_room start end (not answer)
+-- the walk that was gone through may be on another course
+pub asked_negated : (course : Course) (there : Bool) (operand now begun ended : Standing) (chain : Chain) (room new_room start end : ℕ) (answer : Bool) → is_not_empty ((negation_of course there operand).rest) ≡ true
+    → frame begun ≡ frame operand → frame ended ≡ frame now → Searched (firsts course.item) ⊤ (all_kept (kept_by (links_of chain))) begun ended room new_room start end answer
+    → Asked (negation_of course there operand) (negation_of course there now) chain chain room new_room start end (not answer)
 unfolding negation_by
-asked_negated item true operand now chain room new_room start end answer way s = record {
-  same = ap (negation_by item true) s.same;
-  clean = λ bare. ap not (s.found tt ∙ some_kept item operand.operator (kept_by (links_of chain)) bare);
+asked_negated course true operand now begun ended chain room new_room start end answer way first last s = record {
+  same = ap (negation_by course true) (sym last ∙ s.same ∙ first);
+  clean = λ bare.
+      ap not
+      (s.found tt
+      ∙ ap (λ f. list_any (all_kept (kept_by (links_of chain))) (ways_on (firsts course.item) f.operator)) first
+      ∙ some_kept (firsts course.item) operand.operator (kept_by (links_of chain)) bare);
   kept = kept_refl chain;
   kept_room = s.kept_room;
   grown = s.grown;
 }
-asked_negated item false operand now chain room new_room start end answer way s = cc
+asked_negated course false operand now begun ended chain room new_room start end answer way first last s = cc
 
 -- ---- a filter
 
-pub kept_choices : (kind : Filter) (item : Span) (includes : List Hit) (lead : ℕ) → lead < length (choices_of kind item includes) → choices_of kind item includes ≡ choices kind includes
-kept_choices kind item includes lead below = by_test (passes kind includes item) below
+pub kept_choices : (kind : Filter) (course : Course) (includes : List Hit) (lead : ℕ) → lead < length (choices_of kind course includes) → choices_of kind course includes ≡ asked_for course.windows (choices kind includes)
+kept_choices kind course includes lead below = by_test (passes kind includes course.item) below
   where
-    by_test : (b : Bool) → lead < length (cond b (choices kind includes) []) → cond b (choices kind includes) [] ≡ choices kind includes
+    asked : List (Option Window)
+    asked = asked_for course.windows (choices kind includes)
+
+    by_test : (b : Bool) → lead < length (cond b asked []) → cond b asked [] ≡ asked
     by_test true below = refl
     by_test false below = absurd (omega (arith, below))
 
 -- the filter as a link of a chain, with these includes and the choice of that number
-abbrev pub link_with : Filter → ℕ → List Hit → Link
-link_with kind lead hits = record { kind = kind; includes = hits; choice = get_or (choices kind hits) lead None }
+abbrev pub link_with : Windows → Filter → ℕ → List Hit → Link
+link_with windows kind lead hits = record { kind = kind; includes = hits; choice = get_or (asked_for windows (choices kind hits)) lead None }
 
 choice_clean : (links : List Link) (kind : Filter) (way : Way) (cs : List (Option Window)) (lead : ℕ) (later : List Way) → lead < length cs
     → clean_now (kept_by links) (chosen_left kind way (drop lead cs) later) ≡ clean_under (kept_by links) (by_filter way kind (get_or cs lead None))
 choice_clean links kind way cs lead later below = ap (λ ds. clean_now (kept_by links) (chosen_left kind way ds later)) (drop-cons cs lead None below)
 
-sieve_clean : (links : List Link) (kind : Filter) (item : Span) (lead : ℕ) (ways : List Way) → is_not_empty (sieve_left kind item lead ways) ≡ true
-    → clean_now (kept_by (link_with kind lead (includes_now ways) ∷ links)) ways ≡ clean_now (kept_by links) (sieve_left kind item lead ways)
-sieve_clean links kind item lead [] there = cc
-sieve_clean links kind item lead (way ∷ more) there =
-    let below = lead_below kind item lead (way ∷ more) there in
-    ap (λ cs. clean_under (kept_by links) (by_filter way kind (get_or cs lead None))) (sym (kept_choices kind item (way_includes way) lead below))
-    ∙ sym (choice_clean links kind way (choices_at kind item way) lead (flat_map (filtered_ways kind item) more) below)
+sieve_clean : (links : List Link) (kind : Filter) (course : Course) (lead : ℕ) (ways : List Way) → is_not_empty (sieve_left kind course lead ways) ≡ true
+    → clean_now (kept_by (link_with course.windows kind lead (includes_now ways) ∷ links)) ways ≡ clean_now (kept_by links) (sieve_left kind course lead ways)
+sieve_clean links kind course lead [] there = cc
+sieve_clean links kind course lead (way ∷ more) there =
+    let below = lead_below kind course lead (way ∷ more) there in
+    ap (λ cs. clean_under (kept_by links) (by_filter way kind (get_or cs lead None))) (sym (kept_choices kind course (way_includes way) lead below))
+    ∙ sym (choice_clean links kind way (choices_at kind course way) lead (flat_map (filtered_on kind course) more) below)
 
-pub lead_chosen : (kind : Filter) (item : Span) (lead : ℕ) (ways : List Way) → is_not_empty (sieve_left kind item lead ways) ≡ true → lead < length (choices kind (includes_now ways))
-lead_chosen kind item lead [] there = cc
-lead_chosen kind item lead (way ∷ more) there =
-    let below = lead_below kind item lead (way ∷ more) there in
-    subst (λ cs. lead < length cs) (kept_choices kind item (way_includes way) lead below) below
+pub lead_chosen : (kind : Filter) (course : Course) (lead : ℕ) (ways : List Way) → is_not_empty (sieve_left kind course lead ways) ≡ true → lead < length (asked_for course.windows (choices kind (includes_now ways)))
+lead_chosen kind course lead [] there = cc
+lead_chosen kind course lead (way ∷ more) there =
+    let below = lead_below kind course lead (way ∷ more) there in
+    subst (λ cs. lead < length cs) (kept_choices kind course (way_includes way) lead below) below
 
 -- the includes in front of a filter, when nothing was held before them
-module _ (item : Span) (kind : Filter) (lead : ℕ) (operand : Standing) (room filters hits cleared_room new_room : ℕ) (cleared held : List Hit) (may : MayAsk (sieve_of item kind lead operand) room filters hits)
+module _ (course : Course) (kind : Filter) (lead : ℕ) (operand : Standing) (room filters hits cleared_room new_room : ℕ) (cleared held : List Hit) (may : MayAsk (sieve_of course kind lead operand) room filters hits)
     (none : cleared ≡ []) (same : cleared_room ≡ room) (g : Gathered operand cleared_room new_room cleared held) where
   operand_there : is_not_empty operand.rest ≡ true
-  operand_there = sieve_operand_there kind item lead operand.rest may.there
+  operand_there = sieve_operand_there kind course lead operand.rest may.there
 
   pub held_includes : held ≡ includes_now operand.rest
   held_includes =
@@ -352,8 +365,8 @@ module _ (item : Span) (kind : Filter) (lead : ℕ) (operand : Standing) (room f
   pub held_few : length held ≤ operand.shape.room
   held_few = let size = ap length held_includes in omega (arith, size, g.few operand_there)
 
-  pub lead_held : lead < length (choices kind held)
-  lead_held = subst (λ hits. lead < length (choices kind hits)) (sym held_includes) (lead_chosen kind item lead operand.rest may.there)
+  pub lead_held : lead < length (asked_for course.windows (choices kind held))
+  lead_held = subst (λ hits. lead < length (asked_for course.windows (choices kind hits))) (sym held_includes) (lead_chosen kind course lead operand.rest may.there)
 
   pub may_operand : (pushed_filters pushed_hits : ℕ) → filters ≤ pushed_filters + 1 → hits ≤ pushed_hits + length held → MayAsk operand new_room pushed_filters pushed_hits
   may_operand pushed_filters pushed_hits few_filters few_hits = record {
@@ -363,17 +376,17 @@ module _ (item : Span) (kind : Filter) (lead : ℕ) (operand : Standing) (room f
     hits = omega (arith, may.hits, few_hits, held_few);
   }
 
-pub asked_filtered : (item : Span) (kind : Filter) (lead : ℕ) (operand now : Standing) (old pushed asked new : Chain) (held : List Hit) (room mid_room new_room start end : ℕ) (answer : Bool)
-    → is_not_empty ((sieve_of item kind lead operand).rest) ≡ true → held ≡ includes_now operand.rest → room ≤ mid_room
-    → links_of pushed ≡ link_with kind lead held ∷ links_of old
+pub asked_filtered : (course : Course) (kind : Filter) (lead : ℕ) (operand now : Standing) (old pushed asked new : Chain) (held : List Hit) (room mid_room new_room start end : ℕ) (answer : Bool)
+    → is_not_empty ((sieve_of course kind lead operand).rest) ≡ true → held ≡ includes_now operand.rest → room ≤ mid_room
+    → links_of pushed ≡ link_with course.windows kind lead held ∷ links_of old
     → Asked operand now pushed asked mid_room new_room start end answer → IsKept old new
-    → Asked (sieve_of item kind lead operand) (sieve_of item kind lead now) old new room new_room start end answer
-asked_filtered item kind lead operand now old pushed asked new held room mid_room new_room start end answer there is grew put a kept = record {
-  same = ap (sieve_of item kind lead) a.same;
+    → Asked (sieve_of course kind lead operand) (sieve_of course kind lead now) old new room new_room start end answer
+asked_filtered course kind lead operand now old pushed asked new held room mid_room new_room start end answer there is grew put a kept = record {
+  same = ap (sieve_of course kind lead) a.same;
   clean = λ plain.
       a.clean plain
-      ∙ ap (λ ls. clean_now (kept_by ls) operand.rest) (put ∙ ap (λ hits. link_with kind lead hits ∷ links_of old) is)
-      ∙ sieve_clean (links_of old) kind item lead operand.rest there;
+      ∙ ap (λ ls. clean_now (kept_by ls) operand.rest) (put ∙ ap (λ hits. link_with course.windows kind lead hits ∷ links_of old) is)
+      ∙ sieve_clean (links_of old) kind course lead operand.rest there;
   kept = kept;
   kept_room = omega (arith, grew, a.kept_room);
   grown = a.grown;
@@ -386,15 +399,15 @@ pub may_go_on : (now tried : Standing) (before after : Chain) (room filters hits
 may_go_on now tried before after room filters hits new_room start end verdict may a =
     subst (λ s. MayGoOn s new_room) (sym a.same) record { there = may.there; fits = omega (arith, may.fits, a.kept_room) }
 
-pub deciding_starts : (item : Span) (test : Way → Bool) (old now : Standing) (chain : Chain) (room now_room start end : ℕ) (answer : Bool) → Moved (at_front item old) now room now_room start end answer
-    → Deciding item test old now chain chain room now_room start end answer
-deciding_starts item test old now chain room now_room start end answer m = record {
-  search = search_starts item (is_plain old.operator ≡ true) test old now room now_room start end answer m;
+pub deciding_starts : (course : Course) (test : Way → Bool) (old now : Standing) (chain : Chain) (room now_room start end : ℕ) (answer : Bool) → Moved (at_front course old) now room now_room start end answer
+    → Deciding course test old now chain chain room now_room start end answer
+deciding_starts course test old now chain room now_room start end answer m = record {
+  search = search_starts course (is_plain old.operator ≡ true) test old now room now_room start end answer m;
   kept = kept_refl chain;
 }
 
-module _ (item : Span) (old now : Standing) (before after : Chain) (room now_room start end : ℕ) (there : Bool)
-    (l : Deciding item (clean_under (kept_by (links_of before))) old now before after room now_room start end there) where
+module _ (course : Course) (old now : Standing) (before after : Chain) (room now_room start end : ℕ) (there : Bool)
+    (l : Deciding course (clean_under (kept_by (links_of before))) old now before after room now_room start end there) where
   pub deciding_may : old.shape.room ≤ room → old.shape.filters ≤ spare_filters before → old.shape.hits ≤ spare_hits before → there ≡ true → MayAsk now now_room (spare_filters after) (spare_hits after)
   deciding_may fits few_filters few_hits is =
       let same = ap (λ f. f.shape) l.search.same in
@@ -402,14 +415,14 @@ module _ (item : Span) (old now : Standing) (before after : Chain) (room now_roo
       let hits = ap (λ s. s.hits) same in
       record {
         there = sym l.search.there_now ∙ is;
-        fits = (search_may item (is_plain old.operator ≡ true) (clean_under (kept_by (links_of before))) old now room now_room start end there l.search room fits (omega arith) is).fits;
+        fits = (search_may course (is_plain old.operator ≡ true) (clean_under (kept_by (links_of before))) old now room now_room start end there l.search room fits (omega arith) is).fits;
         filters = omega (arith, filters, few_filters, l.kept.filters);
         hits = omega (arith, hits, few_hits, l.kept.hits);
       }
 
-  pub decided_none : there ≡ false → Decided item (clean_under (kept_by (links_of before))) old now before after room now_room start end false
+  pub decided_none : there ≡ false → Decided course (clean_under (kept_by (links_of before))) old now before after room now_room start end false
   decided_none none = record {
-    search = search_none item (is_plain old.operator ≡ true) (clean_under (kept_by (links_of before))) old now room now_room start end there l.search none;
+    search = search_none course (is_plain old.operator ≡ true) (clean_under (kept_by (links_of before))) old now room now_room start end there l.search none;
     kept = l.kept;
   }
 
@@ -419,22 +432,22 @@ module _ (item : Span) (old now : Standing) (before after : Chain) (room now_roo
     verdict_is plain =
         ap (λ ls. clean_now (kept_by ls) now.rest) (sym l.kept.links) ∙ sym (a.clean (ap (λ f. is_plain f.operator) l.search.same ∙ plain))
 
-    pub decided_here : there ≡ true → verdict ≡ true → Decided item (clean_under (kept_by (links_of before))) old tried before asked room tried_room start tried_end true
+    pub decided_here : there ≡ true → verdict ≡ true → Decided course (clean_under (kept_by (links_of before))) old tried before asked room tried_room start tried_end true
     decided_here is holds = record {
-      search = search_found item (is_plain old.operator ≡ true) (clean_under (kept_by (links_of before))) old now room now_room start end there l.search tried tried_room tried_end a.same a.kept_room a.grown is
+      search = search_found course (is_plain old.operator ≡ true) (clean_under (kept_by (links_of before))) old now room now_room start end there l.search tried tried_room tried_end a.same a.kept_room a.grown is
           (λ plain. verdict_is plain ∙ holds);
       kept = kept_trans before after asked l.kept a.kept;
     }
 
     module _ (next : Standing) (next_room next_end : ℕ) (answer : Bool) (m : Moved (one_on tried) next tried_room next_room tried_end next_end answer) where
-      pub deciding_on : there ≡ true → verdict ≡ false → Deciding item (clean_under (kept_by (links_of before))) old next before asked room next_room start next_end answer
+      pub deciding_on : there ≡ true → verdict ≡ false → Deciding course (clean_under (kept_by (links_of before))) old next before asked room next_room start next_end answer
       deciding_on is fails = record {
-        search = search_on item (is_plain old.operator ≡ true) (clean_under (kept_by (links_of before))) old now room now_room start end there l.search tried tried_room tried_end a.same a.kept_room a.grown
+        search = search_on course (is_plain old.operator ≡ true) (clean_under (kept_by (links_of before))) old now room now_room start end there l.search tried tried_room tried_end a.same a.kept_room a.grown
             next next_room next_end answer m is (λ plain. verdict_is plain ∙ fails);
         kept = kept_trans before after asked l.kept a.kept;
       }
 
       pub deciding_fewer : there ≡ true → length next.rest < length now.rest
       deciding_fewer is =
-          search_fewer item (is_plain old.operator ≡ true) (clean_under (kept_by (links_of before))) old now room now_room start end there l.search tried tried_room tried_end a.same a.kept_room a.grown
+          search_fewer course (is_plain old.operator ≡ true) (clean_under (kept_by (links_of before))) old now room now_room start end there l.search tried tried_room tried_end a.same a.kept_room a.grown
           next next_room next_end answer m is

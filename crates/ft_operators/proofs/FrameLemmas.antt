@@ -3,6 +3,7 @@ use Rattle.std.proofs.Common.{◌≡◌, refl, ap, sym, ◌∙◌, ℕ, ◌≤�
 use Rattle.std.proofs.lemmas.Bool.{and_parts}
 use Rattle.ft_base.specs.declared.filter.Filter.{Filter}
 use Rattle.ft_base.specs.declared.span.Span.{Span}
+use Rattle.ft_operators.specs.declared.course.Course.{Course}
 use Rattle.ft_operators.specs.declared.node.Node.{Node, Phrase, Choice', Both', MildNot', Negated', Filtered'}
 use Rattle.ft_operators.specs.declared.node.Node as N
 use Rattle.ft_operators.specs.declared.node.Fork.{Fork}
@@ -16,14 +17,17 @@ use Rattle.ft_operators.specs.steps.Nodes.{standing, frame_of, fork_frame, both_
 use Rattle.ft_operators.specs.steps.Walking.{AreAimed, IsAimed}
 
 module _ {P : Type 0} (state : P → PhraseState) where
-  pub frame_same : (item : Span) (node : Node P) → frame (standing state item node) ≡ frame_of state node
+  pub frame_same : (course : Course) (node : Node P) → frame (standing state course node) ≡ frame_of state node
   unfolding standing frame_of
-  frame_same item (Phrase found) = refl
-  frame_same item (Choice' p left right second) = λ i. choice_frame (frame_same item left i) (frame_same item right i)
-  frame_same item (Both' p left right) = λ i. both_frame (frame_same item left i) (frame_same item right i)
-  frame_same item (MildNot' p left right) = λ i. apart_frame (frame_same item left i) (frame_same item right i)
-  frame_same item (Negated' p operand there) = λ i. negated_frame (frame_same item operand i)
-  frame_same item (Filtered' p operand kind lead) = λ i. filtered_frame kind (frame_same item operand i)
+  frame_same course (Phrase found) = refl
+  frame_same course (Choice' p left right second) = λ i. choice_frame (frame_same course left i) (frame_same course right i)
+  frame_same course (Both' p left right) = λ i. both_frame (frame_same course left i) (frame_same course right i)
+  frame_same course (MildNot' p left right) = λ i. apart_frame (frame_same course left i) (frame_same course right i)
+  frame_same course (Negated' p operand there) = λ i. negated_frame (frame_same course operand i)
+  frame_same course (Filtered' p operand kind lead) = λ i. filtered_frame kind (frame_same course operand i)
+
+  pub frames_same : (course other : Course) (node : Node P) → frame (standing state course node) ≡ frame (standing state other node)
+  frames_same course other node = frame_same course node ∙ sym (frame_same other node)
 
   pub shape_same : (node : Node P) → (frame_of state node).shape ≡ shape_of node
   unfolding frame_of shape_of

@@ -6,11 +6,12 @@ use Rattle.ft_base.specs.Lists.{is_not_empty}
 use Rattle.ft_base.specs.declared.filter.Filter.{Filter}
 use Rattle.ft_base.specs.declared.filter.Filter.TheVariants as F
 use Rattle.ft_base.specs.declared.hit.Hit.{Hit}
-use Rattle.ft_base.specs.declared.span.Span.{Span}
 use Rattle.all_matches.specs.declared.window.Window.{Window}
 use Rattle.all_matches.specs.Filters.{after}
 use Rattle.all_matches.specs.Join.{join}
-use Rattle.all_matches.specs.Ways.{Way, way_includes, ways_of, filtered_ways}
+use Rattle.all_matches.specs.Ways.{Way, way_includes}
+use Rattle.ft_operators.specs.declared.course.Course.{Course}
+use Rattle.ft_operators.specs.Course.{filtered_on, ways_on}
 use Rattle.ft_operators.specs.Phrases.{PhraseState, first_hit}
 use Rattle.ft_operators.specs.Standing.{Standing, includes_now}
 use Rattle.ft_operators.specs.steps.Forms.{phrase_of, choice_of, first_left, both_of, pairs_left, apart_of, negation_of, sieve_of, sieve_left, chosen_left, choices_at}
@@ -46,17 +47,17 @@ first_includes : (xs ys : List Way) → is_not_empty (first_left xs ys) ≡ true
 first_includes [] ys there = cc
 first_includes (x ∷ xs) ys there = (refl, refl)
 
-pub gathered_left : (item : Span) (left right : Standing) (room new_room : ℕ) (old new : List Hit) → Gathered left room new_room old new → Gathered (choice_of item false left right) room new_room old new
-gathered_left item left right room new_room old new g =
-    let side = first_includes left.rest (ways_of item right.operator) in record {
+pub gathered_left : (course : Course) (left right : Standing) (room new_room : ℕ) (old new : List Hit) → Gathered left room new_room old new → Gathered (choice_of course false left right) room new_room old new
+gathered_left course left right room new_room old new g =
+    let side = first_includes left.rest (ways_on course right.operator) in record {
       from = g.from;
       kept_room = g.kept_room;
       few = λ there. let few = subst (λ hits. length hits ≤ left.shape.room) (sym (side there).1) (g.few (side there).0) in omega (arith, few);
       hits = λ there fits. g.hits (side there).0 (omega (arith, fits)) ∙ ap (λ hits. old ++ hits) (sym (side there).1);
     }
 
-pub gathered_right : (item : Span) (left right : Standing) (room new_room : ℕ) (old new : List Hit) → Gathered right room new_room old new → Gathered (choice_of item true left right) room new_room old new
-gathered_right item left right room new_room old new g = record {
+pub gathered_right : (course : Course) (left right : Standing) (room new_room : ℕ) (old new : List Hit) → Gathered right room new_room old new → Gathered (choice_of course true left right) room new_room old new
+gathered_right course left right room new_room old new g = record {
   from = g.from;
   kept_room = g.kept_room;
   few = λ there. let few = g.few there in omega (arith, few);
@@ -68,11 +69,11 @@ pair_includes [] ys all there = cc
 pair_includes (x ∷ xs) [] all there = cc
 pair_includes (x ∷ xs) (y ∷ ys) all there = refl
 
-pub gathered_both : (item : Span) (left right : Standing) (room mid_room new_room : ℕ) (old mid new : List Hit)
-    → Gathered left room mid_room old mid → Gathered right mid_room new_room mid new → Gathered (both_of item left right) room new_room old new
-gathered_both item left right room mid_room new_room old mid new l r =
-    let sides = pairs_sides left.rest right.rest (ways_of item right.operator) in
-    let includes = pair_includes left.rest right.rest (ways_of item right.operator) in
+pub gathered_both : (course : Course) (left right : Standing) (room mid_room new_room : ℕ) (old mid new : List Hit)
+    → Gathered left room mid_room old mid → Gathered right mid_room new_room mid new → Gathered (both_of course left right) room new_room old new
+gathered_both course left right room mid_room new_room old mid new l r =
+    let sides = pairs_sides left.rest right.rest (ways_on course right.operator) in
+    let includes = pair_includes left.rest right.rest (ways_on course right.operator) in
     record {
       from = omega (arith, l.from, r.from);
       kept_room = omega (arith, l.kept_room, r.kept_room);
@@ -91,10 +92,10 @@ gathered_both item left right room mid_room new_room old mid new l r =
           ∙ ap (λ hits. old ++ hits) (sym (includes there));
     }
 
-pub gathered_apart : (item : Span) (left right : Standing) (room new_room : ℕ) (old new : List Hit) → Gathered left room new_room old new → Gathered (apart_of item left right) room new_room old new
-gathered_apart item left right room new_room old new g =
-    let inner = apart_there left.rest (ways_of item right.operator) in
-    let includes = apart_includes left.rest (ways_of item right.operator) in
+pub gathered_apart : (course : Course) (left right : Standing) (room new_room : ℕ) (old new : List Hit) → Gathered left room new_room old new → Gathered (apart_of course left right) room new_room old new
+gathered_apart course left right room new_room old new g =
+    let inner = apart_there left.rest (ways_on course right.operator) in
+    let includes = apart_includes left.rest (ways_on course right.operator) in
     record {
       from = g.from;
       kept_room = g.kept_room;
@@ -102,16 +103,16 @@ gathered_apart item left right room new_room old new g =
       hits = λ there fits. g.hits (sym inner ∙ there) (omega (arith, fits)) ∙ ap (λ hits. old ++ hits) (sym includes);
     }
 
-pub gathered_negated : (item : Span) (there : Bool) (operand : Standing) (room : ℕ) (old : List Hit) → Gathered (negation_of item there operand) room room old old
-gathered_negated item true operand room old = record { from = omega arith; kept_room = omega arith; few = λ _. omega arith; hits = λ _ _. sym (append-nil old) }
-gathered_negated item false operand room old = record { from = omega arith; kept_room = omega arith; few = λ there. cc; hits = λ there. cc }
+pub gathered_negated : (course : Course) (there : Bool) (operand : Standing) (room : ℕ) (old : List Hit) → Gathered (negation_of course there operand) room room old old
+gathered_negated course true operand room old = record { from = omega arith; kept_room = omega arith; few = λ _. omega arith; hits = λ _ _. sym (append-nil old) }
+gathered_negated course false operand room old = record { from = omega arith; kept_room = omega arith; few = λ there. cc; hits = λ there. cc }
 
-pub sieve_includes : (kind : Filter) (item : Span) (lead : ℕ) (ways : List Way) → is_not_empty (sieve_left kind item lead ways) ≡ true → includes_now (sieve_left kind item lead ways) ≡ after kind (includes_now ways)
-sieve_includes kind item lead [] there = cc
-sieve_includes kind item lead (way ∷ more) there = of (drop lead (choices_at kind item way)) there
+pub sieve_includes : (kind : Filter) (course : Course) (lead : ℕ) (ways : List Way) → is_not_empty (sieve_left kind course lead ways) ≡ true → includes_now (sieve_left kind course lead ways) ≡ after kind (includes_now ways)
+sieve_includes kind course lead [] there = cc
+sieve_includes kind course lead (way ∷ more) there = of (drop lead (choices_at kind course way)) there
   where
-    of : (cs : List (Option Window)) → is_not_empty (chosen_left kind way cs (flat_map (filtered_ways kind item) more)) ≡ true
-        → includes_now (chosen_left kind way cs (flat_map (filtered_ways kind item) more)) ≡ after kind (way_includes way)
+    of : (cs : List (Option Window)) → is_not_empty (chosen_left kind way cs (flat_map (filtered_on kind course) more)) ≡ true
+        → includes_now (chosen_left kind way cs (flat_map (filtered_on kind course) more)) ≡ after kind (way_includes way)
     of [] there = cc
     of (c ∷ cs) there = refl
 
@@ -132,12 +133,12 @@ after_few F.AtStart hits = omega arith
 after_few F.AtEnd hits = omega arith
 after_few F.EntireContent hits = omega arith
 
-pub gathered_filtered : (item : Span) (kind : Filter) (lead : ℕ) (operand : Standing) (room mid_room new_room : ℕ) (old mid new : List Hit)
+pub gathered_filtered : (course : Course) (kind : Filter) (lead : ℕ) (operand : Standing) (room mid_room new_room : ℕ) (old mid new : List Hit)
     → Gathered operand room mid_room old mid → Replaced (length old) (after kind (drop (length old) mid)) mid_room new_room mid new
-    → Gathered (sieve_of item kind lead operand) room new_room old new
-gathered_filtered item kind lead operand room mid_room new_room old mid new g r =
-    let inner = sieve_operand_there kind item lead operand.rest in
-    let includes = sieve_includes kind item lead operand.rest in
+    → Gathered (sieve_of course kind lead operand) room new_room old new
+gathered_filtered course kind lead operand room mid_room new_room old mid new g r =
+    let inner = sieve_operand_there kind course lead operand.rest in
+    let includes = sieve_includes kind course lead operand.rest in
     record {
       from = r.from;
       kept_room = omega (arith, g.kept_room, r.kept_room);

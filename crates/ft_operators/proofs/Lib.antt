@@ -13,3 +13,5 @@ pub mod FreeLemmas
 pub mod ChainLemmas
 pub mod CleanLemmas
 pub mod AnswerLemmas
+pub mod TellingLemmas
+pub mod CourseLemmas

@@ -3,8 +3,9 @@ use Rattle.std.proofs.Common.{◌≡◌, refl, List, [], ◌∷◌, map, drop}
 use Rattle.std.specs.Option.{is_some}
 use Rattle.ft_base.specs.Lists.{is_not_empty}
 use Rattle.ft_base.specs.declared.hit.Hit.{Hit}
-use Rattle.ft_base.specs.declared.span.Span.{Span}
-use Rattle.all_matches.specs.Ways.{one_hit, ways_of}
+use Rattle.all_matches.specs.Ways.{one_hit}
+use Rattle.ft_operators.specs.declared.course.Course.{Course}
+use Rattle.ft_operators.specs.Course.{ways_on}
 use Rattle.ft_operators.specs.Phrases.{PhraseState, first_hit, at_first, one_further}
 use Rattle.ft_operators.specs.Standing.{at_front, one_on}
 use Rattle.ft_operators.specs.steps.Forms.{phrase_of}
@@ -17,9 +18,9 @@ pub drop_mapped : (hits : List Hit) → map one_hit (drop 1 hits) ≡ drop 1 (ma
 drop_mapped [] = refl
 drop_mapped (hit ∷ rest) = refl
 
-pub phrase_front : (item : Span) (s : PhraseState) → phrase_of (at_first s) ≡ at_front item (phrase_of s)
-unfolding ways_of
-phrase_front item s = refl
+pub phrase_front : (course : Course) (s : PhraseState) → phrase_of (at_first s) ≡ at_front course (phrase_of s)
+unfolding ways_on
+phrase_front course s = refl
 
 pub phrase_on : (s : PhraseState) → phrase_of (one_further s) ≡ one_on (phrase_of s)
 phrase_on s = λ i. record (phrase_of s) { rest = drop_mapped s.rest i }

@@ -2,8 +2,8 @@
 use Rattle.std.proofs.Common.{◌≡◌, refl, ap, sym, ◌∙◌, subst, ℕ, ◌+◌, ◌<◌, ◌≤◌, Bool, true, false, length, arith}
 use Rattle.ft_base.specs.Lists.{is_not_empty}
 use Rattle.ft_base.specs.declared.filter.Filter.{Filter}
-use Rattle.ft_base.specs.declared.span.Span.{Span}
-use Rattle.all_matches.specs.Ways.{ways_of}
+use Rattle.ft_operators.specs.declared.course.Course.{Course}
+use Rattle.ft_operators.specs.Course.{ways_on}
 use Rattle.ft_operators.specs.Standing.{Standing, at_front, one_on}
 use Rattle.ft_operators.specs.steps.Forms.{choice_of, both_of, negation_of, sieve_of, sifted, count_now}
 use Rattle.ft_operators.specs.steps.Walking.{Moved, MayGoOn, Settling}
@@ -19,147 +19,147 @@ arrived : (wanted now : Standing) (room new_room start end : ℕ) (answer : Bool
 unfolding rest_there
 arrived wanted now room new_room start end answer m = ap rest_there (sym m.stand) ∙ sym m.there
 
-module _ (item : Span) (second : Bool) (left left_now right right_now : Standing) (room mid_room new_room start mid end : ℕ) (answer second_answer : Bool) where
-  pub choice_first_left : Moved (at_front item left) left_now room mid_room start mid answer → answer ≡ true
-      → Moved (at_front item (choice_of item second left right)) (choice_of item false left_now right) room mid_room start mid true
+module _ (course : Course) (second : Bool) (left left_now right right_now : Standing) (room mid_room new_room start mid end : ℕ) (answer second_answer : Bool) where
+  pub choice_first_left : Moved (at_front course left) left_now room mid_room start mid answer → answer ≡ true
+      → Moved (at_front course (choice_of course second left right)) (choice_of course false left_now right) room mid_room start mid true
   choice_first_left m there = record {
-    stand = ap (λ s. choice_of item false s right) m.stand
-        ∙ choice_front_left item second left right (arrived (at_front item left) left_now room mid_room start mid answer m ∙ there);
-    there = sym there ∙ m.there ∙ sym (left_there left_now.rest (ways_of item right.operator));
+    stand = ap (λ s. choice_of course false s right) m.stand
+        ∙ choice_front_left course second left right (arrived (at_front course left) left_now room mid_room start mid answer m ∙ there);
+    there = sym there ∙ m.there ∙ sym (left_there left_now.rest (ways_on course right.operator));
     kept_room = m.kept_room;
     grown = m.grown;
   }
 
-  pub choice_first_right : Moved (at_front item left) left_now room mid_room start mid answer → answer ≡ false
-      → Moved (at_front item right) right_now mid_room new_room mid end second_answer
-      → Moved (at_front item (choice_of item second left right)) (choice_of item true left_now right_now) room new_room start end second_answer
+  pub choice_first_right : Moved (at_front course left) left_now room mid_room start mid answer → answer ≡ false
+      → Moved (at_front course right) right_now mid_room new_room mid end second_answer
+      → Moved (at_front course (choice_of course second left right)) (choice_of course true left_now right_now) room new_room start end second_answer
   choice_first_right m none n = record {
-    stand = (λ i. choice_of item true (m.stand i) (n.stand i))
-        ∙ choice_front_right item second left right (arrived (at_front item left) left_now room mid_room start mid answer m ∙ none);
+    stand = (λ i. choice_of course true (m.stand i) (n.stand i))
+        ∙ choice_front_right course second left right (arrived (at_front course left) left_now room mid_room start mid answer m ∙ none);
     there = n.there;
     kept_room = omega (arith, m.kept_room, n.kept_room);
     grown = omega (arith, m.grown, n.grown);
   }
 
-  pub both_first : Moved (at_front item left) left_now room mid_room start mid answer → answer ≡ true
-      → Moved (at_front item right) right_now mid_room new_room mid end second_answer
-      → Moved (at_front item (both_of item left right)) (both_of item left_now right_now) room new_room start end second_answer
+  pub both_first : Moved (at_front course left) left_now room mid_room start mid answer → answer ≡ true
+      → Moved (at_front course right) right_now mid_room new_room mid end second_answer
+      → Moved (at_front course (both_of course left right)) (both_of course left_now right_now) room new_room start end second_answer
   both_first m there n = record {
-    stand = (λ i. both_of item (m.stand i) (n.stand i)) ∙ both_front item left right;
-    there = n.there ∙ sym (pairs_there left_now.rest right_now.rest (ways_of item right_now.operator) (sym m.there ∙ there));
+    stand = (λ i. both_of course (m.stand i) (n.stand i)) ∙ both_front course left right;
+    there = n.there ∙ sym (pairs_there left_now.rest right_now.rest (ways_on course right_now.operator) (sym m.there ∙ there));
     kept_room = omega (arith, m.kept_room, n.kept_room);
     grown = omega (arith, m.grown, n.grown);
   }
 
-  pub both_first_none : Moved (at_front item left) left_now room mid_room start mid answer → answer ≡ false
-      → Moved (at_front item (both_of item left right)) (both_of item left_now right) room mid_room start mid answer
+  pub both_first_none : Moved (at_front course left) left_now room mid_room start mid answer → answer ≡ false
+      → Moved (at_front course (both_of course left right)) (both_of course left_now right) room mid_room start mid answer
   both_first_none m none = record {
-    stand = ap (λ s. both_of item s right) m.stand ∙ both_front_none item left right (arrived (at_front item left) left_now room mid_room start mid answer m ∙ none);
-    there = none ∙ sym (pairs_none left_now.rest right.rest (ways_of item right.operator) (sym m.there ∙ none));
+    stand = ap (λ s. both_of course s right) m.stand ∙ both_front_none course left right (arrived (at_front course left) left_now room mid_room start mid answer m ∙ none);
+    there = none ∙ sym (pairs_none left_now.rest right.rest (ways_on course right.operator) (sym m.there ∙ none));
     kept_room = m.kept_room;
     grown = m.grown;
   }
 
   -- on the right side, with what is left of the left side
 
-  pub both_next : MayGoOn (both_of item left right) room → Moved (one_on right) right_now room mid_room start mid answer → answer ≡ true
-      → Moved (one_on (both_of item left right)) (both_of item left right_now) room mid_room start mid true
+  pub both_next : MayGoOn (both_of course left right) room → Moved (one_on right) right_now room mid_room start mid answer → answer ≡ true
+      → Moved (one_on (both_of course left right)) (both_of course left right_now) room mid_room start mid true
   both_next may m there =
-      let sides = pairs_sides left.rest right.rest (ways_of item right.operator) may.there in record {
-        stand = ap (λ s. both_of item left s) m.stand
-            ∙ both_on_right item left right sides.0 (arrived (one_on right) right_now room mid_room start mid answer m ∙ there);
-        there = sym there ∙ m.there ∙ sym (pairs_there left.rest right_now.rest (ways_of item right_now.operator) sides.0);
+      let sides = pairs_sides left.rest right.rest (ways_on course right.operator) may.there in record {
+        stand = ap (λ s. both_of course left s) m.stand
+            ∙ both_on_right course left right sides.0 (arrived (one_on right) right_now room mid_room start mid answer m ∙ there);
+        there = sym there ∙ m.there ∙ sym (pairs_there left.rest right_now.rest (ways_on course right_now.operator) sides.0);
         kept_room = m.kept_room;
         grown = m.grown;
       }
 
-module _ (item : Span) (left left_now right right_now right_first : Standing) (room mid_room next_room new_room start mid next end : ℕ) (answer second_answer third_answer : Bool) where
-  pub both_next_left : MayGoOn (both_of item left right) room → Moved (one_on right) right_now room mid_room start mid answer → answer ≡ false
+module _ (course : Course) (left left_now right right_now right_first : Standing) (room mid_room next_room new_room start mid next end : ℕ) (answer second_answer third_answer : Bool) where
+  pub both_next_left : MayGoOn (both_of course left right) room → Moved (one_on right) right_now room mid_room start mid answer → answer ≡ false
       → Moved (one_on left) left_now mid_room next_room mid next second_answer → second_answer ≡ true
-      → Moved (at_front item right_now) right_first next_room new_room next end third_answer
-      → Moved (one_on (both_of item left right)) (both_of item left_now right_first) room new_room start end third_answer
+      → Moved (at_front course right_now) right_first next_room new_room next end third_answer
+      → Moved (one_on (both_of course left right)) (both_of course left_now right_first) room new_room start end third_answer
   both_next_left may m over n there f =
-      let sides = pairs_sides left.rest right.rest (ways_of item right.operator) may.there in record {
-        stand = (λ i. both_of item (n.stand i) ((f.stand ∙ ap (at_front item) m.stand) i))
-            ∙ both_on_left item left right sides.0 sides.1 (arrived (one_on right) right_now room mid_room start mid answer m ∙ over);
-        there = f.there ∙ sym (pairs_there left_now.rest right_first.rest (ways_of item right_first.operator) (sym n.there ∙ there));
+      let sides = pairs_sides left.rest right.rest (ways_on course right.operator) may.there in record {
+        stand = (λ i. both_of course (n.stand i) ((f.stand ∙ ap (at_front course) m.stand) i))
+            ∙ both_on_left course left right sides.0 sides.1 (arrived (one_on right) right_now room mid_room start mid answer m ∙ over);
+        there = f.there ∙ sym (pairs_there left_now.rest right_first.rest (ways_on course right_first.operator) (sym n.there ∙ there));
         kept_room = omega (arith, m.kept_room, n.kept_room, f.kept_room);
         grown = omega (arith, m.grown, n.grown, f.grown);
       }
 
-  pub both_next_none : MayGoOn (both_of item left right) room → Moved (one_on right) right_now room mid_room start mid answer → answer ≡ false
+  pub both_next_none : MayGoOn (both_of course left right) room → Moved (one_on right) right_now room mid_room start mid answer → answer ≡ false
       → Moved (one_on left) left_now mid_room next_room mid next second_answer → second_answer ≡ false
-      → Moved (one_on (both_of item left right)) (both_of item left_now right_now) room next_room start next false
+      → Moved (one_on (both_of course left right)) (both_of course left_now right_now) room next_room start next false
   both_next_none may m over n none =
-      let sides = pairs_sides left.rest right.rest (ways_of item right.operator) may.there in record {
-        stand = (λ i. both_of item (n.stand i) (m.stand i))
-            ∙ both_end item left right sides.0 sides.1 (arrived (one_on right) right_now room mid_room start mid answer m ∙ over)
+      let sides = pairs_sides left.rest right.rest (ways_on course right.operator) may.there in record {
+        stand = (λ i. both_of course (n.stand i) (m.stand i))
+            ∙ both_end course left right sides.0 sides.1 (arrived (one_on right) right_now room mid_room start mid answer m ∙ over)
             (arrived (one_on left) left_now mid_room next_room mid next second_answer n ∙ none);
-        there = sym (pairs_none left_now.rest right_now.rest (ways_of item right_now.operator) (sym n.there ∙ none));
+        there = sym (pairs_none left_now.rest right_now.rest (ways_on course right_now.operator) (sym n.there ∙ none));
         kept_room = omega (arith, m.kept_room, n.kept_room);
         grown = omega (arith, m.grown, n.grown);
       }
 
-pub negation_first : (item : Span) (there : Bool) (operand : Standing) (room start : ℕ)
-    → Moved (at_front item (negation_of item there operand)) (negation_of item true operand) room room start start true
-unfolding ways_of
-negation_first item there operand room start = record { stand = refl; there = refl; kept_room = omega arith; grown = omega arith }
+pub negation_first : (course : Course) (there : Bool) (operand : Standing) (room start : ℕ)
+    → Moved (at_front course (negation_of course there operand)) (negation_of course true operand) room room start start true
+unfolding ways_on
+negation_first course there operand room start = record { stand = refl; there = refl; kept_room = omega arith; grown = omega arith }
 
-pub negation_next : (item : Span) (there : Bool) (operand : Standing) (room start : ℕ)
-    → Moved (one_on (negation_of item there operand)) (negation_of item false operand) room room start start false
-negation_next item true operand room start = record { stand = refl; there = refl; kept_room = omega arith; grown = omega arith }
-negation_next item false operand room start = record { stand = refl; there = refl; kept_room = omega arith; grown = omega arith }
+pub negation_next : (course : Course) (there : Bool) (operand : Standing) (room start : ℕ)
+    → Moved (one_on (negation_of course there operand)) (negation_of course false operand) room room start start false
+negation_next course true operand room start = record { stand = refl; there = refl; kept_room = omega arith; grown = omega arith }
+negation_next course false operand room start = record { stand = refl; there = refl; kept_room = omega arith; grown = omega arith }
 
-module _ (item : Span) (kind : Filter) (lead : ℕ) (operand operand_now now : Standing) (room mid_room new_room start mid end : ℕ) (answer second_answer : Bool) where
-  pub sieve_first : Moved (at_front item operand) operand_now room mid_room start mid answer → Moved (sifted item kind operand_now) now mid_room new_room mid end second_answer
-      → Moved (at_front item (sieve_of item kind lead operand)) now room new_room start end second_answer
+module _ (course : Course) (kind : Filter) (lead : ℕ) (operand operand_now now : Standing) (room mid_room new_room start mid end : ℕ) (answer second_answer : Bool) where
+  pub sieve_first : Moved (at_front course operand) operand_now room mid_room start mid answer → Moved (sifted course kind operand_now) now mid_room new_room mid end second_answer
+      → Moved (at_front course (sieve_of course kind lead operand)) now room new_room start end second_answer
   sieve_first m n = record {
-    stand = n.stand ∙ ap (sifted item kind) m.stand ∙ sieve_front item kind operand lead;
+    stand = n.stand ∙ ap (sifted course kind) m.stand ∙ sieve_front course kind operand lead;
     there = n.there;
     kept_room = omega (arith, m.kept_room, n.kept_room);
     grown = omega (arith, m.grown, n.grown);
   }
 
-  pub sieve_next_choice : (count : ℕ) → count ≡ count_now kind item operand.rest → lead + 1 < count → room ≤ new_room
-      → Moved (one_on (sieve_of item kind lead operand)) (sieve_of item kind (lead + 1) operand) room new_room start start true
+  pub sieve_next_choice : (count : ℕ) → count ≡ count_now kind course operand.rest → lead + 1 < count → room ≤ new_room
+      → Moved (one_on (sieve_of course kind lead operand)) (sieve_of course kind (lead + 1) operand) room new_room start start true
   sieve_next_choice count is more kept = record {
-    stand = sieve_on item kind operand lead (omega (arith, is, more));
-    there = sieve_there_next item kind operand lead (omega (arith, is, more));
+    stand = sieve_on course kind operand lead (omega (arith, is, more));
+    there = sieve_there_next course kind operand lead (omega (arith, is, more));
     kept_room = kept;
     grown = omega arith;
   }
 
-  pub sieve_next_way : (count first_room : ℕ) → count ≡ count_now kind item operand.rest → count ≤ lead + 1 → is_not_empty ((sieve_of item kind lead operand).rest) ≡ true → first_room ≤ room
-      → Moved (one_on operand) operand_now room mid_room start mid answer → Moved (sifted item kind operand_now) now mid_room new_room mid end second_answer
-      → Moved (one_on (sieve_of item kind lead operand)) now first_room new_room start end second_answer
+  pub sieve_next_way : (count first_room : ℕ) → count ≡ count_now kind course operand.rest → count ≤ lead + 1 → is_not_empty ((sieve_of course kind lead operand).rest) ≡ true → first_room ≤ room
+      → Moved (one_on operand) operand_now room mid_room start mid answer → Moved (sifted course kind operand_now) now mid_room new_room mid end second_answer
+      → Moved (one_on (sieve_of course kind lead operand)) now first_room new_room start end second_answer
   sieve_next_way count first_room is last there kept m n = record {
-    stand = n.stand ∙ ap (sifted item kind) m.stand ∙ sieve_over item kind operand lead there (omega (arith, is, last));
+    stand = n.stand ∙ ap (sifted course kind) m.stand ∙ sieve_over course kind operand lead there (omega (arith, is, last));
     there = n.there;
     kept_room = omega (arith, kept, m.kept_room, n.kept_room);
     grown = omega (arith, m.grown, n.grown);
   }
 
-module _ (item : Span) (wanted : Filter) (start now : Standing) (room now_room begin end : ℕ) (answer : Bool) (kept : Filter) (used : ℕ)
-    (l : Settling item wanted start now room now_room begin end answer kept used) where
+module _ (course : Course) (wanted : Filter) (start now : Standing) (room now_room begin end : ℕ) (answer : Bool) (kept : Filter) (used : ℕ)
+    (l : Settling course wanted start now room now_room begin end answer kept used) where
   pub settling_may : (first_room : ℕ) → start.shape.room ≤ first_room → first_room ≤ room → answer ≡ true → MayGoOn now now_room
   settling_may first_room fits grew there = record { there = sym l.there ∙ there; fits = let same = ap (λ s. s.room) l.same_shape in omega (arith, fits, grew, same, l.kept_room) }
 
-  pub settled_here : (count new_room : ℕ) → count ≡ count_now kept item now.rest → 0 < count → now_room ≤ new_room
-      → Moved (sifted item wanted start) (sieve_of item kept used now) room new_room begin end true
+  pub settled_here : (count new_room : ℕ) → count ≡ count_now kept course now.rest → 0 < count → now_room ≤ new_room
+      → Moved (sifted course wanted start) (sieve_of course kept used now) room new_room begin end true
   settled_here count new_room is some grew = record {
-    stand = (λ i. sieve_of item (l.same_kind i) (l.unused i) now) ∙ sieve_settled item wanted now (omega (arith, known)) ∙ l.passed;
-    there = sieve_there_first item wanted now (omega (arith, known)) ∙ (λ i. is_not_empty ((sieve_of item (sym l.same_kind i) (sym l.unused i) now).rest));
+    stand = (λ i. sieve_of course (l.same_kind i) (l.unused i) now) ∙ sieve_settled course wanted now (omega (arith, known)) ∙ l.passed;
+    there = sieve_there_first course wanted now (omega (arith, known)) ∙ (λ i. is_not_empty ((sieve_of course (sym l.same_kind i) (sym l.unused i) now).rest));
     kept_room = omega (arith, grew, l.kept_room);
     grown = l.grown;
   }
     where
-      known : 0 < count_now wanted item now.rest
-      known = subst (λ k. 0 < count_now k item now.rest) l.same_kind (subst (λ n. 0 < n) is some)
+      known : 0 < count_now wanted course now.rest
+      known = subst (λ k. 0 < count_now k course now.rest) l.same_kind (subst (λ n. 0 < n) is some)
 
-  pub settling_on : (count mid_room new_room after : ℕ) (next : Standing) (next_answer : Bool) → count ≡ count_now kept item now.rest → count ≤ 0 → now_room ≤ mid_room
-      → Moved (one_on now) next mid_room new_room end after next_answer → Settling item wanted start next room new_room begin after next_answer kept used
+  pub settling_on : (count mid_room new_room after : ℕ) (next : Standing) (next_answer : Bool) → count ≡ count_now kept course now.rest → count ≤ 0 → now_room ≤ mid_room
+      → Moved (one_on now) next mid_room new_room end after next_answer → Settling course wanted start next room new_room begin after next_answer kept used
   settling_on count mid_room new_room after next next_answer is none grew m = record {
-    passed = ap (sifted item wanted) m.stand ∙ sieve_skip item wanted now (subst (λ k. count_now k item now.rest ≡ 0) l.same_kind (omega (arith, is, none))) ∙ l.passed;
+    passed = ap (sifted course wanted) m.stand ∙ sieve_skip course wanted now (subst (λ k. count_now k course now.rest ≡ 0) l.same_kind (omega (arith, is, none))) ∙ l.passed;
     same_shape = ap (λ s. s.shape) m.stand ∙ l.same_shape;
     there = m.there;
     kept_room = omega (arith, grew, l.kept_room, m.kept_room);
@@ -168,10 +168,10 @@ module _ (item : Span) (wanted : Filter) (start now : Standing) (room now_room b
     unused = l.unused;
   }
 
-  pub settled_none : answer ≡ false → Moved (sifted item wanted start) (sieve_of item kept used now) room now_room begin end false
+  pub settled_none : answer ≡ false → Moved (sifted course wanted start) (sieve_of course kept used now) room now_room begin end false
   settled_none none = record {
-    stand = ap (λ k. sieve_of item k used now) l.same_kind ∙ sieve_end item wanted now used (sym l.there ∙ none) ∙ l.passed;
-    there = sieve_none item kept now used (sym l.there ∙ none);
+    stand = ap (λ k. sieve_of course k used now) l.same_kind ∙ sieve_end course wanted now used (sym l.there ∙ none) ∙ l.passed;
+    there = sieve_none course kept now used (sym l.there ∙ none);
     kept_room = l.kept_room;
     grown = l.grown;
   }

@@ -1,8 +1,9 @@
 -- The windows round the joined hit, as many as a size leaves, and the one of a number.
-use Rattle.std.proofs.Common.{◌≡◌, refl, ap, sym, ◌∙◌, subst, ℕ, zero, suc, ◌+◌, ◌-◌, ◌<◌, List, [], ◌∷◌, length, get_or, map, arith}
+use Rattle.std.proofs.Common.{◌≡◌, refl, ap, sym, ◌∙◌, subst, ℕ, zero, suc, ◌+◌, ◌-◌, ◌<◌, List, [], ◌∷◌, drop, min, length, get_or, map, arith}
 use Rattle.std.specs.Prelude.{pos, ◌+ℤ◌, ◌-ℤ◌, Option, Some, None}
 use Rattle.std.proofs.lemmas.Int.{ints}
-use Rattle.std.proofs.lemmas.List.{get_or-map, length-map}
+use Rattle.std.specs.List.{range_with_len}
+use Rattle.std.proofs.lemmas.List.{get_or-map, get_or-drop, length-drop, length-map}
 use Rattle.std.proofs.lemmas.List.FromFn.{length-map-range_with_len, get_or-map-range_with_len}
 use Rattle.ft_base.specs.declared.filter.Filter.TheVariants as F
 use Rattle.ft_base.specs.declared.hit.Hit.{Hit}
@@ -12,33 +13,122 @@ use Rattle.all_matches.specs.Filters.{choices}
 use Rattle.all_matches.specs.Join.{join}
 use Rattle.all_matches.specs.Positions.{start_in, end_in}
 use Rattle.all_matches.specs.Window.{windows_round, window_at}
+use Rattle.ft_operators.specs.declared.course.Windows.{Windows}
+use Rattle.ft_operators.specs.declared.course.Windows.TheVariants.{Each, Telling, First}
+use Rattle.ft_operators.specs.Course.{asked_for, number_among, up_to_zero}
+use Rattle.ft_operators.proofs.TellingLemmas.{first_window_gap, nth_window}
+
+windows_length : (size last start count : ℕ) → length (map Some (map (nth_window size last) (range_with_len start count))) ≡ count
+windows_length size last start count = length-map (map (nth_window size last) (range_with_len start count)) Some ∙ length-map-range_with_len (nth_window size last) start count
 
 pub length-windows : (size : ℕ) (kind : TextUnit) (joined : Hit) → length (windows_round size kind (Some joined)) ≡ (start_in kind joined + size) - end_in kind joined
 length-windows size kind joined =
     length-map-range_with_len (λ n. window_at size (pos (suc (end_in kind joined) + n) -ℤ pos size)) 0 ((start_in kind joined + size) - end_in kind joined)
 
--- one of the windows, by its number
-pub window_below : (size : ℕ) (kind : TextUnit) (hits : List Hit) (joined : Hit) (lead : ℕ) → Some joined ≡ join hits → lead < length (choices (F.Window size kind) hits)
-    → lead < (start_in kind joined + size) - end_in kind joined
-window_below size kind hits joined lead is below =
-    subst (λ n. lead < n)
-    (ap (λ j. length (map Some (windows_round size kind j))) (sym is) ∙ length-map (windows_round size kind (Some joined)) Some ∙ length-windows size kind joined) below
+-- one of the windows that are asked for, by its number
+asked_got : (windows : Windows) (size last all lead : ℕ) → (0 < all → size - suc last < all)
+    → lead < length (asked_for windows (map Some (map (nth_window size last) (range_with_len 0 all))))
+    → (number_among windows size last lead < all)
+    × (get_or (asked_for windows (map Some (map (nth_window size last) (range_with_len 0 all)))) lead None ≡ get_or (map Some (map (nth_window size last) (range_with_len 0 all))) (number_among windows size last lead) None)
+asked_got Each size last all lead few below = (omega (arith, below, windows_length size last 0 all), refl)
+asked_got Telling size last zero lead few below = absurd (omega (arith, below))
+asked_got Telling size last (suc all) zero few below = (omega arith, refl)
+asked_got Telling size last (suc all) (suc lead) few below =
+    let more = map Some (map (nth_window size last) (range_with_len 1 all)) in
+    let skip = first_window_gap size last in
+    let shorter : length (drop (up_to_zero (nth_window size last 0).from) more) ≡ all - (size - suc last) =
+    length-drop (up_to_zero (nth_window size last 0).from) more ∙ (λ i. windows_length size last 1 all i - skip i) in
+    (omega (arith, shorter, below), get_or-drop (up_to_zero (nth_window size last 0).from) more lead None ∙ ap (λ n. get_or more n None) (ap (λ k. k + lead) skip ∙ turned (size - suc last) lead))
+  where
+    turned : (a b : ℕ) → a + b ≡ b + a
+    turned a b = omega arith
+asked_got First size last zero lead few below = absurd (omega (arith, below))
+asked_got First size last (suc all) zero few below = (omega arith, refl)
+asked_got First size last (suc all) (suc lead) few below = absurd (omega (arith, below))
 
-pub window_got : (size : ℕ) (kind : TextUnit) (hits : List Hit) (joined : Hit) (lead : ℕ) → Some joined ≡ join hits → lead < (start_in kind joined + size) - end_in kind joined
-    → Some (window_at size (pos (suc (end_in kind joined) + lead) -ℤ pos size)) ≡ get_or (choices (F.Window size kind) hits) lead None
-window_got size kind hits joined lead is below =
-    sym
-    (ap (λ j. get_or (map Some (windows_round size kind j)) lead None) (sym is)
-    ∙ get_or-map Some (windows_round size kind (Some joined)) lead (window_at size (pos 0)) None (subst (λ n. lead < n) (sym (length-windows size kind joined)) below)
-    ∙ ap Some
-    (get_or-map-range_with_len (λ n. window_at size (pos (suc (end_in kind joined) + n) -ℤ pos size)) 0 ((start_in kind joined + size) - end_in kind joined) lead lead (window_at size (pos 0)) below
-    (omega arith)))
+few_in_front : (start size last : ℕ) → 0 < (start + size) - last → size - suc last < (start + size) - last
+few_in_front start size last some = omega (arith, some)
 
-pub no_window : (size : ℕ) (kind : TextUnit) (hits : List Hit) (lead : ℕ) → None ≡ join hits → None ≡ get_or (choices (F.Window size kind) hits) lead None
-no_window size kind hits lead none = ap (λ j. get_or (map Some (windows_round size kind j)) lead None) none
+module _ (windows : Windows) (size : ℕ) (kind : TextUnit) (hits : List Hit) (joined : Hit) (lead : ℕ) (is : Some joined ≡ join hits)
+    (below : lead < length (asked_for windows (choices (F.Window size kind) hits))) where
+  got : (number_among windows size (end_in kind joined) lead < (start_in kind joined + size) - end_in kind joined)
+      × (get_or (asked_for windows (map Some (windows_round size kind (Some joined)))) lead None
+      ≡ get_or (map Some (windows_round size kind (Some joined))) (number_among windows size (end_in kind joined) lead) None)
+  got =
+      asked_got windows size (end_in kind joined) ((start_in kind joined + size) - end_in kind joined) lead (few_in_front (start_in kind joined) size (end_in kind joined))
+      (subst (λ j. lead < length (asked_for windows (map Some (windows_round size kind j)))) (sym is) below)
+
+  pub window_below : number_among windows size (end_in kind joined) lead < (start_in kind joined + size) - end_in kind joined
+  window_below = got.0
+
+  pub lead_few : lead < (start_in kind joined + size) - end_in kind joined
+  lead_few = not_more windows window_below
+    where
+      not_more : (w : Windows) → number_among w size (end_in kind joined) lead < (start_in kind joined + size) - end_in kind joined → lead < (start_in kind joined + size) - end_in kind joined
+      not_more Each h = h
+      not_more Telling h = of lead h
+        where
+          of : (n : ℕ) → number_among Telling size (end_in kind joined) n < (start_in kind joined + size) - end_in kind joined → n < (start_in kind joined + size) - end_in kind joined
+          of zero h = h
+          of (suc n) h = omega (arith, h)
+      not_more First h = h
+
+  pub window_got : Some (nth_window size (end_in kind joined) (number_among windows size (end_in kind joined) lead)) ≡ get_or (asked_for windows (choices (F.Window size kind) hits)) lead None
+  window_got =
+      let number = number_among windows size (end_in kind joined) lead in
+      sym
+      (ap (λ j. get_or (asked_for windows (map Some (windows_round size kind j))) lead None) (sym is)
+      ∙ got.1
+      ∙ get_or-map Some (windows_round size kind (Some joined)) number (window_at size (pos 0)) None (subst (λ n. number < n) (sym (length-windows size kind joined)) window_below)
+      ∙ ap Some
+      (get_or-map-range_with_len (nth_window size (end_in kind joined)) 0 ((start_in kind joined + size) - end_in kind joined) number number (window_at size (pos 0)) window_below (omega arith)))
+
+no_asked : (windows : Windows) (lead : ℕ) → None ≡ get_or (asked_for windows []) lead None
+no_asked Each lead = refl
+no_asked Telling lead = refl
+no_asked First lead = refl
+
+pub no_window : (windows : Windows) (size : ℕ) (kind : TextUnit) (hits : List Hit) (lead : ℕ) → None ≡ join hits → None ≡ get_or (asked_for windows (choices (F.Window size kind) hits)) lead None
+no_window windows size kind hits lead none = no_asked windows lead ∙ ap (λ j. get_or (asked_for windows (map Some (windows_round size kind j))) lead None) none
+
+-- how many windows are asked for
+abbrev pub count_among : Windows → ℕ → ℕ → ℕ → ℕ
+count_among Each size last all = all
+count_among Telling size last all = all - (size - suc last)
+count_among First size last all = min all 1
+
+counted : (windows : Windows) (size last all : ℕ) → (0 < all → size - suc last < all) → count_among windows size last all ≡ length (asked_for windows (map Some (map (nth_window size last) (range_with_len 0 all))))
+counted Each size last all few = sym (windows_length size last 0 all)
+counted Telling size last zero few = omega arith
+counted Telling size last (suc all) few =
+    let more = map Some (map (nth_window size last) (range_with_len 1 all)) in
+    let shorter : length (drop (up_to_zero (nth_window size last 0).from) more) ≡ all - (size - suc last) =
+    length-drop (up_to_zero (nth_window size last 0).from) more ∙ (λ i. windows_length size last 1 all i - first_window_gap size last i) in
+    omega (arith, shorter, few (omega arith))
+counted First size last zero few = refl
+counted First size last (suc all) few = omega arith
+
+pub count_asked : (windows : Windows) (size : ℕ) (kind : TextUnit) (hits : List Hit) (joined : Hit) → Some joined ≡ join hits
+    → count_among windows size (end_in kind joined) ((start_in kind joined + size) - end_in kind joined) ≡ length (asked_for windows (choices (F.Window size kind) hits))
+count_asked windows size kind hits joined is =
+    counted windows size (end_in kind joined) ((start_in kind joined + size) - end_in kind joined) (few_in_front (start_in kind joined) size (end_in kind joined))
+    ∙ ap (λ j. length (asked_for windows (map Some (windows_round size kind j)))) is
+
+none_counted : (windows : Windows) → 0 ≡ length (asked_for windows [])
+none_counted Each = refl
+none_counted Telling = refl
+none_counted First = refl
+
+pub count_none : (windows : Windows) (size : ℕ) (kind : TextUnit) (hits : List Hit) → None ≡ join hits → 0 ≡ length (asked_for windows (choices (F.Window size kind) hits))
+count_none windows size kind hits none = none_counted windows ∙ ap (λ j. length (asked_for windows (map Some (windows_round size kind j)))) none
 
 abbrev only_none : List (Option Window)
 only_none = None ∷ []
+
+pub asked_only : (windows : Windows) → asked_for windows only_none ≡ only_none
+asked_only Each = refl
+asked_only Telling = refl
+asked_only First = refl
 
 pub only_choice : (lead : ℕ) → None ≡ get_or only_none lead None
 only_choice zero = refl

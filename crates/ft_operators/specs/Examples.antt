@@ -54,6 +54,10 @@ two_from number = window_at 2 number
 abbrev pub within : Way → ℤ → Way
 within way number = by_filter way (F.Window 2 Words) (Some (two_from number))
 
+-- the choice of a window filter of that size, from that number on
+abbrev pub round_from : ℕ → ℤ → Option Window
+round_from size number = Some (window_at size number)
+
 -- a filter of a chain, with so many includes in front of its own, and with these
 abbrev pub put : Filter → Option Window → ℕ → ChainLink
 put kind window start = record { kind = kind; window = window; start = start }

@@ -1,5 +1,6 @@
 pub mod Phrases
 pub mod Standing
+pub mod Course
 pub mod Walk
 pub mod Tuples
 pub mod Chains

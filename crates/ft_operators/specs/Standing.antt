@@ -2,7 +2,9 @@
 use Rattle.std.specs.Prelude.{ℕ, Bool, ◌&&◌, List, [], ◌∷◌, drop}
 use Rattle.ft_base.specs.declared.hit.Hit.{Hit}
 use Rattle.ft_base.specs.declared.span.Span.{Span}
-use Rattle.all_matches.specs.Ways.{Operator, phrase, Way, way_includes, ways_of}
+use Rattle.all_matches.specs.Ways.{Operator, phrase, Way, way_includes}
+use Rattle.ft_operators.specs.declared.course.Course.{Course}
+use Rattle.ft_operators.specs.Course.{ways_on}
 use Rattle.ft_operators.specs.Phrases.{PhraseAims}
 
 -- at which spans of which documents an operator may be aimed, and the operator that it is there
@@ -51,9 +53,9 @@ pub record Standing : Type 0 where
 abbrev pub frame : Standing → Frame
 frame s = record { aims = s.aims; shape = s.shape; operator = s.operator }
 
--- before the first way, in the item of this span
-abbrev pub at_front : Span → Standing → Standing
-at_front item s = record { aims = s.aims; shape = s.shape; operator = s.operator; rest = ways_of item s.operator }
+-- before the first way of the course
+abbrev pub at_front : Course → Standing → Standing
+at_front course s = record { aims = s.aims; shape = s.shape; operator = s.operator; rest = ways_on course s.operator }
 
 -- one way further on
 abbrev pub one_on : Standing → Standing

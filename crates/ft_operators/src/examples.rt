@@ -1,10 +1,14 @@
 //! Spans told in their own numbers, the includes and windows of ways, and chains of filters, by computation.
 
-ghost use Rattle.std.specs.Prelude.{◌≡◌, ◌∷◌, [], pos, true, false, Some, None};
+ghost use Rattle.std.specs.Prelude.{◌≡◌, ◌∷◌, [], length, negsuc, pos, true, false, Some, None};
 ghost use Rattle.ft_base.specs.declared.filter.Filter.TheVariants as F;
+ghost use Rattle.ft_base.specs.declared.unit.TextUnit.TheVariants.{Words};
+ghost use Rattle.all_matches.specs.Filters.{choices};
 ghost use Rattle.all_matches.specs.Ways.{apart, either, negated, one_hit, phrase, through_filter, together, two_ways};
 ghost use Rattle.ft_operators.specs.Chains.{all_kept, clean_now, first_includes, links_from, outer_window, passes_now, way_window, window_now};
-ghost use Rattle.ft_operators.specs.Examples.{a, a_and_b, at, is_behind, link, moved, not_a, ordered, put, span, two_from, unmoved, within};
+ghost use Rattle.ft_operators.specs.Examples.{a, a_and_b, at, is_behind, link, moved, not_a, ordered, put, round_from, span, two_from, unmoved, within};
+ghost use Rattle.ft_operators.specs.Course.{asked_for, number_among, telling};
+ghost use Rattle.ft_operators.specs.declared.course.Windows.TheVariants.{Each, First, Telling};
 ghost use Rattle.ft_operators.specs.Walk.{at_next_way, own_span};
 
 /// The first word of a span is its word 1.
@@ -63,4 +67,25 @@ pub fn outermost_windows()
     ensures of_mild_not { outer_window (apart (phrase []) (phrase [])) (within a (pos 1) ∷ []) ≡ None }
     ensures of_negated { outer_window (negated (phrase [])) (within a (pos 1) ∷ []) ≡ None }
     ensures of_a_filter { outer_window (through_filter (phrase []) F.Ordered) (within a (pos 1) ∷ []) ≡ Some (two_from (pos 1)) }
+{}
+
+/// Of the windows that begin in front of the first word, the first one stands for all of them.
+pub fn telling_windows()
+    ensures some_in_front { telling (choices (F.Window 5 Words) (at 2 ∷ at 3 ∷ []))
+        ≡ round_from 5 (negsuc 0) ∷ round_from 5 (pos 1) ∷ round_from 5 (pos 2) ∷ [] }
+    ensures one_at_zero { telling (choices (F.Window 2 Words) (at 1 ∷ [])) ≡ round_from 2 (pos 0) ∷ round_from 2 (pos 1) ∷ [] }
+    ensures one_behind_another { telling (choices (F.Window 3 Words) (at 1 ∷ [])) ≡ round_from 3 (negsuc 0) ∷ round_from 3 (pos 1) ∷ [] }
+    ensures each_with_a_word { telling (choices (F.Window 2 Words) (at 2 ∷ [])) ≡ round_from 2 (pos 1) ∷ round_from 2 (pos 2) ∷ [] }
+    ensures no_window { telling (None ∷ []) ≡ None ∷ [] }
+    ensures none { telling [] ≡ [] }
+{}
+
+/// The windows of a million words round two of an item of five: there are as many as stand round them, and three tell.
+pub fn windows_asked_for()
+    ensures of_a_million { length (asked_for Telling (choices (F.Window 1000000 Words) (at 2 ∷ at 4 ∷ []))) ≡ 3 }
+    ensures each { asked_for Each (choices (F.Window 3 Words) (at 1 ∷ [])) ≡ choices (F.Window 3 Words) (at 1 ∷ []) }
+    ensures first { asked_for First (choices (F.Window 3 Words) (at 1 ∷ [])) ≡ round_from 3 (negsuc 0) ∷ [] }
+    ensures first_of_none { asked_for First [] ≡ [] }
+    ensures number_of_the_first { number_among Telling 5 3 0 ≡ 0 }
+    ensures number_of_the_second { number_among Telling 5 3 1 ≡ 2 }
 {}

@@ -1,7 +1,7 @@
 //! The includes of the present way of a node, put one after the other into memory that was taken before.
 
 ghost use Rattle.std.specs.Prelude.{◌≡◌, ◌≤◌, ◌<◌, ◌++◌, ◌∷◌, [], length, drop, option_to_list, vec_capacity};
-ghost use Rattle.ft_base.specs.declared.span.Span.{Span};
+ghost use Rattle.ft_operators.specs.declared.course.Course.{Course};
 ghost use Rattle.all_matches.specs.Filters.{after};
 ghost use Rattle.all_matches.specs.Join.{join};
 ghost use Rattle.ft_operators.specs.steps.Forms.{phrase_of};
@@ -15,7 +15,7 @@ use window_distance::{Includes, join};
 
 /// Puts the includes of the present way of the node behind the hits that are held, where there is room for them.
 pub(crate) fn gather<P: PhraseHits>(node: &Node<P>, held: &mut Vec<Hit>)
-    ensures { (item : Span) → Gathered (standing P.state item node.now)
+    ensures { (course : Course) → Gathered (standing P.state course node.now)
         (vec_capacity held.old) (vec_capacity held.new) held.old.items held.new.items }
 {
     match node {
@@ -43,7 +43,7 @@ pub(crate) fn gather<P: PhraseHits>(node: &Node<P>, held: &mut Vec<Hit>)
 
 /// Holds the includes of the present way of the node alone, where the walk is at one.
 pub(crate) fn hold<P: PhraseHits>(node: &Node<P>, there: bool, held: &mut Vec<Hit>)
-    ensures { (item : Span) → IsHeld there (standing P.state item node.now) (vec_capacity held.old) (vec_capacity held.new) held.new.items }
+    ensures { (course : Course) → IsHeld there (standing P.state course node.now) (vec_capacity held.old) (vec_capacity held.new) held.new.items }
 {
     if there {
         held.clear();

@@ -14,6 +14,7 @@ mod chain;
 mod chain_room;
 mod choosing;
 mod cleaning;
+mod course;
 pub mod examples;
 mod gathering;
 mod joining;

@@ -4,7 +4,7 @@ ghost use Rattle.std.specs.Prelude.{◌≡◌, ◌≤◌, ◌-◌, ◌||◌, not
 ghost use Rattle.std.specs.List.{list_any, range_with_len};
 ghost use Rattle.all_matches.specs.MildNot.{stands_out};
 ghost use Rattle.all_matches.specs.Positions.{covers, places_from_to};
-ghost use Rattle.ft_base.specs.declared.span.Span.{Span};
+ghost use Rattle.ft_operators.specs.declared.course.Course.{Course};
 ghost use Rattle.ft_operators.specs.Standing.{includes_now};
 ghost use Rattle.ft_operators.specs.steps.Apart.{MayTry, with_includes};
 ghost use Rattle.ft_operators.specs.steps.Nodes.{standing};
@@ -24,9 +24,9 @@ pub(crate) struct Tried {
 
 /// What the present way of the right side makes of those before it.
 pub(crate) fn with_way<P: PhraseHits>(tried: Tried, pair: &Pair<P>, held: &mut Vec<Hit>) -> Tried
-    ensures tried { (item : Span) → MayTry (standing P.state item pair.now.left) (standing P.state item pair.now.right) (vec_capacity held.old)
-        → result ≡ with_includes (includes_now ((standing P.state item pair.now.left).rest))
-        (includes_now ((standing P.state item pair.now.right).rest)) tried }
+    ensures tried { (course : Course) → MayTry (standing P.state course pair.now.left) (standing P.state course pair.now.right) (vec_capacity held.old)
+        → result ≡ with_includes (includes_now ((standing P.state course pair.now.left).rest))
+        (includes_now ((standing P.state course pair.now.right).rest)) tried }
     ensures room { vec_capacity held.old ≤ vec_capacity held.new }
 {
     held.clear();

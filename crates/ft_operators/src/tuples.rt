@@ -10,6 +10,7 @@ use crate::chain::Chain;
 use crate::chain_room::{ChainRoom, no_room, wider, with_filter};
 use crate::choosing::sieve_window;
 use crate::cleaning::{is_clean, some_is_clean};
+use crate::course::{Course, Windows};
 use crate::gathering::hold;
 use crate::joining::joined_memory;
 use crate::node::Node;
@@ -164,7 +165,11 @@ impl<P: PhraseHits + Drop> Tuples<P> {
         ensures room { room_of self.new ≡ room_of self.old }
         ensures grown { steps.old ≤ steps.new }
     {
-        self.there = first(&mut self.node, self.item, &mut self.held, steps);
+        let every = Course {
+            item: self.item,
+            windows: Windows::Each,
+        };
+        self.there = first(&mut self.node, every, &mut self.held, steps);
         hold(&self.node, self.there, &mut self.held);
         self.there
     }
@@ -177,7 +182,11 @@ impl<P: PhraseHits + Drop> Tuples<P> {
         ensures room { room_of self.new ≡ room_of self.old }
         ensures grown { steps.old ≤ steps.new }
     {
-        self.there = go_on(&mut self.node, self.item, &mut self.held, steps);
+        let every = Course {
+            item: self.item,
+            windows: Windows::Each,
+        };
+        self.there = go_on(&mut self.node, every, &mut self.held, steps);
         hold(&self.node, self.there, &mut self.held);
         self.there
     }
@@ -225,7 +234,11 @@ impl<P: PhraseHits + Drop> Tuples<P> {
         ensures chain { IsKept chain.old chain.new }
         ensures grown { steps.old ≤ steps.new }
     {
-        let clean = is_clean(&mut self.node, self.item, chain, &mut self.held, steps);
+        let every = Course {
+            item: self.item,
+            windows: Windows::Each,
+        };
+        let clean = is_clean(&mut self.node, every, chain, &mut self.held, steps);
         hold(&self.node, self.there, &mut self.held);
         clean
     }
@@ -233,6 +246,9 @@ impl<P: PhraseHits + Drop> Tuples<P> {
     /// Aims the phrases at the span of the document, and says whether the selection is satisfied there: whether one of
     /// its ways leaves no exclude. Negated selections stand neither inside one another nor inside mild not; else nothing
     /// is said of the answer.
+    ///
+    /// However large the windows of a filter are, in a way of its operand it goes through no more of them than the first
+    /// number of the joined hit and one: those that begin at a word, and the first one.
     pub fn satisfied_at<L: Ledger>(
         &mut self,
         doc: DocId,
@@ -252,6 +268,10 @@ impl<P: PhraseHits + Drop> Tuples<P> {
         ensures grown { steps.old ≤ steps.new }
     {
         self.aim(doc, span, steps);
-        some_is_clean(&mut self.node, self.item, chain, &mut self.held, steps)
+        let tellings = Course {
+            item: self.item,
+            windows: Windows::Telling,
+        };
+        some_is_clean(&mut self.node, tellings, chain, &mut self.held, steps)
     }
 }

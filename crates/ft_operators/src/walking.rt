@@ -1,7 +1,7 @@
 //! Going through the ways of a node, one after the other.
 
 ghost use Rattle.std.specs.Prelude.{◌≡◌, ◌≤◌, ℕ, vec_capacity};
-ghost use Rattle.ft_base.specs.declared.span.Span.{Span};
+ghost use Rattle.ft_operators.specs.declared.course.Course.{Course};
 ghost use Rattle.ft_operators.specs.Standing.{at_front, one_on};
 ghost use Rattle.ft_base.specs.Lists.{is_not_empty};
 ghost use Rattle.ft_operators.specs.steps.Apart.{IsTried};
@@ -11,33 +11,34 @@ ghost use Rattle.ft_operators.specs.steps.Walking.{Moved, MayGoOn};
 
 use crate::PhraseHits;
 use crate::choosing::choice_count;
+use crate::course::Course;
 use crate::node::{Fork, Node, Pair, Sieve};
 use crate::standing_out::{Tried, admits, with_way};
-use ft_base::{Hit, Span, Steps};
+use ft_base::{Hit, Steps};
 use std::sync::ledger::Ledger;
 
 /// Goes to the first way of the node. `held` is memory for the hits of ways, and what it holds is of no account.
 #[cycle(walk)]
 pub(crate) fn first<P: PhraseHits, L: Ledger>(
     node: &mut Node<P>,
-    item: Span,
+    course: Course,
     held: &mut Vec<Hit>,
     steps: &mut Steps<L>,
 ) -> bool
-    requires { (standing P.state item node.old).shape.room ≤ vec_capacity held.old }
-    ensures { Moved (at_front item (standing P.state item node.old)) (standing P.state item node.new)
+    requires { (standing P.state course node.old).shape.room ≤ vec_capacity held.old }
+    ensures { Moved (at_front course (standing P.state course node.old)) (standing P.state course node.new)
         (vec_capacity held.old) (vec_capacity held.new) steps.old steps.new result }
 {
     match node {
         Node::Phrase(phrase) => first_of_phrase(phrase, steps),
-        Node::Choice(fork) => first_of_fork(fork, item, held, steps),
-        Node::Both(pair) => first_of_pair(pair, item, held, steps),
-        Node::MildNot(pair) => first_apart(pair, item, held, steps),
+        Node::Choice(fork) => first_of_fork(fork, course, held, steps),
+        Node::Both(pair) => first_of_pair(pair, course, held, steps),
+        Node::MildNot(pair) => first_apart(pair, course, held, steps),
         Node::Negated(negation) => {
             negation.there = true;
             true
         }
-        Node::Filtered(sieve) => first_of_sieve(sieve, item, held, steps),
+        Node::Filtered(sieve) => first_of_sieve(sieve, course, held, steps),
     }
 }
 
@@ -45,30 +46,30 @@ pub(crate) fn first<P: PhraseHits, L: Ledger>(
 #[cycle(walk)]
 pub(crate) fn go_on<P: PhraseHits, L: Ledger>(
     node: &mut Node<P>,
-    item: Span,
+    course: Course,
     held: &mut Vec<Hit>,
     steps: &mut Steps<L>,
 ) -> bool
-    requires { MayGoOn (standing P.state item node.old) (vec_capacity held.old) }
-    ensures { Moved (one_on (standing P.state item node.old)) (standing P.state item node.new)
+    requires { MayGoOn (standing P.state course node.old) (vec_capacity held.old) }
+    ensures { Moved (one_on (standing P.state course node.old)) (standing P.state course node.new)
         (vec_capacity held.old) (vec_capacity held.new) steps.old steps.new result }
 {
     match node {
         Node::Phrase(phrase) => next_of_phrase(phrase, steps),
-        Node::Choice(fork) => next_of_fork(fork, item, held, steps),
-        Node::Both(pair) => next_of_pair(pair, item, held, steps),
-        Node::MildNot(pair) => next_apart(pair, item, held, steps),
+        Node::Choice(fork) => next_of_fork(fork, course, held, steps),
+        Node::Both(pair) => next_of_pair(pair, course, held, steps),
+        Node::MildNot(pair) => next_apart(pair, course, held, steps),
         Node::Negated(negation) => {
             negation.there = false;
             false
         }
-        Node::Filtered(sieve) => next_of_sieve(sieve, item, held, steps),
+        Node::Filtered(sieve) => next_of_sieve(sieve, course, held, steps),
     }
 }
 
 fn first_of_phrase<P: PhraseHits, L: Ledger>(phrase: &mut P, steps: &mut Steps<L>) -> bool
-    ensures { (item : Span) (room : ℕ)
-        → Moved (at_front item (phrase_of (P.state phrase.old))) (phrase_of (P.state phrase.new)) room room steps.old steps.new result }
+    ensures { (course : Course) (room : ℕ)
+        → Moved (at_front course (phrase_of (P.state phrase.old))) (phrase_of (P.state phrase.new)) room room steps.old steps.new result }
 {
     phrase.first(steps);
     phrase.here().is_some()
@@ -84,108 +85,108 @@ fn next_of_phrase<P: PhraseHits, L: Ledger>(phrase: &mut P, steps: &mut Steps<L>
 #[cycle(walk)]
 fn first_of_fork<P: PhraseHits, L: Ledger>(
     fork: &mut Fork<P>,
-    item: Span,
+    course: Course,
     held: &mut Vec<Hit>,
     steps: &mut Steps<L>,
 ) -> bool
-    requires { (fork_standing P.state item fork.old).shape.room ≤ vec_capacity held.old }
-    ensures { Moved (at_front item (fork_standing P.state item fork.old)) (fork_standing P.state item fork.new)
+    requires { (fork_standing P.state course fork.old).shape.room ≤ vec_capacity held.old }
+    ensures { Moved (at_front course (fork_standing P.state course fork.old)) (fork_standing P.state course fork.new)
         (vec_capacity held.old) (vec_capacity held.new) steps.old steps.new result }
 {
-    if first(&mut fork.left, item, held, steps) {
+    if first(&mut fork.left, course, held, steps) {
         fork.second = false;
         return true;
     }
     fork.second = true;
-    first(&mut fork.right, item, held, steps)
+    first(&mut fork.right, course, held, steps)
 }
 
 #[cycle(walk)]
 fn next_of_fork<P: PhraseHits, L: Ledger>(
     fork: &mut Fork<P>,
-    item: Span,
+    course: Course,
     held: &mut Vec<Hit>,
     steps: &mut Steps<L>,
 ) -> bool
-    requires { MayGoOn (fork_standing P.state item fork.old) (vec_capacity held.old) }
-    ensures { Moved (one_on (fork_standing P.state item fork.old)) (fork_standing P.state item fork.new)
+    requires { MayGoOn (fork_standing P.state course fork.old) (vec_capacity held.old) }
+    ensures { Moved (one_on (fork_standing P.state course fork.old)) (fork_standing P.state course fork.new)
         (vec_capacity held.old) (vec_capacity held.new) steps.old steps.new result }
 {
     if fork.second {
-        return go_on(&mut fork.right, item, held, steps);
+        return go_on(&mut fork.right, course, held, steps);
     }
-    if go_on(&mut fork.left, item, held, steps) {
+    if go_on(&mut fork.left, course, held, steps) {
         return true;
     }
     fork.second = true;
-    first(&mut fork.right, item, held, steps)
+    first(&mut fork.right, course, held, steps)
 }
 
 #[cycle(walk)]
 fn first_of_pair<P: PhraseHits, L: Ledger>(
     pair: &mut Pair<P>,
-    item: Span,
+    course: Course,
     held: &mut Vec<Hit>,
     steps: &mut Steps<L>,
 ) -> bool
-    requires { (pair_standing P.state item pair.old).shape.room ≤ vec_capacity held.old }
-    ensures { Moved (at_front item (pair_standing P.state item pair.old)) (pair_standing P.state item pair.new)
+    requires { (pair_standing P.state course pair.old).shape.room ≤ vec_capacity held.old }
+    ensures { Moved (at_front course (pair_standing P.state course pair.old)) (pair_standing P.state course pair.new)
         (vec_capacity held.old) (vec_capacity held.new) steps.old steps.new result }
 {
-    first(&mut pair.left, item, held, steps) && first(&mut pair.right, item, held, steps)
+    first(&mut pair.left, course, held, steps) && first(&mut pair.right, course, held, steps)
 }
 
 #[cycle(walk)]
 fn next_of_pair<P: PhraseHits, L: Ledger>(
     pair: &mut Pair<P>,
-    item: Span,
+    course: Course,
     held: &mut Vec<Hit>,
     steps: &mut Steps<L>,
 ) -> bool
-    requires { MayGoOn (pair_standing P.state item pair.old) (vec_capacity held.old) }
-    ensures { Moved (one_on (pair_standing P.state item pair.old)) (pair_standing P.state item pair.new)
+    requires { MayGoOn (pair_standing P.state course pair.old) (vec_capacity held.old) }
+    ensures { Moved (one_on (pair_standing P.state course pair.old)) (pair_standing P.state course pair.new)
         (vec_capacity held.old) (vec_capacity held.new) steps.old steps.new result }
 {
-    if go_on(&mut pair.right, item, held, steps) {
+    if go_on(&mut pair.right, course, held, steps) {
         return true;
     }
-    go_on(&mut pair.left, item, held, steps) && first(&mut pair.right, item, held, steps)
+    go_on(&mut pair.left, course, held, steps) && first(&mut pair.right, course, held, steps)
 }
 
 /// Goes to the first way of the operand through which there is a way through the filter.
 #[cycle(walk)]
 fn first_of_sieve<P: PhraseHits, L: Ledger>(
     sieve: &mut Sieve<P>,
-    item: Span,
+    course: Course,
     held: &mut Vec<Hit>,
     steps: &mut Steps<L>,
 ) -> bool
-    requires { (sieve_standing P.state item sieve.old).shape.room ≤ vec_capacity held.old }
-    ensures { Moved (at_front item (sieve_standing P.state item sieve.old)) (sieve_standing P.state item sieve.new)
+    requires { (sieve_standing P.state course sieve.old).shape.room ≤ vec_capacity held.old }
+    ensures { Moved (at_front course (sieve_standing P.state course sieve.old)) (sieve_standing P.state course sieve.new)
         (vec_capacity held.old) (vec_capacity held.new) steps.old steps.new result }
 {
-    let there = first(&mut sieve.operand, item, held, steps);
-    settle(sieve, there, item, held, steps)
+    let there = first(&mut sieve.operand, course, held, steps);
+    settle(sieve, there, course, held, steps)
 }
 
 #[cycle(walk)]
 fn next_of_sieve<P: PhraseHits, L: Ledger>(
     sieve: &mut Sieve<P>,
-    item: Span,
+    course: Course,
     held: &mut Vec<Hit>,
     steps: &mut Steps<L>,
 ) -> bool
-    requires { MayGoOn (sieve_standing P.state item sieve.old) (vec_capacity held.old) }
-    ensures { Moved (one_on (sieve_standing P.state item sieve.old)) (sieve_standing P.state item sieve.new)
+    requires { MayGoOn (sieve_standing P.state course sieve.old) (vec_capacity held.old) }
+    ensures { Moved (one_on (sieve_standing P.state course sieve.old)) (sieve_standing P.state course sieve.new)
         (vec_capacity held.old) (vec_capacity held.new) steps.old steps.new result }
 {
-    let count = choice_count(&sieve.kind, &sieve.operand, item, held);
+    let count = choice_count(&sieve.kind, &sieve.operand, course, held);
     if sieve.lead + 1 < count {
         sieve.lead += 1;
         return true;
     }
-    let there = go_on(&mut sieve.operand, item, held, steps);
-    settle(sieve, there, item, held, steps)
+    let there = go_on(&mut sieve.operand, course, held, steps);
+    settle(sieve, there, course, held, steps)
 }
 
 /// Goes on to the first way of the operand, from the present one on, that the filter keeps, and to its first choice.
@@ -193,22 +194,22 @@ fn next_of_sieve<P: PhraseHits, L: Ledger>(
 fn settle<P: PhraseHits, L: Ledger>(
     sieve: &mut Sieve<P>,
     there: bool,
-    item: Span,
+    course: Course,
     held: &mut Vec<Hit>,
     steps: &mut Steps<L>,
 ) -> bool
-    requires there { there ≡ is_not_empty ((standing P.state item sieve.old.operand).rest) }
-    requires fits { (standing P.state item sieve.old.operand).shape.room ≤ vec_capacity held.old }
-    ensures { Moved (sifted item sieve.old.kind (standing P.state item sieve.old.operand)) (sieve_standing P.state item sieve.new)
+    requires there { there ≡ is_not_empty ((standing P.state course sieve.old.operand).rest) }
+    requires fits { (standing P.state course sieve.old.operand).shape.room ≤ vec_capacity held.old }
+    ensures { Moved (sifted course sieve.old.kind (standing P.state course sieve.old.operand)) (sieve_standing P.state course sieve.new)
         (vec_capacity held.old) (vec_capacity held.new) steps.old steps.new result }
 {
     sieve.lead = 0;
     let mut there = there;
     while there {
-        if choice_count(&sieve.kind, &sieve.operand, item, held) > 0 {
+        if choice_count(&sieve.kind, &sieve.operand, course, held) > 0 {
             return true;
         }
-        there = go_on(&mut sieve.operand, item, held, steps);
+        there = go_on(&mut sieve.operand, course, held, steps);
     }
     false
 }
@@ -217,31 +218,31 @@ fn settle<P: PhraseHits, L: Ledger>(
 #[cycle(walk)]
 fn first_apart<P: PhraseHits, L: Ledger>(
     pair: &mut Pair<P>,
-    item: Span,
+    course: Course,
     held: &mut Vec<Hit>,
     steps: &mut Steps<L>,
 ) -> bool
-    requires { (apart_standing P.state item pair.old).shape.room ≤ vec_capacity held.old }
-    ensures { Moved (at_front item (apart_standing P.state item pair.old)) (apart_standing P.state item pair.new)
+    requires { (apart_standing P.state course pair.old).shape.room ≤ vec_capacity held.old }
+    ensures { Moved (at_front course (apart_standing P.state course pair.old)) (apart_standing P.state course pair.new)
         (vec_capacity held.old) (vec_capacity held.new) steps.old steps.new result }
 {
-    let there = first(&mut pair.left, item, held, steps);
-    settle_apart(pair, there, item, held, steps)
+    let there = first(&mut pair.left, course, held, steps);
+    settle_apart(pair, there, course, held, steps)
 }
 
 #[cycle(walk)]
 fn next_apart<P: PhraseHits, L: Ledger>(
     pair: &mut Pair<P>,
-    item: Span,
+    course: Course,
     held: &mut Vec<Hit>,
     steps: &mut Steps<L>,
 ) -> bool
-    requires { MayGoOn (apart_standing P.state item pair.old) (vec_capacity held.old) }
-    ensures { Moved (one_on (apart_standing P.state item pair.old)) (apart_standing P.state item pair.new)
+    requires { MayGoOn (apart_standing P.state course pair.old) (vec_capacity held.old) }
+    ensures { Moved (one_on (apart_standing P.state course pair.old)) (apart_standing P.state course pair.new)
         (vec_capacity held.old) (vec_capacity held.new) steps.old steps.new result }
 {
-    let there = go_on(&mut pair.left, item, held, steps);
-    settle_apart(pair, there, item, held, steps)
+    let there = go_on(&mut pair.left, course, held, steps);
+    settle_apart(pair, there, course, held, steps)
 }
 
 /// Goes on to the first way of the left side, from the present one on, that stands out of each of the right side.
@@ -249,21 +250,21 @@ fn next_apart<P: PhraseHits, L: Ledger>(
 fn settle_apart<P: PhraseHits, L: Ledger>(
     pair: &mut Pair<P>,
     there: bool,
-    item: Span,
+    course: Course,
     held: &mut Vec<Hit>,
     steps: &mut Steps<L>,
 ) -> bool
-    requires there { there ≡ is_not_empty ((standing P.state item pair.old.left).rest) }
-    requires fits { (apart_standing P.state item pair.old).shape.room ≤ vec_capacity held.old }
-    ensures { Moved (apart_sifted item (standing P.state item pair.old.left) (standing P.state item pair.old.right)) (apart_standing P.state item pair.new)
-        (vec_capacity held.old) (vec_capacity held.new) steps.old steps.new result }
+    requires there { there ≡ is_not_empty ((standing P.state course pair.old.left).rest) }
+    requires fits { (apart_standing P.state course pair.old).shape.room ≤ vec_capacity held.old }
+    ensures { Moved (apart_sifted course (standing P.state course pair.old.left) (standing P.state course pair.old.right))
+        (apart_standing P.state course pair.new) (vec_capacity held.old) (vec_capacity held.new) steps.old steps.new result }
 {
     let mut there = there;
     while there {
-        if is_admitted(pair, item, held, steps) {
+        if is_admitted(pair, course, held, steps) {
             return true;
         }
-        there = go_on(&mut pair.left, item, held, steps);
+        there = go_on(&mut pair.left, course, held, steps);
     }
     false
 }
@@ -272,23 +273,23 @@ fn settle_apart<P: PhraseHits, L: Ledger>(
 #[cycle(walk)]
 fn is_admitted<P: PhraseHits, L: Ledger>(
     pair: &mut Pair<P>,
-    item: Span,
+    course: Course,
     held: &mut Vec<Hit>,
     steps: &mut Steps<L>,
 ) -> bool
-    requires { MayGoOn (apart_standing P.state item pair.old) (vec_capacity held.old) }
-    ensures { IsTried item (standing P.state item pair.old.left) (standing P.state item pair.old.right)
-        (standing P.state item pair.new.left) (standing P.state item pair.new.right)
+    requires { MayGoOn (apart_standing P.state course pair.old) (vec_capacity held.old) }
+    ensures { IsTried course (standing P.state course pair.old.left) (standing P.state course pair.old.right)
+        (standing P.state course pair.new.left) (standing P.state course pair.new.right)
         (vec_capacity held.old) (vec_capacity held.new) steps.old steps.new result }
 {
     let mut tried = Tried {
         some: false,
         all: true,
     };
-    let mut there = first(&mut pair.right, item, held, steps);
+    let mut there = first(&mut pair.right, course, held, steps);
     while there {
         tried = with_way(tried, pair, held);
-        there = go_on(&mut pair.right, item, held, steps);
+        there = go_on(&mut pair.right, course, held, steps);
     }
     admits(tried)
 }

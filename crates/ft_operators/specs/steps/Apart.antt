@@ -3,9 +3,10 @@ use Rattle.std.specs.Prelude.{◌≡◌, ℕ, ◌+◌, ◌≤◌, Bool, true, fa
 use Rattle.std.specs.List.{list_any, list_all}
 use Rattle.ft_base.specs.Lists.{is_not_empty}
 use Rattle.ft_base.specs.declared.hit.Hit.{Hit}
-use Rattle.ft_base.specs.declared.span.Span.{Span}
 use Rattle.all_matches.specs.MildNot.{stands_out}
-use Rattle.all_matches.specs.Ways.{Way, way_includes, standing_out, ways_of}
+use Rattle.all_matches.specs.Ways.{Way, way_includes, standing_out}
+use Rattle.ft_operators.specs.declared.course.Course.{Course}
+use Rattle.ft_operators.specs.Course.{ways_on}
 use Rattle.ft_operators.specs.declared.standing_out.Tried.{Tried}
 use Rattle.ft_operators.specs.Standing.{Standing, frame, includes_now}
 
@@ -25,10 +26,10 @@ abbrev pub admitted : List Way → List Hit → Bool
 admitted right left = not (list_any (λ way. is_not_empty (way_includes way)) right) || list_all (λ way. stands_out left (way_includes way)) right
 
 -- a way of the left side that was tried against each of the right side
-pub record IsTried (item : Span) (left right left_now right_now : Standing) (room new_room start end : ℕ) (answer : Bool) : Type 0 where
+pub record IsTried (course : Course) (left right left_now right_now : Standing) (room new_room start end : ℕ) (answer : Bool) : Type 0 where
   pub same_left : left_now ≡ left
   pub same_right : frame right_now ≡ frame right
-  pub tried : answer ≡ admitted (ways_of item right.operator) (includes_now left.rest)
+  pub tried : answer ≡ admitted (ways_on course right.operator) (includes_now left.rest)
   pub kept_room : room ≤ new_room
   pub grown : start ≤ end
 
@@ -39,17 +40,17 @@ pub record MayTry (left right : Standing) (room : ℕ) : Type 0 where
   pub fits : left.shape.room + right.shape.room ≤ room
 
 -- what the loop over the right side keeps: the ways that are left make of those tried what all make of none
-pub record Trying (item : Span) (left right left_now right_now : Standing) (room new_room start end : ℕ) (so_far : Tried) (there : Bool) : Type 0 where
+pub record Trying (course : Course) (left right left_now right_now : Standing) (room new_room start end : ℕ) (so_far : Tried) (there : Bool) : Type 0 where
   pub same_left : left_now ≡ left
   pub same_right : frame right_now ≡ frame right
-  pub tried : tried_ways (includes_now left.rest) so_far right_now.rest ≡ tried_ways (includes_now left.rest) none_tried (ways_of item right.operator)
+  pub tried : tried_ways (includes_now left.rest) so_far right_now.rest ≡ tried_ways (includes_now left.rest) none_tried (ways_on course right.operator)
   pub there_now : there ≡ is_not_empty right_now.rest
   pub kept_room : room ≤ new_room
   pub grown : start ≤ end
 
 -- what the loop over the left side keeps: what was passed over doesn't stand out
-pub record Sifting (item : Span) (left right left_now right_now : Standing) (room new_room start end : ℕ) (there : Bool) : Type 0 where
-  pub passed : standing_out left_now.rest (ways_of item right.operator) ≡ standing_out left.rest (ways_of item right.operator)
+pub record Sifting (course : Course) (left right left_now right_now : Standing) (room new_room start end : ℕ) (there : Bool) : Type 0 where
+  pub passed : standing_out left_now.rest (ways_on course right.operator) ≡ standing_out left.rest (ways_on course right.operator)
   pub same_left : frame left_now ≡ frame left
   pub same_right : frame right_now ≡ frame right
   pub there_now : there ≡ is_not_empty left_now.rest

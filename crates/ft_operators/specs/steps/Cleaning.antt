@@ -2,24 +2,25 @@
 use Rattle.std.specs.Prelude.{◌≡◌, ℕ, ◌≤◌, Bool, true}
 use Rattle.std.specs.List.{list_any}
 use Rattle.ft_base.specs.Lists.{is_not_empty}
-use Rattle.ft_base.specs.declared.span.Span.{Span}
 use Rattle.all_matches.specs.Chain.{kept_by}
-use Rattle.all_matches.specs.Ways.{Way, ways_of, is_plain}
+use Rattle.all_matches.specs.Ways.{Way, is_plain}
+use Rattle.ft_operators.specs.declared.course.Course.{Course}
+use Rattle.ft_operators.specs.Course.{ways_on}
 use Rattle.ft_operators.specs.declared.chain.Chain.{Chain}
 use Rattle.ft_operators.specs.Chains.{clean_now, links_of, IsKept}
 use Rattle.ft_operators.specs.Standing.{Standing, frame}
 
 -- a walk that was gone through until a way passed the test; the answer is known where that is known of each way
-pub record Searched (item : Span) (known : Type 0) (test : Way → Bool) (old now : Standing) (room new_room start end : ℕ) (answer : Bool) : Type 0 where
+pub record Searched (course : Course) (known : Type 0) (test : Way → Bool) (old now : Standing) (room new_room start end : ℕ) (answer : Bool) : Type 0 where
   pub same : frame now ≡ frame old
-  pub found : known → answer ≡ list_any test (ways_of item old.operator)
+  pub found : known → answer ≡ list_any test (ways_on course old.operator)
   pub kept_room : room ≤ new_room
   pub grown : start ≤ end
 
 -- what the loop keeps: what was passed over fails the test
-pub record Searching (item : Span) (known : Type 0) (test : Way → Bool) (old now : Standing) (room new_room start end : ℕ) (there : Bool) : Type 0 where
+pub record Searching (course : Course) (known : Type 0) (test : Way → Bool) (old now : Standing) (room new_room start end : ℕ) (there : Bool) : Type 0 where
   pub same : frame now ≡ frame old
-  pub passed : known → list_any test now.rest ≡ list_any test (ways_of item old.operator)
+  pub passed : known → list_any test now.rest ≡ list_any test (ways_on course old.operator)
   pub there_now : there ≡ is_not_empty now.rest
   pub kept_room : room ≤ new_room
   pub grown : start ≤ end
@@ -40,11 +41,13 @@ pub record Asked (old now : Standing) (before after : Chain) (room new_room star
   pub grown : start ≤ end
 
 -- what the loop over the ways keeps: those that were passed over are not clean
-pub record Deciding (item : Span) (test : Way → Bool) (old now : Standing) (before after : Chain) (room new_room start end : ℕ) (there : Bool) : Type 0 where
-  pub search : Searching item (is_plain old.operator ≡ true) test old now room new_room start end there
+pub record Deciding (course : Course) (test : Way → Bool) (old now : Standing) (before after : Chain)
+    (room new_room start end : ℕ) (there : Bool) : Type 0 where
+  pub search : Searching course (is_plain old.operator ≡ true) test old now room new_room start end there
   pub kept : IsKept before after
 
 -- the answer of that loop
-pub record Decided (item : Span) (test : Way → Bool) (old now : Standing) (before after : Chain) (room new_room start end : ℕ) (answer : Bool) : Type 0 where
-  pub search : Searched item (is_plain old.operator ≡ true) test old now room new_room start end answer
+pub record Decided (course : Course) (test : Way → Bool) (old now : Standing) (before after : Chain)
+    (room new_room start end : ℕ) (answer : Bool) : Type 0 where
+  pub search : Searched course (is_plain old.operator ≡ true) test old now room new_room start end answer
   pub kept : IsKept before after

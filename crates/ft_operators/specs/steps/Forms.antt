@@ -4,11 +4,12 @@ use Rattle.std.specs.Prelude.{ℕ, ◌+◌, max, Bool, if◌then◌else◌, Opti
 use Rattle.std.specs.Prelude.{List, [], ◌∷◌, ◌++◌, map, flat_map, length, drop}
 use Rattle.ft_base.specs.declared.filter.Filter.{Filter}
 use Rattle.ft_base.specs.declared.hit.Hit.{Hit}
-use Rattle.ft_base.specs.declared.span.Span.{Span}
 use Rattle.all_matches.specs.declared.window.Window.{Window}
 use Rattle.all_matches.specs.Filters.{passes, choices}
 use Rattle.all_matches.specs.Ways.{phrase, either, together, apart, negated, through_filter, matches_of}
-use Rattle.all_matches.specs.Ways.{Way, one_hit, two_ways, turned_about, by_filter, way_includes, filtered_ways, standing_out, ways_of}
+use Rattle.all_matches.specs.Ways.{Way, one_hit, two_ways, turned_about, by_filter, way_includes, standing_out}
+use Rattle.ft_operators.specs.declared.course.Course.{Course}
+use Rattle.ft_operators.specs.Course.{asked_for, filtered_on, ways_on}
 use Rattle.ft_operators.specs.Phrases.{PhraseState}
 use Rattle.ft_operators.specs.Standing.{Shape, Frame, Standing, phrase_aims, one_aims, two_aims}
 
@@ -65,12 +66,12 @@ abbrev pub first_left : List Way → List Way → List Way
 first_left [] all = []
 first_left (a ∷ more) all = (a ∷ more) ++ all
 
-abbrev pub choice_of : Span → Bool → Standing → Standing → Standing
-choice_of item second left right = record {
+abbrev pub choice_of : Course → Bool → Standing → Standing → Standing
+choice_of course second left right = record {
   aims = two_aims either left.aims right.aims;
   shape = choice_shape left.shape right.shape;
   operator = either left.operator right.operator;
-  rest = if second then right.rest else first_left left.rest (ways_of item right.operator);
+  rest = if second then right.rest else first_left left.rest (ways_on course right.operator);
 }
 
 -- the present way of the left side with what is left of the right side, and then each further one with all of the right side
@@ -79,12 +80,12 @@ pairs_left [] now all = []
 pairs_left (a ∷ more) [] all = []
 pairs_left (a ∷ more) (b ∷ rest) all = map (two_ways a) (b ∷ rest) ++ flat_map (λ other. map (two_ways other) all) more
 
-abbrev pub both_of : Span → Standing → Standing → Standing
-both_of item left right = record {
+abbrev pub both_of : Course → Standing → Standing → Standing
+both_of course left right = record {
   aims = two_aims together left.aims right.aims;
   shape = both_shape left.shape right.shape;
   operator = together left.operator right.operator;
-  rest = pairs_left left.rest right.rest (ways_of item right.operator);
+  rest = pairs_left left.rest right.rest (ways_on course right.operator);
 }
 
 -- the present way of the left side, and then those further ones that stand out
@@ -92,68 +93,68 @@ abbrev pub apart_left : List Way → List Way → List Way
 apart_left [] all = []
 apart_left (a ∷ more) all = a ∷ standing_out more all
 
-abbrev pub apart_of : Span → Standing → Standing → Standing
-apart_of item left right = record {
+abbrev pub apart_of : Course → Standing → Standing → Standing
+apart_of course left right = record {
   aims = two_aims apart left.aims right.aims;
   shape = apart_shape left.shape right.shape;
   operator = apart left.operator right.operator;
-  rest = apart_left left.rest (ways_of item right.operator);
+  rest = apart_left left.rest (ways_on course right.operator);
 }
 
 -- before the first of the ways that the left side has left which stand out
-abbrev pub apart_sifted : Span → Standing → Standing → Standing
-apart_sifted item left right = record {
+abbrev pub apart_sifted : Course → Standing → Standing → Standing
+apart_sifted course left right = record {
   aims = two_aims apart left.aims right.aims;
   shape = apart_shape left.shape right.shape;
   operator = apart left.operator right.operator;
-  rest = standing_out left.rest (ways_of item right.operator);
+  rest = standing_out left.rest (ways_on course right.operator);
 }
 
 -- the one way of a negated selection, where it isn't passed. Where a walk through the operand stands doesn't matter
-abbrev pub negation_of : Span → Bool → Standing → Standing
-negation_of item there operand = record {
+abbrev pub negation_of : Course → Bool → Standing → Standing
+negation_of course there operand = record {
   aims = one_aims negated operand.aims;
   shape = negated_shape operand.shape;
   operator = negated operand.operator;
-  rest = if there then turned_about (matches_of item operand.operator) ∷ [] else [];
+  rest = if there then turned_about (matches_of course.item operand.operator) ∷ [] else [];
 }
 
--- the choices of a filter that keeps a Match with these includes
-abbrev pub choices_of : Filter → Span → List Hit → List (Option Window)
-choices_of kind item includes = if passes kind includes item then choices kind includes else []
+-- the choices that are asked for of a filter that keeps a Match with these includes
+abbrev pub choices_of : Filter → Course → List Hit → List (Option Window)
+choices_of kind course includes = if passes kind includes course.item then asked_for course.windows (choices kind includes) else []
 
-abbrev pub choices_at : Filter → Span → Way → List (Option Window)
-choices_at kind item way = choices_of kind item (way_includes way)
+abbrev pub choices_at : Filter → Course → Way → List (Option Window)
+choices_at kind course way = choices_of kind course (way_includes way)
 
 -- how many choices the filter has in the first of some ways
-abbrev pub count_now : Filter → Span → List Way → ℕ
-count_now kind item [] = 0
-count_now kind item (way ∷ rest) = length (choices_at kind item way)
+abbrev pub count_now : Filter → Course → List Way → ℕ
+count_now kind course [] = 0
+count_now kind course (way ∷ rest) = length (choices_at kind course way)
 
 -- the choices that are left in the present way, and then the ways through the filter of each further one
 abbrev pub chosen_left : Filter → Way → List (Option Window) → List Way → List Way
 chosen_left kind way [] later = []
 chosen_left kind way (choice ∷ more) later = map (by_filter way kind) (choice ∷ more) ++ later
 
-abbrev pub sieve_left : Filter → Span → ℕ → List Way → List Way
-sieve_left kind item lead [] = []
-sieve_left kind item lead (way ∷ more) = chosen_left kind way (drop lead (choices_at kind item way)) (flat_map (filtered_ways kind item) more)
+abbrev pub sieve_left : Filter → Course → ℕ → List Way → List Way
+sieve_left kind course lead [] = []
+sieve_left kind course lead (way ∷ more) = chosen_left kind way (drop lead (choices_at kind course way)) (flat_map (filtered_on kind course) more)
 
-abbrev pub sieve_of : Span → Filter → ℕ → Standing → Standing
-sieve_of item kind lead operand = record {
+abbrev pub sieve_of : Course → Filter → ℕ → Standing → Standing
+sieve_of course kind lead operand = record {
   aims = one_aims (λ operator. through_filter operator kind) operand.aims;
   shape = filtered_shape operand.shape;
   operator = through_filter operand.operator kind;
-  rest = sieve_left kind item lead operand.rest;
+  rest = sieve_left kind course lead operand.rest;
 }
 
 -- before the first way through the filter of those that the operand has left
-abbrev pub sifted : Span → Filter → Standing → Standing
-sifted item kind operand = record {
+abbrev pub sifted : Course → Filter → Standing → Standing
+sifted course kind operand = record {
   aims = one_aims (λ operator. through_filter operator kind) operand.aims;
   shape = filtered_shape operand.shape;
   operator = through_filter operand.operator kind;
-  rest = flat_map (filtered_ways kind item) operand.rest;
+  rest = flat_map (filtered_on kind course) operand.rest;
 }
 
 -- ---- what stays, whatever the place: an operator's frame, made of those of its operands

@@ -1,5 +1,5 @@
 -- Where the walk through the ways of a node stands.
-use Rattle.ft_base.specs.declared.span.Span.{Span}
+use Rattle.ft_operators.specs.declared.course.Course.{Course}
 use Rattle.ft_operators.specs.declared.node.Node.{Node, Phrase, Choice', Both', MildNot', Negated', Filtered'}
 use Rattle.ft_operators.specs.declared.node.Fork.{Fork}
 use Rattle.ft_operators.specs.declared.node.Pair.{Pair}
@@ -11,28 +11,28 @@ use Rattle.ft_operators.specs.steps.Forms.{phrase_of, choice_of, both_of, apart_
 use Rattle.ft_operators.specs.steps.Forms.{phrase_shape, choice_shape, both_shape, apart_shape, negated_shape, filtered_shape}
 use Rattle.ft_operators.specs.steps.Forms.{choice_frame, both_frame, apart_frame, negated_frame, filtered_frame}
 
-unfoldable pub standing : {P : Type 0} → (P → PhraseState) → Span → Node P → Standing
-standing state item (Phrase found) = phrase_of (state found)
-standing state item (Choice' p left right second) = choice_of item second (standing state item left) (standing state item right)
-standing state item (Both' p left right) = both_of item (standing state item left) (standing state item right)
-standing state item (MildNot' p left right) = apart_of item (standing state item left) (standing state item right)
-standing state item (Negated' p operand there) = negation_of item there (standing state item operand)
-standing state item (Filtered' p operand kind lead) = sieve_of item kind lead (standing state item operand)
+unfoldable pub standing : {P : Type 0} → (P → PhraseState) → Course → Node P → Standing
+standing state course (Phrase found) = phrase_of (state found)
+standing state course (Choice' p left right second) = choice_of course second (standing state course left) (standing state course right)
+standing state course (Both' p left right) = both_of course (standing state course left) (standing state course right)
+standing state course (MildNot' p left right) = apart_of course (standing state course left) (standing state course right)
+standing state course (Negated' p operand there) = negation_of course there (standing state course operand)
+standing state course (Filtered' p operand kind lead) = sieve_of course kind lead (standing state course operand)
 
-abbrev pub fork_standing : {P : Type 0} → (P → PhraseState) → Span → Fork P → Standing
-fork_standing state item fork = choice_of item fork.second (standing state item fork.left) (standing state item fork.right)
+abbrev pub fork_standing : {P : Type 0} → (P → PhraseState) → Course → Fork P → Standing
+fork_standing state course fork = choice_of course fork.second (standing state course fork.left) (standing state course fork.right)
 
-abbrev pub pair_standing : {P : Type 0} → (P → PhraseState) → Span → Pair P → Standing
-pair_standing state item pair = both_of item (standing state item pair.left) (standing state item pair.right)
+abbrev pub pair_standing : {P : Type 0} → (P → PhraseState) → Course → Pair P → Standing
+pair_standing state course pair = both_of course (standing state course pair.left) (standing state course pair.right)
 
-abbrev pub apart_standing : {P : Type 0} → (P → PhraseState) → Span → Pair P → Standing
-apart_standing state item pair = apart_of item (standing state item pair.left) (standing state item pair.right)
+abbrev pub apart_standing : {P : Type 0} → (P → PhraseState) → Course → Pair P → Standing
+apart_standing state course pair = apart_of course (standing state course pair.left) (standing state course pair.right)
 
-abbrev pub negation_standing : {P : Type 0} → (P → PhraseState) → Span → Negation P → Standing
-negation_standing state item negation = negation_of item negation.there (standing state item negation.operand)
+abbrev pub negation_standing : {P : Type 0} → (P → PhraseState) → Course → Negation P → Standing
+negation_standing state course negation = negation_of course negation.there (standing state course negation.operand)
 
-abbrev pub sieve_standing : {P : Type 0} → (P → PhraseState) → Span → Sieve P → Standing
-sieve_standing state item sieve = sieve_of item sieve.kind sieve.lead (standing state item sieve.operand)
+abbrev pub sieve_standing : {P : Type 0} → (P → PhraseState) → Course → Sieve P → Standing
+sieve_standing state course sieve = sieve_of course sieve.kind sieve.lead (standing state course sieve.operand)
 
 -- the frame of a node, whatever the place of the walk
 unfoldable pub frame_of : {P : Type 0} → (P → PhraseState) → Node P → Frame

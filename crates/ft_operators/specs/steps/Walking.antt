@@ -4,6 +4,7 @@ use Rattle.ft_base.specs.Lists.{is_not_empty}
 use Rattle.ft_base.specs.declared.filter.Filter.{Filter}
 use Rattle.ft_base.specs.declared.hit.Hit.{Hit}
 use Rattle.ft_base.specs.declared.span.Span.{Span}
+use Rattle.ft_operators.specs.declared.course.Course.{Course}
 use Rattle.ft_operators.specs.Standing.{Frame, Shape, Standing, aimed, includes_now}
 use Rattle.ft_operators.specs.steps.Forms.{sifted}
 
@@ -33,9 +34,9 @@ pub record Replaced (place : ℕ) (others : List Hit) (room new_room : ℕ) (old
   pub hits : place + length others ≤ room → new ≡ take place old ++ others
 
 -- what the loop that looks for a way through a filter keeps: what was passed over has none
-pub record Settling (item : Span) (wanted : Filter) (start now : Standing) (room new_room begin end : ℕ)
+pub record Settling (course : Course) (wanted : Filter) (start now : Standing) (room new_room begin end : ℕ)
     (answer : Bool) (kept : Filter) (used : ℕ) : Type 0 where
-  pub passed : sifted item wanted now ≡ sifted item wanted start
+  pub passed : sifted course wanted now ≡ sifted course wanted start
   pub same_shape : now.shape ≡ start.shape
   pub there : answer ≡ is_not_empty now.rest
   pub kept_room : room ≤ new_room

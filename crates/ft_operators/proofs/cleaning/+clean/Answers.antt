@@ -8,83 +8,83 @@ use Rattle.ft_operators.proofs.cleaning.+clean.Goals as goal
 
 pub is_clean-fork_is_clean-requires : goal.is_clean-fork_is_clean-requires
 is_clean-fork_is_clean-requires g t c κs within =
-    let is = inside_Choice g.P.PhraseHits.state c.args.item c.args.node.now c.in-Choice.fork c.deref_mut.result.now c.in-Choice.is c.deref_mut.ensures.value in
+    let is = inside_Choice g.P.PhraseHits.state c.args.course c.args.node.now c.in-Choice.fork c.deref_mut.result.now c.in-Choice.is c.deref_mut.ensures.value in
     let deep = ap (λ s. s.shape.weight) is in
     (omega (arith, c.decreases), (within.0, (within.1, may_inside _ _ _ _ _ is c.requires)))
 
 pub is_clean-returns-in-Choice : goal.is_clean-returns-in-Choice
 is_clean-returns-in-Choice g t c =
     let state = g.P.PhraseHits.state in
-    let item = c.args.item in
-    asked_inside _ _ _ _ _ _ _ _ _ _ _ (inside_Choice state item c.args.node.now c.in-Choice.fork c.deref_mut.result.now c.in-Choice.is c.deref_mut.ensures.value) (standing_Choice state item _) c.fork_is_clean.ensures
+    let course = c.args.course in
+    asked_inside _ _ _ _ _ _ _ _ _ _ _ (inside_Choice state course c.args.node.now c.in-Choice.fork c.deref_mut.result.now c.in-Choice.is c.deref_mut.ensures.value) (standing_Choice state course _) c.fork_is_clean.ensures
 
 pub is_clean-pair_is_clean-requires : goal.is_clean-pair_is_clean-requires
 is_clean-pair_is_clean-requires g t c κs within =
-    let is = inside_Both g.P.PhraseHits.state c.args.item c.args.node.now c.in-Both.pair c.deref_mut-in-Both.result.now c.in-Both.is c.deref_mut-in-Both.ensures.value in
+    let is = inside_Both g.P.PhraseHits.state c.args.course c.args.node.now c.in-Both.pair c.deref_mut-in-Both.result.now c.in-Both.is c.deref_mut-in-Both.ensures.value in
     let deep = ap (λ s. s.shape.weight) is in
     (omega (arith, c.decreases), (within.0, (within.1, may_inside _ _ _ _ _ is c.requires)))
 
 pub is_clean-returns-in-Both : goal.is_clean-returns-in-Both
 is_clean-returns-in-Both g t c =
     let state = g.P.PhraseHits.state in
-    let item = c.args.item in
-    asked_inside _ _ _ _ _ _ _ _ _ _ _ (inside_Both state item c.args.node.now c.in-Both.pair c.deref_mut-in-Both.result.now c.in-Both.is c.deref_mut-in-Both.ensures.value) (standing_Both state item _) c.pair_is_clean.ensures
+    let course = c.args.course in
+    asked_inside _ _ _ _ _ _ _ _ _ _ _ (inside_Both state course c.args.node.now c.in-Both.pair c.deref_mut-in-Both.result.now c.in-Both.is c.deref_mut-in-Both.ensures.value) (standing_Both state course _) c.pair_is_clean.ensures
 
 pub is_clean-apart_is_clean-requires : goal.is_clean-apart_is_clean-requires
 is_clean-apart_is_clean-requires g t c κs within =
-    let is = inside_MildNot g.P.PhraseHits.state c.args.item c.args.node.now c.in-MildNot.pair c.deref_mut-in-MildNot.result.now c.in-MildNot.is c.deref_mut-in-MildNot.ensures.value in
+    let is = inside_MildNot g.P.PhraseHits.state c.args.course c.args.node.now c.in-MildNot.pair c.deref_mut-in-MildNot.result.now c.in-MildNot.is c.deref_mut-in-MildNot.ensures.value in
     let deep = ap (λ s. s.shape.weight) is in
     (omega (arith, c.decreases), (within.0, (within.1, may_inside _ _ _ _ _ is c.requires)))
 
 pub is_clean-returns-in-MildNot : goal.is_clean-returns-in-MildNot
 is_clean-returns-in-MildNot g t c =
     let state = g.P.PhraseHits.state in
-    let item = c.args.item in
-    asked_inside _ _ _ _ _ _ _ _ _ _ _ (inside_MildNot state item c.args.node.now c.in-MildNot.pair c.deref_mut-in-MildNot.result.now c.in-MildNot.is c.deref_mut-in-MildNot.ensures.value) (standing_MildNot state item _) c.apart_is_clean.ensures
+    let course = c.args.course in
+    asked_inside _ _ _ _ _ _ _ _ _ _ _ (inside_MildNot state course c.args.node.now c.in-MildNot.pair c.deref_mut-in-MildNot.result.now c.in-MildNot.is c.deref_mut-in-MildNot.ensures.value) (standing_MildNot state course _) c.apart_is_clean.ensures
 
 pub is_clean-sieve_is_clean-requires : goal.is_clean-sieve_is_clean-requires
 is_clean-sieve_is_clean-requires g t c κs within =
-    let is = inside_Filtered g.P.PhraseHits.state c.args.item c.args.node.now c.in-Filtered.sieve c.deref_mut-in-Filtered.result.now c.in-Filtered.is c.deref_mut-in-Filtered.ensures.value in
+    let is = inside_Filtered g.P.PhraseHits.state c.args.course c.args.node.now c.in-Filtered.sieve c.deref_mut-in-Filtered.result.now c.in-Filtered.is c.deref_mut-in-Filtered.ensures.value in
     let deep = ap (λ s. s.shape.weight) is in
     (omega (arith, c.decreases), (within.0, (within.1, may_inside _ _ _ _ _ is c.requires)))
 
 pub is_clean-returns-in-Filtered : goal.is_clean-returns-in-Filtered
 is_clean-returns-in-Filtered g t c =
     let state = g.P.PhraseHits.state in
-    let item = c.args.item in
-    asked_inside _ _ _ _ _ _ _ _ _ _ _ (inside_Filtered state item c.args.node.now c.in-Filtered.sieve c.deref_mut-in-Filtered.result.now c.in-Filtered.is c.deref_mut-in-Filtered.ensures.value) (standing_Filtered state item _) c.sieve_is_clean.ensures
+    let course = c.args.course in
+    asked_inside _ _ _ _ _ _ _ _ _ _ _ (inside_Filtered state course c.args.node.now c.in-Filtered.sieve c.deref_mut-in-Filtered.result.now c.in-Filtered.is c.deref_mut-in-Filtered.ensures.value) (standing_Filtered state course _) c.sieve_is_clean.ensures
 
 pub is_clean-negation_is_clean-requires : goal.is_clean-negation_is_clean-requires
 is_clean-negation_is_clean-requires g t c =
-    may_inside _ _ _ _ _ (inside_Negated g.P.PhraseHits.state c.args.item c.args.node.now c.in-Negated.negation c.deref_mut-in-Negated.result.now c.in-Negated.is c.deref_mut-in-Negated.ensures.value) c.requires
+    may_inside _ _ _ _ _ (inside_Negated g.P.PhraseHits.state c.args.course c.args.node.now c.in-Negated.negation c.deref_mut-in-Negated.result.now c.in-Negated.is c.deref_mut-in-Negated.ensures.value) c.requires
 
 pub is_clean-returns-in-Negated : goal.is_clean-returns-in-Negated
 is_clean-returns-in-Negated g t c =
     let state = g.P.PhraseHits.state in
-    let item = c.args.item in
-    asked_inside _ _ _ _ _ _ _ _ _ _ _ (inside_Negated state item c.args.node.now c.in-Negated.negation c.deref_mut-in-Negated.result.now c.in-Negated.is c.deref_mut-in-Negated.ensures.value) (standing_Negated state item _) c.negation_is_clean.ensures
+    let course = c.args.course in
+    asked_inside _ _ _ _ _ _ _ _ _ _ _ (inside_Negated state course c.args.node.now c.in-Negated.negation c.deref_mut-in-Negated.result.now c.in-Negated.is c.deref_mut-in-Negated.ensures.value) (standing_Negated state course _) c.negation_is_clean.ensures
 
 pub is_clean-returns-in-Phrase : goal.is_clean-returns-in-Phrase
 is_clean-returns-in-Phrase g t c =
     let state = g.P.PhraseHits.state in
-    asked_phrase (state c.in-Phrase.field-0) (standing state c.args.item c.args.node.now) c.args.chain.now (vec_capacity c.args.held.now) c.args.steps.now (inside_Phrase state c.args.item c.args.node.now c.in-Phrase.field-0 c.in-Phrase.is)
+    asked_phrase (state c.in-Phrase.field-0) (standing state c.args.course c.args.node.now) c.args.chain.now (vec_capacity c.args.held.now) c.args.steps.now (inside_Phrase state c.args.course c.args.node.now c.in-Phrase.field-0 c.in-Phrase.is)
 
 pub apart_is_clean-returns : goal.apart_is_clean-returns
 apart_is_clean-returns g t c =
-    let at = standing g.P.PhraseHits.state c.args.item in
+    let at = standing g.P.PhraseHits.state c.args.course in
     let pair = c.args.pair.now in
-    asked_apart c.args.item (at pair.left) (at pair.right) (at c.is_clean.new.node) c.args.chain.now c.is_clean.new.chain (vec_capacity c.args.held.now) (vec_capacity c.is_clean.new.held)
+    asked_apart c.args.course (at pair.left) (at pair.right) (at c.is_clean.new.node) c.args.chain.now c.is_clean.new.chain (vec_capacity c.args.held.now) (vec_capacity c.is_clean.new.held)
     c.args.steps.now c.is_clean.new.steps c.is_clean.result c.is_clean.ensures
 
 pub sieve_is_clean-returns : goal.sieve_is_clean-returns
 sieve_is_clean-returns g t c =
-    let at = standing g.P.PhraseHits.state c.args.item in
+    let at = standing g.P.PhraseHits.state c.args.course in
     let sieve = c.args.sieve.now in
-    let gathered = c.gather.ensures c.args.item in
-    let includes = held_includes c.args.item sieve.kind sieve.lead (at sieve.operand) _ _ _ _ _ _ _ c.requires c.clear.ensures.items c.clear.ensures.capacity gathered in
+    let gathered = c.gather.ensures c.args.course in
+    let includes = held_includes c.args.course sieve.kind sieve.lead (at sieve.operand) _ _ _ _ _ _ _ c.requires c.clear.ensures.items c.clear.ensures.capacity gathered in
     let kept =
-    put_and_taken c.args.chain.now c.push_filter.new.chain c.is_clean-clean.new.chain c.pop.new.self (link_with sieve.kind sieve.lead c.deref.result.now) c.push_filter.ensures.links
+    put_and_taken c.args.chain.now c.push_filter.new.chain c.is_clean-clean.new.chain c.pop.new.self (link_with c.args.course.windows sieve.kind sieve.lead c.deref.result.now) c.push_filter.ensures.links
     c.push_filter.ensures.filters c.push_filter.ensures.hits c.is_clean-clean.ensures.kept c.pop.ensures.links c.pop.ensures.filters c.pop.ensures.hits in
-    asked_filtered c.args.item sieve.kind sieve.lead (at sieve.operand) (at c.is_clean-clean.new.node) c.args.chain.now c.push_filter.new.chain c.is_clean-clean.new.chain c.pop.new.self c.deref.result.now
+    asked_filtered c.args.course sieve.kind sieve.lead (at sieve.operand) (at c.is_clean-clean.new.node) c.args.chain.now c.push_filter.new.chain c.is_clean-clean.new.chain c.pop.new.self c.deref.result.now
     (vec_capacity c.args.held.now) (vec_capacity c.gather.new.held) (vec_capacity c.is_clean-clean.new.held) c.args.steps.now c.is_clean-clean.new.steps c.is_clean-clean.result c.requires.there
     (c.deref.ensures.value ∙ includes) (omega (arith, c.clear.ensures.capacity, gathered.kept_room)) c.push_filter.ensures.links c.is_clean-clean.ensures kept

@@ -9,8 +9,8 @@ use Rattle.ft_operators.proofs.cleaning.some_is_clean.Given as goal
 
 abbrev pub invariant-loop-there : goal.invariant-loop-there
 invariant-loop-there g l =
-    let at = standing g.P.PhraseHits.state l.item in
-    Deciding l.item (clean_under (kept_by (links_of l.fn.chain))) (at l.fn.node) (at l.node) l.fn.chain l.chain (vec_capacity l.fn.held) (vec_capacity l.held) l.fn.steps l.steps l.there
+    let at = standing g.P.PhraseHits.state l.course in
+    Deciding l.course (clean_under (kept_by (links_of l.fn.chain))) (at l.fn.node) (at l.node) l.fn.chain l.chain (vec_capacity l.fn.held) (vec_capacity l.held) l.fn.steps l.steps l.there
 
 abbrev pub decreases-loop-there : goal.decreases-loop-there
-decreases-loop-there g l = length ((standing g.P.PhraseHits.state l.item l.node).rest)
+decreases-loop-there g l = length ((standing g.P.PhraseHits.state l.course l.node).rest)

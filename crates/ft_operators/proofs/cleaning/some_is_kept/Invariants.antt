@@ -9,8 +9,8 @@ use Rattle.ft_operators.proofs.cleaning.some_is_kept.Given as goal
 
 abbrev pub invariant-loop-there : goal.invariant-loop-there
 invariant-loop-there g l =
-    let at = standing g.P.PhraseHits.state l.item in
-    Searching l.item ⊤ (all_kept (kept_by (links_of l.chain))) (at l.fn.node) (at l.node) (vec_capacity l.fn.held) (vec_capacity l.held) l.fn.steps l.steps l.there
+    let at = standing g.P.PhraseHits.state l.course in
+    Searching l.course ⊤ (all_kept (kept_by (links_of l.chain))) (at l.fn.node) (at l.node) (vec_capacity l.fn.held) (vec_capacity l.held) l.fn.steps l.steps l.there
 
 abbrev pub decreases-loop-there : goal.decreases-loop-there
-decreases-loop-there g l = length ((standing g.P.PhraseHits.state l.item l.node).rest)
+decreases-loop-there g l = length ((standing g.P.PhraseHits.state l.course l.node).rest)

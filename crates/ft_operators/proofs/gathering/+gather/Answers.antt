@@ -1,6 +1,7 @@
 -- Kind by kind, one operand after the other.
 use Rattle.std.proofs.Common.{◌≡◌, ◌∙◌, ap, sym, subst, arith, length, vec_capacity, drop, refl}
 use Rattle.all_matches.specs.Filters.{after}
+use Rattle.ft_operators.specs.Course.{every}
 use Rattle.ft_operators.specs.steps.Forms.{choice_of, both_of, sieve_of}
 use Rattle.ft_operators.specs.steps.Nodes.{standing}
 use Rattle.ft_operators.specs.steps.Walking.{Replaced}
@@ -9,70 +10,70 @@ use Rattle.ft_operators.proofs.GatherLemmas.{gathered_inside, gathered_left, gat
 use Rattle.ft_operators.proofs.gathering.+gather.Goals as goal
 
 pub replace_behind-requires : goal.replace_behind-requires
-replace_behind-requires g t c = omega (arith, c.len-place.ensures, c.args.held.now.ok.0, (c.gather-in-Filtered.ensures (record { from = 0; to = 0 })).from)
+replace_behind-requires g t c = omega (arith, c.len-place.ensures, c.args.held.now.ok.0, (c.gather-in-Filtered.ensures (every (record { from = 0; to = 0 }))).from)
 
 pub returns-in-Phrase : goal.returns-in-Phrase
-returns-in-Phrase g t c item =
-    gathered_inside _ _ _ _ _ _ (inside_Phrase g.P.PhraseHits.state item c.args.node.now c.in-Phrase.phrase c.in-Phrase.is) c.put_present.ensures
+returns-in-Phrase g t c course =
+    gathered_inside _ _ _ _ _ _ (inside_Phrase g.P.PhraseHits.state course c.args.node.now c.in-Phrase.phrase c.in-Phrase.is) c.put_present.ensures
 
 pub returns-then-deref : goal.returns-then-deref
-returns-then-deref g t c item =
+returns-then-deref g t c course =
     let state = g.P.PhraseHits.state in
     let fork = c.deref-then-deref.result.now in
     let second = ap (λ x. x.second) (c.deref-then-deref.ensures ∙ sym c.deref.ensures) ∙ c.if-deref.true in
     gathered_inside _ _ _ _ _ _
-    (inside_Choice state item c.args.node.now c.in-Choice.fork fork c.in-Choice.is c.deref-then-deref.ensures
-    ∙ ap (λ b. choice_of item b (standing state item fork.left) (standing state item fork.right)) second)
-    (gathered_right item (standing state item fork.left) (standing state item fork.right) _ _ _ _ (c.gather.ensures item))
+    (inside_Choice state course c.args.node.now c.in-Choice.fork fork c.in-Choice.is c.deref-then-deref.ensures
+    ∙ ap (λ b. choice_of course b (standing state course fork.left) (standing state course fork.right)) second)
+    (gathered_right course (standing state course fork.left) (standing state course fork.right) _ _ _ _ (c.gather.ensures course))
 
 pub returns-else-deref : goal.returns-else-deref
-returns-else-deref g t c item =
+returns-else-deref g t c course =
     let state = g.P.PhraseHits.state in
     let fork = c.deref-else-deref.result.now in
     let second = ap (λ x. x.second) (c.deref-else-deref.ensures ∙ sym c.deref.ensures) ∙ c.if-deref.false in
     gathered_inside _ _ _ _ _ _
-    (inside_Choice state item c.args.node.now c.in-Choice.fork fork c.in-Choice.is c.deref-else-deref.ensures
-    ∙ ap (λ b. choice_of item b (standing state item fork.left) (standing state item fork.right)) second)
-    (gathered_left item (standing state item fork.left) (standing state item fork.right) _ _ _ _ (c.gather-else-deref.ensures item))
+    (inside_Choice state course c.args.node.now c.in-Choice.fork fork c.in-Choice.is c.deref-else-deref.ensures
+    ∙ ap (λ b. choice_of course b (standing state course fork.left) (standing state course fork.right)) second)
+    (gathered_left course (standing state course fork.left) (standing state course fork.right) _ _ _ _ (c.gather-else-deref.ensures course))
 
 pub returns-in-Both : goal.returns-in-Both
-returns-in-Both g t c item =
+returns-in-Both g t c course =
     let state = g.P.PhraseHits.state in
     let first = c.deref-in-Both.result.now in
     let then = c.deref-in-Both-2.result.now in
-    let same = ap (λ x. standing state item x.left) (c.deref-in-Both-2.ensures ∙ sym c.deref-in-Both.ensures) in
+    let same = ap (λ x. standing state course x.left) (c.deref-in-Both-2.ensures ∙ sym c.deref-in-Both.ensures) in
     gathered_inside _ _ _ _ _ _
-    (inside_Both state item c.args.node.now c.in-Both.pair then c.in-Both.is c.deref-in-Both-2.ensures
-    ∙ ap (λ s. both_of item s (standing state item then.right)) same)
-    (gathered_both item (standing state item first.left) (standing state item then.right) _ _ _ _ _ _ (c.gather-in-Both.ensures item) (c.gather-in-Both-2.ensures item))
+    (inside_Both state course c.args.node.now c.in-Both.pair then c.in-Both.is c.deref-in-Both-2.ensures
+    ∙ ap (λ s. both_of course s (standing state course then.right)) same)
+    (gathered_both course (standing state course first.left) (standing state course then.right) _ _ _ _ _ _ (c.gather-in-Both.ensures course) (c.gather-in-Both-2.ensures course))
 
 pub returns-in-MildNot : goal.returns-in-MildNot
-returns-in-MildNot g t c item =
+returns-in-MildNot g t c course =
     let state = g.P.PhraseHits.state in
     let pair = c.deref-in-MildNot.result.now in
     gathered_inside _ _ _ _ _ _
-    (inside_MildNot state item c.args.node.now c.in-MildNot.pair pair c.in-MildNot.is c.deref-in-MildNot.ensures)
-    (gathered_apart item (standing state item pair.left) (standing state item pair.right) _ _ _ _ (c.gather-in-MildNot.ensures item))
+    (inside_MildNot state course c.args.node.now c.in-MildNot.pair pair c.in-MildNot.is c.deref-in-MildNot.ensures)
+    (gathered_apart course (standing state course pair.left) (standing state course pair.right) _ _ _ _ (c.gather-in-MildNot.ensures course))
 
 pub returns-in-Negated : goal.returns-in-Negated
-returns-in-Negated g t c item =
+returns-in-Negated g t c course =
     let state = g.P.PhraseHits.state in
     let negation = c.in-Negated.field-0.value in
     gathered_inside _ _ _ _ _ _
-    (inside_Negated state item c.args.node.now c.in-Negated.field-0 negation c.in-Negated.is refl)
-    (gathered_negated item negation.there (standing state item negation.operand) (vec_capacity c.args.held.now) c.args.held.now.items)
+    (inside_Negated state course c.args.node.now c.in-Negated.field-0 negation c.in-Negated.is refl)
+    (gathered_negated course negation.there (standing state course negation.operand) (vec_capacity c.args.held.now) c.args.held.now.items)
 
 pub returns-in-Filtered : goal.returns-in-Filtered
-returns-in-Filtered g t c item =
+returns-in-Filtered g t c course =
     let state = g.P.PhraseHits.state in
     let first = c.deref-in-Filtered.result.now in
     let then = c.deref-in-Filtered-2.result.now in
-    let same = ap (λ x. standing state item x.operand) (c.deref-in-Filtered-2.ensures ∙ sym c.deref-in-Filtered.ensures) in
+    let same = ap (λ x. standing state course x.operand) (c.deref-in-Filtered-2.ensures ∙ sym c.deref-in-Filtered.ensures) in
     let mid = c.gather-in-Filtered.new.held in
     let new = c.replace_behind.new.held in
     let place : c.len-place.result ≡ length c.args.held.now.items = omega (arith, c.len-place.ensures, c.args.held.now.ok.0) in
     gathered_inside _ _ _ _ _ _
-    (inside_Filtered state item c.args.node.now c.in-Filtered.sieve then c.in-Filtered.is c.deref-in-Filtered-2.ensures
-    ∙ ap (λ s. sieve_of item then.kind then.lead s) same)
-    (gathered_filtered item then.kind then.lead (standing state item first.operand) _ _ _ _ _ _ (c.gather-in-Filtered.ensures item)
+    (inside_Filtered state course c.args.node.now c.in-Filtered.sieve then c.in-Filtered.is c.deref-in-Filtered-2.ensures
+    ∙ ap (λ s. sieve_of course then.kind then.lead s) same)
+    (gathered_filtered course then.kind then.lead (standing state course first.operand) _ _ _ _ _ _ (c.gather-in-Filtered.ensures course)
     (subst (λ n. Replaced n (after then.kind (drop n mid.items)) (vec_capacity mid) (vec_capacity new) mid.items new.items) place c.replace_behind.ensures))

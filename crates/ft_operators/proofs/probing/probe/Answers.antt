@@ -2,7 +2,7 @@
 use Rattle.std.proofs.Common.{◌≤◌, ◌∙◌, ap, sym, subst, arith}
 use Rattle.std.specs.List.{list_any}
 use Rattle.all_matches.specs.Chain.{kept_by}
-use Rattle.all_matches.specs.Ways.{ways_of}
+use Rattle.ft_operators.specs.Course.{firsts, ways_on}
 use Rattle.ft_operators.specs.Chains.{all_kept, links_of}
 use Rattle.ft_operators.specs.steps.Nodes.{frame_of}
 use Rattle.ft_operators.proofs.AnswerLemmas.{passed_shown}
@@ -14,14 +14,14 @@ use Rattle.ft_operators.proofs.probing.probe.Goals as goal
 pub some_is_kept-requires : goal.some_is_kept-requires
 some_is_kept-requires g c =
     let negated = c.args.negated.now in
-    let same = ap (λ s. s.room) (standing_shape g.P.PhraseHits.state negated.item negated.node negated.node) in
+    let same = ap (λ s. s.room) (standing_shape g.P.PhraseHits.state (firsts negated.item) negated.node negated.node) in
     let fits = negated.fits in
     omega arith
 
 pub invariant_of-negated : goal.invariant_of-negated
 invariant_of-negated g c =
     let negated = c.args.negated.now in
-    let same = kept_shape g.P.PhraseHits.state negated.item negated.node c.some_is_kept.new.node c.some_is_kept.ensures.same in
+    let same = kept_shape g.P.PhraseHits.state (firsts negated.item) negated.node c.some_is_kept.new.node c.some_is_kept.ensures.same in
     let room = ap (λ s. s.room) same in
     let fits = negated.fits in
     let kept = c.some_is_kept.ensures.kept_room in
@@ -36,10 +36,10 @@ returns-clause-kept g c bare =
     let negated = c.args.negated.now in
     let kept = kept_by (links_of c.args.chain.now) in
     c.some_is_kept.ensures.found tt
-    ∙ ap (λ f. list_any (all_kept kept) (ways_of negated.item f.operator)) (frame_same g.P.PhraseHits.state negated.item negated.node)
-    ∙ some_kept negated.item (frame_of g.P.PhraseHits.state negated.node).operator kept bare
+    ∙ ap (λ f. list_any (all_kept kept) (ways_on (firsts negated.item) f.operator)) (frame_same g.P.PhraseHits.state (firsts negated.item) negated.node)
+    ∙ some_kept (firsts negated.item) (frame_of g.P.PhraseHits.state negated.node).operator kept bare
 
 pub returns-clause-walk : goal.returns-clause-walk
 returns-clause-walk g c =
     let negated = c.args.negated.now in
-    passed_shown g.P.PhraseHits.state negated.item negated.node c.some_is_kept.new.node c.some_is_kept.ensures.same
+    passed_shown g.P.PhraseHits.state negated.item (firsts negated.item) negated.node c.some_is_kept.new.node c.some_is_kept.ensures.same

@@ -12,285 +12,285 @@ use Rattle.ft_operators.proofs.walking.+walk.Goals as goal
 
 pub first-first_of_fork-requires : goal.first-first_of_fork-requires
 first-first_of_fork-requires g t c κs within =
-    let is = inside_Choice g.P.PhraseHits.state c.args.item c.args.node.now c.in-Choice.fork c.deref_mut.result.now c.in-Choice.is c.deref_mut.ensures.value in
+    let is = inside_Choice g.P.PhraseHits.state c.args.course c.args.node.now c.in-Choice.fork c.deref_mut.result.now c.in-Choice.is c.deref_mut.ensures.value in
     let deep = ap (λ s. s.shape.weight) is in
     (omega (arith, c.decreases), (within.0, (within.1, subst (λ s. s.shape.room ≤ vec_capacity c.args.held.now) is c.requires)))
 
 pub first-first_of_pair-requires : goal.first-first_of_pair-requires
 first-first_of_pair-requires g t c κs within =
-    let is = inside_Both g.P.PhraseHits.state c.args.item c.args.node.now c.in-Both.pair c.deref_mut-in-Both.result.now c.in-Both.is c.deref_mut-in-Both.ensures.value in
+    let is = inside_Both g.P.PhraseHits.state c.args.course c.args.node.now c.in-Both.pair c.deref_mut-in-Both.result.now c.in-Both.is c.deref_mut-in-Both.ensures.value in
     let deep = ap (λ s. s.shape.weight) is in
     (omega (arith, c.decreases), (within.0, (within.1, subst (λ s. s.shape.room ≤ vec_capacity c.args.held.now) is c.requires)))
 
 pub first-first_of_sieve-requires : goal.first-first_of_sieve-requires
 first-first_of_sieve-requires g t c κs within =
-    let is = inside_Filtered g.P.PhraseHits.state c.args.item c.args.node.now c.in-Filtered.sieve c.deref_mut-in-Filtered.result.now c.in-Filtered.is c.deref_mut-in-Filtered.ensures.value in
+    let is = inside_Filtered g.P.PhraseHits.state c.args.course c.args.node.now c.in-Filtered.sieve c.deref_mut-in-Filtered.result.now c.in-Filtered.is c.deref_mut-in-Filtered.ensures.value in
     let deep = ap (λ s. s.shape.weight) is in
     (omega (arith, c.decreases), (within.0, (within.1, subst (λ s. s.shape.room ≤ vec_capacity c.args.held.now) is c.requires)))
 
 pub first-returns-in-Phrase : goal.first-returns-in-Phrase
 first-returns-in-Phrase g t c =
     let state = g.P.PhraseHits.state in
-    let item = c.args.item in
-    moved_inside _ _ _ _ _ _ _ _ _ (standing_Phrase state item c.first_of_phrase.new.phrase)
-    (ap (λ p. at_front item (phrase_of (state p))) c.in-Phrase.phrase-is
-    ∙ ap (at_front item) (sym (inside_Phrase state item c.args.node.now c.in-Phrase.phrase c.in-Phrase.is)))
-    (c.first_of_phrase.ensures item (vec_capacity c.args.held.now))
+    let course = c.args.course in
+    moved_inside _ _ _ _ _ _ _ _ _ (standing_Phrase state course c.first_of_phrase.new.phrase)
+    (ap (λ p. at_front course (phrase_of (state p))) c.in-Phrase.phrase-is
+    ∙ ap (at_front course) (sym (inside_Phrase state course c.args.node.now c.in-Phrase.phrase c.in-Phrase.is)))
+    (c.first_of_phrase.ensures course (vec_capacity c.args.held.now))
 
 pub first-returns-in-Choice : goal.first-returns-in-Choice
 first-returns-in-Choice g t c =
     let state = g.P.PhraseHits.state in
-    let item = c.args.item in
-    moved_inside _ _ _ _ _ _ _ _ _ (standing_Choice state item _)
-    (ap (at_front item) (sym (inside_Choice state item c.args.node.now c.in-Choice.fork c.deref_mut.result.now c.in-Choice.is c.deref_mut.ensures.value)))
+    let course = c.args.course in
+    moved_inside _ _ _ _ _ _ _ _ _ (standing_Choice state course _)
+    (ap (at_front course) (sym (inside_Choice state course c.args.node.now c.in-Choice.fork c.deref_mut.result.now c.in-Choice.is c.deref_mut.ensures.value)))
     c.first_of_fork.ensures
 
 pub first-returns-in-Both : goal.first-returns-in-Both
 first-returns-in-Both g t c =
     let state = g.P.PhraseHits.state in
-    let item = c.args.item in
-    moved_inside _ _ _ _ _ _ _ _ _ (standing_Both state item _)
-    (ap (at_front item) (sym (inside_Both state item c.args.node.now c.in-Both.pair c.deref_mut-in-Both.result.now c.in-Both.is c.deref_mut-in-Both.ensures.value)))
+    let course = c.args.course in
+    moved_inside _ _ _ _ _ _ _ _ _ (standing_Both state course _)
+    (ap (at_front course) (sym (inside_Both state course c.args.node.now c.in-Both.pair c.deref_mut-in-Both.result.now c.in-Both.is c.deref_mut-in-Both.ensures.value)))
     c.first_of_pair.ensures
 
 pub first-returns-in-Negated : goal.first-returns-in-Negated
 first-returns-in-Negated g t c =
     let state = g.P.PhraseHits.state in
-    let item = c.args.item in
+    let course = c.args.course in
     let old = c.deref_mut-in-Negated.result.now in
-    moved_inside _ _ _ _ _ _ _ _ _ (standing_Negated state item _)
-    (ap (at_front item) (sym (inside_Negated state item c.args.node.now c.in-Negated.negation old c.in-Negated.is c.deref_mut-in-Negated.ensures.value)))
-    (negation_first item old.there (standing state item old.operand) (vec_capacity c.args.held.now) c.args.steps.now)
+    moved_inside _ _ _ _ _ _ _ _ _ (standing_Negated state course _)
+    (ap (at_front course) (sym (inside_Negated state course c.args.node.now c.in-Negated.negation old c.in-Negated.is c.deref_mut-in-Negated.ensures.value)))
+    (negation_first course old.there (standing state course old.operand) (vec_capacity c.args.held.now) c.args.steps.now)
 
 pub first-returns-in-Filtered : goal.first-returns-in-Filtered
 first-returns-in-Filtered g t c =
     let state = g.P.PhraseHits.state in
-    let item = c.args.item in
-    moved_inside _ _ _ _ _ _ _ _ _ (standing_Filtered state item _)
-    (ap (at_front item) (sym (inside_Filtered state item c.args.node.now c.in-Filtered.sieve c.deref_mut-in-Filtered.result.now c.in-Filtered.is c.deref_mut-in-Filtered.ensures.value)))
+    let course = c.args.course in
+    moved_inside _ _ _ _ _ _ _ _ _ (standing_Filtered state course _)
+    (ap (at_front course) (sym (inside_Filtered state course c.args.node.now c.in-Filtered.sieve c.deref_mut-in-Filtered.result.now c.in-Filtered.is c.deref_mut-in-Filtered.ensures.value)))
     c.first_of_sieve.ensures
 
 pub go_on-next_of_fork-requires : goal.go_on-next_of_fork-requires
 go_on-next_of_fork-requires g t c κs within =
-    let is = inside_Choice g.P.PhraseHits.state c.args.item c.args.node.now c.in-Choice.fork c.deref_mut.result.now c.in-Choice.is c.deref_mut.ensures.value in
+    let is = inside_Choice g.P.PhraseHits.state c.args.course c.args.node.now c.in-Choice.fork c.deref_mut.result.now c.in-Choice.is c.deref_mut.ensures.value in
     let deep = ap (λ s. s.shape.weight) is in
     (omega (arith, c.decreases), (within.0, (within.1, subst (λ s. MayGoOn s (vec_capacity c.args.held.now)) is c.requires)))
 
 pub go_on-next_of_pair-requires : goal.go_on-next_of_pair-requires
 go_on-next_of_pair-requires g t c κs within =
-    let is = inside_Both g.P.PhraseHits.state c.args.item c.args.node.now c.in-Both.pair c.deref_mut-in-Both.result.now c.in-Both.is c.deref_mut-in-Both.ensures.value in
+    let is = inside_Both g.P.PhraseHits.state c.args.course c.args.node.now c.in-Both.pair c.deref_mut-in-Both.result.now c.in-Both.is c.deref_mut-in-Both.ensures.value in
     let deep = ap (λ s. s.shape.weight) is in
     (omega (arith, c.decreases), (within.0, (within.1, subst (λ s. MayGoOn s (vec_capacity c.args.held.now)) is c.requires)))
 
 pub go_on-next_of_sieve-requires : goal.go_on-next_of_sieve-requires
 go_on-next_of_sieve-requires g t c κs within =
-    let is = inside_Filtered g.P.PhraseHits.state c.args.item c.args.node.now c.in-Filtered.sieve c.deref_mut-in-Filtered.result.now c.in-Filtered.is c.deref_mut-in-Filtered.ensures.value in
+    let is = inside_Filtered g.P.PhraseHits.state c.args.course c.args.node.now c.in-Filtered.sieve c.deref_mut-in-Filtered.result.now c.in-Filtered.is c.deref_mut-in-Filtered.ensures.value in
     let deep = ap (λ s. s.shape.weight) is in
     (omega (arith, c.decreases), (within.0, (within.1, subst (λ s. MayGoOn s (vec_capacity c.args.held.now)) is c.requires)))
 
 pub go_on-returns-in-Phrase : goal.go_on-returns-in-Phrase
 go_on-returns-in-Phrase g t c =
     let state = g.P.PhraseHits.state in
-    let item = c.args.item in
-    moved_inside _ _ _ _ _ _ _ _ _ (standing_Phrase state item c.next_of_phrase.new.phrase)
+    let course = c.args.course in
+    moved_inside _ _ _ _ _ _ _ _ _ (standing_Phrase state course c.next_of_phrase.new.phrase)
     (ap (λ p. one_on (phrase_of (state p))) c.in-Phrase.phrase-is
-    ∙ ap one_on (sym (inside_Phrase state item c.args.node.now c.in-Phrase.phrase c.in-Phrase.is)))
+    ∙ ap one_on (sym (inside_Phrase state course c.args.node.now c.in-Phrase.phrase c.in-Phrase.is)))
     (c.next_of_phrase.ensures (vec_capacity c.args.held.now))
 
 pub go_on-returns-in-Choice : goal.go_on-returns-in-Choice
 go_on-returns-in-Choice g t c =
     let state = g.P.PhraseHits.state in
-    let item = c.args.item in
-    moved_inside _ _ _ _ _ _ _ _ _ (standing_Choice state item _)
-    (ap one_on (sym (inside_Choice state item c.args.node.now c.in-Choice.fork c.deref_mut.result.now c.in-Choice.is c.deref_mut.ensures.value)))
+    let course = c.args.course in
+    moved_inside _ _ _ _ _ _ _ _ _ (standing_Choice state course _)
+    (ap one_on (sym (inside_Choice state course c.args.node.now c.in-Choice.fork c.deref_mut.result.now c.in-Choice.is c.deref_mut.ensures.value)))
     c.next_of_fork.ensures
 
 pub go_on-returns-in-Both : goal.go_on-returns-in-Both
 go_on-returns-in-Both g t c =
     let state = g.P.PhraseHits.state in
-    let item = c.args.item in
-    moved_inside _ _ _ _ _ _ _ _ _ (standing_Both state item _)
-    (ap one_on (sym (inside_Both state item c.args.node.now c.in-Both.pair c.deref_mut-in-Both.result.now c.in-Both.is c.deref_mut-in-Both.ensures.value)))
+    let course = c.args.course in
+    moved_inside _ _ _ _ _ _ _ _ _ (standing_Both state course _)
+    (ap one_on (sym (inside_Both state course c.args.node.now c.in-Both.pair c.deref_mut-in-Both.result.now c.in-Both.is c.deref_mut-in-Both.ensures.value)))
     c.next_of_pair.ensures
 
 pub go_on-returns-in-Negated : goal.go_on-returns-in-Negated
 go_on-returns-in-Negated g t c =
     let state = g.P.PhraseHits.state in
-    let item = c.args.item in
+    let course = c.args.course in
     let old = c.deref_mut-in-Negated.result.now in
-    moved_inside _ _ _ _ _ _ _ _ _ (standing_Negated state item _)
-    (ap one_on (sym (inside_Negated state item c.args.node.now c.in-Negated.negation old c.in-Negated.is c.deref_mut-in-Negated.ensures.value)))
-    (negation_next item old.there (standing state item old.operand) (vec_capacity c.args.held.now) c.args.steps.now)
+    moved_inside _ _ _ _ _ _ _ _ _ (standing_Negated state course _)
+    (ap one_on (sym (inside_Negated state course c.args.node.now c.in-Negated.negation old c.in-Negated.is c.deref_mut-in-Negated.ensures.value)))
+    (negation_next course old.there (standing state course old.operand) (vec_capacity c.args.held.now) c.args.steps.now)
 
 pub go_on-returns-in-Filtered : goal.go_on-returns-in-Filtered
 go_on-returns-in-Filtered g t c =
     let state = g.P.PhraseHits.state in
-    let item = c.args.item in
-    moved_inside _ _ _ _ _ _ _ _ _ (standing_Filtered state item _)
-    (ap one_on (sym (inside_Filtered state item c.args.node.now c.in-Filtered.sieve c.deref_mut-in-Filtered.result.now c.in-Filtered.is c.deref_mut-in-Filtered.ensures.value)))
+    let course = c.args.course in
+    moved_inside _ _ _ _ _ _ _ _ _ (standing_Filtered state course _)
+    (ap one_on (sym (inside_Filtered state course c.args.node.now c.in-Filtered.sieve c.deref_mut-in-Filtered.result.now c.in-Filtered.is c.deref_mut-in-Filtered.ensures.value)))
     c.next_of_sieve.ensures
 
 pub first_of_fork-returns-then-first : goal.first_of_fork-returns-then-first
 first_of_fork-returns-then-first g t c =
-    let at = standing g.P.PhraseHits.state c.args.item in
+    let at = standing g.P.PhraseHits.state c.args.course in
     let right = at c.args.fork.now.right in
-    choice_first_left c.args.item c.args.fork.now.second (at c.args.fork.now.left) (at c.first.new.node) right right _ _ 0 _ _ 0 _ true c.first.ensures c.if-first.true
+    choice_first_left c.args.course c.args.fork.now.second (at c.args.fork.now.left) (at c.first.new.node) right right _ _ 0 _ _ 0 _ true c.first.ensures c.if-first.true
 
 pub first_of_fork-returns : goal.first_of_fork-returns
 first_of_fork-returns g t c =
-    let at = standing g.P.PhraseHits.state c.args.item in
-    choice_first_right c.args.item c.args.fork.now.second (at c.args.fork.now.left) (at c.first.new.node) (at c.args.fork.now.right) (at c.first-2.new.node) _ _ _ _ _ _ _ _ c.first.ensures c.if-first.false c.first-2.ensures
+    let at = standing g.P.PhraseHits.state c.args.course in
+    choice_first_right c.args.course c.args.fork.now.second (at c.args.fork.now.left) (at c.first.new.node) (at c.args.fork.now.right) (at c.first-2.new.node) _ _ _ _ _ _ _ _ c.first.ensures c.if-first.false c.first-2.ensures
 
 pub first_of_pair-returns-then-first : goal.first_of_pair-returns-then-first
 first_of_pair-returns-then-first g t c =
-    let at = standing g.P.PhraseHits.state c.args.item in
-    both_first c.args.item true (at c.args.pair.now.left) (at c.first.new.node) (at c.args.pair.now.right) (at c.first-then-first.new.node) _ _ _ _ _ _ _ _ c.first.ensures c.if-first.true c.first-then-first.ensures
+    let at = standing g.P.PhraseHits.state c.args.course in
+    both_first c.args.course true (at c.args.pair.now.left) (at c.first.new.node) (at c.args.pair.now.right) (at c.first-then-first.new.node) _ _ _ _ _ _ _ _ c.first.ensures c.if-first.true c.first-then-first.ensures
 
 pub first_of_pair-returns-else-first : goal.first_of_pair-returns-else-first
 first_of_pair-returns-else-first g t c =
-    let at = standing g.P.PhraseHits.state c.args.item in
+    let at = standing g.P.PhraseHits.state c.args.course in
     let right = at c.args.pair.now.right in
-    both_first_none c.args.item true (at c.args.pair.now.left) (at c.first.new.node) right right _ _ 0 _ _ 0 _ true c.first.ensures c.if-first.false
+    both_first_none c.args.course true (at c.args.pair.now.left) (at c.first.new.node) right right _ _ 0 _ _ 0 _ true c.first.ensures c.if-first.false
 
 pub next_of_pair-returns-then-go_on-2 : goal.next_of_pair-returns-then-go_on-2
 next_of_pair-returns-then-go_on-2 g t c =
-    both_next_left c.args.item _ _ _ _ _ _ _ _ _ _ _ _ _ _ _ _ c.requires c.go_on.ensures c.if-go_on.false c.go_on-2.ensures c.if-go_on-2.true c.first.ensures
+    both_next_left c.args.course _ _ _ _ _ _ _ _ _ _ _ _ _ _ _ _ c.requires c.go_on.ensures c.if-go_on.false c.go_on-2.ensures c.if-go_on-2.true c.first.ensures
 
 pub first_of_sieve-returns : goal.first_of_sieve-returns
 first_of_sieve-returns g t c =
     let state = g.P.PhraseHits.state in
-    let item = c.args.item in
-    sieve_first item c.args.sieve.now.kind c.args.sieve.now.lead (standing state item c.args.sieve.now.operand) (standing state item c.first-there.new.node) (sieve_standing state item c.settle.new.sieve)
+    let course = c.args.course in
+    sieve_first course c.args.sieve.now.kind c.args.sieve.now.lead (standing state course c.args.sieve.now.operand) (standing state course c.first-there.new.node) (sieve_standing state course c.settle.new.sieve)
     _ _ _ _ _ _ _ _ c.first-there.ensures c.settle.ensures
 
 pub next_of_sieve-overflow_add-sieve : goal.next_of_sieve-overflow_add-sieve
 next_of_sieve-overflow_add-sieve g t c =
-    omega (arith, lead_below c.args.sieve.now.kind c.args.item c.args.sieve.now.lead ((standing g.P.PhraseHits.state c.args.item c.args.sieve.now.operand).rest) c.requires.there, c.choice_count-count.ensures.count, c.choice_count-count.type_inv)
+    omega (arith, lead_below c.args.sieve.now.kind c.args.course c.args.sieve.now.lead ((standing g.P.PhraseHits.state c.args.course c.args.sieve.now.operand).rest) c.requires.there, c.choice_count-count.ensures.count, c.choice_count-count.type_inv)
 
 pub next_of_sieve-returns-then-sieve-count : goal.next_of_sieve-returns-then-sieve-count
 next_of_sieve-returns-then-sieve-count g t c =
-    let operand = standing g.P.PhraseHits.state c.args.item c.args.sieve.now.operand in
-    sieve_next_choice c.args.item c.args.sieve.now.kind c.args.sieve.now.lead operand operand operand _ 0 _ _ 0 0 true true
+    let operand = standing g.P.PhraseHits.state c.args.course c.args.sieve.now.operand in
+    sieve_next_choice c.args.course c.args.sieve.now.kind c.args.sieve.now.lead operand operand operand _ 0 _ _ 0 0 true true
     c.choice_count-count.result c.choice_count-count.ensures.count c.if-sieve-count.true c.choice_count-count.ensures.room
 
 pub next_of_sieve-returns : goal.next_of_sieve-returns
 next_of_sieve-returns g t c =
     let state = g.P.PhraseHits.state in
-    let item = c.args.item in
-    sieve_next_way item c.args.sieve.now.kind c.args.sieve.now.lead (standing state item c.args.sieve.now.operand) (standing state item c.go_on-there.new.node) (sieve_standing state item c.settle.new.sieve)
+    let course = c.args.course in
+    sieve_next_way course c.args.sieve.now.kind c.args.sieve.now.lead (standing state course c.args.sieve.now.operand) (standing state course c.go_on-there.new.node) (sieve_standing state course c.settle.new.sieve)
     _ _ _ _ _ _ _ _ c.choice_count-count.result _ c.choice_count-count.ensures.count c.if-sieve-count.false c.requires.there c.choice_count-count.ensures.room
     c.go_on-there.ensures c.settle.ensures
 
 pub settle-choice_count-requires : goal.settle-choice_count-requires
-settle-choice_count-requires g t c = settling_may c.args.item _ _ _ _ _ _ _ _ _ _ c.loop-there.invariant _ c.requires.fits (omega arith) c.loop-there-test.true
+settle-choice_count-requires g t c = settling_may c.args.course _ _ _ _ _ _ _ _ _ _ c.loop-there.invariant _ c.requires.fits (omega arith) c.loop-there-test.true
 
 pub settle-returns-then-choice_count-gt0 : goal.settle-returns-then-choice_count-gt0
 settle-returns-then-choice_count-gt0 g t c =
-    settled_here c.args.item _ _ _ _ _ _ _ _ _ _ c.loop-there.invariant c.choice_count.result _ c.choice_count.ensures.count c.if-choice_count-gt0.true c.choice_count.ensures.room
+    settled_here c.args.course _ _ _ _ _ _ _ _ _ _ c.loop-there.invariant c.choice_count.result _ c.choice_count.ensures.count c.if-choice_count-gt0.true c.choice_count.ensures.room
 
 pub settle-go_on-there-requires : goal.settle-go_on-there-requires
 settle-go_on-there-requires g t c κs within =
     let same = ap (λ s. s.weight) c.loop-there.invariant.same_shape in
-    let may = settling_may c.args.item _ _ _ _ _ _ _ _ _ _ c.loop-there.invariant _ c.requires.fits (omega arith) c.loop-there-test.true in
+    let may = settling_may c.args.course _ _ _ _ _ _ _ _ _ _ c.loop-there.invariant _ c.requires.fits (omega arith) c.loop-there-test.true in
     (omega arith, (within.0, (within.1, record { there = may.there; fits = omega (arith, may.fits, c.choice_count.ensures.room) })))
 
 pub settle-loop-there-smaller : goal.settle-loop-there-smaller
 settle-loop-there-smaller g t c =
-    let at = standing g.P.PhraseHits.state c.args.item in
+    let at = standing g.P.PhraseHits.state c.args.course in
     settling_fewer (at c.loop-there.sieve.operand) (at c.go_on-there.new.node) _ _ _ _ _ (sym c.loop-there.invariant.there ∙ c.loop-there-test.true) c.go_on-there.ensures
 
 pub settle-loop-there-preserved : goal.settle-loop-there-preserved
 settle-loop-there-preserved g t c =
-    let next = standing g.P.PhraseHits.state c.args.item c.go_on-there.new.node in
-    settling_on c.args.item _ _ _ _ _ _ _ _ _ _ c.loop-there.invariant c.choice_count.result _ _ _ next _ c.choice_count.ensures.count c.if-choice_count-gt0.false c.choice_count.ensures.room c.go_on-there.ensures
+    let next = standing g.P.PhraseHits.state c.args.course c.go_on-there.new.node in
+    settling_on c.args.course _ _ _ _ _ _ _ _ _ _ c.loop-there.invariant c.choice_count.result _ _ _ next _ c.choice_count.ensures.count c.if-choice_count-gt0.false c.choice_count.ensures.room c.go_on-there.ensures
 
 pub settle-returns : goal.settle-returns
-settle-returns g t c = settled_none c.args.item _ _ _ _ _ _ _ _ _ _ c.loop-there.invariant c.loop-there-test.false
+settle-returns g t c = settled_none c.args.course _ _ _ _ _ _ _ _ _ _ c.loop-there.invariant c.loop-there-test.false
 
 pub first-first_apart-requires : goal.first-first_apart-requires
 first-first_apart-requires g t c κs within =
-    let is = inside_MildNot g.P.PhraseHits.state c.args.item c.args.node.now c.in-MildNot.pair c.deref_mut-in-MildNot.result.now c.in-MildNot.is c.deref_mut-in-MildNot.ensures.value in
+    let is = inside_MildNot g.P.PhraseHits.state c.args.course c.args.node.now c.in-MildNot.pair c.deref_mut-in-MildNot.result.now c.in-MildNot.is c.deref_mut-in-MildNot.ensures.value in
     let deep = ap (λ s. s.shape.weight) is in
     (omega (arith, c.decreases), (within.0, (within.1, subst (λ s. s.shape.room ≤ vec_capacity c.args.held.now) is c.requires)))
 
 pub first-returns-in-MildNot : goal.first-returns-in-MildNot
 first-returns-in-MildNot g t c =
     let state = g.P.PhraseHits.state in
-    let item = c.args.item in
-    moved_inside _ _ _ _ _ _ _ _ _ (standing_MildNot state item _)
-    (ap (at_front item) (sym (inside_MildNot state item c.args.node.now c.in-MildNot.pair c.deref_mut-in-MildNot.result.now c.in-MildNot.is c.deref_mut-in-MildNot.ensures.value)))
+    let course = c.args.course in
+    moved_inside _ _ _ _ _ _ _ _ _ (standing_MildNot state course _)
+    (ap (at_front course) (sym (inside_MildNot state course c.args.node.now c.in-MildNot.pair c.deref_mut-in-MildNot.result.now c.in-MildNot.is c.deref_mut-in-MildNot.ensures.value)))
     c.first_apart.ensures
 
 pub go_on-next_apart-requires : goal.go_on-next_apart-requires
 go_on-next_apart-requires g t c κs within =
-    let is = inside_MildNot g.P.PhraseHits.state c.args.item c.args.node.now c.in-MildNot.pair c.deref_mut-in-MildNot.result.now c.in-MildNot.is c.deref_mut-in-MildNot.ensures.value in
+    let is = inside_MildNot g.P.PhraseHits.state c.args.course c.args.node.now c.in-MildNot.pair c.deref_mut-in-MildNot.result.now c.in-MildNot.is c.deref_mut-in-MildNot.ensures.value in
     let deep = ap (λ s. s.shape.weight) is in
     (omega (arith, c.decreases), (within.0, (within.1, subst (λ s. MayGoOn s (vec_capacity c.args.held.now)) is c.requires)))
 
 pub go_on-returns-in-MildNot : goal.go_on-returns-in-MildNot
 go_on-returns-in-MildNot g t c =
     let state = g.P.PhraseHits.state in
-    let item = c.args.item in
-    moved_inside _ _ _ _ _ _ _ _ _ (standing_MildNot state item _)
-    (ap one_on (sym (inside_MildNot state item c.args.node.now c.in-MildNot.pair c.deref_mut-in-MildNot.result.now c.in-MildNot.is c.deref_mut-in-MildNot.ensures.value)))
+    let course = c.args.course in
+    moved_inside _ _ _ _ _ _ _ _ _ (standing_MildNot state course _)
+    (ap one_on (sym (inside_MildNot state course c.args.node.now c.in-MildNot.pair c.deref_mut-in-MildNot.result.now c.in-MildNot.is c.deref_mut-in-MildNot.ensures.value)))
     c.next_apart.ensures
 
 pub first_apart-returns : goal.first_apart-returns
 first_apart-returns g t c =
     let state = g.P.PhraseHits.state in
-    let item = c.args.item in
-    apart_first item (standing state item c.args.pair.now.left) (standing state item c.first-there.new.node) (standing state item c.args.pair.now.right) (apart_standing state item c.settle_apart.new.pair)
+    let course = c.args.course in
+    apart_first course (standing state course c.args.pair.now.left) (standing state course c.first-there.new.node) (standing state course c.args.pair.now.right) (apart_standing state course c.settle_apart.new.pair)
     _ _ _ _ _ _ _ _ c.first-there.ensures c.settle_apart.ensures
 
 pub next_apart-returns : goal.next_apart-returns
 next_apart-returns g t c =
     let state = g.P.PhraseHits.state in
-    let item = c.args.item in
-    apart_next item (standing state item c.args.pair.now.left) (standing state item c.go_on-there.new.node) (standing state item c.args.pair.now.right) (apart_standing state item c.settle_apart.new.pair)
+    let course = c.args.course in
+    apart_next course (standing state course c.args.pair.now.left) (standing state course c.go_on-there.new.node) (standing state course c.args.pair.now.right) (apart_standing state course c.settle_apart.new.pair)
     _ _ _ _ _ _ _ _ c.go_on-there.ensures c.settle_apart.ensures
 
 pub settle_apart-is_admitted-requires : goal.settle_apart-is_admitted-requires
 settle_apart-is_admitted-requires g t c κs within =
     let same_left = ap (λ f. f.shape.weight) c.loop-there.invariant.same_left in
     let same_right = ap (λ f. f.shape.weight) c.loop-there.invariant.same_right in
-    (omega arith, (within.0, (within.1, sifting_may c.args.item _ _ _ _ _ _ _ _ _ c.loop-there.invariant _ c.requires.fits (omega arith) c.loop-there-test.true)))
+    (omega arith, (within.0, (within.1, sifting_may c.args.course _ _ _ _ _ _ _ _ _ c.loop-there.invariant _ c.requires.fits (omega arith) c.loop-there-test.true)))
 
 pub settle_apart-returns-then-is_admitted : goal.settle_apart-returns-then-is_admitted
 settle_apart-returns-then-is_admitted g t c =
-    apart_settled c.args.item _ _ _ _ _ _ _ _ _ c.loop-there.invariant _ _ _ _ _ c.is_admitted.ensures c.loop-there-test.true c.if-is_admitted.true
+    apart_settled c.args.course _ _ _ _ _ _ _ _ _ c.loop-there.invariant _ _ _ _ _ c.is_admitted.ensures c.loop-there-test.true c.if-is_admitted.true
 
 pub settle_apart-go_on-there-requires : goal.settle_apart-go_on-there-requires
 settle_apart-go_on-there-requires g t c κs within =
-    let same = sifting_weight c.args.item _ _ _ _ _ _ _ _ _ c.loop-there.invariant _ _ _ _ _ c.is_admitted.ensures in (
+    let same = sifting_weight c.args.course _ _ _ _ _ _ _ _ _ c.loop-there.invariant _ _ _ _ _ c.is_admitted.ensures in (
       omega arith,
-      (within.0, (within.1, sifting_left_may c.args.item _ _ _ _ _ _ _ _ _ c.loop-there.invariant _ _ _ _ _ c.is_admitted.ensures _ c.requires.fits (omega arith) c.loop-there-test.true)),
+      (within.0, (within.1, sifting_left_may c.args.course _ _ _ _ _ _ _ _ _ c.loop-there.invariant _ _ _ _ _ c.is_admitted.ensures _ c.requires.fits (omega arith) c.loop-there-test.true)),
     )
 
 pub settle_apart-loop-there-smaller : goal.settle_apart-loop-there-smaller
 settle_apart-loop-there-smaller g t c =
-    sifting_fewer c.args.item _ _ _ _ _ _ _ _ _ c.loop-there.invariant _ _ _ _ _ c.is_admitted.ensures _ _ _ _ c.go_on-there.ensures c.loop-there-test.true
+    sifting_fewer c.args.course _ _ _ _ _ _ _ _ _ c.loop-there.invariant _ _ _ _ _ c.is_admitted.ensures _ _ _ _ c.go_on-there.ensures c.loop-there-test.true
 
 pub settle_apart-loop-there-preserved : goal.settle_apart-loop-there-preserved
 settle_apart-loop-there-preserved g t c =
-    sifting_on c.args.item _ _ _ _ _ _ _ _ _ c.loop-there.invariant _ _ _ _ _ c.is_admitted.ensures _ _ _ _ c.go_on-there.ensures c.if-is_admitted.false
+    sifting_on c.args.course _ _ _ _ _ _ _ _ _ c.loop-there.invariant _ _ _ _ _ c.is_admitted.ensures _ _ _ _ c.go_on-there.ensures c.if-is_admitted.false
 
 pub settle_apart-returns : goal.settle_apart-returns
-settle_apart-returns g t c = apart_end c.args.item _ _ _ _ _ _ _ _ _ c.loop-there.invariant c.loop-there-test.false
+settle_apart-returns g t c = apart_end c.args.course _ _ _ _ _ _ _ _ _ c.loop-there.invariant c.loop-there-test.false
 
 pub is_admitted-go_on-there-requires : goal.is_admitted-go_on-there-requires
 is_admitted-go_on-there-requires g t c κs within =
-    let same = trying_weight c.args.item _ _ _ _ _ _ _ _ _ _ c.loop-there.invariant in
-    let may = trying_may c.args.item _ _ _ _ _ _ _ _ _ _ c.loop-there.invariant _ c.requires (omega arith) c.loop-there-test.true in
+    let same = trying_weight c.args.course _ _ _ _ _ _ _ _ _ _ c.loop-there.invariant in
+    let may = trying_may c.args.course _ _ _ _ _ _ _ _ _ _ c.loop-there.invariant _ c.requires (omega arith) c.loop-there-test.true in
     (omega arith, (within.0, (within.1, record { there = may.right_there; fits = omega (arith, may.fits, c.with_way-tried.ensures.room) })))
 
 pub is_admitted-loop-there-smaller : goal.is_admitted-loop-there-smaller
 is_admitted-loop-there-smaller g t c =
-    trying_fewer c.args.item _ _ _ _ _ _ _ _ _ _ c.loop-there.invariant _ _ _ _ _ c.loop-there-test.true c.go_on-there.ensures
+    trying_fewer c.args.course _ _ _ _ _ _ _ _ _ _ c.loop-there.invariant _ _ _ _ _ c.loop-there-test.true c.go_on-there.ensures
 
 pub is_admitted-loop-there-preserved : goal.is_admitted-loop-there-preserved
 is_admitted-loop-there-preserved g t c =
-    let may = trying_may c.args.item _ _ _ _ _ _ _ _ _ _ c.loop-there.invariant _ c.requires (omega arith) c.loop-there-test.true in
-    trying_on c.args.item _ _ _ _ _ _ _ _ _ _ c.loop-there.invariant c.with_way-tried.result _ _ _ _ _ c.loop-there-test.true (c.with_way-tried.ensures.tried c.args.item may) c.with_way-tried.ensures.room c.go_on-there.ensures
+    let may = trying_may c.args.course _ _ _ _ _ _ _ _ _ _ c.loop-there.invariant _ c.requires (omega arith) c.loop-there-test.true in
+    trying_on c.args.course _ _ _ _ _ _ _ _ _ _ c.loop-there.invariant c.with_way-tried.result _ _ _ _ _ c.loop-there-test.true (c.with_way-tried.ensures.tried c.args.course may) c.with_way-tried.ensures.room c.go_on-there.ensures
 
 pub is_admitted-returns : goal.is_admitted-returns
-is_admitted-returns g t c = tried_out c.args.item _ _ _ _ _ _ _ _ _ _ c.loop-there.invariant _ c.admits.ensures c.loop-there-test.false
+is_admitted-returns g t c = tried_out c.args.course _ _ _ _ _ _ _ _ _ _ c.loop-there.invariant _ c.admits.ensures c.loop-there-test.false

@@ -1,0 +1,60 @@
+-- The ways of an operator that a walk goes through: in each way of the operand of a window filter those windows that it asks for.
+use Rattle.std.specs.Prelude.{ℕ, zero, suc, ◌+◌, ◌-◌, if◌then◌else◌, ℤ, pos, negsuc, List, [], ◌∷◌, ◌++◌, map, flat_map, take, drop, Option, Some, None}
+use Rattle.ft_base.specs.declared.filter.Filter.{Filter}
+use Rattle.ft_base.specs.declared.span.Span.{Span}
+use Rattle.all_matches.specs.declared.window.Window.{Window}
+use Rattle.all_matches.specs.Filters.{passes, choices}
+use Rattle.all_matches.specs.Ways.{Operator, phrase, either, together, apart, negated, through_filter, matches_of}
+use Rattle.all_matches.specs.Ways.{Way, one_hit, two_ways, turned_about, by_filter, way_includes, standing_out}
+use Rattle.ft_operators.specs.declared.course.Course.{Course}
+use Rattle.ft_operators.specs.declared.course.Windows.{Windows}
+use Rattle.ft_operators.specs.declared.course.Windows.TheVariants.{Each, Telling, First}
+
+-- how many numbers stand behind this one, up to 0
+abbrev pub up_to_zero : ℤ → ℕ
+up_to_zero (pos n) = 0
+up_to_zero (negsuc n) = suc n
+
+-- the first of some windows, each of which begins one number behind the one before it, and those that begin with a word: of
+-- the windows that begin in front of the first word, the first one keeps no hit that another of them doesn't keep
+abbrev pub telling : List (Option Window) → List (Option Window)
+telling [] = []
+telling (None ∷ more) = None ∷ more
+telling (Some first ∷ more) = Some first ∷ drop (up_to_zero first.from) more
+
+-- those of a filter's choices that are asked for
+abbrev pub asked_for : Windows → List (Option Window) → List (Option Window)
+asked_for Each all = all
+asked_for Telling all = telling all
+asked_for First all = take 1 all
+
+-- the ways through a filter
+abbrev pub filtered_on : Filter → Course → Way → List Way
+filtered_on kind course way =
+    if passes kind (way_includes way) course.item then map (by_filter way kind) (asked_for course.windows (choices kind (way_includes way))) else []
+
+-- the ways of an operator
+unfoldable pub ways_on : Course → Operator → List Way
+ways_on course (phrase found) = map one_hit found
+ways_on course (either left right) = ways_on course left ++ ways_on course right
+ways_on course (together left right) = flat_map (λ a. map (two_ways a) (ways_on course right)) (ways_on course left)
+ways_on course (apart left right) = standing_out (ways_on course left) (ways_on course right)
+ways_on course (negated operand) = turned_about (matches_of course.item operand) ∷ []
+ways_on course (through_filter operand kind) = flat_map (filtered_on kind course) (ways_on course operand)
+
+-- the courses of an item
+abbrev pub every : Span → Course
+every item = record { item = item; windows = Each }
+
+abbrev pub tellings : Span → Course
+tellings item = record { item = item; windows = Telling }
+
+abbrev pub firsts : Span → Course
+firsts item = record { item = item; windows = First }
+
+-- the number, among all windows of a size round a hit that ends there, of that one among those that are asked for
+abbrev pub number_among : Windows → ℕ → ℕ → ℕ → ℕ
+number_among Each size last lead = lead
+number_among Telling size last zero = 0
+number_among Telling size last (suc lead) = suc (lead + (size - suc last))
+number_among First size last lead = lead
