@@ -1,5 +1,5 @@
 -- A selection that was read has each `ftnot` and `occurs` where it may stand.
-use Rattle.std.proofs.Common.{◌≡◌, ℕ, true, List, [], ◌++◌, None, Ok, refl, ap, ◌∙◌}
+use Rattle.std.proofs.Common.{◌≡◌, ℕ, true, List, [], ◌++◌, length, None, Option, Ok, refl, ap, subst, ◌∙◌}
 use Rattle.std.specs.Prelude.{flat_map}
 use Rattle.std.specs.Option.{option_to_list}
 use Rattle.std.proofs.lemmas.Bool.{and_from, and_parts}
@@ -7,6 +7,10 @@ use Rattle.ft_base.specs.Selection.{Form}
 use Rattle.ft_base.specs.declared.fault.QueryFault.TheVariants as F
 use Rattle.all_matches.specs.Allowed.{has_operands, without_times, without_not, has_plain_nots, may_stand_out, is_allowed, each_is_allowed}
 use Rattle.ft_parser.specs.Answer.{selection_read}
+use Rattle.ft_parser.specs.Selected.{Selects}
+use Rattle.ft_parser.proofs.SelectedLaws.{Outcome, all_read}
+use Rattle.query_symbols.specs.Symbols.{symbols_of}
+use Rattle.selection_grammar.specs.declared.symbol.Placed.{Placed}
 use Rattle.selection_grammar.specs.Form.{form_of, forms_of}
 use Rattle.selection_grammar.specs.Tree as tree
 use Rattle.selection_grammar.specs.Tree.{Tree, Trees}
@@ -14,7 +18,6 @@ use Rattle.selection_faults.specs.Excludes.{within, within_all, times, excludes,
 use Rattle.selection_faults.specs.Faults.{placed, faults_at, faults, fault_of}
 use Rattle.selection_faults.specs.Options.{options_twice}
 use Rattle.selection_faults.specs.Strings.{strings_of, phrases_past, bad_wildcards}
-use Rattle.selection_round_trip.proofs.Reading.{text_selects}
 use Rattle.allowed_selections.proofs.Empty.{parts_empty, none_in, none_mapped, none_at_all}
 use Rattle.allowed_selections.proofs.Excludes.{no_times, no_excludes, plain_nots}
 use Rattle.allowed_selections.proofs.Operands.{has_full_ands, each_has_full_ands, spelled_full}
@@ -63,8 +66,15 @@ faultless t h =
     let before = parts_empty (phrases ++ twice ++ wildcards) mild last.0 in
     (none_mapped (placed F.MildNotExclude) (mild_not_excludes t) before.1, none_mapped (placed F.InsideFilter) (inside_filters t) last.1)
 
-pub read_allowed : (text : List ℕ) (form : Form) → selection_read text ≡ Ok form → is_allowed form ≡ true
-read_allowed text form h =
-    let x = text_selects text form h in
+-- symbols that are read as a selection
+pub selects_allowed : (symbols : List Placed) (bad : Option ℕ) (form : Form) → Selects symbols bad form → is_allowed form ≡ true
+selects_allowed symbols bad form x =
     let none = faultless x.tree x.faultless in
     ap is_allowed x.is ∙ allowed x.tree (spelled_full x.whole.spells) none.0 none.1
+
+-- and a text
+pub read_allowed : (text : List ℕ) (form : Form) → selection_read text ≡ Ok form → is_allowed form ≡ true
+unfolding selection_read
+read_allowed text form h =
+    let u = symbols_of text in
+    selects_allowed u.placed u.bad form (subst (Outcome u.placed u.bad (length text)) h (all_read u.placed u.bad (length text)))

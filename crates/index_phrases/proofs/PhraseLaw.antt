@@ -176,7 +176,7 @@ module _ (version : List Numbered) (doc number : ℕ) (span : Span) (terms : Lis
     values = told_there;
   }
 
-  hits_by_terms : phrase_hits version number terms doc span ≡ map (hit_on part number) (filter terms_stand (intervals (length part)))
+  pub hits_by_terms : phrase_hits version number terms doc span ≡ map (hit_on part number) (filter terms_stand (intervals (length part)))
   hits_by_terms =
       let start = s.first in
       let order = s.order in

@@ -34,6 +34,15 @@ module _ (breaks : Breaks) (first : ℕ) where
       let at : place + 1 + i ≡ place + suc i = omega arith in
       read (place + 1) words i d (omega (arith, h)) ∙ ap (λ p. token_of p (get_or words i [])) at
 
+pub words_of_tokens : (breaks : Breaks) (first place : ℕ) (words : List (List ℕ))
+    → map (λ (token : Token). token.word) (tokens_from breaks first place words) ≡ words
+words_of_tokens breaks first place [] = refl
+words_of_tokens breaks first place (word ∷ words) = ap (λ ws. word ∷ ws) (words_of_tokens breaks first (place + 1) words)
+
+-- their words are those of the span
+pub words_of_span : (span : Span) (document : Document) → map (λ (token : Token). token.word) (span_tokens span document) ≡ words_at span document
+words_of_span span document = words_of_tokens (breaks_of document) span.from span.from (words_at span document)
+
 module _ (span : Span) (document : Document) (s : IsSpan span document) where
   pub words_long : length (words_at span document) ≡ span.to - span.from
   words_long =
@@ -124,7 +133,8 @@ module _ (document : Document) (tokens : List Token) (span : Span) (text : IsTex
   place_of_part : (i : ℕ) → suc ((span.from - 1) + i) ≡ span.from + i
   place_of_part i = let first = s.first in omega (arith, first)
 
-  part_sentence : (i : ℕ) → i < length (in_span span tokens) → (get_or (in_span span tokens) i no_token).sentence ≡ started document.sentences (span.from + i)
+  pub part_sentence : (i : ℕ) → i < length (in_span span tokens)
+      → (get_or (in_span span tokens) i no_token).sentence ≡ started document.sentences (span.from + i)
   part_sentence i h =
       let within = there i h in
       ap (λ (token : Token). token.sentence) (part_read i h)
@@ -132,7 +142,8 @@ module _ (document : Document) (tokens : List Token) (span : Span) (text : IsTex
       ∙ text.sentences (suc ((span.from - 1) + i)) (omega arith) (omega (arith, within))
       ∙ ap (started document.sentences) (place_of_part i)
 
-  part_paragraph : (i : ℕ) → i < length (in_span span tokens) → (get_or (in_span span tokens) i no_token).paragraph ≡ started document.paragraphs (span.from + i)
+  pub part_paragraph : (i : ℕ) → i < length (in_span span tokens)
+      → (get_or (in_span span tokens) i no_token).paragraph ≡ started document.paragraphs (span.from + i)
   part_paragraph i h =
       let within = there i h in
       ap (λ (token : Token). token.paragraph) (part_read i h)

@@ -1,5 +1,5 @@
 -- Variants whose cursors were aimed, one after the other.
-use Rattle.std.proofs.Common.{◌≡◌, ◌≤◌, ◌<◌, ◌+◌, ◌*◌, ◌++◌, ◌||◌, ℕ, suc, subst, Bool, true, false, cond, ◌&&◌, List, [], ◌∷◌, map, length, get_or, set, take, refl, sym, ap, ◌∙◌, arith}
+use Rattle.std.proofs.Common.{◌≡◌, ◌≤◌, ◌<◌, ◌+◌, ◌*◌, ◌++◌, ◌||◌, ℕ, suc, subst, true, false, cond, ◌&&◌, List, [], ◌∷◌, map, length, get_or, set, take, refl, sym, ap, ◌∙◌, arith}
 use Rattle.std.specs.List.{All, list_any, sum_by}
 use Rattle.std.proofs.lemmas.List.{length-map, map_more, take_more_set}
 use Rattle.std.proofs.lemmas.List.Folds.{list_any-append}
@@ -9,18 +9,18 @@ use Rattle.ft_base.specs.declared.hit.Hit.{Hit}
 use Rattle.index_meaning.specs.Documents.{Numbered, has_document}
 use Rattle.index_versions.specs.Terms.{VersionTerm, aimed_at}
 use Rattle.index_versions.specs.Versions.{term_hits}
-use Rattle.place_merges.specs.Places.{Wanted, any_word, one_of, stands_before, some_stands}
+use Rattle.place_merges.specs.Places.{Wanted, any_word, one_of, stands_before}
 use Rattle.place_merges.specs.Sources.{all_left, hits_left, places_left, variant_left, wanted}
 use Rattle.place_merges.specs.declared.item.Item.{Item}
 use Rattle.place_merges.specs.declared.item.Item.TheVariants as Merged
 use Rattle.place_merges.specs.declared.item.Variant.{Variant}
-use Rattle.place_merges.specs.steps.Searching.{one_stands, variant_stands}
+use Rattle.place_merges.specs.steps.Searching.{variant_stands}
 use Rattle.plan_compiler.specs.steps.AskedPlaces.{AreAimed, IsAimed, aimed, hits_at, wanted_at}
 use Rattle.plan_compiler.specs.steps.ChosenTerms.{numbers_of}
 use Rattle.plan_compiler.specs.steps.RunCosts.{hit_count, moves_for, term_count}
 use Rattle.plan_compiler.specs.declared.asked_place.AskedPlace.{AskedPlace}
-use Rattle.plan_compiler.specs.declared.run_node.WordTerms.{WordTerms}
-use Rattle.plan_compiler.specs.declared.run_node.WordTerms.TheVariants as Terms
+use Rattle.index_phrases.specs.declared.word_terms.WordTerms.{WordTerms}
+use Rattle.index_phrases.specs.declared.word_terms.WordTerms.TheVariants as Terms
 use Rattle.plan_compiler.proofs.SumLemmas.{sum_over, sum_with_twice}
 
 -- a document of the version is one of each term's version

@@ -21,7 +21,7 @@ use Rattle.match_options.specs.declared.word_matching.WordTest.TheVariants as Th
 use Rattle.word_lists.specs.Stems.{Stem}
 use Rattle.plan_compiler.specs.steps.AskedKeys.{asked_key, key_of_forms}
 use Rattle.plan_compiler.specs.ItemTests.{passes}
-use Rattle.plan_compiler.specs.steps.OpenedWords.{word_test}
+use Rattle.plan_compiler.specs.steps.OpenedItems.{word_test}
 use Rattle.plan_compiler.specs.declared.item_matching.ItemTest.{ItemTest}
 use Rattle.plan_compiler.specs.declared.item_matching.ItemTest.TheVariants as Test
 use Rattle.plan_compiler.specs.declared.looks.Looks.{Looks}

@@ -1,5 +1,5 @@
 -- Selections are compiled by their parts.
-use Rattle.std.proofs.Common.{◌≡◌, ◌≤◌, ◌<◌, ◌+◌, ◌++◌, refl, sym, ap, subst, ◌∙◌, ℕ, List, [], ◌∷◌, map, take, get_or, length, true, arith, Box, Global}
+use Rattle.std.proofs.Common.{◌≡◌, ◌<◌, ◌+◌, ◌++◌, refl, sym, ap, ◌∙◌, ℕ, List, [], ◌∷◌, map, take, get_or, length, true, arith, Box, Global}
 use Rattle.std.specs.List.{sum_by}
 use Rattle.std.proofs.lemmas.List.Sums.{sum_by-cons, sum_by_more, sum_by_push}
 use Rattle.ft_base.specs.Selection.{Form, words, or_of, and_of, not_of, with_options}
@@ -17,14 +17,14 @@ use Rattle.plan_compiler.specs.Lexicon.{lexicon}
 use Rattle.plan_compiler.specs.NamedLists.{NamedLists}
 use Rattle.plan_compiler.specs.NodeCosts.{node_cost}
 use Rattle.plan_compiler.specs.NodeMeaning.{truth}
+use Rattle.plan_compiler.specs.Operators.{looked_text}
 use Rattle.plan_compiler.specs.Price.{price_under, prices_under, value_price}
 use Rattle.plan_compiler.specs.Served.{are_served}
-use Rattle.plan_compiler.specs.TextWords.{words_of_tokens}
 use Rattle.plan_compiler.specs.declared.looks.Looks.{Looks}
 use Rattle.plan_compiler.specs.declared.node.Node.{Node}
 use Rattle.plan_compiler.specs.declared.node.Node as N
 use Rattle.plan_compiler.specs.declared.words_plan.WordsPlan.{WordsPlan}
-use Rattle.plan_compiler.proofs.DecidedLemmas.{form-Not, form-With}
+use Rattle.plan_compiler.proofs.ServedLemmas.{form-Not, form-With}
 use Rattle.plan_compiler.proofs.NodeViews.{truth-Words, cost-Words, cost-Or, cost-And, cost-Not}
 use Rattle.plan_compiler.proofs.PriceMeaning.{words_priced}
 use Rattle.plan_compiler.proofs.SelectionMeaning.{and_selection, not_selection, or_selection, say_more, with_selection, words_mean}
@@ -64,7 +64,7 @@ module _ (looks : Looks) (lists : NamedLists) (options : Options) where
   pub words_compile : (value : Words) (plan : WordsPlan) → IsCompiled plan lists (inside value.options options) value → are_served looks (inside value.options options) ≡ true
       → Compiles looks lists options (N.Words plan) (words value)
   words_compile value plan compiled served = record {
-    says = λ tokens. truth-Words plan (words_of_tokens looks lists.stems tokens) ∙ words_mean looks lists options value plan tokens compiled served;
+    says = λ tokens. truth-Words plan (looked_text looks lists.stems tokens) ∙ words_mean looks lists options value plan tokens compiled served;
     price = λ terms text.
         let cost = cost-Words (compiled_price looks lists.stems terms text) plan in
         let plain = words_priced looks lists terms text (inside value.options options) plan value compiled served in
@@ -119,7 +119,7 @@ module _ (looks : Looks) (lists : NamedLists) (options : Options) where
       → Compiles looks lists options node (form part) → CompileAll looks lists options nodes (take i parts) → CompileAll looks lists options new (take (i + 1) parts)
   compile_more nodes new parts i node part h is pushed one all = record {
     says = λ tokens.
-        say_more (λ n. truth n (words_of_tokens looks lists.stems tokens)) (λ p. sat_under (lexicon lists) options (form p) tokens) nodes new parts i node part h is pushed (one.says tokens) (all.says tokens);
+        say_more (λ n. truth n (looked_text looks lists.stems tokens)) (λ p. sat_under (lexicon lists) options (form p) tokens) nodes new parts i node part h is pushed (one.says tokens) (all.says tokens);
     price = λ terms text.
         let cost = node_cost (compiled_price looks lists.stems terms text) in
         let sum = ap (sum_by cost) pushed ∙ sum_by_push cost nodes node in

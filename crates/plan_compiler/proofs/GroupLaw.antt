@@ -21,8 +21,8 @@ use Rattle.plan_compiler.specs.steps.ChosenTerms.{is_among, numbers_of}
 use Rattle.plan_compiler.specs.steps.RunShapes.{size_of, sizes_of}
 use Rattle.plan_compiler.specs.steps.RunTruth.{is_wanted}
 use Rattle.plan_compiler.specs.steps.AskedPlaces.{AreAimed, hits_at, text_at, wanted_at}
-use Rattle.plan_compiler.specs.declared.run_node.WordTerms.{WordTerms}
-use Rattle.plan_compiler.specs.declared.run_node.WordTerms.TheVariants as Terms
+use Rattle.index_phrases.specs.declared.word_terms.WordTerms.{WordTerms}
+use Rattle.index_phrases.specs.declared.word_terms.WordTerms.TheVariants as Terms
 use Rattle.plan_compiler.specs.declared.asked_place.AskedPlace.{AskedPlace}
 use Rattle.plan_compiler.proofs.TermLaws.{hit_law}
 

@@ -1,14 +1,14 @@
 pub mod Capped
-pub mod Places
 pub mod NodeViews
 pub mod ListLemmas
 mod SumLemmas
 pub mod GroupLemmas
 mod ReachedLemmas
-pub mod DecidedLemmas
+pub mod ServedLemmas
 pub mod MissingLemmas
 pub mod ItemMeaning
 pub mod PhraseMeaning
+mod AllowedLemmas
 pub mod SelectionMeaning
 mod PriceMeaning
 mod CompiledLemmas
@@ -18,7 +18,15 @@ mod PartLemmas
 mod GroupLaw
 mod AimLemmas
 mod TermCosts
+mod OperatorViews
+mod JoinLemmas
+mod PhraseOperators
+mod OperatorLemmas
+mod WaysLaw
 mod OpenedLemmas
+mod OpenedViews
+mod OpenedWays
+mod KnownTexts
 mod RunLaw
 mod RuledOutLaw
 mod TellingLemmas

@@ -11,7 +11,7 @@ use Rattle.ft_syntax.specs.declared.selection.Selection as S
 use Rattle.ft_syntax.proofs.Views.{form-Or, form-And, form-MildNot}
 use Rattle.plan_compiler.specs.Missing.{Named, name_of, is_missing, names, all_names, option_names, missing_among, first_missing}
 use Rattle.plan_compiler.specs.NamedLists.{NamedLists}
-use Rattle.plan_compiler.proofs.DecidedLemmas.{form-Words, form-Not, form-Filtered, form-With}
+use Rattle.plan_compiler.proofs.ServedLemmas.{form-Words, form-Not, form-Filtered, form-With}
 
 module _ (lists : NamedLists) where
   -- the first of some names, or else of those behind them

@@ -4,16 +4,18 @@ use Rattle.std.specs.List.{list_any, list_all, sum_by}
 use Rattle.std.proofs.lemmas.List.Sums.{sum-map}
 use Rattle.plan_compiler.specs.NodeCosts.{node_cost, words_cost}
 use Rattle.plan_compiler.specs.NodeMeaning.{layer, truth}
+use Rattle.plan_compiler.specs.Operators.{LookedText, operator_at, satisfied_over}
+use Rattle.plan_compiler.specs.TextWords.{words_of_tokens}
 use Rattle.plan_compiler.specs.WordsMeaning.{words_truth}
 use Rattle.plan_compiler.specs.declared.item_matching.ItemTest.{ItemTest}
-use Rattle.plan_compiler.specs.declared.text_word.TextWord.{TextWord}
+use Rattle.plan_compiler.specs.declared.operator_plan.WaysPlan.{WaysPlan}
 use Rattle.plan_compiler.specs.declared.words_plan.WordsPlan.{WordsPlan}
 use Rattle.plan_compiler.specs.declared.node.Node.TheOpen.{Node-F}
-use Rattle.plan_compiler.specs.declared.node.Node.{Node, Words, Or, And, Not, the_lemmas}
+use Rattle.plan_compiler.specs.declared.node.Node.{Node, Words, Or, And, Not, Ways, the_lemmas}
 
-pub truth-Words : (plan : WordsPlan) (words : List TextWord) → truth (Words plan) words ≡ words_truth plan words
+pub truth-Words : (plan : WordsPlan) (text : LookedText) → truth (Words plan) text ≡ words_truth plan (words_of_tokens text.looks text.stems text.tokens)
 unfolding truth
-truth-Words plan words = search (rules, the_lemmas)
+truth-Words plan text = search (rules, the_lemmas)
 
 truth-parts : (parts : List Node) → truth (Or parts) ≡ layer (Node-F.Or (map truth parts))
 unfolding truth
@@ -23,23 +25,27 @@ truth-all_parts : (parts : List Node) → truth (And parts) ≡ layer (Node-F.An
 unfolding truth
 truth-all_parts parts = search (rules, the_lemmas)
 
-any_of_truths : (parts : List Node) (words : List TextWord) → list_any (λ part. part words) (map truth parts) ≡ list_any (λ part. truth part words) parts
-any_of_truths [] words = refl
-any_of_truths (part ∷ rest) words = ap (λ b. truth part words || b) (any_of_truths rest words)
+any_of_truths : (parts : List Node) (text : LookedText) → list_any (λ part. part text) (map truth parts) ≡ list_any (λ part. truth part text) parts
+any_of_truths [] text = refl
+any_of_truths (part ∷ rest) text = ap (λ b. truth part text || b) (any_of_truths rest text)
 
-all_of_truths : (parts : List Node) (words : List TextWord) → list_all (λ part. part words) (map truth parts) ≡ list_all (λ part. truth part words) parts
-all_of_truths [] words = refl
-all_of_truths (part ∷ rest) words = ap (λ b. truth part words && b) (all_of_truths rest words)
+all_of_truths : (parts : List Node) (text : LookedText) → list_all (λ part. part text) (map truth parts) ≡ list_all (λ part. truth part text) parts
+all_of_truths [] text = refl
+all_of_truths (part ∷ rest) text = ap (λ b. truth part text && b) (all_of_truths rest text)
 
-pub truth-Or : (parts : List Node) (words : List TextWord) → truth (Or parts) words ≡ list_any (λ part. truth part words) parts
-truth-Or parts words = ap (λ f. f words) (truth-parts parts) ∙ any_of_truths parts words
+pub truth-Or : (parts : List Node) (text : LookedText) → truth (Or parts) text ≡ list_any (λ part. truth part text) parts
+truth-Or parts text = ap (λ f. f text) (truth-parts parts) ∙ any_of_truths parts text
 
-pub truth-And : (parts : List Node) (words : List TextWord) → truth (And parts) words ≡ list_all (λ part. truth part words) parts
-truth-And parts words = ap (λ f. f words) (truth-all_parts parts) ∙ all_of_truths parts words
+pub truth-And : (parts : List Node) (text : LookedText) → truth (And parts) text ≡ list_all (λ part. truth part text) parts
+truth-And parts text = ap (λ f. f text) (truth-all_parts parts) ∙ all_of_truths parts text
 
-pub truth-Not : (part : Box Node Global) (words : List TextWord) → truth (Not part) words ≡ not (truth part.value words)
+pub truth-Not : (part : Box Node Global) (text : LookedText) → truth (Not part) text ≡ not (truth part.value text)
 unfolding truth
-truth-Not part words = search (rules, the_lemmas)
+truth-Not part text = search (rules, the_lemmas)
+
+pub truth-Ways : (plan : WaysPlan) (text : LookedText) → truth (Ways plan) text ≡ satisfied_over text.tokens (operator_at text plan.operator)
+unfolding truth
+truth-Ways plan text = search (rules, the_lemmas)
 
 -- ---- what its tests cost
 
@@ -65,3 +71,7 @@ module _ (cost : ItemTest → ℕ) where
   pub cost-Not : (part : Box Node Global) → node_cost cost (Not part) ≡ node_cost cost part.value
   unfolding node_cost
   cost-Not part = search (rules, the_lemmas)
+
+  pub cost-Ways : (plan : WaysPlan) → node_cost cost (Ways plan) ≡ 0
+  unfolding node_cost
+  cost-Ways plan = search (rules, the_lemmas)

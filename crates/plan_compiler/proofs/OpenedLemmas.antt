@@ -24,7 +24,10 @@ use Rattle.plan_compiler.specs.NodeCosts.{node_cost}
 use Rattle.plan_compiler.specs.NodeCosts as node
 use Rattle.plan_compiler.specs.NodeMeaning.{truth}
 use Rattle.plan_compiler.specs.steps.RunCosts.{group_cost, phrase_cost, run_cost, words_cost}
-use Rattle.plan_compiler.specs.steps.OpenedWords.{AreOpened, IsOpened, opened_group, opened_item, opened_phrase, opened_variant, opened_words, word_test}
+use Rattle.plan_compiler.specs.Operators.{looked_text}
+use Rattle.plan_compiler.specs.steps.AskedSpans.{AskedSpan, tokens_in, words_in}
+use Rattle.plan_compiler.specs.steps.OpenedItems.{opened_item, opened_variant, word_test}
+use Rattle.plan_compiler.specs.steps.OpenedWords.{AreOpened, IsOpened, opened_group, opened_phrase, opened_words}
 use Rattle.plan_compiler.specs.steps.RunShapes.{GroupShape, Shape, shape, shapes_of, words, words_shape}
 use Rattle.plan_compiler.specs.steps.RunTruth.{AreSound, AreThere, IsGroup, IsSound, IsWords, all_true, group_count, is_wanted, phrase_total, run_truth, some_true, words_say}
 use Rattle.plan_compiler.specs.TextWords.{word_as}
@@ -38,10 +41,11 @@ use Rattle.plan_compiler.specs.declared.phrase_plan.PhrasePlan.{PhrasePlan}
 use Rattle.plan_compiler.specs.declared.run_node.RunNode.{RunNode}
 use Rattle.plan_compiler.specs.declared.run_node.RunNode as R
 use Rattle.plan_compiler.specs.declared.run_node.RunWords.{RunWords}
-use Rattle.plan_compiler.specs.declared.run_node.WordTerms.{WordTerms}
-use Rattle.plan_compiler.specs.declared.run_node.WordTerms.TheVariants as Terms
+use Rattle.index_phrases.specs.declared.word_terms.WordTerms.{WordTerms}
+use Rattle.index_phrases.specs.declared.word_terms.WordTerms.TheVariants as Terms
 use Rattle.plan_compiler.specs.declared.text_word.TextWord.{TextWord}
 use Rattle.plan_compiler.specs.declared.words_plan.WordsPlan.{WordsPlan}
+use Rattle.plan_compiler.proofs.KnownTexts.{looked_words, text_known}
 use Rattle.plan_compiler.proofs.NodeViews.{truth-Words, truth-Or, truth-And, truth-Not, cost-Words, cost-Or, cost-And, cost-Not}
 use Rattle.plan_compiler.proofs.SumLemmas.{sum_over_le}
 use Rattle.plan_compiler.proofs.TermLaws.{numbers_again}
@@ -50,7 +54,7 @@ use Rattle.plan_compiler.proofs.RunViews.{shape-Words, shape-Or, shape-And, shap
 
 -- ---- lists
 
-every : {X : Type 0} (P : X → Type 0) → ((x : X) → P x) → (xs : List X) → All P xs
+pub every : {X : Type 0} (P : X → Type 0) → ((x : X) → P x) → (xs : List X) → All P xs
 every P all xs = λ k d h. all (get_or xs k d)
 
 map_both : {A B C : Type 0} (f : B → C) (g : A → B) (h : A → C) → ((a : A) → f (g a) ≡ h a) → (xs : List A) → map f (map g xs) ≡ map h xs
@@ -105,7 +109,7 @@ chosen_there test version =
 module _ (looks : Looks) (stems : List Stem) (version : List Numbered) where
   -- ---- what opened words say
 
-  item_says : (word : List ℕ) → IsKnown version word → (test : ItemTest) → is_wanted version (opened_item looks stems version test) word ≡ passes test (word_as looks stems word)
+  pub item_says : (word : List ℕ) → IsKnown version word → (test : ItemTest) → is_wanted version (opened_item looks stems version test) word ≡ passes test (word_as looks stems word)
   unfolding is_wanted
   item_says word known test =
       elim (asks_nothing test) as (λ b. asks_nothing test ≡ b → is_wanted version (cond b Terms.Any (Terms.Of (map (version_term version) (terms_for (word_test looks stems test) version)))) word ≡ passes test (word_as looks stems word)) [
@@ -131,7 +135,7 @@ module _ (looks : Looks) (stems : List Stem) (version : List Numbered) where
 
   -- ---- opened words fit the version
 
-  item_there : (test : ItemTest) → AreThere version (opened_item looks stems version test)
+  pub item_there : (test : ItemTest) → AreThere version (opened_item looks stems version test)
   item_there test =
       elim (asks_nothing test) as (λ b. AreThere version (cond b Terms.Any (Terms.Of (map (version_term version) (terms_for (word_test looks stems test) version))))) [
         | true ↦ tt
@@ -173,7 +177,10 @@ module _ (looks : Looks) (stems : List Stem) (version : List Numbered) where
       let own : shape (R.Words run) ≡ words (opened_words looks stems version plan) = shape-Words run ∙ ap words opened in
       subst (λ (s : Shape). IsOpened looks stems version s node) (sym own) (record {
         sound = words_fit plan;
-        says = λ text known. words_says text known plan ∙ sym (ap (λ (n : Node). truth n (map (word_as looks stems) text)) is ∙ truth-Words plan (map (word_as looks stems) text));
+        says = λ asked there.
+            words_says (words_in version asked) (text_known version asked there) plan
+            ∙ ap (words_truth plan) (looked_words looks stems version asked)
+            ∙ sym (ap (λ (n : Node). truth n (looked_text looks stems (tokens_in version asked))) is ∙ truth-Words plan (looked_text looks stems (tokens_in version asked)));
         cost = λ word_cost test_cost most.
             let cheap = words_cheap word_cost test_cost most plan in
             let whole = ap (node_cost test_cost) is ∙ cost-Words test_cost plan in
@@ -185,15 +192,15 @@ module _ (looks : Looks) (stems : List Stem) (version : List Numbered) where
   are_sound [] h = tt
   are_sound (run ∷ runs) h = (h 0 run (omega arith), are_sound runs (λ k d lt. h (suc k) d (omega arith)))
 
-  some_is : (runs : List Shape) (text : List (List ℕ)) → some_true version (shapes_of runs) text ≡ list_any (λ b. b) (map (λ run. run_truth version run text) runs)
+  some_is : (runs : List Shape) (asked : AskedSpan) → some_true version (shapes_of runs) asked ≡ list_any (λ b. b) (map (λ run. run_truth version run asked) runs)
   unfolding some_true
-  some_is [] text = refl
-  some_is (run ∷ runs) text = ap (λ b. run_truth version run text || b) (some_is runs text)
+  some_is [] asked = refl
+  some_is (run ∷ runs) asked = ap (λ b. run_truth version run asked || b) (some_is runs asked)
 
-  all_is : (runs : List Shape) (text : List (List ℕ)) → all_true version (shapes_of runs) text ≡ list_all (λ b. b) (map (λ run. run_truth version run text) runs)
+  all_is : (runs : List Shape) (asked : AskedSpan) → all_true version (shapes_of runs) asked ≡ list_all (λ b. b) (map (λ run. run_truth version run asked) runs)
   unfolding all_true
-  all_is [] text = refl
-  all_is (run ∷ runs) text = ap (λ b. run_truth version run text && b) (all_is runs text)
+  all_is [] asked = refl
+  all_is (run ∷ runs) asked = ap (λ b. run_truth version run asked && b) (all_is runs asked)
 
   list_all-map : {X Y : Type 0} (p : Y → Bool) (f : X → Y) (xs : List X) → list_all p (map f xs) ≡ list_all (λ x. p (f x)) xs
   list_all-map p f [] = refl
@@ -204,11 +211,11 @@ module _ (looks : Looks) (stems : List Stem) (version : List Numbered) where
   or_opened runs parts node is opened =
       subst (λ (s : Shape). IsOpened looks stems version s node) (sym (shape-Or runs)) (record {
         sound = are_sound (map shape runs.items) opened.sound;
-        says = λ text known.
-            some_is (map shape runs.items) text
-            ∙ ap (list_any (λ b. b)) (opened.says text known)
-            ∙ list_any-map (λ b. b) (λ (n : Node). truth n (map (word_as looks stems) text)) parts
-            ∙ sym (ap (λ (n : Node). truth n (map (word_as looks stems) text)) is ∙ truth-Or parts (map (word_as looks stems) text));
+        says = λ asked there.
+            some_is (map shape runs.items) asked
+            ∙ ap (list_any (λ b. b)) (opened.says asked there)
+            ∙ list_any-map (λ b. b) (λ (n : Node). truth n (looked_text looks stems (tokens_in version asked))) parts
+            ∙ sym (ap (λ (n : Node). truth n (looked_text looks stems (tokens_in version asked))) is ∙ truth-Or parts (looked_text looks stems (tokens_in version asked)));
         cost = λ word_cost test_cost most.
             let cheap = opened.cost word_cost test_cost most in
             let all = costs_are word_cost (map shape runs.items) in
@@ -221,11 +228,11 @@ module _ (looks : Looks) (stems : List Stem) (version : List Numbered) where
   and_opened runs parts node is opened =
       subst (λ (s : Shape). IsOpened looks stems version s node) (sym (shape-And runs)) (record {
         sound = are_sound (map shape runs.items) opened.sound;
-        says = λ text known.
-            all_is (map shape runs.items) text
-            ∙ ap (list_all (λ b. b)) (opened.says text known)
-            ∙ list_all-map (λ b. b) (λ (n : Node). truth n (map (word_as looks stems) text)) parts
-            ∙ sym (ap (λ (n : Node). truth n (map (word_as looks stems) text)) is ∙ truth-And parts (map (word_as looks stems) text));
+        says = λ asked there.
+            all_is (map shape runs.items) asked
+            ∙ ap (list_all (λ b. b)) (opened.says asked there)
+            ∙ list_all-map (λ b. b) (λ (n : Node). truth n (looked_text looks stems (tokens_in version asked))) parts
+            ∙ sym (ap (λ (n : Node). truth n (looked_text looks stems (tokens_in version asked))) is ∙ truth-And parts (looked_text looks stems (tokens_in version asked)));
         cost = λ word_cost test_cost most.
             let cheap = opened.cost word_cost test_cost most in
             let all = costs_are word_cost (map shape runs.items) in
@@ -238,9 +245,9 @@ module _ (looks : Looks) (stems : List Stem) (version : List Numbered) where
   not_opened run part node is opened =
       subst (λ (s : Shape). IsOpened looks stems version s node) (sym (shape-Not run)) (record {
         sound = opened.sound;
-        says = λ text known.
-            ap not (opened.says text known)
-            ∙ sym (ap (λ (n : Node). truth n (map (word_as looks stems) text)) is ∙ truth-Not part (map (word_as looks stems) text));
+        says = λ asked there.
+            ap not (opened.says asked there)
+            ∙ sym (ap (λ (n : Node). truth n (looked_text looks stems (tokens_in version asked))) is ∙ truth-Not part (looked_text looks stems (tokens_in version asked)));
         cost = λ word_cost test_cost most.
             let cheap = opened.cost word_cost test_cost most in
             let whole = ap (node_cost test_cost) is ∙ cost-Not test_cost part in
@@ -254,12 +261,12 @@ module _ (looks : Looks) (stems : List Stem) (version : List Numbered) where
       let shapes : map shape after ≡ map shape before ++ shape run ∷ [] = ap (map shape) pushed ∙ map_push shape before run in
       record {
         sound = subst (All (IsSound version)) (sym shapes) (All-push (IsSound version) (map shape before) (shape run) all.sound opened.sound);
-        says = λ text known.
-            ap (map (λ (s : Shape). run_truth version s text)) shapes
-            ∙ map_push (λ (s : Shape). run_truth version s text) (map shape before) (shape run)
-            ∙ (λ j. all.says text known j ++ opened.says text known j ∷ [])
-            ∙ ap (λ (n : Node). map (λ (m : Node). truth m (map (word_as looks stems) text)) (take i nodes) ++ truth n (map (word_as looks stems) text) ∷ []) is
-            ∙ sym (map_more (λ (m : Node). truth m (map (word_as looks stems) text)) nodes i node h);
+        says = λ asked there.
+            ap (map (λ (s : Shape). run_truth version s asked)) shapes
+            ∙ map_push (λ (s : Shape). run_truth version s asked) (map shape before) (shape run)
+            ∙ (λ j. all.says asked there j ++ opened.says asked there j ∷ [])
+            ∙ ap (λ (n : Node). map (λ (m : Node). truth m (looked_text looks stems (tokens_in version asked))) (take i nodes) ++ truth n (looked_text looks stems (tokens_in version asked)) ∷ []) is
+            ∙ sym (map_more (λ (m : Node). truth m (looked_text looks stems (tokens_in version asked))) nodes i node h);
         cost = λ word_cost test_cost most.
             let sum = ap (sum_by (run_cost word_cost)) shapes ∙ sum_by_push (run_cost word_cost) (map shape before) (shape run) in
             let more = sum_by_more (node_cost test_cost) nodes i node h in

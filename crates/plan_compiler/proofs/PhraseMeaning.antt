@@ -84,12 +84,12 @@ not_empty-map f (x ∷ xs) = refl
 
 -- ---- counts joined
 
-flat_empty : (strings : List (List Item)) → list_all is_empty strings ≡ true → flat_map (λ items. items) strings ≡ []
+pub flat_empty : (strings : List (List Item)) → list_all is_empty strings ≡ true → flat_map (λ items. items) strings ≡ []
 flat_empty [] h = refl
 flat_empty ([] ∷ strings) h = flat_empty strings h
 flat_empty ((item ∷ items) ∷ strings) h = cc
 
-flat_some : (strings : List (List Item)) → list_all is_empty strings ≡ false → (item : Item) × (items : List Item) × (flat_map (λ items. items) strings ≡ item ∷ items)
+pub flat_some : (strings : List (List Item)) → list_all is_empty strings ≡ false → (item : Item) × (items : List Item) × (flat_map (λ items. items) strings ≡ item ∷ items)
 flat_some [] h = cc
 flat_some ([] ∷ strings) h = flat_some strings h
 flat_some ((item ∷ items) ∷ strings) h = (item, items ++ flat_map (λ more. more) strings, refl)
@@ -194,7 +194,7 @@ module _ (looks : Looks) (lists : NamedLists) (options : Options) (reading : Rea
   no_hit tokens = none_found (intervals (length tokens))
 
   -- a phrase that is reached more than once stands no oftener
-  once_alike : (phrase : List Item) (keys : List (List (List ℕ))) (test : List Item → Bool)
+  pub once_alike : (phrase : List Item) (keys : List (List (List ℕ))) (test : List Item → Bool)
       → list_any test (map (map bare) (phrase ∷ map (map word) (in_order keys))) ≡ list_any test (map (map bare) (phrase ∷ map (map word) keys))
   once_alike phrase keys test =
       ap (λ some. test (map bare phrase) || some)

@@ -15,20 +15,22 @@ use Rattle.index_meaning.specs.Postings.{places_from, same_word}
 use Rattle.index_versions.specs.Terms.{VersionTerm, is_in}
 use Rattle.index_versions.specs.Versions.{stands_in, term_at}
 use Rattle.term_dict.proofs.OrderLemmas.{equal_turned}
-use Rattle.plan_compiler.specs.RunMeaning.{words_at}
+use Rattle.index_phrases.specs.Phrases.{words_at}
 use Rattle.plan_compiler.specs.WordsMeaning.{joined}
 use Rattle.plan_compiler.specs.steps.ChosenTerms.{is_among, numbers_of}
+use Rattle.plan_compiler.specs.steps.AskedSpans.{AskedSpan, words_in}
 use Rattle.plan_compiler.specs.steps.RuledOut.{all_ruled_out, are_missing, is_missing, phrase_missing, ruled_out, some_ruled_out, words_ruled_out}
-use Rattle.plan_compiler.specs.steps.RunShapes.{GroupShape, WordsShape, Shape, Shapes, words, any_of, all_of, not_of, none, more, group_shape, phrase_shape, shape, shapes_of, variant_words, words_shape}
+use Rattle.plan_compiler.specs.steps.RunShapes.{GroupShape, WordsShape, Shape, Shapes, words, any_of, all_of, not_of, by_ways, none, more, group_shape, phrase_shape, shape, shapes_of, variant_words, words_shape}
 use Rattle.plan_compiler.specs.steps.RunTruth.{AreSound, AreThere, IsGroup, IsSound, IsWords, all_true, group_count, is_wanted, phrase_total, run_truth, some_true, words_say}
 use Rattle.plan_compiler.specs.declared.run_node.RunGroup.{RunGroup}
 use Rattle.plan_compiler.specs.declared.run_node.RunPhrase.{RunPhrase}
 use Rattle.plan_compiler.specs.declared.run_node.RunWords.{RunWords}
+use Rattle.plan_compiler.specs.declared.run_ways.RunWays.{RunWays}
 use Rattle.plan_compiler.specs.declared.run_node.RunNode.{RunNode}
 use Rattle.plan_compiler.specs.declared.run_node.RunNode as R
-use Rattle.plan_compiler.specs.declared.run_node.WordTerms.{WordTerms}
-use Rattle.plan_compiler.specs.declared.run_node.WordTerms.TheVariants as Terms
-use Rattle.plan_compiler.proofs.RunViews.{shape-Words, shape-Or, shape-And, shape-Not}
+use Rattle.index_phrases.specs.declared.word_terms.WordTerms.{WordTerms}
+use Rattle.index_phrases.specs.declared.word_terms.WordTerms.TheVariants as Terms
+use Rattle.plan_compiler.proofs.RunViews.{shape-Words, shape-Or, shape-And, shape-Not, shape-Ways}
 
 not_true : (b : Bool) → not b ≡ true → b ≡ false
 not_true true h = sym h
@@ -138,36 +140,38 @@ module _ (version : List Numbered) (doc : ℕ) where
         total true missing = no_product run.phrases fits missing
         total false missing = no_sum run.phrases fits missing
 
-    -- ---- the kinds of a tree
+  -- ---- the kinds of a tree
 
+  module _ (asked : AskedSpan) (within : IsWithin (words_in version asked)) where
     mutual
       unfolding run_truth ruled_out IsSound
 
-      ruled_law : (run : Shape) → IsSound version run → ruled_out doc run ≡ true → run_truth version run text ≡ false
-      ruled_law (words run) sound h = no_words run sound h
+      ruled_law : (run : Shape) → IsSound version run → ruled_out doc run ≡ true → run_truth version run asked ≡ false
+      ruled_law (words run) sound h = no_words (words_in version asked) within run sound h
       ruled_law (any_of parts) sound h = all_law parts sound h
       ruled_law (all_of parts) sound h = some_law parts sound h
       ruled_law (not_of part) sound h = absurd (true≢false (sym h))
+      ruled_law (by_ways aims) sound h = absurd (true≢false (sym h))
 
-      all_law : (parts : Shapes) → AreSound version parts → all_ruled_out doc parts ≡ true → some_true version parts text ≡ false
+      all_law : (parts : Shapes) → AreSound version parts → all_ruled_out doc parts ≡ true → some_true version parts asked ≡ false
       all_law none sound h = refl
       all_law (more part rest) sound h =
           let parts = and_parts (ruled_out doc part) (all_ruled_out doc rest) h in
           λ i. ruled_law part sound.0 parts.0 i || all_law rest sound.1 parts.1 i
 
-      some_law : (parts : Shapes) → AreSound version parts → some_ruled_out doc parts ≡ true → all_true version parts text ≡ false
+      some_law : (parts : Shapes) → AreSound version parts → some_ruled_out doc parts ≡ true → all_true version parts asked ≡ false
       some_law none sound h = absurd (true≢false (sym h))
       some_law (more part rest) sound h = by_test (ruled_out doc part) refl h (ruled_law part sound.0) (some_law rest sound.1)
         where
           by_test : (b : Bool) → ruled_out doc part ≡ b → (b || some_ruled_out doc rest) ≡ true
-              → (ruled_out doc part ≡ true → run_truth version part text ≡ false) → (some_ruled_out doc rest ≡ true → all_true version rest text ≡ false)
-              → (run_truth version part text && all_true version rest text) ≡ false
-          by_test true is h first then = and_left (run_truth version part text) (all_true version rest text) (first is)
-          by_test false is h first then = and_right (run_truth version part text) (all_true version rest text) (then h)
+              → (ruled_out doc part ≡ true → run_truth version part asked ≡ false) → (some_ruled_out doc rest ≡ true → all_true version rest asked ≡ false)
+              → (run_truth version part asked && all_true version rest asked) ≡ false
+          by_test true is h first then = and_left (run_truth version part asked) (all_true version rest asked) (first is)
+          by_test false is h first then = and_right (run_truth version part asked) (all_true version rest asked) (then h)
 
   -- a run that is ruled out says no of each span
-  pub ruled_out_law : (run : Shape) (span : Span) → IsSound version run → ruled_out doc run ≡ true → run_truth version run (words_at span (document_at doc version)) ≡ false
-  ruled_out_law run span sound h = ruled_law (words_at span (document_at doc version)) (span_within span) run sound h
+  pub ruled_out_law : (run : Shape) (span : Span) → IsSound version run → ruled_out doc run ≡ true → run_truth version run (record { doc = doc; span = span }) ≡ false
+  ruled_out_law run span sound h = ruled_law (record { doc = doc; span = span }) (span_within span) run sound h
 
 -- ---- the kinds of a run's tree
 
@@ -197,6 +201,10 @@ module _ (doc : ℕ) where
   pub ruled-Not : (part : Box RunNode Global) → ruled_out doc (shape (R.Not part)) ≡ false
   unfolding ruled_out
   ruled-Not part = ap (ruled_out doc) (shape-Not part)
+
+  pub ruled-Ways : (run : Box RunWays Global) → ruled_out doc (shape (R.Ways run)) ≡ false
+  unfolding ruled_out
+  ruled-Ways run = ap (ruled_out doc) (shape-Ways run)
 
   -- ---- phrases
 

@@ -1,9 +1,11 @@
 -- The shape of each kind of a run's tree, and what it says.
 use Rattle.std.proofs.Common.{◌≡◌, map, Box, Global, rules}
 use Rattle.std.specs.declared.vec.Vec.{Vec}
-use Rattle.plan_compiler.specs.steps.RunShapes.{shape, shapes_of, words_shape, words, any_of, all_of, not_of}
+use Rattle.plan_compiler.specs.steps.RunShapes.{shape, shapes_of, words_shape, words, any_of, all_of, not_of, by_ways}
+use Rattle.plan_compiler.specs.steps.OpenedOperators.{aims_of}
 use Rattle.plan_compiler.specs.declared.run_node.RunWords.{RunWords}
-use Rattle.plan_compiler.specs.declared.run_node.RunNode.{RunNode, Words, Or, And, Not, the_lemmas}
+use Rattle.plan_compiler.specs.declared.run_ways.RunWays.{RunWays}
+use Rattle.plan_compiler.specs.declared.run_node.RunNode.{RunNode, Words, Or, And, Not, Ways, the_lemmas}
 
 pub shape-Words : (run : RunWords) → shape (Words run) ≡ words (words_shape run)
 unfolding shape
@@ -20,3 +22,7 @@ shape-And parts = search (rules, the_lemmas)
 pub shape-Not : (part : Box RunNode Global) → shape (Not part) ≡ not_of (shape part.value)
 unfolding shape
 shape-Not part = search (rules, the_lemmas)
+
+pub shape-Ways : (run : Box RunWays Global) → shape (Ways run) ≡ by_ways (aims_of run.value.tuples)
+unfolding shape
+shape-Ways run = search (rules, the_lemmas)

@@ -21,16 +21,16 @@ use Rattle.match_options.specs.WordTests.{choice_of, is_by_key, is_insensitive}
 use Rattle.plan_compiler.specs.Lexicon.{lexicon}
 use Rattle.plan_compiler.specs.NamedLists.{NamedLists}
 use Rattle.plan_compiler.specs.NodeMeaning.{truth}
+use Rattle.plan_compiler.specs.Operators.{LookedText, looked_text}
 use Rattle.plan_compiler.specs.Served.{are_served, is_served, all_served}
 use Rattle.plan_compiler.specs.TextWords.{words_of_tokens}
 use Rattle.plan_compiler.specs.declared.looks.Looks.{Looks}
-use Rattle.plan_compiler.specs.declared.text_word.TextWord.{TextWord}
 use Rattle.plan_compiler.specs.WordsMeaning.{words_truth}
 use Rattle.plan_compiler.specs.CompiledWords.{IsCompiled}
 use Rattle.plan_compiler.specs.declared.words_plan.WordsPlan.{WordsPlan}
 use Rattle.plan_compiler.specs.declared.node.Node.{Node}
 use Rattle.plan_compiler.specs.declared.node.Node as N
-use Rattle.plan_compiler.proofs.DecidedLemmas.{form-Not, form-With}
+use Rattle.plan_compiler.proofs.ServedLemmas.{form-Not, form-With}
 use Rattle.plan_compiler.proofs.NodeViews.{truth-Or, truth-And, truth-Not}
 use Rattle.plan_compiler.proofs.PhraseMeaning.{compiled_count}
 
@@ -70,13 +70,13 @@ words_mean looks lists outer value plan tokens compiled served =
 
 -- what compiled operands say, one beside the other
 abbrev pub SayAs : Looks → NamedLists → Options → List Node → List Selection → Type 0
-SayAs looks lists options nodes parts = (tokens : List Token) → map (λ node. truth node (words_of_tokens looks lists.stems tokens)) nodes ≡ map (λ part. sat_under (lexicon lists) options (form part) tokens) parts
+SayAs looks lists options nodes parts = (tokens : List Token) → map (λ node. truth node (looked_text looks lists.stems tokens)) nodes ≡ map (λ part. sat_under (lexicon lists) options (form part) tokens) parts
 
-some_node : (text : List TextWord) (nodes : List Node) → list_any (λ node. truth node text) nodes ≡ list_any (λ b. b) (map (λ node. truth node text) nodes)
+some_node : (text : LookedText) (nodes : List Node) → list_any (λ node. truth node text) nodes ≡ list_any (λ b. b) (map (λ node. truth node text) nodes)
 some_node text [] = refl
 some_node text (node ∷ nodes) = ap (λ b. truth node text || b) (some_node text nodes)
 
-each_node : (text : List TextWord) (nodes : List Node) → list_all (λ node. truth node text) nodes ≡ list_all (λ b. b) (map (λ node. truth node text) nodes)
+each_node : (text : LookedText) (nodes : List Node) → list_all (λ node. truth node text) nodes ≡ list_all (λ b. b) (map (λ node. truth node text) nodes)
 each_node text [] = refl
 each_node text (node ∷ nodes) = ap (λ b. truth node text && b) (each_node text nodes)
 
@@ -88,22 +88,22 @@ each_part : (test : Form → Bool) (parts : List Selection) → list_all (λ b. 
 each_part test [] = refl
 each_part test (part ∷ parts) = ap (λ b. test (form part) && b) (each_part test parts)
 
-pub or_means : (looks : Looks) (lists : NamedLists) (options : Options) (nodes : List Node) (parts : List Selection) (tokens : List Token) → SayAs looks lists options nodes parts → truth (N.Or nodes) (words_of_tokens looks lists.stems tokens) ≡ sat_under (lexicon lists) options (or_of (forms_of (map form parts))) tokens
+pub or_means : (looks : Looks) (lists : NamedLists) (options : Options) (nodes : List Node) (parts : List Selection) (tokens : List Token) → SayAs looks lists options nodes parts → truth (N.Or nodes) (looked_text looks lists.stems tokens) ≡ sat_under (lexicon lists) options (or_of (forms_of (map form parts))) tokens
 or_means looks lists options nodes parts tokens same =
-    truth-Or nodes (words_of_tokens looks lists.stems tokens) ∙ some_node (words_of_tokens looks lists.stems tokens) nodes ∙ ap (list_any (λ b. b)) (same tokens)
+    truth-Or nodes (looked_text looks lists.stems tokens) ∙ some_node (looked_text looks lists.stems tokens) nodes ∙ ap (list_any (λ b. b)) (same tokens)
     ∙ some_part (λ f. sat_under (lexicon lists) options f tokens) parts ∙ sym (sat-or_of (lexicon lists) options (forms_of (map form parts)) tokens)
 
-pub and_means : (looks : Looks) (lists : NamedLists) (options : Options) (nodes : List Node) (parts : List Selection) (tokens : List Token) → SayAs looks lists options nodes parts → truth (N.And nodes) (words_of_tokens looks lists.stems tokens) ≡ sat_under (lexicon lists) options (and_of (forms_of (map form parts))) tokens
+pub and_means : (looks : Looks) (lists : NamedLists) (options : Options) (nodes : List Node) (parts : List Selection) (tokens : List Token) → SayAs looks lists options nodes parts → truth (N.And nodes) (looked_text looks lists.stems tokens) ≡ sat_under (lexicon lists) options (and_of (forms_of (map form parts))) tokens
 and_means looks lists options nodes parts tokens same =
-    truth-And nodes (words_of_tokens looks lists.stems tokens) ∙ each_node (words_of_tokens looks lists.stems tokens) nodes ∙ ap (list_all (λ b. b)) (same tokens)
+    truth-And nodes (looked_text looks lists.stems tokens) ∙ each_node (looked_text looks lists.stems tokens) nodes ∙ ap (list_all (λ b. b)) (same tokens)
     ∙ each_part (λ f. sat_under (lexicon lists) options f tokens) parts ∙ sym (sat-and_of (lexicon lists) options (forms_of (map form parts)) tokens)
 
--- which operands are decided
-pub decided_at : (looks : Looks) (parts : List Selection) (i : ℕ) (part : Selection) → all_served looks (forms_of (map form parts)) ≡ true → i < length parts → part ≡ get_or parts i part → is_served looks (form part) ≡ true
+-- which operands are served
+pub served_at : (looks : Looks) (parts : List Selection) (i : ℕ) (part : Selection) → all_served looks (forms_of (map form parts)) ≡ true → i < length parts → part ≡ get_or parts i part → is_served looks (form part) ≡ true
 unfolding is_served
-decided_at looks [] i part h below is = absurd (omega arith)
-decided_at looks (first ∷ parts) zero part h below is = ap (λ p. is_served looks (form p)) is ∙ (and_parts (is_served looks (form first)) (all_served looks (forms_of (map form parts))) h).0
-decided_at looks (first ∷ parts) (suc i) part h below is = decided_at looks parts i part (and_parts (is_served looks (form first)) (all_served looks (forms_of (map form parts))) h).1 (omega arith) is
+served_at looks [] i part h below is = absurd (omega arith)
+served_at looks (first ∷ parts) zero part h below is = ap (λ p. is_served looks (form p)) is ∙ (and_parts (is_served looks (form first)) (all_served looks (forms_of (map form parts))) h).0
+served_at looks (first ∷ parts) (suc i) part h below is = served_at looks parts i part (and_parts (is_served looks (form first)) (all_served looks (forms_of (map form parts))) h).1 (omega arith) is
 
 -- ---- what a compiled selection says, of each kind
 
@@ -114,16 +114,16 @@ module _ (looks : Looks) (lists : NamedLists) (options : Options) (selection : S
       sym (sat-with_options (lexicon lists) options inner (form operand.value) tokens)
       ∙ ap (λ f. sat_under (lexicon lists) options f tokens) (sym (ap form e ∙ form-With operand inner))
 
-  pub or_selection : (parts : List Selection) → selection ≡ S.Or parts → (nodes : List Node) (tokens : List Token) → SayAs looks lists options nodes parts → truth (N.Or nodes) (words_of_tokens looks lists.stems tokens) ≡ sat_under (lexicon lists) options (form selection) tokens
+  pub or_selection : (parts : List Selection) → selection ≡ S.Or parts → (nodes : List Node) (tokens : List Token) → SayAs looks lists options nodes parts → truth (N.Or nodes) (looked_text looks lists.stems tokens) ≡ sat_under (lexicon lists) options (form selection) tokens
   or_selection parts e nodes tokens same = or_means looks lists options nodes parts tokens same ∙ ap (λ f. sat_under (lexicon lists) options f tokens) (sym (ap form e ∙ form-Or parts))
 
-  pub and_selection : (parts : List Selection) → selection ≡ S.And parts → (nodes : List Node) (tokens : List Token) → SayAs looks lists options nodes parts → truth (N.And nodes) (words_of_tokens looks lists.stems tokens) ≡ sat_under (lexicon lists) options (form selection) tokens
+  pub and_selection : (parts : List Selection) → selection ≡ S.And parts → (nodes : List Node) (tokens : List Token) → SayAs looks lists options nodes parts → truth (N.And nodes) (looked_text looks lists.stems tokens) ≡ sat_under (lexicon lists) options (form selection) tokens
   and_selection parts e nodes tokens same = and_means looks lists options nodes parts tokens same ∙ ap (λ f. sat_under (lexicon lists) options f tokens) (sym (ap form e ∙ form-And parts))
 
-  pub not_selection : (operand : Box Selection Global) → selection ≡ S.Not operand → (node : Box Node Global) (tokens : List Token) → truth node.value (words_of_tokens looks lists.stems tokens) ≡ sat_under (lexicon lists) options (form operand.value) tokens
-      → truth (N.Not node) (words_of_tokens looks lists.stems tokens) ≡ sat_under (lexicon lists) options (form selection) tokens
+  pub not_selection : (operand : Box Selection Global) → selection ≡ S.Not operand → (node : Box Node Global) (tokens : List Token) → truth node.value (looked_text looks lists.stems tokens) ≡ sat_under (lexicon lists) options (form operand.value) tokens
+      → truth (N.Not node) (looked_text looks lists.stems tokens) ≡ sat_under (lexicon lists) options (form selection) tokens
   not_selection operand e node tokens same =
-      truth-Not node (words_of_tokens looks lists.stems tokens) ∙ ap not same ∙ sym (sat-not_of (lexicon lists) options (form operand.value) tokens)
+      truth-Not node (looked_text looks lists.stems tokens) ∙ ap not same ∙ sym (sat-not_of (lexicon lists) options (form operand.value) tokens)
       ∙ ap (λ f. sat_under (lexicon lists) options f tokens) (sym (ap form e ∙ form-Not operand))
 
 -- one operand more

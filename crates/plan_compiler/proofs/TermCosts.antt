@@ -1,9 +1,9 @@
 -- The terms of an item, and the hits that they have in a span, are within the price of the item's test.
-use Rattle.std.proofs.Common.{◌≡◌, ◌≤◌, ◌<◌, ◌+◌, ◌-◌, ◌*◌, ◌&&◌, ◌++◌, zero, suc, ℕ, Bool, true, false, true≢false, cond, List, [], ◌∷◌, map, filter, length, get_or, take, drop, refl, sym, ap, ◌∙◌, arith, append-nil, take-append-drop}
+use Rattle.std.proofs.Common.{◌≡◌, ◌≤◌, ◌<◌, ◌+◌, ◌-◌, ◌++◌, suc, ℕ, Bool, true, false, true≢false, cond, List, [], ◌∷◌, map, filter, length, get_or, take, drop, refl, sym, ap, ◌∙◌, arith, append-nil, take-append-drop}
 use Rattle.std.specs.Prelude.{nat_le, nat_lt}
-use Rattle.std.specs.List.{All, count_by, list_all, range_with_len, sum_by}
+use Rattle.std.specs.List.{All, count_by, range_with_len, sum_by}
 use Rattle.std.specs.Ordering.{is_lt}
-use Rattle.std.proofs.lemmas.Bool.{and_left, and_parts, and_right, le-leb, lt-ltb, lt-leb, le-ltb}
+use Rattle.std.proofs.lemmas.Bool.{and_left, and_parts, and_right, lt-leb, le-ltb}
 use Rattle.std.proofs.lemmas.Cmp.{tied_itself}
 use Rattle.std.proofs.lemmas.List.{length-drop, length-map, length-take}
 use Rattle.std.proofs.lemmas.List.Elements.{All-from_get_or, filter-append}
@@ -11,26 +11,25 @@ use Rattle.std.proofs.lemmas.List.Sums.{count_by-le-length, length-filter, sum_b
 use Rattle.ft_base.specs.declared.span.Span.{Span}
 use Rattle.all_matches.proofs.Counting.{count_by-alike, count_by-cons, first_number}
 use Rattle.index_cursors.specs.SpanHits.{is_inside, word_hit}
-use Rattle.index_meaning.specs.Documents.{Numbered, breaks_of, document_at, token_count, words_of}
+use Rattle.index_meaning.specs.Documents.{Numbered, breaks_of, document_at, words_of}
 use Rattle.index_meaning.specs.Entries.{Entry, entry, entry_cmp, is_below, is_sorted}
 use Rattle.index_meaning.specs.Postings.{places, places_from, same_word}
 use Rattle.index_versions.specs.Terms.{version_term}
-use Rattle.index_versions.specs.Versions.{term_at, term_hits, terms_of}
+use Rattle.index_versions.specs.Versions.{term_at, terms_of}
 use Rattle.index_versions.proofs.PlacesLemmas.{same_word_is}
 use Rattle.term_dict.proofs.OrderLemmas.{entry_total, equal_turned}
 use Rattle.text_forms.specs.Forms.{key_of}
 use Rattle.word_lists.specs.Stems.{Stem}
 use Rattle.plan_compiler.specs.CompiledSelection.{compiled_price}
-use Rattle.plan_compiler.specs.RunMeaning.{words_at}
 use Rattle.plan_compiler.specs.steps.AskedKeys.{asks_nothing}
 use Rattle.plan_compiler.specs.steps.AskedPlaces.{hits_at, text_at}
 use Rattle.plan_compiler.specs.steps.ChosenTerms.{terms_for}
-use Rattle.plan_compiler.specs.steps.OpenedWords.{opened_item, word_test}
+use Rattle.plan_compiler.specs.steps.OpenedItems.{opened_item, word_test}
 use Rattle.plan_compiler.specs.steps.RunCosts.{moves_for}
 use Rattle.plan_compiler.specs.declared.asked_place.AskedPlace.{AskedPlace}
 use Rattle.plan_compiler.specs.declared.item_matching.ItemTest.{ItemTest}
 use Rattle.plan_compiler.specs.declared.looks.Looks.{Looks}
-use Rattle.plan_compiler.specs.declared.run_node.WordTerms.TheVariants as Terms
+use Rattle.index_phrases.specs.declared.word_terms.WordTerms.TheVariants as Terms
 use Rattle.plan_compiler.proofs.SumLemmas.{sum_of_two}
 use Rattle.plan_compiler.proofs.TermLaws.{numbers_again, term_keyed, terms_sorted}
 

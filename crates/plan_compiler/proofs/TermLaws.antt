@@ -30,7 +30,7 @@ use Rattle.index_versions.proofs.NamingLemmas.{has_with_entries}
 use Rattle.index_versions.proofs.PlacesLemmas.{same_word_is, same_word_same}
 use Rattle.index_versions.proofs.TermsLemmas.{sorted_all}
 use Rattle.plan_compiler.specs.steps.ChosenTerms.{is_among, numbers_in, numbers_of, passing, terms_for}
-use Rattle.plan_compiler.specs.RunMeaning.{words_at}
+use Rattle.index_phrases.specs.Phrases.{words_at}
 
 -- ---- the terms of a version
 

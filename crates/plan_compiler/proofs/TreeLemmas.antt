@@ -6,16 +6,19 @@ use Rattle.std.proofs.lemmas.List.{drop_all, drop_more}
 use Rattle.std.proofs.lemmas.List.Sums.{sum_by-cons}
 use Rattle.index_meaning.specs.Documents.{Numbered}
 use Rattle.plan_compiler.specs.steps.RunCosts.{run_cost, run_costs, words_cost}
-use Rattle.plan_compiler.specs.steps.RunShapes.{Shape, Shapes, shape, shapes_of, words, any_of, all_of, not_of, none, more, words_shape}
-use Rattle.plan_compiler.specs.steps.RunTruth.{AreSound, IsSound, IsWords, all_true, run_truth, some_true, words_say}
+use Rattle.plan_compiler.specs.steps.RunShapes.{Shape, Shapes, shape, shapes_of, words, any_of, all_of, not_of, by_ways, none, more, words_shape}
+use Rattle.plan_compiler.specs.steps.AskedSpans.{AskedSpan, words_in}
+use Rattle.plan_compiler.specs.steps.OpenedOperators.{AreAims, aims_of}
+use Rattle.plan_compiler.specs.steps.RunTruth.{AreSound, IsSound, IsWords, aims_say, all_true, run_truth, some_true, words_say}
 use Rattle.plan_compiler.specs.declared.run_node.RunWords.{RunWords}
-use Rattle.plan_compiler.specs.declared.run_node.WordTerms.{WordTerms}
+use Rattle.plan_compiler.specs.declared.run_ways.RunWays.{RunWays}
+use Rattle.index_phrases.specs.declared.word_terms.WordTerms.{WordTerms}
 use Rattle.plan_compiler.specs.declared.run_node.RunNode.{RunNode}
 use Rattle.plan_compiler.specs.declared.run_node.RunNode as R
 use Rattle.plan_compiler.proofs.SumLemmas.{so_far}
-use Rattle.plan_compiler.proofs.RunViews.{shape-Words, shape-Or, shape-And, shape-Not}
+use Rattle.plan_compiler.proofs.RunViews.{shape-Words, shape-Or, shape-And, shape-Not, shape-Ways}
 
-module _ (version : List Numbered) (text : List (List ℕ)) (node : RunNode) where
+module _ (version : List Numbered) (asked : AskedSpan) (node : RunNode) where
   -- ---- when they fit
 
   pub sound-Words : (run : RunWords) → node ≡ R.Words run → IsSound version (shape node) → IsWords version (words_shape run)
@@ -34,23 +37,31 @@ module _ (version : List Numbered) (text : List (List ℕ)) (node : RunNode) whe
   unfolding IsSound
   sound-Not part is h = subst (IsSound version) (ap shape is ∙ shape-Not part) h
 
+  pub sound-Ways : (run : Box RunWays Global) → node ≡ R.Ways run → IsSound version (shape node) → AreAims version (aims_of run.value.tuples)
+  unfolding IsSound
+  sound-Ways run is h = subst (IsSound version) (ap shape is ∙ shape-Ways run) h
+
   -- ---- what they say
 
-  pub says-Words : (run : RunWords) → node ≡ R.Words run → words_say version (words_shape run) text ≡ run_truth version (shape node) text
+  pub says-Words : (run : RunWords) → node ≡ R.Words run → words_say version (words_shape run) (words_in version asked) ≡ run_truth version (shape node) asked
   unfolding run_truth
-  says-Words run is = sym (ap (λ s. run_truth version s text) (ap shape is ∙ shape-Words run))
+  says-Words run is = sym (ap (λ s. run_truth version s asked) (ap shape is ∙ shape-Words run))
 
-  pub says-Or : (parts : Vec RunNode Global) → node ≡ R.Or parts → some_true version (shapes_of (map shape parts.items)) text ≡ run_truth version (shape node) text
+  pub says-Or : (parts : Vec RunNode Global) → node ≡ R.Or parts → some_true version (shapes_of (map shape parts.items)) asked ≡ run_truth version (shape node) asked
   unfolding run_truth
-  says-Or parts is = sym (ap (λ s. run_truth version s text) (ap shape is ∙ shape-Or parts))
+  says-Or parts is = sym (ap (λ s. run_truth version s asked) (ap shape is ∙ shape-Or parts))
 
-  pub says-And : (parts : Vec RunNode Global) → node ≡ R.And parts → all_true version (shapes_of (map shape parts.items)) text ≡ run_truth version (shape node) text
+  pub says-And : (parts : Vec RunNode Global) → node ≡ R.And parts → all_true version (shapes_of (map shape parts.items)) asked ≡ run_truth version (shape node) asked
   unfolding run_truth
-  says-And parts is = sym (ap (λ s. run_truth version s text) (ap shape is ∙ shape-And parts))
+  says-And parts is = sym (ap (λ s. run_truth version s asked) (ap shape is ∙ shape-And parts))
 
-  pub says-Not : (part : Box RunNode Global) → node ≡ R.Not part → not (run_truth version (shape part.value) text) ≡ run_truth version (shape node) text
+  pub says-Not : (part : Box RunNode Global) → node ≡ R.Not part → not (run_truth version (shape part.value) asked) ≡ run_truth version (shape node) asked
   unfolding run_truth
-  says-Not part is = sym (ap (λ s. run_truth version s text) (ap shape is ∙ shape-Not part))
+  says-Not part is = sym (ap (λ s. run_truth version s asked) (ap shape is ∙ shape-Not part))
+
+  pub says-Ways : (run : Box RunWays Global) → node ≡ R.Ways run → aims_say (aims_of run.value.tuples) asked ≡ run_truth version (shape node) asked
+  unfolding run_truth
+  says-Ways run is = sym (ap (λ s. run_truth version s asked) (ap shape is ∙ shape-Ways run))
 
 -- ---- what they look like
 
@@ -67,6 +78,9 @@ module _ (node : RunNode) where
   pub same-Not : (old new : Box RunNode Global) → node ≡ R.Not old → shape new.value ≡ shape old.value → shape (R.Not new) ≡ shape node
   same-Not old new is same = shape-Not new ∙ ap not_of same ∙ sym (ap shape is ∙ shape-Not old)
 
+  pub same-Ways : (old new : Box RunWays Global) → node ≡ R.Ways old → aims_of new.value.tuples ≡ aims_of old.value.tuples → shape (R.Ways new) ≡ shape node
+  same-Ways old new is same = shape-Ways new ∙ ap by_ways same ∙ sym (ap shape is ∙ shape-Ways old)
+
 -- ---- lists of parts
 
 module _ (version : List Numbered) where
@@ -76,28 +90,28 @@ module _ (version : List Numbered) where
   each_sound (first ∷ rest) h zero d lt = h.0
   each_sound (first ∷ rest) h (suc k) d lt = each_sound rest h.1 k d (omega arith)
 
-  module _ (text : List (List ℕ)) (shapes : List Shape) (i : ℕ) where
+  module _ (asked : AskedSpan) (shapes : List Shape) (i : ℕ) where
     pub some_more : (s : Shape) → i < length shapes → s ≡ get_or shapes i s
-        → some_true version (shapes_of (drop i shapes)) text ≡ (run_truth version s text || some_true version (shapes_of (drop (i + 1) shapes)) text)
+        → some_true version (shapes_of (drop i shapes)) asked ≡ (run_truth version s asked || some_true version (shapes_of (drop (i + 1) shapes)) asked)
     unfolding some_true
     some_more s h is =
-        ap (λ ss. some_true version (shapes_of ss) text) (drop_more shapes i s h)
-        ∙ ap (λ p. run_truth version p text || some_true version (shapes_of (drop (i + 1) shapes)) text) (sym is)
+        ap (λ ss. some_true version (shapes_of ss) asked) (drop_more shapes i s h)
+        ∙ ap (λ p. run_truth version p asked || some_true version (shapes_of (drop (i + 1) shapes)) asked) (sym is)
 
-    pub some_end : length shapes ≤ i → some_true version (shapes_of (drop i shapes)) text ≡ false
+    pub some_end : length shapes ≤ i → some_true version (shapes_of (drop i shapes)) asked ≡ false
     unfolding some_true
-    some_end h = ap (λ ss. some_true version (shapes_of ss) text) (drop_all i shapes h)
+    some_end h = ap (λ ss. some_true version (shapes_of ss) asked) (drop_all i shapes h)
 
     pub all_more : (s : Shape) → i < length shapes → s ≡ get_or shapes i s
-        → all_true version (shapes_of (drop i shapes)) text ≡ (run_truth version s text && all_true version (shapes_of (drop (i + 1) shapes)) text)
+        → all_true version (shapes_of (drop i shapes)) asked ≡ (run_truth version s asked && all_true version (shapes_of (drop (i + 1) shapes)) asked)
     unfolding all_true
     all_more s h is =
-        ap (λ ss. all_true version (shapes_of ss) text) (drop_more shapes i s h)
-        ∙ ap (λ p. run_truth version p text && all_true version (shapes_of (drop (i + 1) shapes)) text) (sym is)
+        ap (λ ss. all_true version (shapes_of ss) asked) (drop_more shapes i s h)
+        ∙ ap (λ p. run_truth version p asked && all_true version (shapes_of (drop (i + 1) shapes)) asked) (sym is)
 
-    pub all_end : length shapes ≤ i → all_true version (shapes_of (drop i shapes)) text ≡ true
+    pub all_end : length shapes ≤ i → all_true version (shapes_of (drop i shapes)) asked ≡ true
     unfolding all_true
-    all_end h = ap (λ ss. all_true version (shapes_of ss) text) (drop_all i shapes h)
+    all_end h = ap (λ ss. all_true version (shapes_of ss) asked) (drop_all i shapes h)
 
 -- ---- how deep tests go
 
@@ -107,6 +121,7 @@ unfoldable mutual
   weight (any_of parts) = 1 + weights parts
   weight (all_of parts) = 1 + weights parts
   weight (not_of part) = 1 + weight part
+  weight (by_ways aims) = 1
 
   pub weights : Shapes → ℕ
   weights none = 0

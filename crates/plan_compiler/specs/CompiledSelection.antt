@@ -14,8 +14,9 @@ use Rattle.plan_compiler.specs.Lexicon.{lexicon}
 use Rattle.plan_compiler.specs.NamedLists.{NamedLists}
 use Rattle.plan_compiler.specs.NodeCosts.{node_cost}
 use Rattle.plan_compiler.specs.NodeMeaning.{truth}
+use Rattle.plan_compiler.specs.Operators.{looked_text}
 use Rattle.plan_compiler.specs.Price.{price_under, test_price}
-use Rattle.plan_compiler.specs.TextWords.{word_as, words_of_tokens}
+use Rattle.plan_compiler.specs.TextWords.{word_as}
 use Rattle.plan_compiler.specs.declared.item_matching.ItemTest.{ItemTest}
 use Rattle.plan_compiler.specs.declared.looks.Looks.{Looks}
 use Rattle.plan_compiler.specs.declared.node.Node.{Node}
@@ -25,16 +26,16 @@ abbrev pub compiled_price : Looks → List Stem → List Entry → List (List �
 compiled_price looks stems terms text test = test_price (λ word. passes test (word_as looks stems word)) terms text
 
 module _ (looks : Looks) (lists : NamedLists) (options : Options) where
-  -- a node that says of every text whether the text satisfies the selection, and whose tests have together at most its price
+  -- a node that says of every text whether the text satisfies the selection, and whose tests outside filters and `not in` have together at most its price
   pub record Compiles (node : Node) (selection : Form) : Type 0 where
-    pub says : (tokens : List Token) → truth node (words_of_tokens looks lists.stems tokens) ≡ sat_under (lexicon lists) options selection tokens
+    pub says : (tokens : List Token) → truth node (looked_text looks lists.stems tokens) ≡ sat_under (lexicon lists) options selection tokens
     pub price : (terms : List Entry) → (text : List (List ℕ))
         → node_cost (compiled_price looks lists.stems terms text) node ≤ price_under (lexicon lists) options terms text selection
 
   -- the same of lists of both
   pub record CompileAll (nodes : List Node) (parts : List Selection) : Type 0 where
     pub says : (tokens : List Token)
-        → map (λ node. truth node (words_of_tokens looks lists.stems tokens)) nodes
+        → map (λ node. truth node (looked_text looks lists.stems tokens)) nodes
         ≡ map (λ part. sat_under (lexicon lists) options (form part) tokens) parts
     pub price : (terms : List Entry) → (text : List (List ℕ))
         → sum_by (node_cost (compiled_price looks lists.stems terms text)) nodes

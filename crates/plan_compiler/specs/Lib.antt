@@ -2,7 +2,6 @@ pub mod NamedLists
 pub mod SharedLists
 pub mod Lexicon
 pub mod Missing
-pub mod Decided
 pub mod Served
 pub mod Stops
 pub mod ChosenOptions
@@ -11,6 +10,8 @@ pub mod TextWords
 pub mod ItemTests
 pub mod GroupedTests
 pub mod WordsMeaning
+pub mod Operators
+pub mod CompiledOperators
 pub mod CompiledWords
 pub mod NodeMeaning
 pub mod NodeCosts

@@ -1,5 +1,5 @@
--- What the tests of a compiled selection cost together, whatever each of them costs.
-use Rattle.std.specs.Prelude.{ℕ, List, sum}
+-- What the tests of a compiled selection outside filters and `not in` cost together, whatever each of them costs.
+use Rattle.std.specs.Prelude.{ℕ, sum}
 use Rattle.std.specs.List.{sum_by}
 use Rattle.plan_compiler.specs.declared.item_matching.ItemTest.{ItemTest}
 use Rattle.plan_compiler.specs.declared.node.Node.{Node, fold-Node}
@@ -20,6 +20,7 @@ module _ (cost : ItemTest → ℕ) where
   layer (Node-F.Or parts) = sum parts
   layer (Node-F.And parts) = sum parts
   layer (Node-F.Not part) = part.value
+  layer (Node-F.Ways plan) = 0
 
   unfoldable pub node_cost : Node → ℕ
   node_cost = fold-Node ℕ layer

@@ -1,17 +1,19 @@
--- What a compiled selection says of the words of a text.
-use Rattle.std.specs.Prelude.{Bool, not, List}
+-- What a compiled selection says of a text, by what is looked at of its words.
+use Rattle.std.specs.Prelude.{Bool, not}
 use Rattle.std.specs.List.{list_any, list_all}
 use Rattle.plan_compiler.specs.declared.node.Node.{Node, fold-Node}
 use Rattle.plan_compiler.specs.declared.node.Node.TheOpen.{Node-F}
+use Rattle.plan_compiler.specs.Operators.{LookedText, operator_at, satisfied_over}
+use Rattle.plan_compiler.specs.TextWords.{words_of_tokens}
 use Rattle.plan_compiler.specs.WordsMeaning.{words_truth}
-use Rattle.plan_compiler.specs.declared.text_word.TextWord.{TextWord}
 
 -- one level, where what each part says is known
-abbrev pub layer : Node-F (List TextWord → Bool) → List TextWord → Bool
-layer (Node-F.Words plan) words = words_truth plan words
-layer (Node-F.Or parts) words = list_any (λ part. part words) parts
-layer (Node-F.And parts) words = list_all (λ part. part words) parts
-layer (Node-F.Not part) words = not (part.value words)
+abbrev pub layer : Node-F (LookedText → Bool) → LookedText → Bool
+layer (Node-F.Words plan) text = words_truth plan (words_of_tokens text.looks text.stems text.tokens)
+layer (Node-F.Or parts) text = list_any (λ part. part text) parts
+layer (Node-F.And parts) text = list_all (λ part. part text) parts
+layer (Node-F.Not part) text = not (part.value text)
+layer (Node-F.Ways plan) text = satisfied_over text.tokens (operator_at text plan.operator)
 
-unfoldable pub truth : Node → List TextWord → Bool
-truth = fold-Node (List TextWord → Bool) layer
+unfoldable pub truth : Node → LookedText → Bool
+truth = fold-Node (LookedText → Bool) layer

@@ -1,4 +1,5 @@
--- The price of a test: an upper bound for the moves of cursors by which a selection is tested at the words of a span.
+-- The price of a test: an upper bound for the moves of cursors by which a selection is tested at the words of a span. Moves under a
+-- filter or `not in` are not in it, and aren't counted among the moves.
 use Rattle.std.specs.Prelude.{ℕ, ◌+◌, ◌*◌, Bool, List}
 use Rattle.std.specs.List.{count_by, sum_by}
 use Rattle.ft_base.specs.declared.options.Options.{Options}
@@ -10,9 +11,10 @@ use Rattle.all_matches.specs.Meaning.{inside, phrases_by, strings_of}
 use Rattle.all_matches.specs.Variants.{Item, Lexicon, variants}
 use Rattle.index_meaning.specs.Documents.{Numbered, document_at}
 use Rattle.index_meaning.specs.Entries.{Entry}
+use Rattle.index_phrases.specs.Phrases.{words_at}
 use Rattle.index_versions.specs.Versions.{terms_of}
 use Rattle.plan_compiler.specs.Lexicon.{lexicon}
-use Rattle.plan_compiler.specs.RunMeaning.{RunMeaning, words_at}
+use Rattle.plan_compiler.specs.RunMeaning.{RunMeaning}
 
 -- whether a word passes an item, in whatever sentence it stands
 abbrev pub word_passes : Lexicon → Options → Item → List ℕ → Bool
@@ -34,15 +36,15 @@ abbrev pub value_price : Lexicon → Options → List Entry → List (List ℕ) 
 value_price lexicon options terms text value =
     sum_by (phrase_price lexicon options terms text) (phrases_by value.mode (strings_of lexicon options value))
 
--- of a selection under the options that stand round it: the sum over its values
+-- of a selection under the options that stand round it: the sum over its values outside filters and `not in`
 unfoldable mutual
   pub price_under : Lexicon → Options → List Entry → List (List ℕ) → Form → ℕ
   price_under lexicon options terms text (words value) = value_price lexicon (inside value.options options) terms text value
   price_under lexicon options terms text (or_of forms) = prices_under lexicon options terms text forms
   price_under lexicon options terms text (and_of forms) = prices_under lexicon options terms text forms
-  price_under lexicon options terms text (mild_not left right) = price_under lexicon options terms text left + price_under lexicon options terms text right
+  price_under lexicon options terms text (mild_not left right) = 0
   price_under lexicon options terms text (not_of form) = price_under lexicon options terms text form
-  price_under lexicon options terms text (filtered form kind) = price_under lexicon options terms text form
+  price_under lexicon options terms text (filtered form kind) = 0
   price_under lexicon options terms text (with_options form inner) = price_under lexicon (inside inner options) terms text form
 
   pub prices_under : Lexicon → Options → List Entry → List (List ℕ) → Forms → ℕ

@@ -1,5 +1,5 @@
--- Which decided selections what is looked at of each word of a text serves.
-use Rattle.std.specs.Prelude.{Bool, true, false, not, ◌&&◌, ◌||◌}
+-- Which selections what is looked at of each word of a text serves.
+use Rattle.std.specs.Prelude.{Bool, true, not, ◌&&◌, ◌||◌}
 use Rattle.ft_base.specs.declared.options.Options.{Options}
 use Rattle.ft_base.specs.Selection.{Form, Forms, words, or_of, and_of, mild_not, not_of, filtered, with_options, none, more}
 use Rattle.match_options.specs.TokenTest.{is_on}
@@ -18,9 +18,9 @@ unfoldable mutual
   is_served looks (words value) = are_served looks value.options
   is_served looks (or_of forms) = all_served looks forms
   is_served looks (and_of forms) = all_served looks forms
-  is_served looks (mild_not left right) = false
+  is_served looks (mild_not left right) = is_served looks left && is_served looks right
   is_served looks (not_of form) = is_served looks form
-  is_served looks (filtered form kind) = false
+  is_served looks (filtered form kind) = is_served looks form
   is_served looks (with_options form options) = are_served looks options && is_served looks form
 
   pub all_served : Looks → Forms → Bool

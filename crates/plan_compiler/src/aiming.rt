@@ -9,8 +9,8 @@ ghost use Rattle.plan_compiler.specs.steps.RunShapes.{size_of, sizes_of, variant
 ghost use Rattle.plan_compiler.specs.steps.RunTruth.{AreThere};
 
 use crate::asked_place::AskedPlace;
-use crate::run_node::WordTerms;
 use ft_base::Steps;
+use index_phrases::WordTerms;
 use index_versions::TermCursor;
 use place_merges::{Item, Variant};
 use std::sync::ledger::Ledger;

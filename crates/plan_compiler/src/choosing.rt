@@ -7,7 +7,7 @@ ghost use Rattle.index_meaning.specs.Entries.{found};
 ghost use Rattle.index_versions.specs.Versions.{term_at, terms_of};
 ghost use Rattle.plan_compiler.specs.steps.ChosenTerms as spec;
 ghost use Rattle.plan_compiler.specs.steps.AskedKeys as keys;
-ghost use Rattle.plan_compiler.specs.steps.OpenedWords.{word_test};
+ghost use Rattle.plan_compiler.specs.steps.OpenedItems.{word_test};
 
 use crate::item_matching::ItemTest;
 use crate::lists::Lists;

@@ -3,11 +3,13 @@
 ghost use Rattle.std.specs.Prelude.{IfOk, IsTrue, map};
 ghost use Rattle.ft_syntax.specs.View.{form, forms_of};
 ghost use Rattle.ft_base.specs.Selection.{words};
+ghost use Rattle.all_matches.specs.Allowed.{each_is_allowed, is_allowed};
 ghost use Rattle.plan_compiler.specs.ChosenOptions.{options_of};
 ghost use Rattle.plan_compiler.specs.CompiledSelection.{CompileAll, Compiles};
 ghost use Rattle.plan_compiler.specs.Served.{all_served, are_served, is_served};
 
 use crate::chosen::{Chosen, inside};
+use crate::compiling_operators::compile_ways;
 use crate::compiling_words::compile_words;
 use crate::lists::Lists;
 use crate::looks::Looks;
@@ -17,7 +19,7 @@ use ft_syntax::{Selection, Selections};
 use std::alloc::Global;
 
 /// The compiled form of a selection under the options that stand round it: it says of every text whether the text satisfies the
-/// selection, by what is looked at of its words, and its tests have together at most the price of the selection.
+/// selection, by what is looked at of its words, and its tests outside filters and `not in` have together at most the price of the selection.
 #[cycle(compile)]
 pub(crate) fn compile(
     alloc: Global,
@@ -28,17 +30,20 @@ pub(crate) fn compile(
 ) -> Result<Node, Memory>
     requires options { IsTrue (are_served looks (options_of chosen.now)) }
     requires selection { IsTrue (is_served looks (form selection.now)) }
+    requires allowed { IsTrue (is_allowed (form selection.now)) }
     ensures { IfOk result (λ node. Compiles looks lists.now (options_of chosen.now) node (form selection.now)) }
 {
     match selection {
         Selection::Words(words) => compile_value(alloc, lists, looks, chosen, words),
         Selection::Or(parts) => Ok(Node::Or(compile_all(alloc, lists, looks, chosen, parts)?)),
         Selection::And(parts) => Ok(Node::And(compile_all(alloc, lists, looks, chosen, parts)?)),
-        Selection::MildNot(_left, _right) => unreachable!(),
+        Selection::MildNot(_left, _right) => compile_ways(alloc, lists, looks, chosen, selection),
         Selection::Not(operand) => Ok(Node::Not(compile_boxed(
             alloc, lists, looks, chosen, operand,
         )?)),
-        Selection::Filtered(_operand, _filter) => unreachable!(),
+        Selection::Filtered(_operand, _filter) => compile_ways(
+            alloc, lists, looks, chosen, selection,
+        ),
         Selection::With(operand, options) => {
             compile(alloc, lists, looks, &inside(options, chosen), operand)
         }
@@ -55,6 +60,7 @@ fn compile_boxed(
 ) -> Result<Box<Node>, Memory>
     requires options { IsTrue (are_served looks (options_of chosen.now)) }
     requires selection { IsTrue (is_served looks (form operand.now.value)) }
+    requires allowed { IsTrue (is_allowed (form operand.now.value)) }
     ensures { IfOk result (λ node. Compiles looks lists.now (options_of chosen.now) node.value (form operand.now.value)) }
 {
     let node = compile(alloc, lists, looks, chosen, operand)?;
@@ -71,6 +77,7 @@ fn compile_all(
 ) -> Result<Items<Node>, Memory>
     requires options { IsTrue (are_served looks (options_of chosen.now)) }
     requires selections { IsTrue (all_served looks (forms_of (map form parts.now))) }
+    requires allowed { IsTrue (each_is_allowed (forms_of (map form parts.now))) }
     ensures { IfOk result (λ nodes. CompileAll looks lists.now (options_of chosen.now) nodes parts.now) }
 {
     let mut nodes = Items::new(alloc);

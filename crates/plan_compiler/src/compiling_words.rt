@@ -76,7 +76,7 @@ fn phrase_plans(
 }
 
 /// The phrases that the mode makes of the strings.
-fn phrases_by(
+pub(crate) fn phrases_by(
     alloc: Global,
     wildcards: bool,
     mode: Mode,

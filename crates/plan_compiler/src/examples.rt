@@ -48,13 +48,14 @@ pub fn prices_under_options()
         (with_thesaurus (T.Uses (record { name = codes "t"; relationship = None; levels = None } ∷ [])))) ≡ (2 * 3 + 64) + (2 + 64) + 64 }
 {}
 
-/// Operators and filters add the prices of their operands.
+/// Operators add the prices of their operands. What stands under a filter or in `not in` has none.
 pub fn prices_of_operators()
     ensures and { price_of (two_and word_a word_b) ≡ (2 * 3 + 64) + (2 + 64) }
     ensures or { price_of (two_or word_a word_b) ≡ (2 * 3 + 64) + (2 + 64) }
     ensures not { price_of (not_of word_b) ≡ 2 + 64 }
-    ensures mild_not { price_of (mild_not word_a word_b) ≡ (2 * 3 + 64) + (2 + 64) }
-    ensures filtered { price_of (filtered (two_and word_a word_b) F.Ordered) ≡ (2 * 3 + 64) + (2 + 64) }
+    ensures mild_not { price_of (mild_not word_a word_b) ≡ 0 }
+    ensures filtered { price_of (filtered (two_and word_a word_b) F.Ordered) ≡ 0 }
+    ensures beside { price_of (two_and word_b (filtered word_a F.Ordered)) ≡ 2 + 64 }
 {}
 
 /// The terms are those of all documents of the version, and the words those of the span.

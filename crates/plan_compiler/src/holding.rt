@@ -4,10 +4,11 @@ ghost use Rattle.std.specs.Prelude.{◌≡◌, ◌≤◌, ◌+◌, map};
 ghost use Rattle.plan_compiler.specs.steps.RunCosts.{moves_for, run_cost, run_costs};
 ghost use Rattle.plan_compiler.specs.steps.RunShapes.{shape, shapes_of};
 ghost use Rattle.plan_compiler.specs.steps.RunTruth.{AreSound, IsSound, all_true, run_truth, some_true};
-ghost use Rattle.plan_compiler.specs.steps.AskedPlaces.{text_at};
+ghost use Rattle.plan_compiler.specs.steps.AskedPlaces.{asked_at};
 
 use crate::asked_place::AskedPlace;
 use crate::run_node::RunNode;
+use crate::ways_holding::ways_hold;
 use crate::words_holding::words_hold;
 use ft_base::Steps;
 use std::sync::ledger::Ledger;
@@ -20,7 +21,7 @@ pub(crate) fn node_holds<'v, L: Ledger>(
     moves: &mut Steps<L>,
 ) -> bool
     requires { IsSound place.now.version.now (shape node.old) }
-    ensures says { result ≡ run_truth place.now.version.now (shape node.old) (text_at place.now) }
+    ensures says { result ≡ run_truth place.now.version.now (shape node.old) (asked_at place.now) }
     ensures same { shape node.new ≡ shape node.old }
     ensures price { moves.new ≤ moves.old + run_cost (moves_for place.now) (shape node.old) }
     ensures grown { moves.old ≤ moves.new }
@@ -30,6 +31,7 @@ pub(crate) fn node_holds<'v, L: Ledger>(
         RunNode::Or(parts) => some_holds(place, parts, moves),
         RunNode::And(parts) => all_hold(place, parts, moves),
         RunNode::Not(part) => !part_holds(place, part, moves),
+        RunNode::Ways(ways) => ways_hold(place, ways),
     }
 }
 
@@ -40,7 +42,7 @@ fn part_holds<'v, L: Ledger>(
     moves: &mut Steps<L>,
 ) -> bool
     requires { IsSound place.now.version.now (shape part.old.value) }
-    ensures says { result ≡ run_truth place.now.version.now (shape part.old.value) (text_at place.now) }
+    ensures says { result ≡ run_truth place.now.version.now (shape part.old.value) (asked_at place.now) }
     ensures same { shape part.new.value ≡ shape part.old.value }
     ensures price { moves.new ≤ moves.old + run_cost (moves_for place.now) (shape part.old.value) }
     ensures grown { moves.old ≤ moves.new }
@@ -55,7 +57,7 @@ fn some_holds<'v, L: Ledger>(
     moves: &mut Steps<L>,
 ) -> bool
     requires { AreSound place.now.version.now (shapes_of (map shape parts.old.items)) }
-    ensures says { result ≡ some_true place.now.version.now (shapes_of (map shape parts.old.items)) (text_at place.now) }
+    ensures says { result ≡ some_true place.now.version.now (shapes_of (map shape parts.old.items)) (asked_at place.now) }
     ensures same { map shape parts.new.items ≡ map shape parts.old.items }
     ensures price { moves.new ≤ moves.old + run_costs (moves_for place.now) (shapes_of (map shape parts.old.items)) }
     ensures grown { moves.old ≤ moves.new }
@@ -75,7 +77,7 @@ fn all_hold<'v, L: Ledger>(
     moves: &mut Steps<L>,
 ) -> bool
     requires { AreSound place.now.version.now (shapes_of (map shape parts.old.items)) }
-    ensures says { result ≡ all_true place.now.version.now (shapes_of (map shape parts.old.items)) (text_at place.now) }
+    ensures says { result ≡ all_true place.now.version.now (shapes_of (map shape parts.old.items)) (asked_at place.now) }
     ensures same { map shape parts.new.items ≡ map shape parts.old.items }
     ensures price { moves.new ≤ moves.old + run_costs (moves_for place.now) (shapes_of (map shape parts.old.items)) }
     ensures grown { moves.old ≤ moves.new }

@@ -18,18 +18,7 @@ pub(crate) enum ItemTest {
 }
 
 impl ItemTest {
-    /// Whether a word passes.
-    #[tactic(auto, unfolding(crate::specs::ItemTests::passes))]
-    pub(crate) fn passes(&self, word: &TextWord) -> bool
-        ensures { result ≡ spec.passes self.now word.now }
-    {
-        match self {
-            ItemTest::ByForms(test) => test.passes(&word.forms),
-            ItemTest::ByStem(stem, case) => has_stem(stem, *case, word),
-        }
-    }
-
-    /// The same, where patterns are compared with words in a row of places that is kept from one word to the next.
+    /// Whether a word passes. Patterns are compared with words in a row of places that is kept from one word to the next.
     #[tactic(auto, unfolding(crate::specs::ItemTests::passes))]
     pub(crate) fn passes_in(&self, word: &TextWord, row: &mut PlaceRow) -> Result<bool, Memory>
         ensures { IfOk result (λ passed. passed ≡ spec.passes self.now word.now) }

@@ -1,3 +1,4 @@
+use crate::operator_plan::WaysPlan;
 use crate::words_plan::WordsPlan;
 use ft_base::Items;
 
@@ -10,4 +11,6 @@ pub(crate) enum Node {
     /// All parts.
     And(Items<Node>),
     Not(Box<Node>),
+    /// A selection with filters or `not in`, by its ways.
+    Ways(WaysPlan),
 }

@@ -5,17 +5,20 @@ ghost use Rattle.std.specs.List.{All};
 ghost use Rattle.index_versions.specs.Terms.{version_term};
 ghost use Rattle.index_versions.specs.Versions.{terms_of};
 ghost use Rattle.plan_compiler.specs.steps.AskedKeys as keys;
+ghost use Rattle.plan_compiler.specs.steps.OpenedItems as items;
 ghost use Rattle.plan_compiler.specs.steps.OpenedWords as spec;
 ghost use Rattle.plan_compiler.specs.steps.RunShapes.{group_shape, phrase_shape, shape, size_of, sizes_of, variant_words, wanted_size, words_shape};
 
 use crate::choosing::{Opening, terms_for};
 use crate::item_matching::ItemTest;
 use crate::node::Node;
+use crate::opening_operators::open_ways;
 use crate::phrase_plan::PhrasePlan;
 use crate::rarity::rarest;
-use crate::run_node::{RunGroup, RunNode, RunPhrase, RunWords, WordTerms};
+use crate::run_node::{RunGroup, RunNode, RunPhrase, RunWords};
 use crate::words_plan::WordsPlan;
 use ft_base::{Items, Memory};
+use index_phrases::WordTerms;
 use index_versions::{TermCursor, TermSource, TermSources};
 use match_options::WordTest;
 use place_merges::{Item, Variant};
@@ -30,6 +33,7 @@ pub(crate) fn open_node<'v>(opening: &Opening<'v>, node: &Node) -> Result<RunNod
         Node::Or(parts) => Ok(RunNode::Or(open_all(opening, parts)?)),
         Node::And(parts) => Ok(RunNode::And(open_all(opening, parts)?)),
         Node::Not(part) => Ok(RunNode::Not(open_boxed(opening, part)?)),
+        Node::Ways(plan) => Ok(RunNode::Ways(open_ways(opening, plan)?)),
     }
 }
 
@@ -94,12 +98,12 @@ fn open_groups<'v>(
     Ok(runs)
 }
 
-fn open_variants<'v>(
+pub(crate) fn open_variants<'v>(
     opening: &Opening<'v>,
     variants: &[Items<ItemTest>],
 ) -> Result<Vec<Vec<WordTerms<'v>>>, Memory>
     ensures { IfOk result (λ terms. map variant_words terms.items ≡
-        map (spec.opened_variant opening.now.looks opening.now.lists.now.stems opening.now.version.now) variants.now) }
+        map (items.opened_variant opening.now.looks opening.now.lists.now.stems opening.now.version.now) variants.now) }
 {
     let mut terms = Vec::new(opening.alloc);
     for variant in variants {
@@ -109,7 +113,7 @@ fn open_variants<'v>(
 }
 
 fn open_items<'v>(opening: &Opening<'v>, tests: &[ItemTest]) -> Result<Vec<WordTerms<'v>>, Memory>
-    ensures { IfOk result (λ terms. terms.items ≡ map (spec.opened_item opening.now.looks opening.now.lists.now.stems opening.now.version.now) tests.now) }
+    ensures { IfOk result (λ terms. terms.items ≡ map (items.opened_item opening.now.looks opening.now.lists.now.stems opening.now.version.now) tests.now) }
 {
     let mut terms = Vec::new(opening.alloc);
     for test in tests {
@@ -119,7 +123,7 @@ fn open_items<'v>(opening: &Opening<'v>, tests: &[ItemTest]) -> Result<Vec<WordT
 }
 
 fn open_item<'v>(opening: &Opening<'v>, test: &ItemTest) -> Result<WordTerms<'v>, Memory>
-    ensures { IfOk result (λ terms. terms ≡ spec.opened_item opening.now.looks opening.now.lists.now.stems opening.now.version.now test.now) }
+    ensures { IfOk result (λ terms. terms ≡ items.opened_item opening.now.looks opening.now.lists.now.stems opening.now.version.now test.now) }
 {
     if asks_nothing(test) {
         return Ok(WordTerms::Any);
@@ -161,7 +165,7 @@ fn forms_pass(test: &WordTest) -> bool
 }
 
 /// A cursor for each term of each word of each variant. The word that the fewest documents have leads.
-fn cursors_of_variants<'v>(
+pub(crate) fn cursors_of_variants<'v>(
     opening: &Opening<'v>,
     variants: &Vec<Vec<WordTerms<'v>>>,
 ) -> Result<Vec<Variant<TermCursor<'v>>>, Memory>

@@ -122,7 +122,7 @@ fn without_lengths(
 }
 
 /// What the words of a phrase have to be.
-fn phrase_tests(
+pub(crate) fn phrase_tests(
     alloc: Global,
     reading: &Reading<'_>,
     phrase: &[QueryItem],

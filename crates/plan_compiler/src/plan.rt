@@ -1,23 +1,16 @@
 //! Plans, and whether a text satisfies the selection of a plan.
 
-ghost use Rattle.std.specs.Prelude.{◌≡◌, List, IfErr, IfOk, IsTrue, None};
-ghost use Rattle.ft_base.specs.declared.token.Token.{Token};
+ghost use Rattle.std.specs.Prelude.{◌≡◌, IfErr, IfOk, IsTrue, None};
 ghost use Rattle.ft_syntax.specs.View.{form};
-ghost use Rattle.all_matches.specs.Meaning.{sat};
 ghost use Rattle.ft_base.specs.Selection.{no_options};
+ghost use Rattle.all_matches.specs.Allowed.{is_allowed};
 ghost use Rattle.plan_compiler.specs.CompiledSelection.{Compiles};
-ghost use Rattle.plan_compiler.specs.Decided.{is_decided};
-ghost use Rattle.plan_compiler.specs.Lexicon.{lexicon};
 ghost use Rattle.plan_compiler.specs.Missing.{first_missing, IsMissing};
-ghost use Rattle.plan_compiler.specs.NodeMeaning.{truth};
 ghost use Rattle.plan_compiler.specs.Served.{is_served};
-ghost use Rattle.plan_compiler.specs.TextWords.{words_of_tokens};
 
 use crate::choosing::Opening;
 use crate::chosen::none_chosen;
 use crate::compiling::compile;
-use crate::decided::is_served;
-use crate::deciding::holds;
 use crate::fault::CompileFault;
 use crate::lists::Lists;
 use crate::looks::Looks;
@@ -25,14 +18,14 @@ use crate::missing::missing_list;
 use crate::node::Node;
 use crate::opening::open_node;
 use crate::run::Run;
-use crate::text_word::text_words;
-use ft_base::{Line, Memory, Token};
+use crate::served::is_served;
+use ft_base::{Line, Memory};
 use ft_syntax::{Selection, copy_selection};
 use index_versions::Version;
 use std::alloc::Global;
 
-/// A selection, compiled with the lists that it names. It decides by truth values and counts, in time linear in the text for each
-/// phrase and each phrase that this one stands for.
+/// A selection, compiled with the lists that it names. Outside filters and `not in` it decides by truth values and counts; what stands
+/// under them is decided by the ways in which its hits may be chosen, one after the other.
 #[derive(Drop)]
 pub struct Plan {
     alloc: Global,
@@ -48,14 +41,14 @@ impl Plan {
     ghost use Rattle.plan_compiler.specs.PlanMeaning.{plan_form, plan_lists};
     ghost use Rattle.plan_compiler.specs.RunMeaning.{run_of};
 
-    /// The plan of a selection without filters and `not in`. A list that it names and that isn't there is a fault: the first one in the
+    /// The plan of a selection, as every selection is that is read. A list that it names and that isn't there is a fault: the first one in the
     /// order of its printed form. The plan shares the lists.
     pub fn compile(
         alloc: Global,
         selection: &Selection,
         lists: &Lists,
     ) -> Result<Plan, CompileFault>
-        requires { IsTrue (is_decided (form selection.now)) }
+        requires { IsTrue (is_allowed (form selection.now)) }
         ensures of { IfOk result (λ plan. plan_form plan ≡ form selection.now) }
         ensures lists { IfOk result (λ plan. plan_lists plan ≡ lists.now) }
         ensures there { IfOk result (λ _. first_missing lists.now (form selection.now) ≡ None) }
@@ -99,14 +92,6 @@ impl Plan {
             root,
         })
     }
-
-    /// Whether a text with these tokens satisfies the plan's selection.
-    pub fn check(&self, tokens: &Vec<Token>) -> Result<bool, Memory>
-        ensures { IfOk result (λ satisfied. satisfied ≡ sat (lexicon (plan_lists self.now)) (plan_form self.now) tokens.now.items) }
-    {
-        let words = text_words(self.alloc, self.looks, &self.lists, tokens.as_slice())?;
-        Ok(holds(&self.root, words.as_slice()))
-    }
 }
 
 /// A copy of the selection, and one of the lists, which shares the lists themselves.
@@ -130,7 +115,6 @@ fn copies_of(
 
 /// The least that has to be looked at of each word of a text.
 fn looks_of(selection: &Selection) -> Looks
-    requires { IsTrue (is_decided (form selection.now)) }
     ensures { IsTrue (is_served result (form selection.now)) }
 {
     let all_forms = !is_served(

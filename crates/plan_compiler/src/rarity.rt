@@ -1,6 +1,6 @@
 //! Which words are rare, so that they are asked first. No answer depends on it.
 
-use crate::run_node::WordTerms;
+use index_phrases::WordTerms;
 
 /// The number of the word, from 0, that the fewest documents have; the first of several. Documents count once for each term.
 pub(crate) fn rarest(words: &Vec<WordTerms<'_>>) -> usize {

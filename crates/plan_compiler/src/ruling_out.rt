@@ -6,9 +6,10 @@ ghost use Rattle.all_matches.specs.Compositional.{enough};
 ghost use Rattle.plan_compiler.specs.steps.RuledOut as spec;
 ghost use Rattle.plan_compiler.specs.steps.RunShapes.{phrase_shape, shape};
 
-use crate::counting::is_enough;
-use crate::run_node::{RunGroup, RunNode, RunPhrase, RunWords, WordTerms};
+use crate::occurrence_ranges::is_enough;
+use crate::run_node::{RunGroup, RunNode, RunPhrase, RunWords};
 use ft_base::{DocId, Range};
+use index_phrases::WordTerms;
 
 /// Whether the selection is ruled out: the words of no span of the document satisfy it.
 #[cycle(ruling)]
@@ -20,6 +21,7 @@ pub(crate) fn is_ruled_out(doc: DocId, node: &RunNode<'_>) -> bool
         RunNode::Or(parts) => all_ruled_out(doc, parts),
         RunNode::And(parts) => some_ruled_out(doc, parts),
         RunNode::Not(_part) => false,
+        RunNode::Ways(_ways) => false,
     }
 }
 

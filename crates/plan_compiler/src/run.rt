@@ -1,13 +1,12 @@
 //! Plans opened over a version of the index, and tested at spans of its documents.
 
-ghost use Rattle.std.specs.Prelude.{◌≡◌, ◌≤◌, ◌+◌, List, map, true, false};
+ghost use Rattle.std.specs.Prelude.{◌≡◌, ◌≤◌, ◌+◌, true, false};
 ghost use Rattle.ft_base.specs.declared.span.Span.{Span};
-ghost use Rattle.ft_base.specs.declared.token.Token.{Token};
 ghost use Rattle.all_matches.specs.Meaning.{sat};
 ghost use Rattle.index_meaning.specs.Documents.{document_at, has_document, token_count};
+ghost use Rattle.index_phrases.specs.Tokens.{span_tokens};
 ghost use Rattle.plan_compiler.specs.Lexicon.{lexicon};
 ghost use Rattle.plan_compiler.specs.Price.{price_at};
-ghost use Rattle.plan_compiler.specs.RunMeaning.{words_at};
 
 use crate::asked_place::AskedPlace;
 use crate::holding::node_holds;
@@ -46,13 +45,12 @@ impl<'v> Model for Run<'v> {
 }
 
 impl<'v> Run<'v> {
-    /// Whether the words of the span of the document satisfy the plan's selection. It moves cursors forward, at most as often as the
+    /// Whether the tokens of the span of the document satisfy the plan's selection. It moves cursors forward, at most as often as the
     /// selection's price at the span says, and takes no memory.
     pub fn test<L: Ledger>(&mut self, doc: DocId, span: Span, moves: &mut Steps<L>) -> bool
         requires there { has_document doc.0 self.old.version ≡ true }
         requires inside { (1 ≤ span.from) × (span.from ≤ span.to) × (span.to ≤ token_count (document_at doc.0 self.old.version) + 1) }
-        ensures says { (tokens : List Token) → map (λ token. token.word) tokens ≡ words_at span (document_at doc.0 self.old.version)
-            → result ≡ sat (lexicon self.old.lists) self.old.form tokens }
+        ensures says { result ≡ sat (lexicon self.old.lists) self.old.form (span_tokens span (document_at doc.0 self.old.version)) }
         ensures same { self.new ≡ self.old }
         ensures price { moves.new ≤ moves.old + price_at self.old doc.0 span }
         ensures grown { moves.old ≤ moves.new }
@@ -68,8 +66,7 @@ impl<'v> Run<'v> {
         requires there { has_document doc.0 self.now.version ≡ true }
         ensures none { result ≡ true → (span : Span)
             → (1 ≤ span.from) × (span.from ≤ span.to) × (span.to ≤ token_count (document_at doc.0 self.now.version) + 1)
-            → (tokens : List Token) → map (λ token. token.word) tokens ≡ words_at span (document_at doc.0 self.now.version)
-            → sat (lexicon self.now.lists) self.now.form tokens ≡ false }
+            → sat (lexicon self.now.lists) self.now.form (span_tokens span (document_at doc.0 self.now.version)) ≡ false }
     {
         is_ruled_out(doc, &self.root)
     }

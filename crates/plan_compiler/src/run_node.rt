@@ -1,7 +1,9 @@
 //! The tree of a run: the compiled selection, with the terms of a version and cursors in place of tests of words.
 
+use crate::run_ways::RunWays;
 use ft_base::Range;
-use index_versions::{TermCursor, TermSources};
+use index_phrases::WordTerms;
+use index_versions::TermCursor;
 use place_merges::Variant;
 
 /// A selection, opened over a version.
@@ -13,6 +15,8 @@ pub(crate) enum RunNode<'v> {
     /// All parts.
     And(Vec<RunNode<'v>>),
     Not(Box<RunNode<'v>>),
+    /// A selection with filters or `not in`, by its ways.
+    Ways(Box<RunWays<'v>>),
 }
 
 /// The words of a selection.
@@ -36,11 +40,4 @@ pub(crate) struct RunPhrase<'v> {
 pub(crate) struct RunGroup<'v> {
     pub(crate) terms: Vec<Vec<WordTerms<'v>>>,
     pub(crate) variants: Vec<Variant<TermCursor<'v>>>,
-}
-
-/// Which words may stand at a place: any, or those of these terms.
-#[derive(Drop)]
-pub(crate) enum WordTerms<'v> {
-    Any,
-    Of(TermSources<'v>),
 }

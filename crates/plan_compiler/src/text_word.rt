@@ -1,12 +1,12 @@
 //! The words of a text, as far as a plan looks at them.
 
 ghost use Rattle.std.specs.Prelude.{◌≡◌, IfOk};
-ghost use Rattle.plan_compiler.specs.TextWords.{word_as, words_of_tokens};
+ghost use Rattle.plan_compiler.specs.TextWords.{word_as};
 ghost use Rattle.plan_compiler.specs.TextWords as spec;
 
 use crate::lists::Lists;
 use crate::looks::Looks;
-use ft_base::{Items, Line, Memory, Token};
+use ft_base::{Line, Memory};
 use match_options::{Forms, forms_as};
 use std::alloc::Global;
 
@@ -18,22 +18,7 @@ pub(crate) struct TextWord {
     pub(crate) stem: Line,
 }
 
-/// What is looked at of each token.
-pub(crate) fn text_words(
-    alloc: Global,
-    looks: Looks,
-    lists: &Lists,
-    tokens: &[Token],
-) -> Result<Items<TextWord>, Memory>
-    ensures { IfOk result (λ words. words ≡ words_of_tokens looks lists.now.stems tokens.now) }
-{
-    let mut words = Items::new(alloc);
-    for token in tokens {
-        words.push(text_word(alloc, looks, lists, token.word.as_str())?)?;
-    }
-    Ok(words)
-}
-
+/// What is looked at of a word.
 pub(crate) fn text_word(
     alloc: Global,
     looks: Looks,

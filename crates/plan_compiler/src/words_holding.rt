@@ -11,7 +11,7 @@ ghost use Rattle.plan_compiler.specs.steps.AskedPlaces.{text_at};
 
 use crate::aiming::aim_variants;
 use crate::asked_place::AskedPlace;
-use crate::counting::is_enough;
+use crate::occurrence_ranges::is_enough;
 use crate::run_node::{RunGroup, RunPhrase, RunWords};
 use ft_base::{Range, Steps};
 use place_merges::count_places;

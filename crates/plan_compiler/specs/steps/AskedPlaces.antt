@@ -7,15 +7,20 @@ use Rattle.index_versions.specs.Versions.{term_hits}
 use Rattle.place_merges.specs.Places.{Wanted, any_word, one_of, some_stands, stands_before}
 use Rattle.place_merges.specs.declared.item.Variant.{Variant}
 use Rattle.place_merges.specs.steps.Searching.{SameFrom, one_stands, variant_stands}
-use Rattle.plan_compiler.specs.RunMeaning.{words_at}
+use Rattle.index_phrases.specs.Phrases.{words_at}
+use Rattle.plan_compiler.specs.steps.AskedSpans.{AskedSpan}
 use Rattle.plan_compiler.specs.steps.ChosenTerms.{numbers_of}
-use Rattle.plan_compiler.specs.declared.run_node.WordTerms.{WordTerms}
-use Rattle.plan_compiler.specs.declared.run_node.WordTerms.TheVariants as Terms
+use Rattle.index_phrases.specs.declared.word_terms.WordTerms.{WordTerms}
+use Rattle.index_phrases.specs.declared.word_terms.WordTerms.TheVariants as Terms
 use Rattle.plan_compiler.specs.declared.asked_place.AskedPlace.{AskedPlace}
 
 -- the words of the span
 abbrev pub text_at : AskedPlace → List (List ℕ)
 text_at place = words_at place.span (document_at place.doc.0 place.version.now)
+
+-- the span of the document
+abbrev pub asked_at : AskedPlace → AskedSpan
+asked_at place = record { doc = place.doc.0; span = place.span }
 
 -- the hits of a term there
 abbrev pub hits_at : AskedPlace → ℕ → List Hit

@@ -3,9 +3,9 @@ use Rattle.std.specs.Prelude.{ℕ, Bool, true, false, not, ◌&&◌, ◌||◌, c
 use Rattle.std.specs.List.{list_all, list_any}
 use Rattle.all_matches.specs.Compositional.{enough}
 use Rattle.index_versions.specs.Terms.{is_in}
-use Rattle.plan_compiler.specs.steps.RunShapes.{GroupShape, WordsShape, Shape, Shapes, words, any_of, all_of, not_of, none, more}
-use Rattle.plan_compiler.specs.declared.run_node.WordTerms.{WordTerms}
-use Rattle.plan_compiler.specs.declared.run_node.WordTerms.TheVariants as Terms
+use Rattle.plan_compiler.specs.steps.RunShapes.{GroupShape, WordsShape, Shape, Shapes, words, any_of, all_of, not_of, by_ways, none, more}
+use Rattle.index_phrases.specs.declared.word_terms.WordTerms.{WordTerms}
+use Rattle.index_phrases.specs.declared.word_terms.WordTerms.TheVariants as Terms
 
 module _ (doc : ℕ) where
   -- a word of which no term stands in the document
@@ -30,6 +30,7 @@ module _ (doc : ℕ) where
     ruled_out (any_of parts) = all_ruled_out parts
     ruled_out (all_of parts) = some_ruled_out parts
     ruled_out (not_of part) = false
+    ruled_out (by_ways aims) = false
 
     pub all_ruled_out : Shapes → Bool
     all_ruled_out none = true

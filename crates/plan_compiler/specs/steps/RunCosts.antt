@@ -1,12 +1,12 @@
--- What the words of a run's tree cost together, whatever each of them costs.
+-- What the words of a run's tree outside filters and `not in` cost together, whatever each of them costs.
 use Rattle.std.specs.Prelude.{ℕ, ◌+◌, ◌*◌, List, length}
 use Rattle.std.specs.List.{sum_by}
 use Rattle.plan_compiler.specs.steps.AskedPlaces.{hits_at}
 use Rattle.plan_compiler.specs.steps.ChosenTerms.{numbers_of}
-use Rattle.plan_compiler.specs.steps.RunShapes.{GroupShape, WordsShape, Shape, Shapes, words, any_of, all_of, not_of, none, more}
+use Rattle.plan_compiler.specs.steps.RunShapes.{GroupShape, WordsShape, Shape, Shapes, words, any_of, all_of, not_of, by_ways, none, more}
 use Rattle.plan_compiler.specs.declared.asked_place.AskedPlace.{AskedPlace}
-use Rattle.plan_compiler.specs.declared.run_node.WordTerms.{WordTerms}
-use Rattle.plan_compiler.specs.declared.run_node.WordTerms.TheVariants as Terms
+use Rattle.index_phrases.specs.declared.word_terms.WordTerms.{WordTerms}
+use Rattle.index_phrases.specs.declared.word_terms.WordTerms.TheVariants as Terms
 
 module _ (cost : WordTerms → ℕ) where
   abbrev pub group_cost : GroupShape → ℕ
@@ -24,6 +24,7 @@ module _ (cost : WordTerms → ℕ) where
     run_cost (any_of parts) = run_costs parts
     run_cost (all_of parts) = run_costs parts
     run_cost (not_of part) = run_cost part
+    run_cost (by_ways aims) = 0
 
     pub run_costs : Shapes → ℕ
     run_costs none = 0

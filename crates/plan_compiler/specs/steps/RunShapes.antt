@@ -4,11 +4,13 @@ use Rattle.std.specs.declared.alloc.Global.{Global}
 use Rattle.std.specs.declared.vec.Vec.{Vec}
 use Rattle.ft_base.specs.Hits.{HitPlace}
 use Rattle.ft_base.specs.declared.range.Range.{Range}
+use Rattle.ft_operators.specs.Standing.{Aims}
 use Rattle.place_merges.specs.declared.item.Item.{Item}
 use Rattle.place_merges.specs.declared.item.Item.TheVariants as Merged
 use Rattle.place_merges.specs.declared.item.Variant.{Variant}
-use Rattle.plan_compiler.specs.declared.run_node.WordTerms.{WordTerms}
-use Rattle.plan_compiler.specs.declared.run_node.WordTerms.TheVariants as Terms
+use Rattle.index_phrases.specs.declared.word_terms.WordTerms.{WordTerms}
+use Rattle.index_phrases.specs.declared.word_terms.WordTerms.TheVariants as Terms
+use Rattle.plan_compiler.specs.steps.OpenedOperators.{aims_of}
 use Rattle.plan_compiler.specs.declared.run_node.RunGroup.{RunGroup}
 use Rattle.plan_compiler.specs.declared.run_node.RunPhrase.{RunPhrase}
 use Rattle.plan_compiler.specs.declared.run_node.RunWords.{RunWords}
@@ -31,6 +33,7 @@ mutual
     any_of : Shapes → Shape
     all_of : Shapes → Shape
     not_of : Shape → Shape
+    by_ways : Aims → Shape
 
   pub data Shapes : Type 0 where
     none : Shapes
@@ -71,6 +74,7 @@ layer (RunNode-F.Words run) = words (words_shape run)
 layer (RunNode-F.Or parts) = any_of (shapes_of parts.items)
 layer (RunNode-F.And parts) = all_of (shapes_of parts.items)
 layer (RunNode-F.Not part) = not_of part.value
+layer (RunNode-F.Ways run) = by_ways (aims_of run.value.tuples)
 
 unfoldable pub shape : RunNode → Shape
 shape = fold-RunNode Shape layer

@@ -1,14 +1,20 @@
--- What a run's tree says of the words of a span, and when it fits a version.
+-- What a run's tree says of a span of a document, and when it fits a version.
 use Rattle.std.specs.Prelude.{◌≡◌, ⊤, ℕ, Bool, true, false, not, ◌&&◌, ◌||◌, List, map, sum}
 use Rattle.std.specs.List.{All}
+use Rattle.all_matches.specs.Boolean.{satisfied}
 use Rattle.all_matches.specs.Counting.{places}
 use Rattle.all_matches.specs.Compositional.{enough}
+use Rattle.all_matches.specs.Ways.{matches_of}
+use Rattle.ft_operators.specs.Standing.{Aims}
+use Rattle.ft_operators.specs.Walk.{own_span}
 use Rattle.index_meaning.specs.Documents.{Numbered}
+use Rattle.plan_compiler.specs.steps.AskedSpans.{AskedSpan, words_in}
 use Rattle.plan_compiler.specs.steps.ChosenTerms.{is_among, numbers_of}
-use Rattle.plan_compiler.specs.steps.RunShapes.{GroupShape, WordsShape, Shape, Shapes, words, any_of, all_of, not_of, none, more, wanted_size}
+use Rattle.plan_compiler.specs.steps.OpenedOperators.{AreAims}
+use Rattle.plan_compiler.specs.steps.RunShapes.{GroupShape, WordsShape, Shape, Shapes, words, any_of, all_of, not_of, by_ways, none, more, wanted_size}
 use Rattle.plan_compiler.specs.WordsMeaning.{joined}
-use Rattle.plan_compiler.specs.declared.run_node.WordTerms.{WordTerms}
-use Rattle.plan_compiler.specs.declared.run_node.WordTerms.TheVariants as Terms
+use Rattle.index_phrases.specs.declared.word_terms.WordTerms.{WordTerms}
+use Rattle.index_phrases.specs.declared.word_terms.WordTerms.TheVariants as Terms
 
 -- ---- what it says
 
@@ -29,20 +35,25 @@ words_total version run text = joined run.all (map (λ phrase. phrase_total vers
 abbrev pub words_say : List Numbered → WordsShape → List (List ℕ) → Bool
 words_say version run text = enough run.times (words_total version run text)
 
+-- whether a walk has a way that leaves no exclude
+abbrev pub aims_say : Aims → AskedSpan → Bool
+aims_say aims asked = satisfied (matches_of (own_span asked.span) (aims.operators asked.doc asked.span))
+
 unfoldable mutual
-  pub run_truth : List Numbered → Shape → List (List ℕ) → Bool
-  run_truth version (words run) text = words_say version run text
-  run_truth version (any_of parts) text = some_true version parts text
-  run_truth version (all_of parts) text = all_true version parts text
-  run_truth version (not_of part) text = not (run_truth version part text)
+  pub run_truth : List Numbered → Shape → AskedSpan → Bool
+  run_truth version (words run) asked = words_say version run (words_in version asked)
+  run_truth version (any_of parts) asked = some_true version parts asked
+  run_truth version (all_of parts) asked = all_true version parts asked
+  run_truth version (not_of part) asked = not (run_truth version part asked)
+  run_truth version (by_ways aims) asked = aims_say aims asked
 
-  pub some_true : List Numbered → Shapes → List (List ℕ) → Bool
-  some_true version none text = false
-  some_true version (more part rest) text = run_truth version part text || some_true version rest text
+  pub some_true : List Numbered → Shapes → AskedSpan → Bool
+  some_true version none asked = false
+  some_true version (more part rest) asked = run_truth version part asked || some_true version rest asked
 
-  pub all_true : List Numbered → Shapes → List (List ℕ) → Bool
-  all_true version none text = true
-  all_true version (more part rest) text = run_truth version part text && all_true version rest text
+  pub all_true : List Numbered → Shapes → AskedSpan → Bool
+  all_true version none asked = true
+  all_true version (more part rest) asked = run_truth version part asked && all_true version rest asked
 
 -- ---- when it fits
 
@@ -65,6 +76,7 @@ unfoldable mutual
   IsSound version (any_of parts) = AreSound version parts
   IsSound version (all_of parts) = AreSound version parts
   IsSound version (not_of part) = IsSound version part
+  IsSound version (by_ways aims) = AreAims version aims
 
   pub AreSound : List Numbered → Shapes → Type 0
   AreSound version none = ⊤

@@ -6,7 +6,7 @@ use Rattle.plan_compiler.specs.steps.RunShapes.{size_of, wanted_size}
 use Rattle.plan_compiler.specs.steps.RunTruth.{AreThere}
 use Rattle.plan_compiler.specs.steps.AskedPlaces.{wanted_at}
 use Rattle.plan_compiler.specs.steps.RunCosts.{term_count}
-use Rattle.plan_compiler.specs.declared.run_node.WordTerms.{WordTerms}
+use Rattle.index_phrases.specs.declared.word_terms.WordTerms.{WordTerms}
 use Rattle.plan_compiler.proofs.SumLemmas.{one_more, so_far}
 use Rattle.plan_compiler.proofs.PartLemmas.{both_at, parts_more, same_length, set_kept}
 use Rattle.plan_compiler.proofs.aiming.aim_items.Goals as goal

@@ -1,5 +1,5 @@
 -- The cursors of one variant more were aimed.
-use Rattle.std.proofs.Common.{◌≡◌, ◌≤◌, ◌<◌, ◌+◌, ◌*◌, List, length, map, take, subst, arith}
+use Rattle.std.proofs.Common.{◌≤◌, ◌<◌, ◌+◌, ◌*◌, List, length, map, take, subst, arith}
 use Rattle.std.specs.List.{All, sum_by}
 use Rattle.std.proofs.lemmas.List.{take_all}
 use Rattle.ft_base.specs.Hits.{HitPlace}
@@ -9,7 +9,7 @@ use Rattle.plan_compiler.specs.steps.AskedPlaces.{AreAimed}
 use Rattle.plan_compiler.specs.steps.RunCosts.{moves_for}
 use Rattle.plan_compiler.specs.steps.RunShapes.{sizes_of, variant_words, wanted_size}
 use Rattle.plan_compiler.specs.steps.RunTruth.{AreThere}
-use Rattle.plan_compiler.specs.declared.run_node.WordTerms.{WordTerms}
+use Rattle.index_phrases.specs.declared.word_terms.WordTerms.{WordTerms}
 use Rattle.plan_compiler.proofs.AimLemmas.{more_aimed, more_price}
 use Rattle.plan_compiler.proofs.PartLemmas.{as_many, both_at, holds_at, part_at, parts_kept, same_length}
 use Rattle.plan_compiler.proofs.SumLemmas.{so_far}

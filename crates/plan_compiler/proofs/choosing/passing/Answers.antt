@@ -3,7 +3,7 @@ use Rattle.std.proofs.Common.{◌≡◌, ◌-◌, ◌∙◌, ◌++◌, ap, sym, 
 use Rattle.std.specs.List.{range_with_len}
 use Rattle.index_versions.specs.Versions.{term_at}
 use Rattle.plan_compiler.specs.steps.ChosenTerms.{passing}
-use Rattle.plan_compiler.specs.steps.OpenedWords.{word_test}
+use Rattle.plan_compiler.specs.steps.OpenedItems.{word_test}
 use Rattle.plan_compiler.proofs.ChoosingLemmas.{number_more}
 use Rattle.plan_compiler.proofs.choosing.passing.Goals as goal
 

@@ -2,7 +2,7 @@
 use Rattle.std.proofs.Common.{◌≡◌, ◌-◌}
 use Rattle.std.specs.List.{range_with_len}
 use Rattle.plan_compiler.specs.steps.ChosenTerms.{passing}
-use Rattle.plan_compiler.specs.steps.OpenedWords.{word_test}
+use Rattle.plan_compiler.specs.steps.OpenedItems.{word_test}
 use Rattle.plan_compiler.proofs.choosing.passing.Given as goal
 
 abbrev pub invariant-loop-number : goal.invariant-loop-number

@@ -1,7 +1,7 @@
 -- The terms of the key are enough.
 use Rattle.std.proofs.Common.{◌≡◌, ◌∙◌, List, ℕ, IfOk, ap, subst, sym}
 use Rattle.std.specs.Option.{option_copied}
-use Rattle.plan_compiler.specs.steps.OpenedWords.{word_test}
+use Rattle.plan_compiler.specs.steps.OpenedItems.{word_test}
 use Rattle.plan_compiler.proofs.ChoosingLemmas.{asked}
 use Rattle.plan_compiler.proofs.TermLaws.{key_law}
 use Rattle.plan_compiler.proofs.choosing.terms_for.Goals as goal

@@ -1,47 +1,50 @@
 -- Operands are served with their selection, and say what it says of them.
-use Rattle.std.proofs.Common.{false, ◌≡◌, List, map, ap, sym, ◌∙◌, rules, subst, true, arith}
+use Rattle.std.proofs.Common.{List, map, ap, sym, ◌∙◌, rules, subst, arith}
 use Rattle.std.proofs.lemmas.Bool.{and_parts}
 use Rattle.std.proofs.lemmas.List.{take_all}
 use Rattle.std.proofs.lemmas.Result.{IfOk-weaker}
 use Rattle.ft_base.specs.declared.options.Options.{Options}
 use Rattle.ft_syntax.specs.View.{form, forms_of}
 use Rattle.ft_syntax.specs.declared.selection.Selection.{Selection, the_lemmas}
+use Rattle.all_matches.specs.Allowed.{each_is_allowed, is_allowed}
 use Rattle.plan_compiler.specs.ChosenOptions.{options_of}
 use Rattle.plan_compiler.specs.CompiledSelection.{CompileAll, Compiles}
 use Rattle.plan_compiler.specs.Served.{are_served, is_served, all_served}
 use Rattle.plan_compiler.specs.declared.node.Node.{Node}
+use Rattle.plan_compiler.proofs.AllowedLemmas.{allowed-And, allowed-Filtered, allowed-MildNot, allowed-Not, allowed-Or, allowed-With, allowed_at}
 use Rattle.plan_compiler.proofs.CompiledLemmas.{and_compiles, compile_more, not_compiles, or_compiles, with_compiles}
-use Rattle.plan_compiler.proofs.DecidedLemmas.{decided-Words, decided-Or, decided-And, decided-Not, decided-With, decided-MildNot, decided-Filtered}
-use Rattle.plan_compiler.proofs.SelectionMeaning.{decided_at, served_inside}
+use Rattle.plan_compiler.proofs.ServedLemmas.{served-Words, served-Or, served-And, served-Not, served-With}
+use Rattle.plan_compiler.proofs.SelectionMeaning.{served_at, served_inside}
 use Rattle.plan_compiler.proofs.compiling.+compile.Goals as goal
 
 pub compile-compile_value-requires-clause-inner : goal.compile-compile_value-requires-clause-inner
-compile-compile_value-requires-clause-inner t c = sym (decided-Words c.args.looks c.args.selection.now c.in-Words.words c.in-Words.is) ∙ c.requires.selection
+compile-compile_value-requires-clause-inner t c = sym (served-Words c.args.looks c.args.selection.now c.in-Words.words c.in-Words.is) ∙ c.requires.selection
 
 pub compile-compile_all-requires : goal.compile-compile_all-requires
-compile-compile_all-requires t c = (search (rules, the_lemmas), (c.requires.options, sym (decided-Or c.args.looks c.args.selection.now c.in-Or.parts c.in-Or.is) ∙ c.requires.selection))
+compile-compile_all-requires t c = (search (rules, the_lemmas), (c.requires.options, (sym (served-Or c.args.looks c.args.selection.now c.in-Or.parts c.in-Or.is) ∙ c.requires.selection, sym (allowed-Or c.args.selection.now c.in-Or.parts c.in-Or.is) ∙ c.requires.allowed)))
 
 pub compile-compile_all-requires-in-And : goal.compile-compile_all-requires-in-And
-compile-compile_all-requires-in-And t c = (search (rules, the_lemmas), (c.requires.options, sym (decided-And c.args.looks c.args.selection.now c.in-And.parts c.in-And.is) ∙ c.requires.selection))
+compile-compile_all-requires-in-And t c = (search (rules, the_lemmas), (c.requires.options, (sym (served-And c.args.looks c.args.selection.now c.in-And.parts c.in-And.is) ∙ c.requires.selection, sym (allowed-And c.args.selection.now c.in-And.parts c.in-And.is) ∙ c.requires.allowed)))
 
-pub compile-unreachable-requires : goal.compile-unreachable-requires
-compile-unreachable-requires t c =
-    let same : false ≡ true = sym (decided-MildNot c.args.looks c.args.selection.now c.in-MildNot._left c.in-MildNot._right c.in-MildNot.is) ∙ c.requires.selection in cc
+pub compile-compile_ways-requires-clause-allowed : goal.compile-compile_ways-requires-clause-allowed
+compile-compile_ways-requires-clause-allowed t c = allowed-MildNot c.args.selection.now c.in-MildNot._left c.in-MildNot._right c.in-MildNot.is c.requires.allowed
+
+pub compile-compile_ways-requires-in-Filtered-clause-allowed : goal.compile-compile_ways-requires-in-Filtered-clause-allowed
+compile-compile_ways-requires-in-Filtered-clause-allowed t c = allowed-Filtered c.args.selection.now c.in-Filtered._operand c.in-Filtered._filter c.in-Filtered.is c.requires.allowed
 
 pub compile-compile_boxed-requires : goal.compile-compile_boxed-requires
-compile-compile_boxed-requires t c = (search (rules, the_lemmas), (c.requires.options, sym (decided-Not c.args.looks c.args.selection.now c.in-Not.operand c.in-Not.is) ∙ c.requires.selection))
-
-pub compile-unreachable-requires-in-Filtered : goal.compile-unreachable-requires-in-Filtered
-compile-unreachable-requires-in-Filtered t c =
-    let same : false ≡ true = sym (decided-Filtered c.args.looks c.args.selection.now c.in-Filtered._operand c.in-Filtered._filter c.in-Filtered.is) ∙ c.requires.selection in cc
+compile-compile_boxed-requires t c = (search (rules, the_lemmas), (c.requires.options, (sym (served-Not c.args.looks c.args.selection.now c.in-Not.operand c.in-Not.is) ∙ c.requires.selection, sym (allowed-Not c.args.selection.now c.in-Not.operand c.in-Not.is) ∙ c.requires.allowed)))
 
 pub compile-compile-requires : goal.compile-compile-requires
 compile-compile-requires t c =
-    let parts = and_parts (are_served c.args.looks c.in-With.options) _ (sym (decided-With c.args.looks c.args.selection.now c.in-With.operand c.in-With.options c.in-With.is) ∙ c.requires.selection) in (
+    let parts = and_parts (are_served c.args.looks c.in-With.options) _ (sym (served-With c.args.looks c.args.selection.now c.in-With.operand c.in-With.options c.in-With.is) ∙ c.requires.selection) in (
       search (rules, the_lemmas),
       (
         ap (are_served c.args.looks) c.inside.ensures ∙ served_inside c.args.looks c.in-With.options (options_of c.args.chosen.now) parts.0 c.requires.options,
-        ap (λ s. is_served c.args.looks (form s)) c.deref.ensures ∙ parts.1,
+        (
+          ap (λ s. is_served c.args.looks (form s)) c.deref.ensures ∙ parts.1,
+          ap (λ s. is_allowed (form s)) c.deref.ensures ∙ sym (allowed-With c.args.selection.now c.in-With.operand c.in-With.options c.in-With.is) ∙ c.requires.allowed,
+        ),
       ),
     )
 
@@ -75,7 +78,10 @@ compile_all-compile-requires t c = (
   search (rules, the_lemmas),
   (
     c.requires.options,
-    decided_at c.args.looks c.as_slice-part-items.result.now c.loop-part.part-index c.part-item.result (ap (λ (parts : List Selection). all_served c.args.looks (forms_of (map form parts))) c.as_slice-part-items.ensures ∙ c.requires.selections) c.loop-part-test.true c.part-item.is,
+    (
+      served_at c.args.looks c.as_slice-part-items.result.now c.loop-part.part-index c.part-item.result (ap (λ (parts : List Selection). all_served c.args.looks (forms_of (map form parts))) c.as_slice-part-items.ensures ∙ c.requires.selections) c.loop-part-test.true c.part-item.is,
+      allowed_at c.as_slice-part-items.result.now c.loop-part.part-index c.part-item.result (ap (λ (parts : List Selection). each_is_allowed (forms_of (map form parts))) c.as_slice-part-items.ensures ∙ c.requires.allowed) c.loop-part-test.true c.part-item.is,
+    ),
   ),
 )
 

@@ -2,19 +2,21 @@
 use Rattle.std.proofs.Common.{◌∙◌, ◌||◌, ◌&&◌, Bool, ap, sym, not, refl, rules, map, drop, ◌+◌, arith, subst, Box, Global, Vec}
 use Rattle.plan_compiler.specs.steps.RunCosts.{moves_for, run_cost, run_costs, words_cost}
 use Rattle.plan_compiler.specs.steps.RunShapes.{shape, shapes_of, words_shape}
-use Rattle.plan_compiler.specs.steps.RunTruth.{AreSound, IsSound, IsWords, all_true, run_truth, some_true, words_say}
-use Rattle.plan_compiler.specs.steps.AskedPlaces.{text_at}
+use Rattle.plan_compiler.specs.steps.OpenedOperators.{AreAims, aims_of}
+use Rattle.plan_compiler.specs.steps.RunTruth.{AreSound, IsSound, IsWords, all_true, aims_say, run_truth, some_true, words_say}
+use Rattle.plan_compiler.specs.steps.AskedPlaces.{asked_at, text_at}
 use Rattle.plan_compiler.specs.declared.run_node.RunNode.{RunNode, the_lemmas}
 use Rattle.plan_compiler.specs.declared.run_node.RunNode as R
 use Rattle.plan_compiler.specs.declared.run_node.RunWords.{RunWords}
+use Rattle.plan_compiler.specs.declared.run_ways.RunWays.{RunWays}
 use Rattle.plan_compiler.proofs.PartLemmas.{as_many, holds_at, part_at, parts_kept}
 use Rattle.plan_compiler.proofs.SumLemmas.{one_more}
-use Rattle.plan_compiler.proofs.TreeLemmas.{all_end, all_more, cost-And, cost-Not, cost-Or, cost-Words, costs_so_far, each_sound, same-And, same-Not, same-Or, same-Words, says-And, says-Not, says-Or, says-Words, some_end, some_more, sound-And, sound-Not, sound-Or, sound-Words, weight, weights, weight_at, weight-And, weight-Not, weight-Or}
+use Rattle.plan_compiler.proofs.TreeLemmas.{all_end, all_more, cost-And, cost-Not, cost-Or, cost-Words, costs_so_far, each_sound, same-And, same-Not, same-Or, same-Ways, same-Words, says-And, says-Not, says-Or, says-Ways, says-Words, some_end, some_more, sound-And, sound-Not, sound-Or, sound-Ways, sound-Words, weight, weights, weight_at, weight-And, weight-Not, weight-Or}
 use Rattle.plan_compiler.proofs.holding.+holding.Goals as goal
 
 pub node_holds-words_hold-requires : goal.node_holds-words_hold-requires
 node_holds-words_hold-requires g t c =
-    subst (λ (run : RunWords). IsWords c.args.place.now.version.now (words_shape run)) (sym c.in-Words.words-is) (sound-Words c.args.place.now.version.now (text_at c.args.place.now) c.args.node.now c.in-Words.words c.in-Words.is c.requires)
+    subst (λ (run : RunWords). IsWords c.args.place.now.version.now (words_shape run)) (sym c.in-Words.words-is) (sound-Words c.args.place.now.version.now (asked_at c.args.place.now) c.args.node.now c.in-Words.words c.in-Words.is c.requires)
 
 pub node_holds-some_holds-requires : goal.node_holds-some_holds-requires
 node_holds-some_holds-requires g t c κs within =
@@ -23,7 +25,7 @@ node_holds-some_holds-requires g t c κs within =
       omega (arith, c.decreases),
       (
         within,
-        subst (λ (parts : Vec RunNode Global). AreSound c.args.place.now.version.now (shapes_of (map shape parts.items))) (sym c.in-Or.parts-is) (sound-Or c.args.place.now.version.now (text_at c.args.place.now) c.args.node.now c.in-Or.parts c.in-Or.is c.requires),
+        subst (λ (parts : Vec RunNode Global). AreSound c.args.place.now.version.now (shapes_of (map shape parts.items))) (sym c.in-Or.parts-is) (sound-Or c.args.place.now.version.now (asked_at c.args.place.now) c.args.node.now c.in-Or.parts c.in-Or.is c.requires),
       ),
     )
 
@@ -34,7 +36,7 @@ node_holds-all_hold-requires g t c κs within =
       omega (arith, c.decreases),
       (
         within,
-        subst (λ (parts : Vec RunNode Global). AreSound c.args.place.now.version.now (shapes_of (map shape parts.items))) (sym c.in-And.parts-is) (sound-And c.args.place.now.version.now (text_at c.args.place.now) c.args.node.now c.in-And.parts c.in-And.is c.requires),
+        subst (λ (parts : Vec RunNode Global). AreSound c.args.place.now.version.now (shapes_of (map shape parts.items))) (sym c.in-And.parts-is) (sound-And c.args.place.now.version.now (asked_at c.args.place.now) c.args.node.now c.in-And.parts c.in-And.is c.requires),
       ),
     )
 
@@ -45,13 +47,13 @@ node_holds-part_holds-requires g t c κs within =
       omega (arith, c.decreases),
       (
         within,
-        subst (λ (part : Box RunNode Global). IsSound c.args.place.now.version.now (shape part.value)) (sym c.in-Not.part-is) (sound-Not c.args.place.now.version.now (text_at c.args.place.now) c.args.node.now c.in-Not.part c.in-Not.is c.requires),
+        subst (λ (part : Box RunNode Global). IsSound c.args.place.now.version.now (shape part.value)) (sym c.in-Not.part-is) (sound-Not c.args.place.now.version.now (asked_at c.args.place.now) c.args.node.now c.in-Not.part c.in-Not.is c.requires),
       ),
     )
 
 pub node_holds-returns-in-Words-clause-says : goal.node_holds-returns-in-Words-clause-says
 node_holds-returns-in-Words-clause-says g t c =
-    c.words_hold.ensures.says ∙ ap (λ (run : RunWords). words_say c.args.place.now.version.now (words_shape run) (text_at c.args.place.now)) c.in-Words.words-is ∙ says-Words c.args.place.now.version.now (text_at c.args.place.now) c.args.node.now c.in-Words.words c.in-Words.is
+    c.words_hold.ensures.says ∙ ap (λ (run : RunWords). words_say c.args.place.now.version.now (words_shape run) (text_at c.args.place.now)) c.in-Words.words-is ∙ says-Words c.args.place.now.version.now (asked_at c.args.place.now) c.args.node.now c.in-Words.words c.in-Words.is
 
 pub node_holds-returns-in-Words-clause-same : goal.node_holds-returns-in-Words-clause-same
 node_holds-returns-in-Words-clause-same g t c =
@@ -59,7 +61,7 @@ node_holds-returns-in-Words-clause-same g t c =
 
 pub node_holds-returns-in-Or-clause-says : goal.node_holds-returns-in-Or-clause-says
 node_holds-returns-in-Or-clause-says g t c =
-    c.some_holds.ensures.says ∙ ap (λ (parts : Vec RunNode Global). some_true c.args.place.now.version.now (shapes_of (map shape parts.items)) (text_at c.args.place.now)) c.in-Or.parts-is ∙ says-Or c.args.place.now.version.now (text_at c.args.place.now) c.args.node.now c.in-Or.parts c.in-Or.is
+    c.some_holds.ensures.says ∙ ap (λ (parts : Vec RunNode Global). some_true c.args.place.now.version.now (shapes_of (map shape parts.items)) (asked_at c.args.place.now)) c.in-Or.parts-is ∙ says-Or c.args.place.now.version.now (asked_at c.args.place.now) c.args.node.now c.in-Or.parts c.in-Or.is
 
 pub node_holds-returns-in-Or-clause-same : goal.node_holds-returns-in-Or-clause-same
 node_holds-returns-in-Or-clause-same g t c =
@@ -67,7 +69,7 @@ node_holds-returns-in-Or-clause-same g t c =
 
 pub node_holds-returns-in-And-clause-says : goal.node_holds-returns-in-And-clause-says
 node_holds-returns-in-And-clause-says g t c =
-    c.all_hold.ensures.says ∙ ap (λ (parts : Vec RunNode Global). all_true c.args.place.now.version.now (shapes_of (map shape parts.items)) (text_at c.args.place.now)) c.in-And.parts-is ∙ says-And c.args.place.now.version.now (text_at c.args.place.now) c.args.node.now c.in-And.parts c.in-And.is
+    c.all_hold.ensures.says ∙ ap (λ (parts : Vec RunNode Global). all_true c.args.place.now.version.now (shapes_of (map shape parts.items)) (asked_at c.args.place.now)) c.in-And.parts-is ∙ says-And c.args.place.now.version.now (asked_at c.args.place.now) c.args.node.now c.in-And.parts c.in-And.is
 
 pub node_holds-returns-in-And-clause-same : goal.node_holds-returns-in-And-clause-same
 node_holds-returns-in-And-clause-same g t c =
@@ -75,11 +77,23 @@ node_holds-returns-in-And-clause-same g t c =
 
 pub node_holds-returns-in-Not-clause-says : goal.node_holds-returns-in-Not-clause-says
 node_holds-returns-in-Not-clause-says g t c =
-    ap not (c.part_holds.ensures.says ∙ ap (λ (part : Box RunNode Global). run_truth c.args.place.now.version.now (shape part.value) (text_at c.args.place.now)) c.in-Not.part-is) ∙ says-Not c.args.place.now.version.now (text_at c.args.place.now) c.args.node.now c.in-Not.part c.in-Not.is
+    ap not (c.part_holds.ensures.says ∙ ap (λ (part : Box RunNode Global). run_truth c.args.place.now.version.now (shape part.value) (asked_at c.args.place.now)) c.in-Not.part-is) ∙ says-Not c.args.place.now.version.now (asked_at c.args.place.now) c.args.node.now c.in-Not.part c.in-Not.is
 
 pub node_holds-returns-in-Not-clause-same : goal.node_holds-returns-in-Not-clause-same
 node_holds-returns-in-Not-clause-same g t c =
     let same = same-Not (R.Not c.in-Not.part) c.in-Not.part c.part_holds.new.part refl (c.part_holds.ensures.same ∙ ap (λ (part : Box RunNode Global). shape part.value) c.in-Not.part-is) in rw c.in-Not.is (search (rules, the_lemmas, same))
+
+pub node_holds-ways_hold-requires : goal.node_holds-ways_hold-requires
+node_holds-ways_hold-requires g t c =
+    subst (λ (run : Box RunWays Global). AreAims c.args.place.now.version.now (aims_of run.value.tuples)) (sym c.in-Ways.ways-is) (sound-Ways c.args.place.now.version.now (asked_at c.args.place.now) c.args.node.now c.in-Ways.ways c.in-Ways.is c.requires)
+
+pub node_holds-returns-in-Ways-clause-says : goal.node_holds-returns-in-Ways-clause-says
+node_holds-returns-in-Ways-clause-says g t c =
+    c.ways_hold.ensures.says ∙ ap (λ (run : Box RunWays Global). aims_say (aims_of run.value.tuples) (asked_at c.args.place.now)) c.in-Ways.ways-is ∙ says-Ways c.args.place.now.version.now (asked_at c.args.place.now) c.args.node.now c.in-Ways.ways c.in-Ways.is
+
+pub node_holds-returns-in-Ways-clause-same : goal.node_holds-returns-in-Ways-clause-same
+node_holds-returns-in-Ways-clause-same g t c =
+    let same = same-Ways (R.Ways c.in-Ways.ways) c.in-Ways.ways c.ways_hold.new.ways refl (c.ways_hold.ensures.same ∙ ap (λ (run : Box RunWays Global). aims_of run.value.tuples) c.in-Ways.ways-is) in rw c.in-Ways.is (search (rules, the_lemmas, same))
 
 pub some_holds-node_holds-requires : goal.some_holds-node_holds-requires
 some_holds-node_holds-requires g t c κs within =
@@ -105,8 +119,8 @@ some_holds-returns-then-node_holds-clause-says g t c =
     let test = c.loop-number-test.true in
     let end = c.len-number-end.ensures in
     sym
-    (some_more c.args.place.now.version.now (text_at c.args.place.now) views c.loop-number.number (shape c.index_mut.result.now) (omega arith) (part_at shape c.loop-number.parts.items views c.loop-number.number c.index_mut.result.now c.loop-number.invariant.same c.index_mut.ensures.value)
-    ∙ ap (λ (b : Bool). b || some_true c.args.place.now.version.now (shapes_of (drop (c.loop-number.number + 1) views)) (text_at c.args.place.now)) (sym c.node_holds.ensures.says ∙ c.if-node_holds.true))
+    (some_more c.args.place.now.version.now (asked_at c.args.place.now) views c.loop-number.number (shape c.index_mut.result.now) (omega arith) (part_at shape c.loop-number.parts.items views c.loop-number.number c.index_mut.result.now c.loop-number.invariant.same c.index_mut.ensures.value)
+    ∙ ap (λ (b : Bool). b || some_true c.args.place.now.version.now (shapes_of (drop (c.loop-number.number + 1) views)) (asked_at c.args.place.now)) (sym c.node_holds.ensures.says ∙ c.if-node_holds.true))
     ∙ c.loop-number.invariant.says
 
 pub some_holds-returns-then-node_holds-clause-same : goal.some_holds-returns-then-node_holds-clause-same
@@ -127,8 +141,8 @@ some_holds-loop-number-preserved g t c =
       same = parts_kept shape c.loop-number.parts.items (map shape c.args.parts.now.items) c.loop-number.number c.index_mut.result.now c.node_holds.new.node
           c.loop-number.invariant.same c.index_mut.ensures.value c.node_holds.ensures.same;
       says = sym
-          (some_more c.args.place.now.version.now (text_at c.args.place.now) views c.loop-number.number (shape c.index_mut.result.now) (omega arith) (part_at shape c.loop-number.parts.items views c.loop-number.number c.index_mut.result.now c.loop-number.invariant.same c.index_mut.ensures.value)
-          ∙ ap (λ (b : Bool). b || some_true c.args.place.now.version.now (shapes_of (drop (c.loop-number.number + 1) views)) (text_at c.args.place.now)) (sym c.node_holds.ensures.says ∙ c.if-node_holds.false))
+          (some_more c.args.place.now.version.now (asked_at c.args.place.now) views c.loop-number.number (shape c.index_mut.result.now) (omega arith) (part_at shape c.loop-number.parts.items views c.loop-number.number c.index_mut.result.now c.loop-number.invariant.same c.index_mut.ensures.value)
+          ∙ ap (λ (b : Bool). b || some_true c.args.place.now.version.now (shapes_of (drop (c.loop-number.number + 1) views)) (asked_at c.args.place.now)) (sym c.node_holds.ensures.says ∙ c.if-node_holds.false))
           ∙ c.loop-number.invariant.says;
       price = one_more (run_cost (moves_for c.args.place.now)) views c.loop-number.number c.args.moves.now (shape c.index_mut.result.now) c.loop-number.moves c.node_holds.new.moves (omega arith)
           (part_at shape c.loop-number.parts.items views c.loop-number.number c.index_mut.result.now c.loop-number.invariant.same c.index_mut.ensures.value)
@@ -142,7 +156,7 @@ some_holds-returns-clause-says g t c =
     let old = as_many shape c.args.parts.now.items views refl in
     let test = c.loop-number-test.false in
     let end = c.len-number-end.ensures in
-    sym (some_end c.args.place.now.version.now (text_at c.args.place.now) views c.loop-number.number (omega arith)) ∙ c.loop-number.invariant.says
+    sym (some_end c.args.place.now.version.now (asked_at c.args.place.now) views c.loop-number.number (omega arith)) ∙ c.loop-number.invariant.says
 
 pub all_hold-node_holds-requires : goal.all_hold-node_holds-requires
 all_hold-node_holds-requires g t c κs within =
@@ -168,8 +182,8 @@ all_hold-returns-then-not-node_holds-clause-says g t c =
     let test = c.loop-number-test.true in
     let end = c.len-number-end.ensures in
     sym
-    (all_more c.args.place.now.version.now (text_at c.args.place.now) views c.loop-number.number (shape c.index_mut.result.now) (omega arith) (part_at shape c.loop-number.parts.items views c.loop-number.number c.index_mut.result.now c.loop-number.invariant.same c.index_mut.ensures.value)
-    ∙ ap (λ (b : Bool). b && all_true c.args.place.now.version.now (shapes_of (drop (c.loop-number.number + 1) views)) (text_at c.args.place.now)) (sym c.node_holds.ensures.says ∙ c.if-not-node_holds.true))
+    (all_more c.args.place.now.version.now (asked_at c.args.place.now) views c.loop-number.number (shape c.index_mut.result.now) (omega arith) (part_at shape c.loop-number.parts.items views c.loop-number.number c.index_mut.result.now c.loop-number.invariant.same c.index_mut.ensures.value)
+    ∙ ap (λ (b : Bool). b && all_true c.args.place.now.version.now (shapes_of (drop (c.loop-number.number + 1) views)) (asked_at c.args.place.now)) (sym c.node_holds.ensures.says ∙ c.if-not-node_holds.true))
     ∙ c.loop-number.invariant.says
 
 pub all_hold-returns-then-not-node_holds-clause-same : goal.all_hold-returns-then-not-node_holds-clause-same
@@ -190,8 +204,8 @@ all_hold-loop-number-preserved g t c =
       same = parts_kept shape c.loop-number.parts.items (map shape c.args.parts.now.items) c.loop-number.number c.index_mut.result.now c.node_holds.new.node
           c.loop-number.invariant.same c.index_mut.ensures.value c.node_holds.ensures.same;
       says = sym
-          (all_more c.args.place.now.version.now (text_at c.args.place.now) views c.loop-number.number (shape c.index_mut.result.now) (omega arith) (part_at shape c.loop-number.parts.items views c.loop-number.number c.index_mut.result.now c.loop-number.invariant.same c.index_mut.ensures.value)
-          ∙ ap (λ (b : Bool). b && all_true c.args.place.now.version.now (shapes_of (drop (c.loop-number.number + 1) views)) (text_at c.args.place.now)) (sym c.node_holds.ensures.says ∙ c.if-not-node_holds.false))
+          (all_more c.args.place.now.version.now (asked_at c.args.place.now) views c.loop-number.number (shape c.index_mut.result.now) (omega arith) (part_at shape c.loop-number.parts.items views c.loop-number.number c.index_mut.result.now c.loop-number.invariant.same c.index_mut.ensures.value)
+          ∙ ap (λ (b : Bool). b && all_true c.args.place.now.version.now (shapes_of (drop (c.loop-number.number + 1) views)) (asked_at c.args.place.now)) (sym c.node_holds.ensures.says ∙ c.if-not-node_holds.false))
           ∙ c.loop-number.invariant.says;
       price = one_more (run_cost (moves_for c.args.place.now)) views c.loop-number.number c.args.moves.now (shape c.index_mut.result.now) c.loop-number.moves c.node_holds.new.moves (omega arith)
           (part_at shape c.loop-number.parts.items views c.loop-number.number c.index_mut.result.now c.loop-number.invariant.same c.index_mut.ensures.value)
@@ -205,7 +219,7 @@ all_hold-returns-clause-says g t c =
     let old = as_many shape c.args.parts.now.items views refl in
     let test = c.loop-number-test.false in
     let end = c.len-number-end.ensures in
-    sym (all_end c.args.place.now.version.now (text_at c.args.place.now) views c.loop-number.number (omega arith)) ∙ c.loop-number.invariant.says
+    sym (all_end c.args.place.now.version.now (asked_at c.args.place.now) views c.loop-number.number (omega arith)) ∙ c.loop-number.invariant.says
 
 -- ---- what they cost
 

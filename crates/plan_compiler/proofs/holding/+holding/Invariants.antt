@@ -4,7 +4,7 @@ use Rattle.std.specs.List.{sum_by}
 use Rattle.plan_compiler.specs.steps.RunCosts.{moves_for, run_cost}
 use Rattle.plan_compiler.specs.steps.RunShapes.{shape, shapes_of}
 use Rattle.plan_compiler.specs.steps.RunTruth.{all_true, some_true}
-use Rattle.plan_compiler.specs.steps.AskedPlaces.{text_at}
+use Rattle.plan_compiler.specs.steps.AskedPlaces.{asked_at}
 use Rattle.plan_compiler.proofs.TreeLemmas.{weight, weights}
 use Rattle.plan_compiler.proofs.holding.+holding.Given as goal
 
@@ -23,8 +23,8 @@ decreases-all_hold g l = 2 * weights (shapes_of (map shape l.parts.now.items)) +
 abbrev pub invariant-some_holds-loop-number : goal.invariant-some_holds-loop-number
 invariant-some_holds-loop-number g l = record {
   same : map shape l.parts.items ≡ map shape l.fn.parts.items;
-  says : some_true l.place.version.now (shapes_of (drop l.number (map shape l.fn.parts.items))) (text_at l.place)
-      ≡ some_true l.place.version.now (shapes_of (map shape l.fn.parts.items)) (text_at l.place);
+  says : some_true l.place.version.now (shapes_of (drop l.number (map shape l.fn.parts.items))) (asked_at l.place)
+      ≡ some_true l.place.version.now (shapes_of (map shape l.fn.parts.items)) (asked_at l.place);
   price : l.moves ≤ l.fn.moves + sum_by (run_cost (moves_for l.place)) (take l.number (map shape l.fn.parts.items));
   grown : l.fn.moves ≤ l.moves;
 }
@@ -32,8 +32,8 @@ invariant-some_holds-loop-number g l = record {
 abbrev pub invariant-all_hold-loop-number : goal.invariant-all_hold-loop-number
 invariant-all_hold-loop-number g l = record {
   same : map shape l.parts.items ≡ map shape l.fn.parts.items;
-  says : all_true l.place.version.now (shapes_of (drop l.number (map shape l.fn.parts.items))) (text_at l.place)
-      ≡ all_true l.place.version.now (shapes_of (map shape l.fn.parts.items)) (text_at l.place);
+  says : all_true l.place.version.now (shapes_of (drop l.number (map shape l.fn.parts.items))) (asked_at l.place)
+      ≡ all_true l.place.version.now (shapes_of (map shape l.fn.parts.items)) (asked_at l.place);
   price : l.moves ≤ l.fn.moves + sum_by (run_cost (moves_for l.place)) (take l.number (map shape l.fn.parts.items));
   grown : l.fn.moves ≤ l.moves;
 }

@@ -1,4 +1,5 @@
 -- Each kind is opened by its parts.
+use Rattle.plan_compiler.proofs.OpenedWays.{ways_opened}
 use Rattle.plan_compiler.proofs.OpenedLemmas.{and_opened, not_opened, opened_more, or_opened, words_opened}
 use Rattle.plan_compiler.proofs.opening.+open.Goals as goal
 
@@ -22,3 +23,7 @@ open_node-returns-in_ok-open_all-in-And t c =
 pub open_node-returns-in_ok-open_boxed-in-Not : goal.open_node-returns-in_ok-open_boxed-in-Not
 open_node-returns-in_ok-open_boxed-in-Not t c =
     not_opened c.args.opening.now.looks c.args.opening.now.lists.now.stems c.args.opening.now.version.now c.in_ok-open_boxed-in-Not.field-0 c.in-Not.part c.args.node.now c.in-Not.is c.in_ok-open_boxed-in-Not.ensures
+
+pub open_node-returns-in_ok-open_ways-in-Ways : goal.open_node-returns-in_ok-open_ways-in-Ways
+open_node-returns-in_ok-open_ways-in-Ways t c =
+    ways_opened c.args.opening.now.looks c.args.opening.now.lists.now.stems c.args.opening.now.version.now c.in_ok-open_ways-in-Ways.field-0 c.in-Ways.plan c.args.node.now c.in-Ways.is c.in_ok-open_ways-in-Ways.ensures

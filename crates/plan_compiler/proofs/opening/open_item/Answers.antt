@@ -2,7 +2,7 @@
 use Rattle.std.proofs.Common.{ℕ, List, length, subst, sym, ◌∙◌, ◌<◌}
 use Rattle.std.specs.List.{All}
 use Rattle.index_versions.specs.Versions.{terms_of}
-use Rattle.plan_compiler.specs.steps.OpenedWords.{word_test}
+use Rattle.plan_compiler.specs.steps.OpenedItems.{word_test}
 use Rattle.plan_compiler.proofs.OpenedLemmas.{chosen_there}
 use Rattle.plan_compiler.proofs.opening.open_item.Goals as goal
 

@@ -1,6 +1,6 @@
 -- The first items were opened.
 use Rattle.std.proofs.Common.{◌≡◌, map, take}
-use Rattle.plan_compiler.specs.steps.OpenedWords.{opened_item}
+use Rattle.plan_compiler.specs.steps.OpenedItems.{opened_item}
 use Rattle.plan_compiler.proofs.opening.open_items.Given as goal
 
 abbrev pub invariant-loop-test : goal.invariant-loop-test

@@ -1,6 +1,6 @@
 -- The first variants were opened.
 use Rattle.std.proofs.Common.{◌≡◌, map, take}
-use Rattle.plan_compiler.specs.steps.OpenedWords.{opened_variant}
+use Rattle.plan_compiler.specs.steps.OpenedItems.{opened_variant}
 use Rattle.plan_compiler.specs.steps.RunShapes.{variant_words}
 use Rattle.plan_compiler.proofs.opening.open_variants.Given as goal
 

@@ -2,7 +2,7 @@
 use Rattle.std.proofs.Common.{sym, ap, ◌∙◌}
 use Rattle.plan_compiler.specs.steps.RuledOut.{ruled_out}
 use Rattle.plan_compiler.specs.steps.RunShapes.{shape}
-use Rattle.plan_compiler.proofs.RuledOutLaw.{ruled-Words, ruled-Or, ruled-And, ruled-Not, words_listed}
+use Rattle.plan_compiler.proofs.RuledOutLaw.{ruled-Words, ruled-Or, ruled-And, ruled-Not, ruled-Ways, words_listed}
 use Rattle.plan_compiler.proofs.ruling_out.+ruling.Goals as goal
 
 pub is_ruled_out-returns-in-Words : goal.is_ruled_out-returns-in-Words
@@ -19,3 +19,6 @@ is_ruled_out-returns-in-And t c =
 
 pub is_ruled_out-returns-in-Not : goal.is_ruled_out-returns-in-Not
 is_ruled_out-returns-in-Not t c = sym (ap (λ n. ruled_out c.args.doc.0 (shape n)) c.in-Not.is ∙ ruled-Not c.args.doc.0 c.in-Not._part)
+
+pub is_ruled_out-returns-in-Ways : goal.is_ruled_out-returns-in-Ways
+is_ruled_out-returns-in-Ways t c = sym (ap (λ n. ruled_out c.args.doc.0 (shape n)) c.in-Ways.is ∙ ruled-Ways c.args.doc.0 c.in-Ways._ways)

@@ -1,0 +1,43 @@
+-- What the kinds of compiled operators are over a text, and opened over a version.
+use Rattle.std.proofs.Common.{◌≡◌, refl, ap, ℕ, false, List, [], ◌∷◌, map, filter, length, Box, Global}
+use Rattle.all_matches.specs.Hits.{Interval, hit_on, intervals}
+use Rattle.all_matches.specs.Ways.{phrase, either, together, apart, negated, through_filter}
+use Rattle.plan_compiler.specs.Operators.{LookedText, hits_by_tests, operator_at}
+use Rattle.plan_compiler.specs.declared.operator_plan.FilteredPlan.{FilteredPlan}
+use Rattle.plan_compiler.specs.declared.operator_plan.NegatedPlan.{NegatedPlan}
+use Rattle.plan_compiler.specs.declared.operator_plan.OperatorPlan as O
+use Rattle.plan_compiler.specs.declared.operator_plan.OperatorSides.{OperatorSides}
+use Rattle.plan_compiler.specs.declared.operator_plan.PhraseTests.{PhraseTests}
+
+module _ (text : LookedText) where
+  pub at_Phrase : (found : PhraseTests) → operator_at text (O.Phrase found) ≡ phrase (hits_by_tests text found.number found.variants)
+  unfolding operator_at
+  at_Phrase found = refl
+
+  pub at_Choice : (sides : Box OperatorSides Global) → operator_at text (O.Choice sides) ≡ either (operator_at text sides.value.left) (operator_at text sides.value.right)
+  unfolding operator_at
+  at_Choice sides = refl
+
+  pub at_Both : (sides : Box OperatorSides Global) → operator_at text (O.Both sides) ≡ together (operator_at text sides.value.left) (operator_at text sides.value.right)
+  unfolding operator_at
+  at_Both sides = refl
+
+  pub at_MildNot : (sides : Box OperatorSides Global) → operator_at text (O.MildNot sides) ≡ apart (operator_at text sides.value.left) (operator_at text sides.value.right)
+  unfolding operator_at
+  at_MildNot sides = refl
+
+  pub at_Negated : (plan : Box NegatedPlan Global) → operator_at text (O.Negated plan) ≡ negated (operator_at text plan.value.operand)
+  unfolding operator_at
+  at_Negated plan = refl
+
+  pub at_Filtered : (plan : Box FilteredPlan Global) → operator_at text (O.Filtered plan) ≡ through_filter (operator_at text plan.value.operand) plan.value.kind
+  unfolding operator_at
+  at_Filtered plan = refl
+
+  none_kept : (all : List Interval) → filter (λ (interval : Interval). false) all ≡ []
+  none_kept [] = refl
+  none_kept (interval ∷ rest) = none_kept rest
+
+  -- a phrase without variants stands nowhere
+  pub at_none : (number : ℕ) → phrase (hits_by_tests text number []) ≡ phrase []
+  at_none number = ap (λ (found : List Interval). phrase (map (hit_on text.tokens number) found)) (none_kept (intervals (length text.tokens)))
