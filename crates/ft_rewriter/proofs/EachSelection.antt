@@ -1,14 +1,11 @@
 -- What a definition says of a list of selections is said of each of them.
 use Rattle.std.proofs.Common.{◌≡◌, refl, ap, ◌∙◌, List, [], ◌∷◌, ◌++◌, map}
 use Rattle.std.specs.Prelude.{flat_map}
-use Rattle.std.proofs.lemmas.Grind.{flat_map-append}
-use Rattle.std.proofs.lemmas.List.{append-nil, map-append}
-use Rattle.std.proofs.lemmas.List.Sums.{fold_push}
 use Rattle.ft_base.specs.declared.options.Options.{Options}
 use Rattle.ft_base.specs.Selection.{more}
 use Rattle.ft_syntax.specs.View.{form, forms_of}
 use Rattle.ft_syntax.specs.declared.selection.Selection.{Selection}
-use Rattle.ft_rewriter.specs.Rewriting.{given, each_given, operands_in, with_operand, without_repeats, flattened, each_flattened, simplified, negated, each_simplified, each_negated}
+use Rattle.ft_rewriter.specs.Rewriting.{given, each_given, operands_in, flattened, each_flattened, simplified, negated, each_simplified, each_negated}
 use Rattle.ft_rewriter.specs.declared.connective.Connective.{Connective}
 
 pub given_each : (outer : Options) (parts : List Selection) → forms_of (map (λ part. given outer (form part)) parts) ≡ each_given outer (forms_of (map form parts))
@@ -31,15 +28,3 @@ pub negated_each : (parts : List Selection) → map (λ part. negated (form part
 unfolding simplified
 negated_each [] = refl
 negated_each (part ∷ rest) = ap (λ forms. negated (form part) ∷ forms) (negated_each rest)
-
--- one selection more
-pub operands_more : (c : Connective) (parts : List Selection) (part : Selection)
-    → flat_map (operands_in c) (map form (parts ++ part ∷ [])) ≡ flat_map (operands_in c) (map form parts) ++ operands_in c (form part)
-operands_more c parts part =
-    ap (flat_map (operands_in c)) (map-append form parts (part ∷ []))
-    ∙ flat_map-append (operands_in c) (map form parts) (form part ∷ [])
-    ∙ ap (λ forms. flat_map (operands_in c) (map form parts) ++ forms) (append-nil (operands_in c (form part)))
-
-pub repeats_more : (parts : List Selection) (part : Selection)
-    → without_repeats (map form (parts ++ part ∷ [])) ≡ with_operand (without_repeats (map form parts)) (form part)
-repeats_more parts part = ap without_repeats (map-append form parts (part ∷ [])) ∙ fold_push with_operand [] (map form parts) (form part)

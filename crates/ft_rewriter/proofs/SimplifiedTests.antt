@@ -2,6 +2,7 @@
 use Rattle.std.proofs.Common.{◌≡◌, refl, ap, sym, ◌∙◌, Bool, true, false, not, cond, ℕ, List, arith}
 use Rattle.std.specs.Prelude.{◌==◌, nat_le, nat_lt, Option, Some, None}
 use Rattle.std.proofs.lemmas.Bool.{eqb-true}
+use Rattle.std.proofs.Math.Bool.{not-not}
 use Rattle.std.proofs.lemmas.Bool.Decides.{nat_tests}
 use Rattle.all_matches.specs.Compositional.{enough, occurrences}
 use Rattle.all_matches.specs.Meaning.{inside, sat_under, sat}
@@ -41,10 +42,6 @@ module _ (lexicon : Lexicon) (options : Options) (tokens : List Token) where
       ∙ enough-shorter value.times (occurrences lexicon (inside value.options options) value tokens)
       ∙ sym (sat-words lexicon options value tokens)
 
-not_not : (b : Bool) → not (not b) ≡ b
-not_not true = refl
-not_not false = refl
-
 mutual
   unfolding simplified flattened
 
@@ -68,7 +65,7 @@ mutual
       sat_connected lexicon options tokens Or (each_negated forms) ∙ many-negated lexicon options tokens And forms ∙ ap not (sym (sat_joined lexicon options tokens And forms))
   sat-negated lexicon options tokens (mild_not left right) = sat-not_of lexicon options (flattened (mild_not left right)) tokens ∙ ap not (sat-flattened lexicon options (mild_not left right) tokens)
   sat-negated lexicon options tokens (not_of form) =
-      sat-simplified lexicon options tokens form ∙ sym (not_not (sat_under lexicon options form tokens)) ∙ ap not (sym (sat-not_of lexicon options form tokens))
+      sat-simplified lexicon options tokens form ∙ sym (not-not (sat_under lexicon options form tokens)) ∙ ap not (sym (sat-not_of lexicon options form tokens))
   sat-negated lexicon options tokens (filtered form kind) = sat-not_of lexicon options (flattened (filtered form kind)) tokens ∙ ap not (sat-flattened lexicon options (filtered form kind) tokens)
   sat-negated lexicon options tokens (with_options form inner) =
       sat-not_of lexicon options (with_options (simplified form) inner) tokens

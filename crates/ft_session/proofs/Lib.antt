@@ -10,4 +10,5 @@ pub mod SelectionNumbers
 pub mod SelectionTestLemmas
 pub mod SessionLemmas
 pub mod StoppedLemmas
+pub mod TextLemmas
 pub mod WrittenLemmas

@@ -7,7 +7,7 @@ use Rattle.std.specs.Str.{bytes_eq}
 use Rattle.std.proofs.lemmas.Bool.{and_from, cases_Bool, cond-false, cond-true, eq-eqb, le-ltb, lt-ltb, ne_eqb, or_from, or_left, or_right}
 use Rattle.std.proofs.lemmas.List.{length-map, map_push}
 use Rattle.ft_base.specs.Places.{is_ascending}
-use Rattle.index_meaning.specs.Documents.{Numbered, document_at, has_document, numbered, with_document, without_document}
+use Rattle.index_meaning.specs.Documents.{Numbered, document_at, has_document, with_document, without_document}
 use Rattle.index_meaning.specs.Index.{index}
 use Rattle.index_updates.specs.Follows.{Follows, tree_document, under_tokens, under_tree}
 use Rattle.index_updates.proofs.IndexLemmas.{index-same}

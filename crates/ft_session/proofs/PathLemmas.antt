@@ -1,11 +1,10 @@
 -- Which elements plans select, and when a path is refused.
-use Rattle.std.proofs.Common.{◌≡◌, ◌∙◌, sym, ap, refl, ℕ, zero, suc, ◌+◌, ◌<◌, Bool, true, cond, List, [], ◌∷◌, ◌++◌, length, map, take, drop, get_or, arith}
+use Rattle.std.proofs.Common.{◌≡◌, ◌∙◌, sym, ap, refl, ℕ, zero, suc, ◌+◌, ◌<◌, Bool, cond, List, [], ◌∷◌, ◌++◌, length, map, take, drop, get_or, arith}
 use Rattle.std.specs.Prelude.{Option, Some, None, flat_map, sum_by}
 use Rattle.std.specs.Option.{option_or}
 use Rattle.std.proofs.lemmas.List.{at_drop_more, map-append, take_more}
 use Rattle.std.proofs.lemmas.List.Sums.{sum_by-cons}
 use Rattle.std.proofs.lemmas.Simd.{map-map}
-use Rattle.std.specs.List.{list_all}
 use Rattle.element_lines.specs.Lines.{element_line, printed_line}
 use Rattle.ft_base.specs.Selection.{Form}
 use Rattle.index_meaning.specs.Documents as indexed
@@ -22,7 +21,6 @@ use Rattle.path_nodes.specs.Asked.{OfEach, OfStep, OfPredicates, OfPredicate, Of
 use Rattle.path_nodes.specs.Prices.{total_price}
 use Rattle.path_nodes.specs.References.{element_of}
 use Rattle.path_subset.specs.Paths.{PathForm}
-use Rattle.plan_compiler.specs.Decided.{is_decided}
 use Rattle.plan_compiler.specs.Missing.{first_missing, names, IsMissing}
 use Rattle.plan_compiler.proofs.MissingLemmas.{missing_append}
 use Rattle.plan_compiler.specs.Judgement.{Judgement}
@@ -33,12 +31,10 @@ use Rattle.plan_compiler.specs.RunMeaning.{RunMeaning}
 use Rattle.plan_compiler.specs.declared.fault.CompileFault.{CompileFault}
 use Rattle.plan_compiler.specs.declared.fault.CompileFault.TheVariants as Fault
 use Rattle.plan_compiler.specs.declared.plan.Plan.{Plan}
-use Rattle.session_text.specs.declared.reply.Refusal.TheVariants.{NotYet}
-use Rattle.session_text.specs.declared.reply.Reply.TheVariants.{Refused}
-use Rattle.ft_session.specs.Paths.{answer_listed, lines_for, lines_of, missing_document, missing_list, reply_with, satisfies, selections_of}
+use Rattle.ft_session.specs.Paths.{lines_for, lines_of, missing_document, missing_list, satisfies, selections_of}
 use Rattle.ft_session.specs.PathPrices.{element_price, path_price, selection_prices}
 use Rattle.ft_session.specs.PlannedPaths.{is_meant, meant, planned_lines, planned_price, prices_in, run_meant, run_over, run_price, under, IsPlanOf}
-use Rattle.ft_session.specs.State.{State, has_name}
+use Rattle.ft_session.specs.State.{has_name}
 use Rattle.ft_session.specs.declared.planned.PlannedPath.{PlannedPath}
 use Rattle.ft_session.specs.declared.shown.Shown.{Shown}
 use Rattle.ft_session.specs.declared.shown.Shown.TheVariants.{Names, Texts}
@@ -92,7 +88,7 @@ mutual
   conditions-weaker P R w no_conditions h = tt
   conditions-weaker P R w (condition_then c rest) h = (condition-weaker P R w c h.0, conditions-weaker P R w rest h.1)
 
--- a selection among others, the lists that it names, and whether plans decide it
+-- a selection among others, and the lists that it names
 module _ (forms : List Form) (k : ℕ) (form : Form) (within : k < length forms) (is : form ≡ get_or forms k form) where
   pub missing-more : (lists : NamedLists) → missing_list lists (drop k forms) ≡ option_or (first_missing lists form) (missing_list lists (drop (k + 1) forms))
   missing-more lists =
@@ -145,8 +141,3 @@ pub planned-prices : (says : Judgement) (lists : NamedLists) (version : List ind
 planned-prices says lists version all p planned plan =
     (λ i. sum_by (λ d. total_price (element_price (priced-as lists version p planned.plans.items plan.plans i))
     (selected_tests (planned-as says lists planned.plans.items (selections_of p) plan.plans i) (plan.steps i) d.root)) (documents (plan.root i) all))
-
--- the reply to a path whose lists are there, and which plans decide
-pub answer-lines : (says : Judgement) (shown : Shown) (state : State) (p : PathForm) → missing_list state.lists (selections_of p) ≡ None → list_all is_decided (selections_of p) ≡ true
-    → answer_listed says shown state p (missing_list state.lists (selections_of p)) ≡ reply_with shown (lines_for says shown state p)
-answer-lines says shown state p lists decided = ap (answer_listed says shown state p) lists ∙ ap (λ t. cond t (reply_with shown (lines_for says shown state p)) (Refused NotYet)) decided

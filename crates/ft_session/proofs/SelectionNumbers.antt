@@ -1,5 +1,11 @@
--- The selections for which the steps of a path ask are among those that were read with it.
-use Rattle.std.proofs.Common.{◌≡◌, ◌+◌, ◌<◌, ◌≤◌, ℕ, List, [], ◌∷◌, ◌++◌, length, length-append, subst, refl, Ok, arith}
+-- The selections for which the steps of a path ask are among those that were read with it, and each of those is allowed.
+use Rattle.std.proofs.Common.{◌≡◌, ◌∙◌, ap, ◌+◌, ◌<◌, ◌≤◌, ◌&&◌, true, ℕ, List, [], ◌∷◌, ◌++◌, length, length-append, map, None, subst, refl, Ok, arith}
+use Rattle.std.specs.List.{list_all}
+use Rattle.std.proofs.lemmas.Bool.{and_from}
+use Rattle.std.proofs.lemmas.List.{map-append}
+use Rattle.std.proofs.lemmas.List.Folds.{list_all-append}
+use Rattle.all_matches.specs.Allowed.{is_allowed}
+use Rattle.allowed_selections.proofs.Allowed.{selects_allowed}
 use Rattle.path_grammar.specs.Form as form
 use Rattle.path_grammar.specs.Form.{joined, or_of, and_of}
 use Rattle.path_grammar.specs.Grammar.{Inside, Step, Steps, Predicate, Predicates, Ors, Ands, Primary, Rel, Path}
@@ -9,6 +15,7 @@ use Rattle.path_subset.specs.Paths.{PathForm, PlacedForm, placed_form}
 use Rattle.path_subset.specs.Spelled.{Each}
 use Rattle.path_subset.proofs.Spelled.{spelled}
 use Rattle.path_nodes.specs.Asked.{OfEach, OfStep, OfPredicates, OfPredicate, OfCondition, OfConditions}
+use Rattle.ft_session.specs.Paths.{selections_of}
 
 -- one more behind a list
 module _ (P : ℕ → Type 0) where
@@ -101,3 +108,15 @@ pub read-asks-below : (text : List ℕ) (value : PathForm) → path_read text �
 read-asks-below text value read =
     let spells = spelled text value read in
     subst (λ n. OfEach (λ k. k < n) value.path.steps) (as-many spells.selections) (asked-below _ value.path spells.insides spells.spells)
+
+each-allowed : {insides : List Inside} {found : List PlacedForm} → Each insides found → list_all is_allowed (map (λ s. s.form) found) ≡ true
+each-allowed Each.none = refl
+each-allowed (Each.further {insides = insides} {found = found} before i x selects) =
+    ap (list_all is_allowed) (map-append (λ (s : PlacedForm). s.form) found (placed_form x i.symbols ∷ []))
+    ∙ (list_all-append is_allowed (map (λ (s : PlacedForm). s.form) found) (x ∷ [])
+    ∙ and_from (list_all is_allowed (map (λ (s : PlacedForm). s.form) found)) (list_all is_allowed (x ∷ [])) (each-allowed before)
+    (ap (λ b. b && true) (selects_allowed i.symbols None x selects)))
+
+-- the selections of a path that is read have no `ftnot` and no `occurs` where none may stand
+pub read-is-allowed : (text : List ℕ) (value : PathForm) → path_read text ≡ Ok value → list_all is_allowed (selections_of value) ≡ true
+read-is-allowed text value read = each-allowed (spelled text value read).selections

@@ -10,6 +10,8 @@ use Rattle.ft_base.specs.declared.span.Span.{Span}
 use Rattle.ft_base.specs.declared.token.Token.{Token}
 use Rattle.index_meaning.specs.Documents as indexed
 use Rattle.index_meaning.specs.Documents.{document_at, token_count, words_of}
+use Rattle.index_phrases.specs.Phrases.{words_at}
+use Rattle.index_phrases.specs.Tokens.{IsSpan, span_tokens}
 use Rattle.index_updates.specs.Follows.{Follows}
 use Rattle.index_updates.proofs.WordsLemmas.{count-tree, words-tree}
 use Rattle.ordered_tree.specs.Counts.{word_count}
@@ -23,13 +25,14 @@ use Rattle.path_nodes.specs.References.{Spot, spots_in, spot_element, spot_refer
 use Rattle.path_nodes.specs.Says.{Meaning}
 use Rattle.path_nodes.proofs.SpotLemmas.{spot-stand, spot-there}
 use Rattle.plan_compiler.specs.Judgement.{Judgement}
-use Rattle.plan_compiler.specs.RunMeaning.{RunMeaning, words_at}
+use Rattle.plan_compiler.specs.RunMeaning.{RunMeaning}
 use Rattle.plan_compiler.specs.declared.plan.Plan.{Plan}
 use Rattle.tokenizer.specs.Tokens.{tokens}
 use Rattle.ft_session.specs.PathPrices.{element_price, words_of as element_words}
 use Rattle.ft_session.specs.PlannedPaths.{is_meant, meant, run_meant, run_over, run_price}
 use Rattle.ft_session.specs.SelectionTests.{asked_of, is_there, may_ask, AreOver, AreOverEach}
 use Rattle.ft_session.specs.steps.Numbering.{FollowsEach}
+use Rattle.ft_session.proofs.TextLemmas.{tokens-at-span}
 
 -- the node that a reference names
 pub record Node (root : Numbered) (r : NodeRef) : Type 0 where
@@ -168,11 +171,14 @@ module _ (version : List indexed.Numbered) (doc : ℕ) (root : Numbered) (follow
       let count : token_count (document_at doc version) ≡ length (tokens (plain root)) = ap token_count follows.document ∙ count-tree root in
       omega (arith, below, count, length-tokens (plain root))
 
--- ---- what is said of the words at each span is said of each node
+  pub span-there : (s : Stand) → Contains (stands_in root) s → IsSpan (span s) (document_at doc version)
+  span-there s among = record { first = omega arith; order = omega arith; last = span-inside s among }
+
+-- ---- what is said of the tokens at each span is said of each node
 
 pub ruled-out : (says : Judgement) (runs : List RunMeaning) (root : Numbered) (k : ℕ) (run : RunMeaning) (doc : ℕ) → get_or runs k run ≡ run → AreOver runs (doc, root)
     → ((at : Span) → (1 ≤ at.from) × (at.from ≤ at.to) × (at.to ≤ token_count (document_at doc run.version) + 1)
-    → (ts : List Token) → map (λ token. token.word) ts ≡ words_at at (document_at doc run.version) → says run.form run.lists ts ≡ false)
+    → says run.form run.lists (span_tokens at (document_at doc run.version)) ≡ false)
     → (r : NodeRef) → IsTrue (may_ask runs root k r) → is_meant says (map run_meant runs) k (element_of root r) ≡ false
 ruled-out says runs root k run doc is over none r asked =
     let n = asked-node runs root k r asked in
@@ -181,10 +187,11 @@ ruled-out says runs root k run doc is over none r asked =
     let follows = over-at runs k run (doc, root) less is over in
     let ts = tokens (plain n.spot.stand.node) in
     let here = All-contains (λ t. part (tokens (plain root)) (span t) ≡ tokens (plain t.node)) (stands_in root) n.spot.stand (shift root) among in
-    let words = words-at-span run.version doc root follows (span n.spot.stand) ts here in
     let below = span-inside run.version doc root follows n.spot.stand among in
+    let same = tokens-at-span run.version doc root (span n.spot.stand) ts follows (span-there run.version doc root follows n.spot.stand among) here in
     met-at says runs k run (element_of root r) less is
-    ∙ (ap (λ (e : Element). says run.form run.lists (tokens e.node)) n.is ∙ none (span n.spot.stand) (omega arith, omega arith, below) ts words)
+    ∙ (ap (λ (e : Element). says run.form run.lists (tokens e.node)) n.is
+    ∙ (ap (says run.form run.lists) (sym same) ∙ none (span n.spot.stand) (omega arith, omega arith, below)))
 
 -- ---- runs of plans over one version
 

@@ -7,6 +7,7 @@ pub mod Paths
 pub mod PathPrices
 pub mod PlannedPaths
 pub mod SelectionTests
+pub mod Explained
 pub mod Lists
 pub mod Step
 pub mod StoredState

@@ -1,12 +1,24 @@
 -- The output of a session, by what is said of selections.
 use Rattle.std.specs.Prelude.{ℕ, Bool, List}
 use Rattle.std.specs.List.{flat_map, list_any}
+use Rattle.made_sessions.specs.Asked.{short}
 use Rattle.plan_compiler.specs.Judgement.{Judgement}
 use Rattle.session_text.specs.declared.reply.Reply.{Reply}
 use Rattle.session_text.specs.Commands.{commands, whole}
 use Rattle.session_text.specs.Replies.{reply_text, is_refusal}
+use Rattle.ft_session.specs.declared.portion.Portion.{Portion}
+use Rattle.ft_session.specs.declared.portion.Portion.TheVariants.{Whole, Short}
 use Rattle.ft_session.specs.State.{opening}
 use Rattle.ft_session.specs.Step.{replies}
+
+-- what is written of the text of a reply
+abbrev pub portion_of : Portion → List ℕ → List ℕ
+portion_of Whole text = text
+portion_of Short text = short text
+
+-- the same of replies, one after the other
+abbrev pub portions_of : Portion → List Reply → List ℕ
+portions_of portion replies = flat_map (λ reply. portion_of portion (reply_text reply)) replies
 
 -- the texts of replies, one after the other
 abbrev pub texts_of : List Reply → List ℕ
@@ -18,6 +30,10 @@ replies_to says session = replies says opening (commands session)
 
 abbrev pub output : Judgement → List ℕ → List ℕ
 output says session = texts_of (replies_to says session)
+
+-- what is written of the replies to a made session
+abbrev pub short_output : Judgement → List ℕ → List ℕ
+short_output says session = portions_of Short (replies_to says session)
 
 -- whether some reply to a session is a refusal
 abbrev pub has_refusal : Judgement → List ℕ → Bool

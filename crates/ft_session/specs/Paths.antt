@@ -1,6 +1,5 @@
 -- The reply to a path: the elements that it selects, or why it is refused. `says` says whether tokens satisfy a selection under lists.
 use Rattle.std.specs.Prelude.{ℕ, zero, suc, Bool, false, if◌then◌else◌, List, [], ◌∷◌, map, flat_map, Option, Some, None, Result, Ok, Err}
-use Rattle.std.specs.List.{list_all}
 use Rattle.element_lines.specs.Lines.{element_line, printed_line}
 use Rattle.ft_base.specs.Selection.{Form}
 use Rattle.ft_base.specs.declared.fault.QueryFault.{QueryFault}
@@ -12,7 +11,6 @@ use Rattle.path_grammar.specs.declared.path.PathRoot.TheVariants.{Collection, Do
 use Rattle.path_subset.specs.Answer.{path_read}
 use Rattle.path_subset.specs.Paths.{PathForm}
 use Rattle.plain_tree.specs.Document.{Node}
-use Rattle.plan_compiler.specs.Decided.{is_decided}
 use Rattle.plan_compiler.specs.Judgement.{Judgement}
 use Rattle.plan_compiler.specs.Missing.{missing_among, names}
 use Rattle.plan_compiler.specs.NamedLists.{NamedLists}
@@ -68,14 +66,9 @@ missing_document (Doc name) all = if has_name name all then None else Some name
 abbrev pub missing_list : NamedLists → List Form → Option (List ℕ)
 missing_list lists selections = missing_among lists (flat_map names selections)
 
--- Selections that plans don't decide aren't carried out yet.
-abbrev pub answer_decided : Judgement → Shown → State → PathForm → Reply
-answer_decided says shown state p =
-    if list_all is_decided (selections_of p) then reply_with shown (lines_for says shown state p) else Refused refusal.NotYet
-
 abbrev pub answer_listed : Judgement → Shown → State → PathForm → Option (List ℕ) → Reply
 answer_listed says shown state p (Some missing) = Refused (refusal.NoSuchList missing)
-answer_listed says shown state p None = answer_decided says shown state p
+answer_listed says shown state p None = reply_with shown (lines_for says shown state p)
 
 abbrev pub answer_rooted : Judgement → Shown → State → PathForm → Option (List ℕ) → Reply
 answer_rooted says shown state p (Some missing) = Refused (refusal.NoSuchDoc missing)

@@ -6,7 +6,7 @@ use Rattle.ft_base.specs.Lists.{is_empty}
 use Rattle.plan_compiler.specs.Judgement.{Judgement}
 use Rattle.ft_session.specs.declared.status.Status.{Status}
 use Rattle.ft_session.specs.declared.status.Status.TheVariants.{Done, SomeRefused}
-use Rattle.ft_session.specs.Output.{output, has_refusal}
+use Rattle.ft_session.specs.Output.{output, short_output, has_refusal}
 
 -- a word that can be a session's file: it isn't empty and doesn't begin with a hyphen
 abbrev pub is_file_word : List ℕ → Bool
@@ -46,4 +46,9 @@ IsFinished status = (status ≡ Done) ⊎ (status ≡ SomeRefused)
 pub record AnswersAll (says : Judgement) (session : List ℕ) (reached : ℕ) (before after : Option (List ℕ)) (status : Status) : Type 0 where
   pub whole : reached ≡ length session
   pub written : after ≡ with_text before (output says session)
+  pub refused : status ≡ (if has_refusal says session then SomeRefused else Done)
+
+-- a run made this session up and wrote all that is written of its replies, and the status says whether one is a refusal
+pub record AnswersMade (says : Judgement) (session : List ℕ) (before after : Option (List ℕ)) (status : Status) : Type 0 where
+  pub written : after ≡ with_text before (short_output says session)
   pub refused : status ≡ (if has_refusal says session then SomeRefused else Done)

@@ -20,6 +20,7 @@ use Rattle.word_lists.specs.Stems.{stems_of}
 use Rattle.word_lists.specs.StopLists.{stop_list_of}
 use Rattle.ft_session.specs.declared.shown.Shown.TheVariants.{Names, Texts}
 use Rattle.ft_base.specs.Limits.{max_tokens, max_documents}
+use Rattle.ft_session.specs.Explained.{explained}
 use Rattle.ft_session.specs.Lists.{stems_put, stop_list_put, thesaurus_put}
 use Rattle.ft_session.specs.Paths.{answer}
 use Rattle.ft_session.specs.State.{State, has_name}
@@ -71,6 +72,7 @@ step says state (command.Stems block) = with_lists state (stems_put state.lists 
 step says state (command.Thesaurus name block) = with_lists state (thesaurus_put state.lists name (thesaurus_of block))
 step says state (command.Query path) = (state, answer says Names state path)
 step says state (command.Print path) = (state, answer says Texts state path)
+step says state (command.Explain text) = (state, explained text)
 step says state (command.BadCommand line) = (state, Refused (refusal.BadCommand line))
 step says state (command.BadName line) = (state, Refused (refusal.BadName line))
 step says state _ = (state, Refused refusal.NotYet)

@@ -3,8 +3,8 @@
 ghost use Rattle.std.specs.Prelude.{◌≡◌, ◌≢◌, ◌≤◌, ◌+◌, IfOk, IsTrue, Ok, OnOk, flat_map, length, map};
 ghost use Rattle.std.specs.List.{list_all};
 ghost use Rattle.std.specs.Option.{option_copied};
+ghost use Rattle.all_matches.specs.Allowed.{is_allowed};
 ghost use Rattle.path_meaning.specs.Collection.{documents as documents_of};
-ghost use Rattle.plan_compiler.specs.Decided.{is_decided};
 ghost use Rattle.path_subset.specs.Answer.{path_read};
 ghost use Rattle.path_subset.specs.Paths.{read_form};
 ghost use Rattle.ft_session.specs.PathPrices.{path_price, read_price};
@@ -22,7 +22,7 @@ use ft_base::{Line, Memory, QueryFault, Steps};
 use indexmap::IndexMap;
 use path_grammar::PathRoot;
 use path_subset::{ReadPath, read_path};
-use plan_compiler::{CompileFault, Judge, Lists, is_decided, missing_list};
+use plan_compiler::{CompileFault, Judge, Lists};
 use session_text::{Refusal, Reply};
 use std::alloc::Global;
 use std::sync::ledger::Ledger;
@@ -47,8 +47,8 @@ pub(crate) fn answer_path<J: Judge, M: Ledger>(
     }
 }
 
-/// The refusal of a path with that fault. Want of memory is none.
-fn refuse(fault: QueryFault) -> Result<Reply, Memory>
+/// The refusal of a path, or of a selection, with that fault. Want of memory is none.
+pub(crate) fn refuse(fault: QueryFault) -> Result<Reply, Memory>
     ensures refusal { IfOk result (λ reply. reply ≡ Reply.Refused (Refusal.Query fault)) }
     ensures known { OnOk result (fault ≢ QueryFault.Memory) }
 {
@@ -58,7 +58,7 @@ fn refuse(fault: QueryFault) -> Result<Reply, Memory>
     }
 }
 
-/// The reply to a path that was read.
+/// The reply to a path that was read. Its selections have no `ftnot` and no `occurs` where none may stand.
 fn answer_read<J: Judge, M: Ledger>(
     alloc: Global,
     judge: &J,
@@ -68,7 +68,8 @@ fn answer_read<J: Judge, M: Ledger>(
     path: &ReadPath,
     moves: &mut Steps<M>,
 ) -> Result<Reply, Memory>
-    requires { AskBelow (length (read_form path.now).selections) (read_form path.now).path.steps }
+    requires allowed { IsTrue (list_all is_allowed (paths.selections_of (read_form path.now))) }
+    requires numbered { AskBelow (length (read_form path.now).selections) (read_form path.now).path.steps }
     ensures reply { IfOk result (λ reply. reply ≡ paths.answer_read J.says shown (state_of collection.now lists.now) (Ok (read_form path.now))) }
     ensures moves { moves.old ≤ moves.new }
     ensures price { moves.new ≤ moves.old + path_price J.says (held_of collection.now lists.now) (read_form path.now) }
@@ -77,19 +78,11 @@ fn answer_read<J: Judge, M: Ledger>(
         let name = Line::read(alloc, name)?;
         return Ok(Reply::Refused(Refusal::NoSuchDoc { name }));
     }
-    if are_decided(path) {
-        return answer_decided(alloc, judge, collection, lists, shown, path, moves);
-    }
-    // Nothing is compiled where plans don't decide each selection, so that the lists are looked for here.
-    if let Some(name) = missing_list_of(path, lists) {
-        let name = Line::read(alloc, name)?;
-        return Ok(Reply::Refused(Refusal::NoSuchList { name }));
-    }
-    Ok(Reply::Refused(Refusal::NotYet))
+    answer_found(alloc, judge, collection, lists, shown, path, moves)
 }
 
-/// The reply to a path whose document is there and whose selections plans decide. All of them are compiled before one is asked.
-fn answer_decided<J: Judge, M: Ledger>(
+/// The reply to a path whose document is there. All its selections are compiled before one is asked.
+fn answer_found<J: Judge, M: Ledger>(
     alloc: Global,
     judge: &J,
     collection: &Collection,
@@ -98,7 +91,7 @@ fn answer_decided<J: Judge, M: Ledger>(
     path: &ReadPath,
     moves: &mut Steps<M>,
 ) -> Result<Reply, Memory>
-    requires decided { IsTrue (list_all is_decided (paths.selections_of (read_form path.now))) }
+    requires allowed { IsTrue (list_all is_allowed (paths.selections_of (read_form path.now))) }
     requires numbered { AskBelow (length (read_form path.now).selections) (read_form path.now).path.steps }
     ensures reply { IfOk result (λ reply. reply
         ≡ paths.answer_listed J.says shown (state_of collection.now lists.now) (read_form path.now)
@@ -159,28 +152,4 @@ fn missing_document<'a>(documents: &IndexMap<Line, Loaded>, root: &'a PathRoot) 
             }
         }
     }
-}
-
-/// The name of the first list that a selection of the path names and that isn't there.
-fn missing_list_of<'a>(path: &'a ReadPath, lists: &Lists) -> Option<&'a str>
-    ensures { option_copied result ≡ paths.missing_list lists.now (paths.selections_of (read_form path.now)) }
-{
-    for number in 0..path.selection_count() {
-        if let Some(name) = missing_list(path.selection(number), lists) {
-            return Some(name);
-        }
-    }
-    None
-}
-
-/// Whether plans decide each selection of the path.
-fn are_decided(path: &ReadPath) -> bool
-    ensures { result ≡ list_all is_decided (paths.selections_of (read_form path.now)) }
-{
-    for number in 0..path.selection_count() {
-        if !is_decided(path.selection(number)) {
-            return false;
-        }
-    }
-    true
 }

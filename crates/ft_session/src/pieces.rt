@@ -9,6 +9,7 @@ ghost use Rattle.ft_session.specs.State.{opening};
 ghost use Rattle.ft_session.specs.Step.{replies};
 
 use crate::answering::{AnswerError, answer, answer_all};
+use crate::portion::Portion;
 use crate::reading::{MOST, buffer, read_piece};
 use crate::session::Session;
 use ft_base::{MAX_PIECE_BYTES, Memory, Steps};
@@ -96,6 +97,7 @@ fn answer_piece<J: Judge + Drop, K: Sink, L: Ledger, M: Ledger>(
         sink,
         moves,
         rows,
+        Portion::Whole,
     )
 }
 
@@ -120,7 +122,15 @@ fn answer_end<J: Judge + Drop, K: Sink, L: Ledger, M: Ledger>(
     match answering.lines.end()? {
         Some(command) => {
             let session = &mut answering.session;
-            let answered = answer(answering.alloc, session, &command, sink, moves, rows);
+            let answered = answer(
+                answering.alloc,
+                session,
+                &command,
+                sink,
+                moves,
+                rows,
+                Portion::Whole,
+            );
             drop(command);
             answered
         }

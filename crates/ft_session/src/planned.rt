@@ -2,8 +2,8 @@
 
 ghost use Rattle.std.specs.Prelude.{◌≡◌, ◌++◌, ◌∷◌, [], IfErr, IfOk, IsTrue, None, OnOk, length, map};
 ghost use Rattle.std.specs.List.{list_all};
+ghost use Rattle.all_matches.specs.Allowed.{is_allowed};
 ghost use Rattle.path_subset.specs.Paths.{read_form};
-ghost use Rattle.plan_compiler.specs.Decided.{is_decided};
 ghost use Rattle.plan_compiler.specs.Missing.{IsMissing};
 ghost use Rattle.ft_session.specs.Paths.{missing_list, selections_of};
 ghost use Rattle.ft_session.specs.PlannedPaths.{meant, run_over, under, AskBelow, HasItsPlans, IsPlanOf};
@@ -31,7 +31,7 @@ pub(crate) fn compile_path<'a>(
     path: &'a ReadPath,
     lists: &Lists,
 ) -> Result<PlannedPath<'a>, CompileFault>
-    requires decided { IsTrue (list_all is_decided (selections_of (read_form path.now))) }
+    requires allowed { IsTrue (list_all is_allowed (selections_of (read_form path.now))) }
     requires numbered { AskBelow (length (read_form path.now).selections) (read_form path.now).path.steps }
     ensures plans { IfOk result (IsPlanOf lists.now (read_form path.now)) }
     ensures numbered { IfOk result HasItsPlans }
@@ -51,7 +51,7 @@ pub(crate) fn compile_path<'a>(
 
 /// A plan for each selection of a path.
 fn compile_all(alloc: Global, path: &ReadPath, lists: &Lists) -> Result<Vec<Plan>, CompileFault>
-    requires { IsTrue (list_all is_decided (selections_of (read_form path.now))) }
+    requires { IsTrue (list_all is_allowed (selections_of (read_form path.now))) }
     ensures plans { IfOk result (λ plans. map meant plans.items ≡ map (under lists.now) (selections_of (read_form path.now))) }
     ensures there { IfOk result (λ _. missing_list lists.now (selections_of (read_form path.now)) ≡ None) }
     ensures missing { IfErr result (λ fault. IsMissing fault (missing_list lists.now (selections_of (read_form path.now)))) }

@@ -16,7 +16,7 @@ use crate::loaded::Loaded;
 use crate::planned::PlannedPath;
 use crate::shown::Shown;
 use element_lines::{push_names, push_printed};
-use ft_base::{Line, Lines, Memory, Steps};
+use ft_base::{Line, Memory, Steps};
 use indexmap::IndexMap;
 use ordered_tree::NodeRef;
 use path_grammar::PathRoot;
@@ -25,6 +25,7 @@ use plan_compiler::{Judge, Run};
 use std::alloc::Global;
 use std::marker::{Brand, PhantomData};
 use std::sync::ledger::Ledger;
+use text_list::TextList;
 
 /// The lines of the elements that the path selects, document by document. The runs are those of its plans, over a version that
 /// follows the documents.
@@ -35,7 +36,7 @@ pub(crate) fn collect_lines<J: Judge, M: Ledger>(
     path: &PlannedPath<'_>,
     runs: &mut Vec<Run<'_>>,
     moves: &mut Steps<M>,
-) -> Result<Lines, Memory>
+) -> Result<TextList, Memory>
     requires plans { HasItsPlans path.now }
     requires runs { AreRunsOf path.now runs.old.items }
     requires over { AreOverEach runs.old.items (trees_of documents.now.entries) }
@@ -60,7 +61,7 @@ fn collect_all<J: Judge, M: Ledger>(
     path: &PlannedPath<'_>,
     runs: &mut Vec<Run<'_>>,
     moves: &mut Steps<M>,
-) -> Result<Lines, Memory>
+) -> Result<TextList, Memory>
     requires plans { HasItsPlans path.now }
     requires runs { AreRunsOf path.now runs.old.items }
     requires over { AreOverEach runs.old.items (trees_of documents.now.entries) }
@@ -68,7 +69,7 @@ fn collect_all<J: Judge, M: Ledger>(
     ensures moves { moves.old ≤ moves.new }
     ensures price { moves.new ≤ moves.old + prices_in J.says path.now runs.old.items (map to_document documents.now.entries) }
 {
-    let mut lines = Lines::new(path.alloc);
+    let mut lines = TextList::new(path.alloc);
     for (name, document) in documents.iter() {
         let found = select(judge, document, path, runs, moves)?;
         push_lines(
@@ -92,7 +93,7 @@ fn collect_one<J: Judge, M: Ledger>(
     path: &PlannedPath<'_>,
     runs: &mut Vec<Run<'_>>,
     moves: &mut Steps<M>,
-) -> Result<Lines, Memory>
+) -> Result<TextList, Memory>
     requires plans { HasItsPlans path.now }
     requires runs { AreRunsOf path.now runs.old.items }
     requires over { AreOverEach runs.old.items (trees_of documents.now.entries) }
@@ -107,7 +108,7 @@ fn collect_one<J: Judge, M: Ledger>(
     let _entries = documents.iter();
     match documents.get(name) {
         Some(document) => collect_from(judge, name.as_str(), document, shown, path, runs, moves),
-        None => Ok(Lines::new(path.alloc)),
+        None => Ok(TextList::new(path.alloc)),
     }
 }
 
@@ -120,7 +121,7 @@ fn collect_from<J: Judge, M: Ledger>(
     path: &PlannedPath<'_>,
     runs: &mut Vec<Run<'_>>,
     moves: &mut Steps<M>,
-) -> Result<Lines, Memory>
+) -> Result<TextList, Memory>
     requires plans { HasItsPlans path.now }
     requires runs { AreRunsOf path.now runs.old.items }
     requires over { AreOver runs.old.items (document.now.doc.0, document.now.tree.root) }
@@ -129,7 +130,7 @@ fn collect_from<J: Judge, M: Ledger>(
     ensures price { moves.new ≤ moves.old + planned_price J.says path.now runs.old.items (plain document.now.tree.root) }
 {
     let found = select(judge, document, path, runs, moves)?;
-    let mut lines = Lines::new(path.alloc);
+    let mut lines = TextList::new(path.alloc);
     push_lines(
         path.alloc,
         name,
@@ -148,7 +149,7 @@ fn push_lines(
     document: &Loaded,
     shown: Shown,
     found: &[NodeRef],
-    lines: &mut Lines,
+    lines: &mut TextList,
 ) -> Result<(), Memory>
     requires { All (IsElement document.now.tree.root) found.now }
     ensures { OnOk result (lines.new

@@ -8,6 +8,7 @@ ghost use Rattle.ft_session.specs.Step.{changes_documents, dropped, loadable, lo
 ghost use Rattle.ft_session.specs.Step.{with_documents};
 
 use crate::collection::Collection;
+use crate::explaining::explain;
 use crate::lists::{put_stems, put_stop_list, put_thesaurus};
 use crate::paths::answer_path;
 use crate::shown::Shown;
@@ -110,6 +111,7 @@ impl<J: Judge + Drop> Session<J> {
             }
             Command::Query { path } => self.show(Shown::Names, path.as_str(), moves),
             Command::Print { path } => self.show(Shown::Texts, path.as_str(), moves),
+            Command::Explain { text } => explain(self.alloc, text.as_str()),
             Command::BadCommand { line } => {
                 Ok(Reply::Refused(Refusal::BadCommand { line: *line }))
             }

@@ -1,8 +1,8 @@
 ghost use Rattle.std.specs.Prelude.{◌≡◌};
 ghost use Rattle.ft_session.specs.Paths.{reply_with};
 
-use ft_base::Lines;
 use session_text::Reply;
+use text_list::TextList;
 
 /// What a command shows of the elements that its path selects.
 #[derive(Clone, Copy)]
@@ -14,7 +14,7 @@ pub(crate) enum Shown {
 }
 
 /// The reply that shows the lines.
-pub(crate) fn reply_with(shown: Shown, lines: Lines) -> Reply
+pub(crate) fn reply_with(shown: Shown, lines: TextList) -> Reply
     ensures { result ≡ reply_with shown lines }
 {
     match shown {

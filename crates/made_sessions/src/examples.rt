@@ -1,6 +1,7 @@
-//! The text of a made session, by computation.
+//! The text of a made session, for which words it is made, and what is written of its replies, by computation.
 
-ghost use Rattle.std.specs.Prelude.{◌≡◌, ◌++◌, codes};
+ghost use Rattle.std.specs.Prelude.{◌≡◌, ◌++◌, ◌∷◌, [], codes, None, Some};
+ghost use Rattle.made_sessions.specs.Asked.{asked_count, short};
 ghost use Rattle.made_sessions.specs.Made.{document, made, paragraph, word};
 
 /// Words go on from the last of a thousand to the first.
@@ -39,4 +40,27 @@ pub fn sessions()
         ++ codes "delete collection()/doc[. contains text \"t5\"]/p[1]\n"
         ++ codes "query collection()/doc[. contains text \"t5\"]\n"
         ++ codes "stats\n" }
+{}
+
+/// For how many documents words ask.
+pub fn asked_documents()
+    ensures two_words { asked_count (codes "--make" ∷ codes "12" ∷ []) ≡ Some 12 }
+    ensures one_word { asked_count (codes "--make=4096" ∷ []) ≡ Some 4096 }
+    ensures too_many { asked_count (codes "--make=4097" ∷ []) ≡ None }
+    ensures none { asked_count (codes "--make" ∷ codes "0" ∷ []) ≡ None }
+    ensures a_zero_in_front { asked_count (codes "--make" ∷ codes "07" ∷ []) ≡ None }
+    ensures a_plus { asked_count (codes "--make=+7" ∷ []) ≡ None }
+    ensures no_number { asked_count (codes "--make=" ∷ []) ≡ None }
+    ensures no_word { asked_count (codes "--make" ∷ []) ≡ None }
+    ensures behind { asked_count (codes "--make=7" ∷ codes "8" ∷ []) ≡ None }
+    ensures another { asked_count (codes "--mak" ∷ codes "7" ∷ []) ≡ None }
+    ensures three_words { asked_count (codes "--make" ∷ codes "7" ∷ codes "8" ∷ []) ≡ None }
+{}
+
+/// What is written of replies.
+pub fn short_replies()
+    ensures counted { short (codes "= 2\nd\ne\n") ≡ codes "= 2\n" }
+    ensures one_line { short (codes "= 0\n") ≡ codes "= 0\n" }
+    ensures done { short (codes "ok\n") ≡ [] }
+    ensures refused { short (codes "! 10 no target\n") ≡ [] }
 {}

@@ -12,11 +12,11 @@ returns-in-Ok-true-clause-answers g c = λ _.
     let is : c.answer_file.result ≡ Ok true = cc in
     subst (λ (o : Option (List ℕ)). IfSome o (λ name. IfSome (g.S.Shelf.files c.args.shelf.now) (λ files. IsSomeAnd (bytes_of files name) (λ session.
     AnswersAll g.J.Judge.says session (g.S.Shelf.reached c.answer_file.new.shelf name) (g.K.Sink.written c.args.sink.now) (g.K.Sink.written c.answer_file.new.sink) SomeRefused))))
-    c.in-Some.ensures (finished g.J.Judge.says _ _ _ _ _ _ _ _ _ c.answer_file.result true c.answer_file.ensures is)
+    c.in-Some.ensures.file (finished g.J.Judge.says _ _ _ _ _ _ _ _ _ c.answer_file.result true c.answer_file.ensures is)
 
 pub returns-in-Ok-false-clause-answers : goal.returns-in-Ok-false-clause-answers
 returns-in-Ok-false-clause-answers g c = λ _.
     let is : c.answer_file.result ≡ Ok false = cc in
     subst (λ (o : Option (List ℕ)). IfSome o (λ name. IfSome (g.S.Shelf.files c.args.shelf.now) (λ files. IsSomeAnd (bytes_of files name) (λ session.
     AnswersAll g.J.Judge.says session (g.S.Shelf.reached c.answer_file.new.shelf name) (g.K.Sink.written c.args.sink.now) (g.K.Sink.written c.answer_file.new.sink) Done))))
-    c.in-Some.ensures (finished g.J.Judge.says _ _ _ _ _ _ _ _ _ c.answer_file.result false c.answer_file.ensures is)
+    c.in-Some.ensures.file (finished g.J.Judge.says _ _ _ _ _ _ _ _ _ c.answer_file.result false c.answer_file.ensures is)

@@ -2,6 +2,7 @@
 use Rattle.std.proofs.Common.{◌≡◌, ◌∙◌, sym, ap, subst, ◌≤◌, ◌+◌, get_or, map, arith}
 use Rattle.ft_base.specs.declared.span.Span.{Span}
 use Rattle.index_meaning.specs.Documents.{document_at, token_count}
+use Rattle.index_phrases.specs.Tokens.{IsSpan}
 use Rattle.ordered_tree.specs.Numbered.{plain}
 use Rattle.path_meaning.specs.Elements.{Element}
 use Rattle.path_nodes.specs.References.{element_of}
@@ -10,7 +11,8 @@ use Rattle.plan_compiler.specs.Price.{price_at}
 use Rattle.tokenizer.specs.Tokens.{tokens}
 use Rattle.ft_session.specs.PathPrices.{element_price, words_of}
 use Rattle.ft_session.specs.PlannedPaths.{run_price}
-use Rattle.ft_session.proofs.SelectionTestLemmas.{asked-node, asked-run, met-at, over-at, priced-at, reference-there, span-inside, words-at-span}
+use Rattle.ft_session.proofs.SelectionTestLemmas.{asked-node, asked-run, met-at, over-at, priced-at, reference-there, span-inside, span-there, words-at-span}
+use Rattle.ft_session.proofs.TextLemmas.{tokens-at-span}
 use Rattle.ft_session.proofs.asked_runs.SelectionTestTextTest.contains.Goals as goal
 
 pub span_of-span-requires : goal.span_of-span-requires
@@ -55,11 +57,14 @@ returns-clause-says g c =
     let less = asked-run runs root k c.args.node c.requires in
     let is : get_or runs k run ≡ run = ap (λ rs. get_or rs k run) (sym c.args.self.now.same) ∙ sym c.index_mut-run.ensures.value in
     let follows = over-at runs k run (doc, root) less is c.args.self.now.over in
-    let ts = tokens (plain n.spot.stand.node) in
-    let words = words-at-span run.version doc root follows c.span_of-span.result ts (c.span_of-span.ensures.tokens n.spot.stand among n.refers) in
-    c.judge.ensures.says ts words
+    let inside = subst (λ (s : Span). IsSpan s (document_at doc run.version)) (sym (c.span_of-span.ensures.positions n.spot.stand among n.refers))
+    (span-there run.version doc root follows n.spot.stand among) in
+    let same = tokens-at-span run.version doc root c.span_of-span.result (tokens (plain n.spot.stand.node)) follows inside
+    (c.span_of-span.ensures.tokens n.spot.stand among n.refers) in
+    c.judge.ensures.says
+    ∙ (ap (g.J.Judge.says run.form run.lists) same
     ∙ (ap (λ (e : Element). g.J.Judge.says run.form run.lists (tokens e.node)) (sym n.is)
-    ∙ sym (met-at g.J.Judge.says runs k run (element_of root c.args.node) less is))
+    ∙ sym (met-at g.J.Judge.says runs k run (element_of root c.args.node) less is)))
 
 pub returns-clause-cost : goal.returns-clause-cost
 returns-clause-cost g c =

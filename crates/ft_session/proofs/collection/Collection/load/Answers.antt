@@ -1,5 +1,5 @@
 -- A name that is taken is found, and a new document is the last one.
-use Rattle.std.proofs.Common.{◌≡◌, ◌∙◌, sym, ap, false, true, ◌∷◌, ◌++◌, [], ◌+◌, ◌≤◌, length, refl, arith}
+use Rattle.std.proofs.Common.{◌∙◌, sym, ap, false, true, ◌∷◌, ◌++◌, [], length, refl, arith}
 use Rattle.std.specs.Prelude.{nat_le}
 use Rattle.std.proofs.lemmas.Bool.Decides.{nat_tests}
 use Rattle.ft_base.specs.Limits.{max_documents}

@@ -1,5 +1,5 @@
 -- A name that is there is found, and the others stay, in the version too.
-use Rattle.std.proofs.Common.{◌≡◌, ◌∙◌, sym, ap, subst, false, true, map, arith}
+use Rattle.std.proofs.Common.{◌∙◌, sym, ap, subst, false, true, map, arith}
 use Rattle.std.specs.Prelude.{is_some}
 use Rattle.std.specs.Option.{option_copied}
 use Rattle.index_meaning.specs.Documents.{has_document}

@@ -4,8 +4,8 @@ use Rattle.path_subset.specs.Paths.{read_form}
 use Rattle.plan_compiler.specs.Missing.{IsMissing}
 use Rattle.ft_session.specs.Paths.{answer_listed, missing_list, reply_with, selections_of}
 use Rattle.ft_session.specs.StateView.{state_of}
-use Rattle.ft_session.proofs.PathLemmas.{answer-lines, planned-lines, planned-prices}
-use Rattle.ft_session.proofs.paths.answer_decided.Goals as goal
+use Rattle.ft_session.proofs.PathLemmas.{planned-lines, planned-prices}
+use Rattle.ft_session.proofs.paths.answer_found.Goals as goal
 
 pub returns-in-Ok-clause-reply : goal.returns-in-Ok-clause-reply
 returns-in-Ok-clause-reply g c =
@@ -14,7 +14,7 @@ returns-in-Ok-clause-reply g c =
     let lists = c.args.lists.now in
     subst (λ e. IfOk c.answer_planned.result (λ reply. reply ≡ e))
     (ap (reply_with c.args.shown) (planned-lines g.J.Judge.says lists all p c.in-Ok.planned c.args.shown c.in-Ok.ensures.plans)
-    ∙ sym (answer-lines g.J.Judge.says c.args.shown (state_of c.args.collection.now lists) p c.in-Ok.ensures.there c.requires.decided))
+    ∙ sym (ap (answer_listed g.J.Judge.says c.args.shown (state_of c.args.collection.now lists) p) c.in-Ok.ensures.there))
     c.answer_planned.ensures.reply
 
 pub returns-in-Err-NoSuchList-clause-reply : goal.returns-in-Err-NoSuchList-clause-reply

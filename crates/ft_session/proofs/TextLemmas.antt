@@ -1,0 +1,211 @@
+-- The document that follows a tree has the tree's tokens as its text, and at the span of a node the node's own tokens.
+use Rattle.std.proofs.Common.{◌≡◌, ◌∙◌, sym, ap, refl, subst, ℕ, zero, suc, ◌+◌, ◌-◌, ◌<◌, ◌≤◌, ◌==◌, Bool, true, false, if◌then◌else◌, List, [], ◌∷◌, ◌++◌, length, map, get_or, zero-add, arith}
+use Rattle.std.specs.Prelude.{⊤, nat_le}
+use Rattle.std.specs.List.{All}
+use Rattle.std.proofs.lemmas.Bool.{cond-false, cond-true, le-leb, lt-leb}
+use Rattle.std.proofs.lemmas.Bool.Decides.{nat_tests}
+use Rattle.std.proofs.lemmas.List.Elements.{All-cons, All-drop, All-nil, All-take}
+use Rattle.ft_base.specs.declared.span.Span.{Span}
+use Rattle.ft_base.specs.declared.token.Token.{Token}
+use Rattle.all_matches.specs.Hits.{paragraph_at, sentence_at}
+use Rattle.all_matches.specs.Spans as spans
+use Rattle.all_matches.specs.Spans.{in_span}
+use Rattle.index_cursors.specs.SpanHits.{started}
+use Rattle.index_cursors.proofs.AscendingLemmas.{passing, passing-count}
+use Rattle.index_meaning.specs.Documents as indexed
+use Rattle.index_meaning.specs.Documents.{Document, document_at}
+use Rattle.index_phrases.specs.Tokens.{IsSpan, IsText, span_tokens}
+use Rattle.index_phrases.proofs.SpanTokens.{no_token, paragraph_read, part_paragraph, part_sentence, sentence_read, tokens_of_text}
+use Rattle.index_updates.specs.Follows.{Follows, tree_document}
+use Rattle.index_updates.proofs.WordsLemmas.{words-tree}
+use Rattle.ordered_tree.specs.Numbered.{Numbered, plain}
+use Rattle.ordered_tree.specs.Part.{counted_from, part, renumbered}
+use Rattle.tokenizer.specs.Gaps.{gap, ends_paragraph, ends_sentence}
+use Rattle.tokenizer.specs.Parts.{Part, word, gap_characters, gap_tag, parts}
+use Rattle.tokenizer.specs.Tokens.{paragraph_starts, raised, sentence_starts, starts, tokens, tokens_from}
+
+-- ---- the number of a token is how many sentences or paragraphs start up to its place
+
+-- each number is the one before it or the next
+abbrev Rises : (Token → ℕ) → ℕ → List Token → Type 0
+Rises number before [] = ⊤
+Rises number before (token ∷ rest) = (before ≤ number token) × (number token ≤ before + 1) × Rises number (number token) rest
+
+abbrev up_to : ℕ → List ℕ → ℕ
+up_to place xs = passing (λ start. nat_le start place) xs
+
+all-up_to : (place : ℕ) (xs : List ℕ) → 0 + up_to place xs ≡ started xs place
+all-up_to place xs = zero-add (up_to place xs) ∙ passing-count (λ start. nat_le start place) xs
+
+module _ (number : Token → ℕ) where
+  none-up_to : (last before place : ℕ) (ts : List Token) → last < place → up_to last (starts number before place ts) ≡ 0
+  unfolding starts
+  none-up_to last before place [] h = refl
+  none-up_to last before place (t ∷ ts) h = by (number t == before) (none-up_to last (number t) (place + 1) ts (omega (arith, h)))
+    where
+      by : (same : Bool) → up_to last (starts number (number t) (place + 1) ts) ≡ 0
+          → up_to last ((if same then [] else place ∷ []) ++ starts number (number t) (place + 1) ts) ≡ 0
+      by true rest = rest
+      by false rest =
+          let behind = up_to last (starts number (number t) (place + 1) ts) in
+          cond-false (nat_le place last) (1 + behind) behind (lt-leb place last h) ∙ rest
+
+  number-up_to : (before place : ℕ) (ts : List Token) (i : ℕ) → Rises number before ts → i < length ts
+      → number (get_or ts i no_token) ≡ before + up_to (place + i) (starts number before place ts)
+  unfolding starts
+  number-up_to before place [] i rises h = absurd (omega (arith, h))
+  number-up_to before place (t ∷ ts) zero rises h =
+      by (number t == before) refl (none-up_to (place + 0) (number t) (place + 1) ts (omega arith))
+    where
+      by : (same : Bool) → (number t == before) ≡ same → up_to (place + 0) (starts number (number t) (place + 1) ts) ≡ 0
+          → number t ≡ before + up_to (place + 0) ((if same then [] else place ∷ []) ++ starts number (number t) (place + 1) ts)
+      by true e none = grind (arith, nat_tests, e, none)
+      by false e none =
+          let least = rises.0 in
+          let most = rises.1 in
+          let next : number t ≡ before + 1 = grind (arith, nat_tests, e, least, most) in
+          let behind = up_to (place + 0) (starts number (number t) (place + 1) ts) in
+          let one = cond-true (nat_le place (place + 0)) (1 + behind) behind (le-leb place (place + 0) (omega arith)) in
+          omega (arith, next, one, none)
+  number-up_to before place (t ∷ ts) (suc i) rises h =
+      let at : place + 1 + i ≡ place + suc i = omega arith in
+      by (number t == before) refl
+      (number-up_to (number t) (place + 1) ts i rises.2 (omega (arith, h)) ∙ ap (λ p. number t + up_to p (starts number (number t) (place + 1) ts)) at)
+    where
+      by : (same : Bool) → (number t == before) ≡ same
+          → number (get_or ts i no_token) ≡ number t + up_to (place + suc i) (starts number (number t) (place + 1) ts)
+          → number (get_or ts i no_token) ≡ before + up_to (place + suc i) ((if same then [] else place ∷ []) ++ starts number (number t) (place + 1) ts)
+      by true e rest = grind (arith, nat_tests, e, rest)
+      by false e rest =
+          let least = rises.0 in
+          let most = rises.1 in
+          let next : number t ≡ before + 1 = grind (arith, nat_tests, e, least, most) in
+          let behind = up_to (place + suc i) (starts number (number t) (place + 1) ts) in
+          let one = cond-true (nat_le place (place + suc i)) (1 + behind) behind (le-leb place (place + suc i) (omega arith)) in
+          omega (arith, next, one, rest)
+
+-- ---- the tokens of a document rise, from 1 on
+
+raised-from : (ended : Bool) (n : ℕ) → n ≤ raised ended n
+raised-from true n = omega arith
+raised-from false n = omega arith
+
+raised-to : (ended : Bool) (n : ℕ) → raised ended n ≤ n + 1
+raised-to true n = omega arith
+raised-to false n = omega arith
+
+sentences-rise : (xs : List Part) (s p before : ℕ) → before ≤ s → s ≤ before + 1 → Rises (λ token. token.sentence) before (tokens_from s p xs)
+unfolding tokens_from
+sentences-rise [] s p before least most = tt
+sentences-rise (word bytes ∷ xs) s p before least most =
+    (least, most, sentences-rise xs _ _ s (raised-from (ends_sentence (gap xs)) s) (raised-to (ends_sentence (gap xs)) s))
+sentences-rise (gap_characters bytes ∷ xs) s p before least most = sentences-rise xs s p before least most
+sentences-rise (gap_tag name ∷ xs) s p before least most = sentences-rise xs s p before least most
+
+paragraphs-rise : (xs : List Part) (s p before : ℕ) → before ≤ p → p ≤ before + 1 → Rises (λ token. token.paragraph) before (tokens_from s p xs)
+unfolding tokens_from
+paragraphs-rise [] s p before least most = tt
+paragraphs-rise (word bytes ∷ xs) s p before least most =
+    (least, most, paragraphs-rise xs _ _ p (raised-from (ends_paragraph (gap xs)) p) (raised-to (ends_paragraph (gap xs)) p))
+paragraphs-rise (gap_characters bytes ∷ xs) s p before least most = paragraphs-rise xs s p before least most
+paragraphs-rise (gap_tag name ∷ xs) s p before least most = paragraphs-rise xs s p before least most
+
+-- both are 1 at least
+record IsCounted (token : Token) : Type 0 where
+  sentence : 1 ≤ token.sentence
+  paragraph : 1 ≤ token.paragraph
+
+are-counted : (xs : List Part) (s p : ℕ) → 1 ≤ s → 1 ≤ p → All IsCounted (tokens_from s p xs)
+unfolding tokens_from
+are-counted [] s p hs hp = All-nil IsCounted
+are-counted (word bytes ∷ xs) s p hs hp =
+    let more = raised-from (ends_sentence (gap xs)) s in
+    let further = raised-from (ends_paragraph (gap xs)) p in
+    All-cons IsCounted _ _ (record { sentence = hs; paragraph = hp }) (are-counted xs _ _ (omega (arith, hs, more)) (omega (arith, hp, further)))
+are-counted (gap_characters bytes ∷ xs) s p hs hp = are-counted xs s p hs hp
+are-counted (gap_tag name ∷ xs) s p hs hp = are-counted xs s p hs hp
+
+-- ---- the text of a tree
+
+pub text-of-tree : (root : Numbered) → IsText (tree_document root) (tokens (plain root))
+unfolding tree_document tokens
+text-of-tree root = record {
+  words = sym (words-tree root);
+  sentences = λ place first last.
+      let i = place - 1 in
+      let at : place ≡ suc i = omega (arith, first) in
+      let next : 1 + i ≡ place = omega (arith, first) in
+      let there : i < length (tokens (plain root)) = omega (arith, first, last) in
+      ap (λ p. sentence_at (tokens (plain root)) p) at
+      ∙ sentence_read (tokens (plain root)) i there
+      ∙ number-up_to (λ token. token.sentence) 0 1 (tokens (plain root)) i (sentences-rise (parts (plain root)) 1 1 0 (omega arith) (omega arith)) there
+      ∙ all-up_to (1 + i) (sentence_starts (tokens (plain root)))
+      ∙ ap (started (sentence_starts (tokens (plain root)))) next;
+  paragraphs = λ place first last.
+      let i = place - 1 in
+      let at : place ≡ suc i = omega (arith, first) in
+      let next : 1 + i ≡ place = omega (arith, first) in
+      let there : i < length (tokens (plain root)) = omega (arith, first, last) in
+      ap (λ p. paragraph_at (tokens (plain root)) p) at
+      ∙ paragraph_read (tokens (plain root)) i there
+      ∙ number-up_to (λ token. token.paragraph) 0 1 (tokens (plain root)) i (paragraphs-rise (parts (plain root)) 1 1 0 (omega arith) (omega arith)) there
+      ∙ all-up_to (1 + i) (paragraph_starts (tokens (plain root)))
+      ∙ ap (started (paragraph_starts (tokens (plain root)))) next;
+}
+
+-- ---- the tokens at the span of a node
+
+module _ (f g : ℕ → ℕ) (first : Token) where
+  counted-each : (ts : List Token) → ((n : ℕ) → f n ≡ n + 1 - first.sentence) → ((n : ℕ) → g n ≡ n + 1 - first.paragraph)
+      → map (spans.renumbered f g) ts ≡ map (counted_from first) ts
+  counted-each [] sentence paragraph = refl
+  counted-each (t ∷ ts) sentence paragraph =
+      λ i. record { word = t.word; sentence = sentence t.sentence i; paragraph = paragraph t.paragraph i } ∷ counted-each ts sentence paragraph i
+
+from-first : (n first start : ℕ) → first ≡ start → 1 ≤ first → n - (start - 1) ≡ n + 1 - first
+from-first n first start same least = omega (arith, same, least)
+
+module _ (root : Numbered) (at : Span) (inside : IsSpan at (tree_document root)) where
+  abbrev document : Document
+  document = tree_document root
+
+  abbrev all : List Token
+  all = tokens (plain root)
+
+  abbrev own_sentence : ℕ → ℕ
+  own_sentence n = n - (started document.sentences at.from - 1)
+
+  abbrev own_paragraph : ℕ → ℕ
+  own_paragraph n = n - (started document.paragraphs at.from - 1)
+
+  abbrev own : List Token → List Token
+  own = map (spans.renumbered own_sentence own_paragraph)
+
+  part-counted : All IsCounted (in_span at all)
+  unfolding tokens
+  part-counted =
+      All-take IsCounted (at.to - 1 - (at.from - 1)) _ (All-drop IsCounted (at.from - 1) all (are-counted (parts (plain root)) 1 1 (omega arith) (omega arith)))
+
+  own-part : (ts : List Token) → in_span at all ≡ ts → own ts ≡ renumbered ts
+  own-part [] is = refl
+  own-part (first ∷ rest) is =
+      let size : length (in_span at all) ≡ suc (length rest) = ap length is in
+      let there : 0 < length (in_span at all) = omega (arith, size) in
+      let front : at.from + 0 ≡ at.from = omega arith in
+      let head : get_or (in_span at all) 0 no_token ≡ first = ap (λ ts. get_or ts 0 no_token) is in
+      let least = subst IsCounted head (part-counted 0 no_token there) in
+      let sentence : first.sentence ≡ started document.sentences at.from =
+      ap (λ (t : Token). t.sentence) (sym head) ∙ part_sentence document all at (text-of-tree root) inside 0 there ∙ ap (started document.sentences) front in
+      let paragraph : first.paragraph ≡ started document.paragraphs at.from =
+      ap (λ (t : Token). t.paragraph) (sym head) ∙ part_paragraph document all at (text-of-tree root) inside 0 there ∙ ap (started document.paragraphs) front in
+      counted-each own_sentence own_paragraph first (first ∷ rest)
+      (λ n. from-first n first.sentence (started document.sentences at.from) sentence least.sentence)
+      (λ n. from-first n first.paragraph (started document.paragraphs at.from) paragraph least.paragraph)
+
+  tokens-of-span : span_tokens at document ≡ part all at
+  tokens-of-span = tokens_of_text document all at (text-of-tree root) inside ∙ own-part (in_span at all) refl
+
+pub tokens-at-span : (version : List indexed.Numbered) (doc : ℕ) (root : Numbered) (at : Span) (ts : List Token)
+    → Follows version doc root → IsSpan at (document_at doc version) → part (tokens (plain root)) at ≡ ts → span_tokens at (document_at doc version) ≡ ts
+tokens-at-span version doc root at ts follows inside is =
+    ap (span_tokens at) follows.document ∙ tokens-of-span root at (subst (IsSpan at) follows.document inside) ∙ is
