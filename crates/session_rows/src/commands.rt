@@ -1,5 +1,6 @@
 // Commands: how lines and blocks are divided, which lines are none, and which commands are not carried out yet.
-use crate::rows::{Row, expect_output, expect_rows, joined};
+use crate::rows::{Row, expect_output, expect_rows};
+use call_rows::texts::joined;
 use ft_session::Status;
 use std::alloc::Global;
 use std::process::Abort;
@@ -42,14 +43,13 @@ fn lines_and_blocks_are_divided_as_they_are_written(rt: HostRuntime) -> Result<(
     expect_rows(&rt, rt.alloc(), &LINES)
 }
 
-const NOT_YET: [&str; 8] = [
+const NOT_YET: [&str; 7] = [
     "insert last //a\n<b/>\n.",
     "replace //a\n<b/>\n.",
     "delete //a",
     "query at m //a",
     "mark m",
     "unmark m",
-    "explain \"a\"",
     "stats",
 ];
 

@@ -1,5 +1,6 @@
 // Blocks that are no documents, with the fault of each and its place.
-use crate::rows::{NEVER, is_answered, joined};
+use crate::rows::{NEVER, is_answered};
+use call_rows::texts::joined;
 use ft_session::Status;
 use std::alloc::Global;
 use std::process::Abort;

@@ -1,12 +1,13 @@
 // The elements to which the steps of a path lead, and the lines that name elements.
 use crate::asked_elements::{Judge, led, tree_of};
-use crate::rows::{expect_output, joined, repeated};
+use crate::rows::expect_output;
+use call_rows::texts::{joined, repeated};
 use element_lines::push_names;
-use ft_base::Lines;
 use ft_session::Status;
 use std::alloc::Global;
 use std::process::Abort;
 use std::test::Fail;
+use text_list::TextList;
 
 /// A document that is loaded as `x`, a command and a path without its `collection()`, and the replies, in parts.
 type Asked = (
@@ -233,11 +234,13 @@ fn expect_names_backwards(
     };
     let mut found = led(alloc, &tree, "collection()//*", &mut test)?;
     found.reverse();
-    let mut lines = Lines::new(alloc);
+    let mut lines = TextList::new(alloc);
     push_names(alloc, "x", &tree, &found, &mut lines)?;
     assert!(rt; lines.len() == wanted.len(), "{document}");
-    for (line, text) in lines.as_slice().iter().zip(wanted) {
-        assert!(rt; line.as_str() == *text, "{document}");
+    for (number, text) in wanted.iter().enumerate() {
+        if number < lines.len() {
+            assert!(rt; lines.get(number) == *text, "{document}");
+        }
     }
     Ok(())
 }

@@ -72,7 +72,7 @@ const CALLS: [CallRow; 10] = [
     (&[""], Status::Usage),
     (&["-x"], Status::Usage),
     (&["--make"], Status::Usage),
-    (&["--make=1"], Status::Usage),
+    (&["--make=0"], Status::Usage),
     (&["--make", "0"], Status::Usage),
     (&["--make", "01"], Status::Usage),
     (&["--make", "4097"], Status::Usage),

@@ -2,7 +2,8 @@
 ghost use Rattle.std.specs.Prelude.{not, true};
 ghost use Rattle.plan_compiler.specs.Judgement.{by_definition};
 
-use crate::rows::{NEVER, is_answered_by, joined};
+use crate::rows::{NEVER, is_answered_by};
+use call_rows::texts::joined;
 use ft_base::{DocId, Span, Steps};
 use ft_session::Status;
 use plan_compiler::{Direct, Judge, Run};

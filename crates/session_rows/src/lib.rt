@@ -1,4 +1,4 @@
-//! Worked rows: sessions with the replies to their commands, and public calls with their answers.
+//! Worked rows: sessions with the replies to their commands, and calls of what sessions stand on.
 //!
 //! Each file has one subject. A row is a line of a table, and each test tries one table in a loop.
 #![tactic(auto)]
@@ -18,7 +18,11 @@ mod documents;
 #[cfg(test)]
 mod elements;
 #[cfg(test)]
+mod explained;
+#[cfg(test)]
 mod failures;
+#[cfg(test)]
+mod filters;
 #[cfg(test)]
 mod judges;
 #[cfg(test)]
@@ -28,6 +32,8 @@ mod list_files;
 #[cfg(test)]
 mod lists;
 #[cfg(test)]
+mod named_lists;
+#[cfg(test)]
 mod options;
 #[cfg(test)]
 mod options_under_lists;
@@ -36,19 +42,7 @@ mod path_faults;
 #[cfg(test)]
 mod paths;
 #[cfg(test)]
-mod patterns;
-#[cfg(test)]
-mod plans;
-#[cfg(test)]
-mod prefixes;
-#[cfg(test)]
-mod printed_forms;
-#[cfg(test)]
 mod query_faults;
-#[cfg(test)]
-mod read_paths;
-#[cfg(test)]
-mod replies;
 #[cfg(test)]
 mod rows;
 #[cfg(test)]
@@ -57,15 +51,5 @@ mod selection_texts;
 mod selections;
 #[cfg(test)]
 mod sessions;
-#[cfg(test)]
-mod symbols;
-#[cfg(test)]
-mod thesauri;
-#[cfg(test)]
-mod tokens;
-#[cfg(test)]
-mod trees;
-#[cfg(test)]
-mod unicode_forms;
 #[cfg(test)]
 mod words_found;

@@ -1,5 +1,6 @@
 // Limits: how much a session, a document, a selection and a collection may have.
-use crate::rows::{NEVER, expect_output, is_answered, repeated};
+use crate::rows::{NEVER, expect_output, is_answered};
+use call_rows::texts::repeated;
 use ft_session::Status;
 use std::alloc::{AllocError, Global};
 use std::process::Abort;
@@ -195,12 +196,12 @@ const REPEATED: [RepeatedRow; 11] = [
         Status::SomeRefused,
     ),
     (
-        "query collection()//a[. contains text \"a\"",
+        "load x\n<a>a</a>\n.\nquery collection()//a[. contains text \"a\"",
         64,
         " ordered",
         "]\n",
-        "! 14 not yet\n",
-        Status::SomeRefused,
+        "ok\n= 1\ndoc(\"x\")/a[1]\n",
+        Status::Done,
     ),
     (
         "query collection()//a[. contains text \"a\"",

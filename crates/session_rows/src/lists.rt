@@ -1,5 +1,6 @@
 // Lists that sessions bring: which are read, replaced and missed.
-use crate::rows::{Row, expect_output, expect_rows, joined};
+use crate::rows::{Row, expect_output, expect_rows};
+use call_rows::texts::joined;
 use ft_session::Status;
 use std::alloc::{AllocError, Global};
 use std::process::Abort;
@@ -64,7 +65,7 @@ ok
 ! 9 no such list: u
 ! 9 no such list: w
 ! 9 no such list: nope
-! 14 not yet
+= 0
 ! 9 no such list: z
 "#,
         Status::SomeRefused,
@@ -160,10 +161,10 @@ query collection()/a[. contains text "a" occurs exactly 3 times using thesaurus 
 ];
 
 /// The names of a thesaurus and a stop list inside parentheses, those outside, and the first that is missing; none is called "".
-pub(crate) type MissingRow = ([&'static str; 4], &'static str);
+type MissingRow = ([&'static str; 4], &'static str);
 
 // There are stop lists `e` and `f` and a thesaurus `t`.
-pub(crate) const MISSING_ROWS: [MissingRow; 7] = [
+const MISSING_ROWS: [MissingRow; 7] = [
     (["t", "e", "t", "f"], ""),
     (["t", "t", "t", "f"], "t"),
     (["e", "e", "t", "f"], "e"),
@@ -174,7 +175,7 @@ pub(crate) const MISSING_ROWS: [MissingRow; 7] = [
 ];
 
 /// A selection with these names.
-pub(crate) fn naming(alloc: Global, names: [&'static str; 4]) -> Result<String, AllocError> {
+fn naming(alloc: Global, names: [&'static str; 4]) -> Result<String, AllocError> {
     let [inner_thesaurus, inner_stop, outer_thesaurus, outer_stop] = names;
     joined(
         alloc,

@@ -1,5 +1,6 @@
 // Texts that are no paths, with their faults, and commands that are refused for their paths.
-use crate::rows::{expect_output, joined, query_refusal, repeated};
+use crate::rows::expect_output;
+use call_rows::texts::{joined, query_refusal, repeated};
 use ft_base::{Memory, QueryFault};
 use ft_session::Status;
 use path_subset::{ReadPath, read_path};
@@ -207,7 +208,7 @@ fn a_path_has_64_levels(rt: HostRuntime) -> Result<(), Fail> {
 }
 
 // Commands in a session that holds a document `x`, and their refusals in the order in which they are tried.
-const REFUSALS: [FaultRow; 23] = [
+const REFUSALS: [FaultRow; 19] = [
     (
         "query collection()//a[1000001]",
         "! 7 query: number at 16\n",
@@ -258,22 +259,6 @@ const REFUSALS: [FaultRow; 23] = [
     (
         r#"query collection()//a[. contains text "a" and . contains text "a" "b"]"#,
         "! 7 query: syntax at 60\n",
-    ),
-    (
-        r#"query collection()//a[. contains text "a" window 3 words]"#,
-        "! 14 not yet\n",
-    ),
-    (
-        r#"print collection()//z[. contains text "a" and . contains text "a" not in "b"]"#,
-        "! 14 not yet\n",
-    ),
-    (
-        r#"query collection()//a[. contains text "a" ordered]"#,
-        "! 14 not yet\n",
-    ),
-    (
-        r#"query collection()//a[. contains text "a" not in "b"]"#,
-        "! 14 not yet\n",
     ),
     ("delete collection()//a", "! 14 not yet\n"),
 ];

@@ -1,5 +1,6 @@
 // Paths, with the elements that they select.
-use crate::rows::{expect_output, joined};
+use crate::rows::expect_output;
+use call_rows::texts::joined;
 use ft_session::Status;
 use std::alloc::Global;
 use std::process::Abort;

@@ -1,5 +1,6 @@
 // Texts that are no selections, with their faults: alone, and in the path of a query.
-use crate::rows::{expect_output, joined, query_refusal, repeated};
+use crate::rows::expect_output;
+use call_rows::texts::{joined, query_refusal, repeated};
 use ft_base::{Memory, QueryFault};
 use ft_parser::read_selection;
 use ft_session::Status;

@@ -1,12 +1,11 @@
 // Rows of tables, and how each is tried.
 ghost use Rattle.std.specs.Prelude.{◌<◌, ◌^◌};
 
-use ft_base::{Line, Memory, QueryFault};
+use call_rows::texts::joined;
 use ft_io::{MemoryShelf, MemorySink};
 use ft_session::{Status, run};
 use plan_compiler::{Direct, Judge};
-use session_text::{Refusal, Reply, print_reply};
-use std::alloc::{AllocError, Global};
+use std::alloc::Global;
 use std::process::Abort;
 use std::test::Fail;
 
@@ -18,39 +17,6 @@ pub(crate) type TruthRow = (&'static str, &'static str, bool);
 
 /// The number of a call, or a count of bytes, that is never reached.
 pub(crate) const NEVER: u64 = u64::MAX;
-
-/// The texts, one behind the other.
-pub(crate) fn joined(alloc: Global, parts: &[&str]) -> Result<String, AllocError> {
-    let mut text = String::new(alloc);
-    for part in parts {
-        text.push_str(part)?;
-    }
-    Ok(text)
-}
-
-/// The text between two others, so many times.
-pub(crate) fn repeated(
-    alloc: Global,
-    before: &str,
-    count: usize,
-    piece: &str,
-    behind: &str,
-) -> Result<String, AllocError> {
-    let mut text = String::from_str(alloc, before)?;
-    for _ in 0..count {
-        text.push_str(piece)?;
-    }
-    text.push_str(behind)?;
-    Ok(text)
-}
-
-/// The reply that refuses a query for the fault.
-pub(crate) fn query_refusal(alloc: Global, fault: QueryFault) -> Result<Line, Memory> {
-    let reply = Reply::Refused(Refusal::Query(fault));
-    let printed = print_reply(alloc, &reply);
-    std::mem::drop(reply);
-    printed
-}
 
 /// Whether the bytes are these texts, one behind the other.
 fn are_parts(bytes: &[u8], parts: &[&str]) -> bool {

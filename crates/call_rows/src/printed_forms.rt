@@ -1,5 +1,5 @@
 // Selections that are read, in their printed form.
-use crate::rows::repeated;
+use crate::texts::repeated;
 use ft_base::{Memory, QueryFault};
 use ft_parser::read_selection;
 use ft_syntax::{Selection, print_selection};

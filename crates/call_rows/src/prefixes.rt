@@ -1,5 +1,5 @@
 // Selections with which texts begin, and the faults of those that begin with none.
-use crate::rows::{query_refusal, repeated};
+use crate::texts::{query_refusal, repeated};
 use ft_base::{Memory, QueryFault};
 use ft_parser::{read_prefix, read_run, symbols};
 use ft_syntax::{Selection, print_selection};

@@ -1,5 +1,5 @@
 // Paths that are read: their roots, steps and predicates, and their selections.
-use crate::rows::joined;
+use crate::texts::joined;
 use ft_base::Memory;
 use ft_syntax::print_selection;
 use path_grammar::{Condition, NameTest, PathRoot, Predicate, Step, Steps};
