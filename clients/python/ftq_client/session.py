@@ -90,6 +90,10 @@ class Session:
         """The elements that the path selects as XML, each on one line, in the order of `query`."""
         return list(self._said(self.command(f"print {path}"), Found).lines)
 
+    def explain(self, selection: str) -> str:
+        """A simpler form of the selection, which the same texts satisfy. No list is looked at."""
+        return self._said(self.command(f"explain {selection}"), Said).text
+
     def command(self, line: str, block: bytes | None = None) -> Reply:
         """The reply to any command of the program's; its block's bytes are given as they are, and quoted here.
 

@@ -85,6 +85,12 @@ def test_lists_are_looked_at(session: Session) -> None:
     assert len(session.query('collection()//p[. contains text "a ship" using stop words at "common"]')) == 1
 
 
+def test_a_selection_is_explained(session: Session) -> None:
+    assert session.explain('ftnot ("a" ftor ftnot "b")') == 'ftnot "a" ftand "b"'
+    with pytest.raises(QueryFault):
+        session.explain('"a" ftor')
+
+
 def test_refusals_are_exceptions_with_what_they_tell(session: Session) -> None:
     session.load("d", b"<a/>")
     told: list[tuple[type[Refusal], str, bytes | None, dict[str, object]]] = [
@@ -149,7 +155,7 @@ def test_refusals_that_are_known_by_their_text(reply: str, number: int, parts: d
 def test_any_command_has_a_reply_or_a_refusal(session: Session) -> None:
     assert session.command("load d", b"<a>x</a>") == Done()
     assert session.command("  query\tcollection()/a  ") == Found(('doc("d")/a[1]',))
-    for line, block in [("stats", None), ("mark m", None), ("explain " + '"a"', None), ("delete collection()/a/b", None), ("insert last collection()/a", b"x")]:
+    for line, block in [("stats", None), ("mark m", None), ("delete collection()/a/b", None), ("insert last collection()/a", b"x")]:
         try:
             session.command(line, block)
         except NotYet:
