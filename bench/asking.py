@@ -33,6 +33,13 @@ class Conversation:
         first = self._reply()
         return first, time.perf_counter() - start
 
+    def answered(self, command):
+        """The lines of the reply to a command, its first one first."""
+        self._write(command)
+        first = self._line().decode("utf-8")
+        more = int(first[2:]) if first.startswith("= ") and first[2:].isdigit() else 0
+        return [first] + [self._line().decode("utf-8") for _ in range(more)]
+
     def timed_all(self, commands):
         """The first lines of the replies to commands that are sent without waiting, and the seconds from the first byte to the last reply."""
         start = time.perf_counter()
