@@ -1,5 +1,6 @@
 pub mod ActLemmas
 pub mod ChangedLemmas
+pub mod DraftedLemmas
 pub mod EditLemmas
 pub mod EditedLemmas
 pub mod ElementLemmas
@@ -8,8 +9,12 @@ pub mod FreshLemmas
 pub mod FreshSteps
 pub mod Gathered
 pub mod JoiningLemmas
+pub mod MarkLemmas
+pub mod MeasureLemmas
 pub mod PlainLemmas
+pub mod RefSteps
 pub mod References
 pub mod ReferencesKept
 pub mod RowsJoined
+pub mod TableLemmas
 pub mod TextLists

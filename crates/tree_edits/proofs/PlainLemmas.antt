@@ -98,7 +98,7 @@ module _ (change : Numbered → Children) (plain_change : Node → Nodes) (same 
 
 -- ---- edits
 
-plain-inserted : (how : How) (content : Children) (m : Numbered) → plain_children (inserted how content m) ≡ plain_edit.inserted how (plain_children content) (plain m)
+pub plain-inserted : (how : How) (content : Children) (m : Numbered) → plain_children (inserted how content m) ≡ plain_edit.inserted how (plain_children content) (plain m)
 plain-inserted H.First content (element_at r name attrs kids) = ap (λ ks. plain_edit.only (element name attrs ks)) (plain-append content kids)
 plain-inserted H.First content (text_at r bytes) = refl
 plain-inserted H.Last content (element_at r name attrs kids) = ap (λ ks. plain_edit.only (element name attrs ks)) (plain-append kids content)

@@ -18,7 +18,7 @@ refs_of ts = map (λ t. t.0) ts
 
 -- ---- a text that stays
 
-stays_none : (ts : List Text) (t : Text) → times t.0 (refs_of ts) ≡ 0 → stays ts t ≡ false
+pub stays_none : (ts : List Text) (t : Text) → times t.0 (refs_of ts) ≡ 0 → stays ts t ≡ false
 stays_none [] t h = refl
 stays_none (u ∷ ts) t h =
     ap (λ b. (b && bytes_eq t.1 u.1) || stays ts t) (weight_zero (is_same t.0 u.0) (times t.0 (refs_of ts)) h) ∙ stays_none ts t (omega (arith, h))

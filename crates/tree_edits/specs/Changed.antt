@@ -32,12 +32,16 @@ without others ts = filter (λ t. not (stays others t)) ts
 abbrev pub taken : Numbered → Numbered → List LeafId
 taken old new = map (λ t. leaf_of t.0) (without (texts new) (texts old))
 
--- the leaves of those among texts that others don't have, each directly behind the leaf of the text in front of it
+-- the leaves of those among texts that don't pass the test, each directly behind the leaf of the text in front of it
+abbrev pub put_by : (Text → Bool) → Option LeafId → List Text → List LeafWords
+put_by test last [] = []
+put_by test last (t ∷ rest) =
+    if test t then put_by test (Some (leaf_of t.0)) rest
+    else record { leaf = leaf_of t.0; after = last; words = words t.1 } ∷ put_by test (Some (leaf_of t.0)) rest
+
+-- the leaves of those that others don't have
 abbrev pub put_behind : List Text → Option LeafId → List Text → List LeafWords
-put_behind others last [] = []
-put_behind others last (t ∷ rest) =
-    if stays others t then put_behind others (Some (leaf_of t.0)) rest
-    else record { leaf = leaf_of t.0; after = last; words = words t.1 } ∷ put_behind others (Some (leaf_of t.0)) rest
+put_behind others = put_by (stays others)
 
 -- the leaves of the texts that came, in document order
 abbrev pub put : Numbered → Numbered → List LeafWords

@@ -1,13 +1,12 @@
 -- What an edit of a tree in slots does.
-use Rattle.std.specs.Prelude.{◌≡◌, ◌≢◌, ◌+◌, ◌<◌, ◌^◌, max, List, ◌++◌, length, AllPairs}
+use Rattle.std.specs.Prelude.{◌≡◌, ◌≢◌, ◌+◌, max, List, ◌++◌, length, AllPairs}
 use Rattle.doc_grammar.specs.Limits.{node_count, nodes_count}
 use Rattle.ft_base.specs.declared.ids.NodeRef.{NodeRef}
 use Rattle.ordered_tree.specs.Numbered.{Numbered, Children, plain}
 use Rattle.ordered_tree.specs.Stands.{references}
 use Rattle.ordered_tree.specs.Stored.{Stored}
 use Rattle.plain_tree.specs.Document.{Nodes}
-use Rattle.tokenizer.specs.Tokens.{tokens}
-use Rattle.tree_edits.specs.Edits.{only, references_of}
+use Rattle.tree_edits.specs.Edits.{only}
 use Rattle.tree_edits.specs.Fresh.{all_fresh}
 
 -- The content got references that no node had, and `edit` makes the new document of the old one and this content. No more slots are there
@@ -18,12 +17,3 @@ pub record IsEdited (edit : Children → Numbered → Children) (content : Nodes
   pub count : length refs ≡ nodes_count content
   pub document : only new.root ≡ edit (all_fresh refs content) old.root
   pub slots : new.slots ≡ max old.slots (node_count (plain old.root) + nodes_count content)
-
--- The document that an edit makes has fewer tokens than a number can count.
-abbrev pub HasFewWords : (Children → Numbered → Children) → Nodes → Numbered → Type 0
-HasFewWords edit content root = (refs : List NodeRef) (new : Numbered) → only new ≡ edit (all_fresh refs content) root → length (tokens (plain new)) < 2 ^ 31
-
--- No two nodes have one reference behind the edit, where the content brings references of its own.
-abbrev pub KeepsApart : (Children → Numbered → Children) → Nodes → Numbered → Type 0
-KeepsApart edit content root = (refs : List NodeRef) → AllPairs (λ a b. a ≢ b) (references root ++ refs) → length refs ≡ nodes_count content
-    → AllPairs (λ a b. a ≢ b) (references_of (edit (all_fresh refs content) root))

@@ -5,6 +5,7 @@ use Rattle.ft_base.specs.declared.ids.NodeRef.{NodeRef}
 use Rattle.ordered_tree.specs.declared.leaf.LeafWords.{LeafWords}
 use Rattle.ordered_tree.specs.Numbered.{Numbered, element_at, text_at, Children, no_children, child_then}
 use Rattle.tree_edits.specs.declared.change.Change.{Change}
+use Rattle.tree_edits.specs.declared.changing.TextAt.{TextAt}
 
 abbrev pub ref : ℕ → NodeRef
 ref number = record { 0 = number }
@@ -27,6 +28,10 @@ c number = element_at (ref number) (codes "c") [] no_children
 
 abbrev pub text : ℕ → List ℕ → Numbered
 text number bytes = text_at (ref number) bytes
+
+-- a text that was seen somewhere in memory
+abbrev pub seen : ℕ → List ℕ → TextAt
+seen number bytes = record { node = ref number; text = record { ref_ptr = (0, 0); now = bytes } }
 
 abbrev pub put_leaf : ℕ → Option LeafId → List (List ℕ) → LeafWords
 put_leaf number after words = record { leaf = leaf_id number; after = after; words = words }

@@ -1,7 +1,9 @@
 pub mod Changed
+pub mod Drafted
 pub mod Edited
 pub mod Edits
 pub mod Examples
+pub mod Fitting
 pub mod Fresh
 pub mod Kept
 pub mod steps

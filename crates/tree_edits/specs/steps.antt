@@ -1,1 +1,5 @@
 pub mod Acts
+pub mod Drafting
+pub mod Editing
+pub mod Marks
+pub mod TextTable

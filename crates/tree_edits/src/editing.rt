@@ -1,32 +1,21 @@
 //! Edits of documents with references, in one walk that moves what stays.
 
-ghost use Rattle.std.specs.Prelude.{◌≡◌, ◌≤◌, length, map, true, IfOk, OnOk};
-ghost use Rattle.doc_grammar.specs.Limits.{nodes_count};
+ghost use Rattle.std.specs.Prelude.{◌≡◌, map, true, IfOk, OnOk};
 ghost use Rattle.ordered_tree.specs.Numbered.{plain_children};
 ghost use Rattle.ordered_tree.specs.RefView.{ref_node, ref_nodes};
-ghost use Rattle.plain_tree.specs.Document.{are_joined, nodes};
-ghost use Rattle.plain_tree.specs.View.{node};
-ghost use Rattle.tree_edits.specs.Edits.{all_changed, append, changed, inserted, is_among, joined, with_children};
-ghost use Rattle.tree_edits.specs.Fresh.{all_fresh};
+ghost use Rattle.plain_tree.specs.Document.{are_joined};
+ghost use Rattle.tree_edits.specs.Edits.{append, inserted, joined, with_children};
 ghost use Rattle.tree_edits.specs.steps.Acts.{act};
+ghost use Rattle.tree_edits.specs.steps.Editing.{all_edited, content_of, edited};
 
+use crate::edit::Edit;
 use crate::fresh::with_references;
 use crate::joining::{join_all, join_tree};
-use ft_base::{Memory, NodeRef};
-use ordered_tree::{NodeRefs, RefKids, RefTree};
-use plain_tree::{How, Kids};
+use crate::marks::is_marked;
+use ft_base::Memory;
+use ordered_tree::{RefKids, RefTree};
+use plain_tree::How;
 use std::alloc::Global;
-
-/// What is done to the elements of these references: content is inserted, or stands in their place.
-#[derive(Clone, Copy)]
-pub(crate) struct Edit<'a> {
-    pub(crate) chosen: &'a NodeRefs,
-    pub(crate) how: Option<How>,
-    pub(crate) content: &'a Kids,
-    /// The references that the nodes of the content get.
-    pub(crate) refs: &'a NodeRefs,
-    ghost enough: { nodes_count (nodes (map node content.now)) ≤ length refs.now },
-}
 
 /// What stands where the root stood, behind the edit.
 pub(crate) fn edit_root(
@@ -35,7 +24,7 @@ pub(crate) fn edit_root(
     root: RefTree,
 ) -> Result<Vec<RefTree>, Memory>
     ensures { IfOk result (λ list. ref_nodes (map ref_node list.items)
-        ≡ joined (changed (is_among edit.now.chosen.now) (act edit.now.how (all_fresh edit.now.refs.now (nodes (map node edit.now.content.now)))) (ref_node root))) }
+        ≡ joined (edited edit.now (ref_node root))) }
 {
     let mut list = Vec::new(alloc);
     edit_tree(alloc, edit, root, &mut list)?;
@@ -52,7 +41,7 @@ fn edit_tree(
 ) -> Result<(), Memory>
     ensures { OnOk result (are_joined (plain_children (ref_nodes (map ref_node list.old.items))) ≡ true
         → ref_nodes (map ref_node list.new.items) ≡ joined (append (ref_nodes (map ref_node list.old.items))
-        (changed (is_among edit.now.chosen.now) (act edit.now.how (all_fresh edit.now.refs.now (nodes (map node edit.now.content.now)))) (ref_node tree)))) }
+        (edited edit.now (ref_node tree)))) }
 {
     match tree {
         RefTree::Text { node, text } => join_tree(alloc, list, RefTree::Text { node, text }),
@@ -62,7 +51,7 @@ fn edit_tree(
             attrs,
             kids,
         } => {
-            if is_among(edit.chosen, node) {
+            if is_marked(edit.marks, node) {
                 return apply(
                     alloc,
                     edit,
@@ -98,7 +87,7 @@ fn edit_all(
 ) -> Result<(), Memory>
     ensures { OnOk result (are_joined (plain_children (ref_nodes (map ref_node list.old.items))) ≡ true
         → ref_nodes (map ref_node list.new.items) ≡ joined (append (ref_nodes (map ref_node list.old.items))
-        (all_changed (is_among edit.now.chosen.now) (act edit.now.how (all_fresh edit.now.refs.now (nodes (map node edit.now.content.now)))) (ref_nodes (map ref_node kids))))) }
+        (all_edited edit.now (ref_nodes (map ref_node kids))))) }
 {
     for kid in kids.into_vec() {
         edit_tree(alloc, edit, kid, list)?;
@@ -115,7 +104,7 @@ fn apply(
 ) -> Result<(), Memory>
     ensures { OnOk result (are_joined (plain_children (ref_nodes (map ref_node list.old.items))) ≡ true
         → ref_nodes (map ref_node list.new.items) ≡ joined (append (ref_nodes (map ref_node list.old.items))
-        (act edit.now.how (all_fresh edit.now.refs.now (nodes (map node edit.now.content.now))) (ref_node tree)))) }
+        (act edit.now.how (content_of edit.now) (ref_node tree)))) }
 {
     let content = with_references(alloc, edit.content.as_slice(), edit.refs.as_slice())?;
     match edit.how {
@@ -205,11 +194,4 @@ fn with_last(tree: RefTree, content: RefKids) -> Result<RefTree, Memory>
             })
         }
     }
-}
-
-/// Whether the reference is among these.
-fn is_among(refs: &NodeRefs, node: NodeRef) -> bool
-    ensures { result ≡ is_among refs.now node }
-{
-    refs.as_slice().iter().any(|other| other.0 == node.0)
 }

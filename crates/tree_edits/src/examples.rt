@@ -1,6 +1,6 @@
 //! The definitions on small documents, by computation.
 
-ghost use Rattle.std.specs.Prelude.{◌≡◌, ◌+◌, ◌∷◌, [], Some, None, codes};
+ghost use Rattle.std.specs.Prelude.{◌≡◌, ◌+◌, ◌∷◌, [], Some, None, codes, true, false};
 ghost use Rattle.index_meaning.specs.Documents.{leaf_of};
 ghost use Rattle.ordered_tree.specs.Numbered.{no_children};
 ghost use Rattle.plain_tree.specs.Document as plain;
@@ -9,9 +9,13 @@ ghost use Rattle.plain_tree.specs.declared.place.How.TheVariants as H;
 ghost use Rattle.tokenizer.specs.Words.{words};
 ghost use Rattle.tree_edits.specs.Changed.{KeepsOrder, Made, put, put_all, take_all, taken, text_leaves, touched, word_total};
 ghost use Rattle.tree_edits.specs.Edits.{inserted, insertion, is_among, only, references_in, removal, replacement};
-ghost use Rattle.tree_edits.specs.Examples.{a, b, c, change_of, children_of, leaf_id, letters, nested, put_leaf, ref, text, without_b};
+ghost use Rattle.tree_edits.specs.Examples.{a, b, c, change_of, children_of, leaf_id, letters, nested, put_leaf, ref, seen, text, without_b};
+ghost use Rattle.tree_edits.specs.Fitting.{FitsSlots};
 ghost use Rattle.tree_edits.specs.Fresh.{all_fresh};
 ghost use Rattle.tree_edits.specs.Kept.{elements_in, elements_without, picked};
+ghost use Rattle.tree_edits.specs.steps.Acts.{act_on, root_stays};
+ghost use Rattle.tree_edits.specs.steps.Marks.{is_marked};
+ghost use Rattle.tree_edits.specs.steps.TextTable.{is_held};
 
 /// Where content is inserted: in front of an element's children, behind them, in front of the element or behind it. The others
 /// keep their references.
@@ -120,4 +124,33 @@ pub fn leaves_with_a_change()
     ensures in_turn { put_all (put_leaf 5 None [] ∷ put_leaf 6 (Some (leaf_id 5)) [] ∷ put_leaf 7 (Some (leaf_id 2)) [] ∷ [])
         (leaf_of 2 (codes "q" ∷ []) ∷ leaf_of 3 (codes "r" ∷ []) ∷ [])
         ≡ leaf_of 5 [] ∷ leaf_of 6 [] ∷ leaf_of 2 (codes "q" ∷ []) ∷ leaf_of 7 [] ∷ leaf_of 3 (codes "r" ∷ []) ∷ [] }
+{}
+
+/// An edit of several elements, and when one element stands where the root stood: not beside the root, nor in its place.
+pub fn edits_of_several()
+    ensures replaced { act_on (ref 2 ∷ ref 3 ∷ []) None no_children nested ≡ only (a 0 (b 1 [] ∷ [])) }
+    ensures inserted { act_on (ref 1 ∷ []) (Some H.Before) (children_of (c 5 ∷ [])) nested ≡ only (a 0 (c 5 ∷ b 1 (c 2 ∷ []) ∷ c 3 ∷ [])) }
+    ensures in_the_root { root_stays (ref 0 ∷ []) (Some H.Last) letters ≡ true }
+    ensures beside_the_root { root_stays (ref 0 ∷ []) (Some H.After) letters ≡ false }
+    ensures an_inner_one { root_stays (ref 2 ∷ []) None letters ≡ true }
+    ensures the_root_among_others { root_stays (ref 2 ∷ ref 0 ∷ []) None letters ≡ false }
+{}
+
+/// A document fits into slots where each node has a reference of its own below their number, and the root the first.
+pub fn fitting_documents()
+    ensures fits { FitsSlots letters 5 }
+    ensures other_root { FitsSlots (a 1 []) 2 → ⊥ }
+    ensures two_texts { FitsSlots (a 0 (text 1 (codes "x") ∷ text 2 (codes "y") ∷ [])) 3 → ⊥ }
+    ensures one_reference_twice { FitsSlots (a 0 (c 2 ∷ c 2 ∷ [])) 3 → ⊥ }
+{}
+
+/// Tables hold what is at the number of a reference, and nothing beyond their end.
+pub fn tables_by_numbers()
+    ensures marked { is_marked (true ∷ false ∷ []) (ref 0) ≡ true }
+    ensures not_marked { is_marked (true ∷ false ∷ []) (ref 1) ≡ false }
+    ensures no_mark { is_marked (true ∷ false ∷ []) (ref 2) ≡ false }
+    ensures held { is_held (None ∷ Some (seen 1 (codes "x")) ∷ []) (ref 1, codes "x") ≡ true }
+    ensures other_bytes { is_held (None ∷ Some (seen 1 (codes "x")) ∷ []) (ref 1, codes "y") ≡ false }
+    ensures none_held { is_held (None ∷ Some (seen 1 (codes "x")) ∷ []) (ref 0, codes "x") ≡ false }
+    ensures no_place { is_held (None ∷ Some (seen 1 (codes "x")) ∷ []) (ref 2, codes "x") ≡ false }
 {}

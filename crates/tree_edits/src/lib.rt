@@ -1,18 +1,26 @@
 //! What an edit makes of a document whose nodes have references, and which leaves it changes.
 //!
 //! An edit is that of the plain document at the place of the element; nodes that stay keep their references, and the content takes
-//! free ones. `insert` and `replace` make it on a document in slots; `change` is what an edit changed. The laws and the examples
-//! are each the contract of a function without a body.
+//! free ones. `draft` makes it of a document in slots, so that what it makes can be looked at first; `insert`, `replace` and
+//! `remove` carry it out. A `Change` is what an edit changed. The laws and the examples are each the contract of a function
+//! without a body.
 #![tactic(auto)]
 
 mod change;
+mod changing;
+mod drafting;
+mod drafts;
+mod edit;
 mod editing;
-mod edits;
 pub mod examples;
 mod fresh;
 mod joining;
 pub mod laws;
+mod marks;
+mod measuring;
 mod trees;
 
 pub use change::Change;
-pub use trees::{TreeFault, insert, replace};
+pub use drafting::draft;
+pub use drafts::Draft;
+pub use trees::{TreeFault, insert, remove, replace};

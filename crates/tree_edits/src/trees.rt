@@ -1,16 +1,23 @@
 //! Edits of documents in slots, by the references of their elements.
 
-ghost use Rattle.std.specs.Prelude.{◌≡◌, ◌+◌, ◌<◌, ◌^◌, ◌∷◌, [], map, true, false, Err, IfOk, OnErr, OnOk, Some};
+ghost use Rattle.std.specs.Prelude.{◌≡◌, ◌+◌, ◌<◌, ◌^◌, ◌||◌, ◌∷◌, [], length, map, nat_le, true, false, Err, IfOk, OnErr, OnOk};
+ghost use Rattle.std.specs.List.{list_all};
 ghost use Rattle.doc_grammar.specs.Limits.{node_count, nodes_count};
+ghost use Rattle.ft_base.specs.Lists.{is_empty};
 ghost use Rattle.ordered_tree.specs.Numbered.{plain, reference};
-ghost use Rattle.plain_tree.specs.Document.{nodes};
+ghost use Rattle.ordered_tree.specs.RefView.{ref_node};
+ghost use Rattle.plain_tree.specs.Document.{nodes, no_nodes};
 ghost use Rattle.plain_tree.specs.View as view;
-ghost use Rattle.tree_edits.specs.Edited.{HasFewWords, IsEdited, KeepsApart};
-ghost use Rattle.tree_edits.specs.Edits.{insertion, names_element, replacement};
+ghost use Rattle.tree_edits.specs.Changed.{KeepsOrder, Made};
+ghost use Rattle.tree_edits.specs.Edited.{IsEdited};
+ghost use Rattle.tree_edits.specs.Edits.{insertion, is_among, names_element, removal, replacement};
 ghost use Rattle.tree_edits.specs.declared.trees.TreeFault.TheVariants.{NoSuchNode, RootTarget};
 ghost use Rattle.tree_edits.specs.steps.Acts.{act_on, root_stays, stays};
 
-use crate::edits::{edited, names_element};
+use crate::change::Change;
+use crate::drafting::drafted;
+use crate::drafts::Draft;
+use crate::marks::name_elements;
 use ft_base::Memory;
 use ordered_tree::{DocTree, NodeRef, NodeRefs};
 use plain_tree::{How, Kids};
@@ -19,12 +26,30 @@ use std::alloc::Global;
 /// Why an edit was not made. The tree is then as it was.
 #[derive(Clone, Copy)]
 pub enum TreeFault {
-    /// No element has the reference.
+    /// No element has the reference, or one of the references.
     NoSuchNode,
-    /// The edit needs siblings, and the reference is the root's.
+    /// The edit needs siblings, and the reference is the root's, or one of them is.
     RootTarget,
     /// There was not enough memory.
     Memory,
+}
+
+impl From<Memory> for TreeFault {
+    ghost use Rattle.std.specs.Prelude.{◌≡◌};
+    ghost use Rattle.tree_edits.specs.declared.trees.TreeFault.TheVariants as Fault;
+
+    ghost from_gives = { λ _ fault. fault ≡ Fault.Memory };
+
+    fn from(_memory: Memory) -> TreeFault {
+        TreeFault::Memory
+    }
+}
+
+/// A document behind an edit, and what the edit changed.
+#[derive(Drop)]
+struct Outcome {
+    tree: DocTree,
+    change: Change,
 }
 
 /// Inserts content in front of the children of an element, behind them, in front of the element or behind it (XQuery Update Facility
@@ -36,21 +61,18 @@ pub fn insert(
     node: NodeRef,
     how: How,
     content: &Kids,
-) -> Result<(), TreeFault>
-    requires few_nodes { node_count (plain tree.old.root) + nodes_count (nodes (map view.node content.now)) < 2 ^ 31 }
-    requires few_words { HasFewWords (λ kids. insertion how kids node) (nodes (map view.node content.now)) tree.old.root }
+) -> Result<Change, TreeFault>
+    requires { node_count (plain tree.old.root) + nodes_count (nodes (map view.node content.now)) < 2 ^ 31 }
     ensures edited { OnOk result (IsEdited (λ kids. insertion how kids node) (nodes (map view.node content.now)) tree.old tree.new) }
+    ensures made { IfOk result (λ change. Made tree.old.root change tree.new.root) }
     ensures there { OnOk result (names_element node tree.old.root ≡ true) }
     ensures kept { OnErr result (tree.new ≡ tree.old) }
     ensures no_such_node { result ≡ Err NoSuchNode → names_element node tree.old.root ≡ false }
     ensures root_target { result ≡ Err RootTarget → node ≡ reference tree.old.root }
 {
-    if !may_insert(tree, node, how) {
-        return Err(TreeFault::RootTarget);
-    }
-    let new = changed(alloc, tree, node, Some(how), content)?;
-    *tree = new;
-    Ok(())
+    let done = changed_one(alloc, tree, node, Some(how), content)?;
+    *tree = done.tree;
+    Ok(done.change)
 }
 
 /// Puts content in the place of an element (XQuery Update Facility 1.0, 2.4.3), with texts joined as by `insert`.
@@ -59,82 +81,138 @@ pub fn replace(
     tree: &mut DocTree,
     node: NodeRef,
     content: &Kids,
-) -> Result<(), TreeFault>
-    requires few_nodes { node_count (plain tree.old.root) + nodes_count (nodes (map view.node content.now)) < 2 ^ 31 }
-    requires few_words { HasFewWords (λ kids. replacement kids node) (nodes (map view.node content.now)) tree.old.root }
+) -> Result<Change, TreeFault>
+    requires { node_count (plain tree.old.root) + nodes_count (nodes (map view.node content.now)) < 2 ^ 31 }
     ensures edited { OnOk result (IsEdited (λ kids. replacement kids node) (nodes (map view.node content.now)) tree.old tree.new) }
+    ensures made { IfOk result (λ change. Made tree.old.root change tree.new.root) }
     ensures there { OnOk result (names_element node tree.old.root ≡ true) }
     ensures kept { OnErr result (tree.new ≡ tree.old) }
     ensures no_such_node { result ≡ Err NoSuchNode → names_element node tree.old.root ≡ false }
     ensures root_target { result ≡ Err RootTarget → node ≡ reference tree.old.root }
 {
-    if is_root(tree, node) {
-        return Err(TreeFault::RootTarget);
-    }
-    let new = changed(alloc, tree, node, None, content)?;
-    *tree = new;
-    Ok(())
+    let done = changed_one(alloc, tree, node, None, content)?;
+    *tree = done.tree;
+    Ok(done.change)
 }
 
-/// Whether the reference is the root's.
-fn is_root(tree: &DocTree, node: NodeRef) -> bool
-    ensures yes { result ≡ true → node ≡ reference tree.now.root }
-    ensures no { result ≡ false → (how : _) → root_stays (node ∷ []) how tree.now.root ≡ true }
+/// Removes elements with all that is below them (XQuery Update Facility 1.0, 2.4.2), with texts joined as by `insert`. One that is
+/// below another of them goes with it.
+pub fn remove(alloc: Global, tree: &mut DocTree, nodes: &NodeRefs) -> Result<Change, TreeFault>
+    ensures edited { OnOk result (IsEdited (λ kids. removal nodes.now) no_nodes tree.old tree.new) }
+    ensures made { IfOk result (λ change. Made tree.old.root change tree.new.root) }
+    ensures there { OnOk result (list_all (λ node. names_element node tree.old.root) nodes.now ≡ true) }
+    ensures kept { OnErr result (tree.new ≡ tree.old) }
+    ensures no_such_node { result ≡ Err NoSuchNode → list_all (λ node. names_element node tree.old.root) nodes.now ≡ false }
+    ensures root_target { result ≡ Err RootTarget → is_among nodes.now (reference tree.old.root) ≡ true }
 {
-    node.0 == tree.root().0
-}
-
-/// Whether the element of this reference may have such an insertion: nothing is inserted beside the root.
-fn may_insert(tree: &DocTree, node: NodeRef, how: How) -> bool
-    ensures yes { result ≡ true → root_stays (node ∷ []) (Some how) tree.now.root ≡ true }
-    ensures no { result ≡ false → node ≡ reference tree.now.root }
-{
-    let root = tree.root();
-    if stays(how) {
-        return true;
-    }
-    node.0 != root.0
-}
-
-/// Whether an element stays where it is behind such an insertion.
-fn stays(how: How) -> bool
-    ensures { result ≡ stays (Some how) }
-{
-    match how {
-        How::First | How::Last => true,
-        How::Before | How::After => false,
-    }
+    // The document has fewer than 2^31 nodes.
+    let _count = tree.node_count();
+    let done = changed(alloc, tree, nodes, None, &Kids::new(alloc))?;
+    *tree = done.tree;
+    Ok(done.change)
 }
 
 /// The document behind the edit of one element.
-fn changed(
+fn changed_one(
     alloc: Global,
     tree: &DocTree,
     node: NodeRef,
     how: Option<How>,
     content: &Kids,
-) -> Result<DocTree, TreeFault>
-    requires root { root_stays (node ∷ []) how tree.now.root ≡ true }
-    requires few_nodes { node_count (plain tree.now.root) + nodes_count (nodes (map view.node content.now)) < 2 ^ 31 }
-    requires apart { KeepsApart (act_on (node ∷ []) how) (nodes (map view.node content.now)) tree.now.root }
-    requires few_words { HasFewWords (act_on (node ∷ []) how) (nodes (map view.node content.now)) tree.now.root }
-    ensures edited { IfOk result (λ new. IsEdited (act_on (node ∷ []) how) (nodes (map view.node content.now)) tree.now new) }
+) -> Result<Outcome, TreeFault>
+    requires { node_count (plain tree.now.root) + nodes_count (nodes (map view.node content.now)) < 2 ^ 31 }
+    ensures edited { IfOk result (λ done. IsEdited (act_on (node ∷ []) how) (nodes (map view.node content.now)) tree.now done.tree) }
+    ensures made { IfOk result (λ done. Made tree.now.root done.change done.tree.root) }
     ensures there { OnOk result (names_element node tree.now.root ≡ true) }
     ensures no_such_node { result ≡ Err NoSuchNode → names_element node tree.now.root ≡ false }
-    ensures inner { result ≡ Err RootTarget → ⊥ }
+    ensures root_target { result ≡ Err RootTarget → node ≡ reference tree.now.root }
 {
-    let Ok(chosen) = NodeRefs::from_slice(alloc, &[node]) else {
-        return Err(TreeFault::Memory);
-    };
-    let Ok(old) = tree.to_referenced() else {
-        return Err(TreeFault::Memory);
-    };
-    if !names_element(&old, node) {
-        drop(old);
-        return Err(TreeFault::NoSuchNode);
+    let chosen = NodeRefs::from_slice(alloc, &[node])?;
+    changed(alloc, tree, &chosen, how, content)
+}
+
+/// The document behind the edit of these elements.
+fn changed(
+    alloc: Global,
+    tree: &DocTree,
+    chosen: &NodeRefs,
+    how: Option<How>,
+    content: &Kids,
+) -> Result<Outcome, TreeFault>
+    requires few_nodes { node_count (plain tree.now.root) + nodes_count (nodes (map view.node content.now)) < 2 ^ 31 }
+    requires once { (nat_le (length chosen.now) 1 || is_empty content.now) ≡ true }
+    ensures edited { IfOk result (λ done. IsEdited (act_on chosen.now how) (nodes (map view.node content.now)) tree.now done.tree) }
+    ensures made { IfOk result (λ done. Made tree.now.root done.change done.tree.root) }
+    ensures there { OnOk result (list_all (λ node. names_element node tree.now.root) chosen.now ≡ true) }
+    ensures no_such_node { result ≡ Err NoSuchNode → list_all (λ node. names_element node tree.now.root) chosen.now ≡ false }
+    ensures root_target { result ≡ Err RootTarget → is_among chosen.now (reference tree.now.root) ≡ true }
+{
+    if !root_stays(tree, chosen, how) {
+        return Err(TreeFault::RootTarget);
     }
-    match edited(alloc, tree, old, &chosen, how, content) {
-        Ok(new) => Ok(new),
+    let old = tree.to_referenced()?;
+    match name_elements(alloc, &old, tree.slot_count(), chosen) {
+        Ok(true) => {}
+        Ok(false) => {
+            drop(old);
+            return Err(TreeFault::NoSuchNode);
+        }
+        Err(Memory) => {
+            drop(old);
+            return Err(TreeFault::Memory);
+        }
+    }
+    let draft = drafted(alloc, tree, old, chosen, how, content)?;
+    match carried_out(alloc, tree, draft) {
+        Ok(done) => Ok(done),
         Err(Memory) => Err(TreeFault::Memory),
     }
+}
+
+/// The document of a draft in slots, and what changed.
+fn carried_out(alloc: Global, tree: &DocTree, draft: Draft) -> Result<Outcome, Memory>
+    requires { KeepsOrder tree.now.root (ref_node draft.root) }
+    ensures tree { IfOk result (λ done. done.tree ≡ record { root = ref_node draft.root; slots = draft.slots }) }
+    ensures made { IfOk result (λ done. Made tree.now.root done.change (ref_node draft.root)) }
+{
+    let change = match draft.change(alloc, tree) {
+        Ok(change) => change,
+        Err(memory) => {
+            drop(draft);
+            return Err(memory);
+        }
+    };
+    match draft.into_tree(alloc) {
+        Ok(tree) => Ok(Outcome { tree, change }),
+        Err(memory) => {
+            drop(change);
+            Err(memory)
+        }
+    }
+}
+
+/// Whether one element stands where the root stands, behind such an edit.
+fn root_stays(tree: &DocTree, chosen: &NodeRefs, how: Option<How>) -> bool
+    ensures stays { result ≡ root_stays chosen.now how tree.now.root }
+    ensures chosen { result ≡ false → is_among chosen.now (reference tree.now.root) ≡ true }
+{
+    let root = tree.root();
+    stays(how) || !is_among(chosen, root)
+}
+
+/// Whether an element that was chosen stays where it is.
+fn stays(how: Option<How>) -> bool
+    ensures { result ≡ stays how }
+{
+    match how {
+        Some(How::First) | Some(How::Last) => true,
+        Some(How::Before) | Some(How::After) | None => false,
+    }
+}
+
+/// Whether the reference is among these.
+fn is_among(refs: &NodeRefs, node: NodeRef) -> bool
+    ensures { result ≡ is_among refs.now node }
+{
+    refs.as_slice().iter().any(|other| other.0 == node.0)
 }

@@ -6,9 +6,10 @@ use Rattle.ordered_tree.specs.declared.ref_tree.RefTree.TheVariants.{Element}
 use Rattle.ordered_tree.proofs.RefViews.{ref_node_element, ref_node_text}
 use Rattle.plain_tree.specs.Document.{nodes}
 use Rattle.plain_tree.specs.View.{node}
-use Rattle.tree_edits.specs.Edits.{all_changed, append, changed, is_among, joined, only}
+use Rattle.tree_edits.specs.Edits.{all_changed, append, changed, joined, only}
 use Rattle.tree_edits.specs.Fresh.{all_fresh}
 use Rattle.tree_edits.specs.steps.Acts.{act}
+use Rattle.tree_edits.specs.steps.Marks.{is_marked}
 use Rattle.tree_edits.proofs.ChangedLemmas.{all_changed_append, all_changed_only, changed_chosen, changed_other}
 use Rattle.tree_edits.proofs.JoiningLemmas.{are_joined_at}
 use Rattle.tree_edits.proofs.RowsJoined.{row, row_append, none_more, one_more, still_joined, element_after}
@@ -23,7 +24,7 @@ edit_all-loop-kid-preserved t c =
     let kid = c.in-Some.kid in
     let done = c.loop-kid.yielded in
     let edit = c.args.edit.now in
-    let chosen = is_among edit.chosen.now in
+    let chosen = is_marked edit.marks.now.items in
     let change = act edit.how (all_fresh edit.refs.now (nodes (map node edit.content.now))) in
     record {
       can_next = tt;
@@ -40,17 +41,17 @@ edit_all-loop-kid-preserved t c =
 pub edit_tree-returns-in-Text : goal.edit_tree-returns-in-Text
 edit_tree-returns-in-Text t c =
     let edit = c.args.edit.now in
-    let chosen = is_among edit.chosen.now in
+    let chosen = is_marked edit.marks.now.items in
     let change = act edit.how (all_fresh edit.refs.now (nodes (map node edit.content.now))) in
     let old = row c.args.list.now.items in
     let is = ref_node_text c.in-Text.node c.in-Text.text in
     on_ok_weaker c.join_tree.result (λ says h.
     says h ∙ ap (λ n. joined (append old (only n))) is ∙ ap (λ n. joined (append old (changed chosen change n))) (sym (ap ref_node c.in-Text.is ∙ is))) c.join_tree.ensures
 
-pub edit_tree-returns-then-is_among : goal.edit_tree-returns-then-is_among
-edit_tree-returns-then-is_among t c =
+pub edit_tree-returns-then-is_marked : goal.edit_tree-returns-then-is_marked
+edit_tree-returns-then-is_marked t c =
     let edit = c.args.edit.now in
-    let chosen = is_among edit.chosen.now in
+    let chosen = is_marked edit.marks.now.items in
     let change = act edit.how (all_fresh edit.refs.now (nodes (map node edit.content.now))) in
     let old = row c.args.list.now.items in
     let r = c.in-Element.node in
@@ -58,7 +59,7 @@ edit_tree-returns-then-is_among t c =
     let attrs = c.in-Element.attrs in
     let kids = c.in-Element.kids in
     let is = ref_node_element r name attrs kids in
-    let holds : chosen r ≡ true = sym c.is_among.ensures ∙ c.if-is_among.true in
+    let holds : chosen r ≡ true = sym c.is_marked.ensures ∙ c.if-is_marked.true in
     on_ok_weaker c.apply.result (λ says h.
     says h ∙ ap (λ n. joined (append old (change n))) is
     ∙ ap (λ ns. joined (append old ns)) (sym (changed_chosen chosen change r name attrs (row kids) holds))
@@ -67,7 +68,7 @@ edit_tree-returns-then-is_among t c =
 pub edit_tree-returns-in_ok-push-in-Element : goal.edit_tree-returns-in_ok-push-in-Element
 edit_tree-returns-in_ok-push-in-Element t c =
     let edit = c.args.edit.now in
-    let chosen = is_among edit.chosen.now in
+    let chosen = is_marked edit.marks.now.items in
     let change = act edit.how (all_fresh edit.refs.now (nodes (map node edit.content.now))) in
     let old = c.args.list.now.items in
     let r = c.in-Element.node in
@@ -75,7 +76,7 @@ edit_tree-returns-in_ok-push-in-Element t c =
     let attrs = c.in-Element.attrs in
     let kids = c.in-Element.kids in
     let is = ref_node_element r name attrs kids in
-    let fails : chosen r ≡ false = sym c.is_among.ensures ∙ c.if-is_among.false in
+    let fails : chosen r ≡ false = sym c.is_marked.ensures ∙ c.if-is_marked.false in
     λ h.
     ap row c.in_ok-push-in-Element.ensures.items
     ∙ ap (λ made. row (old ++ Element r name attrs made ∷ [])) c.from_vec.ensures

@@ -3,7 +3,7 @@ use Rattle.std.proofs.Common.{◌≡◌, ◌+◌, map, drop}
 use Rattle.doc_grammar.specs.Limits.{nodes_count}
 use Rattle.plain_tree.specs.Document.{nodes}
 use Rattle.plain_tree.specs.View.{node}
-use Rattle.tree_edits.proofs.edits.count_all.Given as goal
+use Rattle.tree_edits.proofs.drafting.count_all.Given as goal
 
 abbrev pub invariant-loop-tree : goal.invariant-loop-tree
 invariant-loop-tree l =

@@ -1,0 +1,5 @@
+pub mod PlacesLemmas
+pub mod DraftLemmas
+pub mod NumberingLemmas
+pub mod RenamedLemmas
+pub mod TouchedLemmas
