@@ -1,7 +1,7 @@
 -- One source: the first hit from a place on, and the hits behind it.
 use Rattle.std.proofs.Common.{◌≡◌, ℕ, zero, suc, ◌+◌, ◌<◌, ◌≤◌, min, Bool, true, false, cond, ◌||◌, ◌==◌, nat_lt, IsTrue, List, [], ◌∷◌, map, length, drop, Option, Some, None, slice_get, option_map, refl, sym, ap, subst, ◌∙◌, arith, inl, inr, one-add, drop-drop, length-drop}
 use Rattle.std.specs.List.{list_all, prefix_len}
-use Rattle.std.proofs.lemmas.Bool.{cases_lt, lt-ltb, le-ltb, eq-eqb, ne_eqb, and_parts}
+use Rattle.std.proofs.lemmas.Bool.{cases_lt, lt-ltb, le-ltb, eq-eqb, ne_eqb, and_parts, or_left}
 use Rattle.std.proofs.lemmas.Bool.Decides.{nat_tests}
 use Rattle.std.proofs.lemmas.List.Folds.{length-prefix_len}
 use Rattle.std.proofs.lemmas.List.{length-map}
@@ -210,3 +210,20 @@ source_sought stand plain before after place start end hit e less moved same cou
       omega (arith, steps, left, fewer, some, passed);
   grown = grown;
 }
+
+-- ---- a hit that is found
+
+there_at_hit : (at : HitPlace) (hit : Hit) → Some hit ≡ hit_at at → has (places_left at) hit.from ≡ true
+there_at_hit at hit e = first (drop at.place at.hits) (read_front at ∙ sym e)
+  where
+    first : (xs : List Hit) → slice_get xs 0 ≡ Some hit → has (froms xs) hit.from ≡ true
+    first [] none = cc
+    first (x ∷ xs) some =
+        let same : x ≡ hit = cc in
+        or_left (x.from == hit.from) (has (froms xs) hit.from) (eq-eqb x.from hit.from (ap (λ h. h.from) same))
+
+pub found_at_hit : (place limit : ℕ) (at after : HitPlace) → after ≡ sought place at → (hit : Hit) → Some hit ≡ hit_at after → (result : ℕ) → result ≡ min hit.from limit
+    → place ≤ result → result < limit → has (places_left at) result ≡ true
+found_at_hit place limit at after reached hit e result is from below =
+    let first : result ≡ hit.from = omega (arith, is) in
+    sym ((source_same place at after reached).same result from) ∙ ap (has (places_left after)) first ∙ there_at_hit after hit e

@@ -1,8 +1,9 @@
 -- A search through all elements of a list for the first place at which one of them passes.
-use Rattle.std.proofs.Common.{◌≡◌, ℕ, ◌+◌, ◌<◌, ◌≤◌, min, Bool, ◌||◌, List, ◌∷◌, length, get_or, set, drop, refl, sym, ap, ◌∙◌, arith, length-set, drop-set-lt}
+use Rattle.std.proofs.Common.{◌≡◌, ℕ, ◌+◌, ◌<◌, ◌≤◌, min, Bool, true, ◌||◌, List, ◌∷◌, length, get_or, set, drop, refl, sym, ap, subst, ◌∙◌, arith, inl, inr, length-set, drop-set-lt}
 use Rattle.std.specs.List.{list_any}
-use Rattle.std.proofs.lemmas.Bool.{or_left}
+use Rattle.std.proofs.lemmas.Bool.{or_left, cases_lt}
 use Rattle.std.proofs.lemmas.List.{drop_more, drop_all}
+use Rattle.std.proofs.lemmas.List.Folds.{list_any_at}
 use Rattle.place_merges.specs.steps.Searching.{Shown, Leads, SameFrom, Moved, shown_all}
 use Rattle.place_merges.proofs.MoveLemmas.{unmoved, moved_on, moved_in, same_on, any_set}
 
@@ -99,3 +100,34 @@ module _ {A L : Type 0} (passes : A → ℕ → Bool) (shown : A → Shown L) wh
         there = λ e. absurd (omega (arith, e));
         none = λ other a b. so_far.left other a b ∙ ap (λ l. some_pass passes l other) (drop_all number now h);
       }
+
+-- a search whose first place found is one at which one passes
+pub record Settled {A L : Type 0} (passes : A → ℕ → Bool) (shown : A → Shown L) (old now : List A) (place limit first number start end : ℕ) : Type 0 where
+  pub searched : Searched passes shown old now place limit first number start end
+  pub found : first < limit → some_pass passes old first ≡ true
+
+module _ {A L : Type 0} (passes : A → ℕ → Bool) (shown : A → Shown L) where
+  pub settled_starts : (xs : List A) (place limit steps : ℕ) → place < limit → Settled passes shown xs xs place limit limit 0 steps steps
+  settled_starts xs place limit steps h = record { searched = search_starts passes shown xs place limit steps h; found = λ less. absurd (omega (arith, less)) }
+
+  passed_at : (xs : List A) (i place : ℕ) (x : A) → i < length xs → x ≡ get_or xs i x → passes x place ≡ true → some_pass passes xs place ≡ true
+  passed_at xs i place x h e there = list_any_at (λ y. passes y place) xs i x h (ap (λ y. passes y place) (sym e) ∙ there)
+
+  module _ (old now : List A) (place limit first number start middle end : ℕ) (so_far : Settled passes shown old now place limit first number start middle)
+      (x y : A) (within : number < length now) (read : x ≡ get_or now number x) (next : ℕ) (leads : Leads (passes x) place limit next) (there : next < limit → passes x next ≡ true)
+      (same : SameFrom place (passes y) (passes x)) (moved : Moved (shown x) (shown y) middle end) where
+    found_next : next < limit → some_pass passes old next ≡ true
+    found_next less = sym (so_far.searched.same.same next leads.from) ∙ passed_at now number next x within read (there less)
+
+    pub settled_goes_on : (sooner : ℕ) → sooner ≡ min first next → (next ≡ place → ⊥) → Settled passes shown old (set now number y) place limit sooner (number + 1) start end
+    settled_goes_on sooner e other_place = record {
+      searched = search_goes_on passes shown old now place limit first number start middle end so_far.searched x y within read next leads same moved sooner e other_place;
+      found = λ less. elim (cases_lt next first) [
+        | inl before ↦
+            let is : next ≡ sooner = omega (arith, e) in
+            subst (λ p. some_pass passes old p ≡ true) is (found_next (omega (arith, is, less)))
+        | inr behind ↦
+            let is : first ≡ sooner = omega (arith, e) in
+            subst (λ p. some_pass passes old p ≡ true) is (so_far.found (omega (arith, is, less)))
+      ];
+    }

@@ -27,4 +27,5 @@ pub use counting::count_places;
 pub use finding::next_spot;
 pub use first_words::FirstWords;
 pub use item::{Item, Variant};
+pub use source::lead_of_sources;
 pub use spot::Spot;

@@ -1,6 +1,6 @@
 //! The hits of one source, and of several together.
 
-ghost use Rattle.std.specs.Prelude.{◌≡◌, ◌<◌, IsTrue, option_map};
+ghost use Rattle.std.specs.Prelude.{◌≡◌, ◌<◌, IsTrue, option_map, true};
 ghost use Rattle.ft_base.specs.Hits.{hit_at, is_sorted, sought};
 ghost use Rattle.place_merges.specs.Sources.{places_left};
 ghost use Rattle.place_merges.specs.steps.Searching.{Leads, Moved, SameFrom, has, shown_source, shown_sources, some_has};
@@ -26,7 +26,7 @@ fn reach<H: FirstWords, L: Ledger>(source: &mut H, place: u32, steps: &mut Steps
     source.first_word()
 }
 
-/// The place, where the source has a hit there; or else a later one, up to the limit, in front of which it has none.
+/// The first place from that one on at which the source has a hit, or the limit where there is none in front of it.
 fn lead_of_source<H: FirstWords, L: Ledger>(
     source: &mut H,
     place: u32,
@@ -35,6 +35,7 @@ fn lead_of_source<H: FirstWords, L: Ledger>(
 ) -> u32
     requires { place < limit }
     ensures leads { Leads (has (places_left (H.stand source.old))) place limit result }
+    ensures found { result < limit → has (places_left (H.stand source.old)) result ≡ true }
     ensures same { SameFrom place (has (places_left (H.stand source.new))) (has (places_left (H.stand source.old))) }
     ensures moved { Moved (shown_source H.stand H.plain source.old) (shown_source H.stand H.plain source.new) steps.old steps.new }
 {
@@ -44,9 +45,9 @@ fn lead_of_source<H: FirstWords, L: Ledger>(
     }
 }
 
-/// The place, where one of the sources has a hit there; or else a later one, up to the limit, in front of which none
-/// has one.
-pub(crate) fn lead_of_sources<H: FirstWords, L: Ledger>(
+/// The first place from that one on at which one of the sources has a hit, or the limit where there is none in front of
+/// it. Of plain sources each hit that is passed counts two steps at most.
+pub fn lead_of_sources<H: FirstWords, L: Ledger>(
     sources: &mut Vec<H>,
     place: u32,
     limit: u32,
@@ -54,6 +55,7 @@ pub(crate) fn lead_of_sources<H: FirstWords, L: Ledger>(
 ) -> u32
     requires { place < limit }
     ensures leads { Leads (some_has H.stand sources.old.items) place limit result }
+    ensures found { result < limit → some_has H.stand sources.old.items result ≡ true }
     ensures same { SameFrom place (some_has H.stand sources.new.items) (some_has H.stand sources.old.items) }
     ensures moved { Moved (shown_sources H.stand H.plain sources.old.items) (shown_sources H.stand H.plain sources.new.items) steps.old steps.new }
 {

@@ -1,0 +1,287 @@
+-- Words near one another: the hits that a search reaches, and choices that are left as the window goes on.
+use Rattle.std.proofs.Common.{◌≡◌, refl, sym, ap, subst, ◌∙◌, ℕ, suc, ◌+◌, ◌-◌, ◌<◌, ◌≤◌, max, Bool, true, false, ◌&&◌, eqb, List, [], ◌∷◌, map, length, get_or, set, arith, inl, inr}
+use Rattle.std.specs.Prelude.{nat_le, nat_lt}
+use Rattle.std.proofs.lemmas.Bool.{and_from, and_parts, both_ways, cases_eq, cases_lt, eqb-true, false_from_ne_true, le-leb, lt-ltb, leb-true, ltb-true, or_cases}
+use Rattle.std.proofs.lemmas.List.{get_or_read}
+use Rattle.place_merges.specs.steps.Searching.{Shown, Leads, SameFrom, Moved, shown_all, has}
+use Rattle.place_merges.proofs.MoveLemmas.{unmoved, moved_on, moved_in}
+use Rattle.window_merges.specs.Choices.{are_close, some_choice}
+use Rattle.window_merges.specs.steps.Reaching.{Between, Lacks, Reaches, SameWords}
+use Rattle.window_merges.proofs.ChoiceLemmas.{Chosen, all_between, choice, chosen_at, close_between, close_pair, from_choice, is_chosen}
+use Rattle.window_merges.proofs.WordLemmas.{same_after, same_later, same_set, same_words}
+
+-- ---- one search through all words
+
+-- the words in front of the number have a hit up to the farthest, and where it is farther than the place, one of them has none in front
+-- of it
+pub record Reaching {A L : Type 0} (passes : A → ℕ → Bool) (shown : A → Shown L) (old now : List A) (place limit far number start end : ℕ) : Type 0 where
+  pub same : SameWords passes place now old
+  pub from : place ≤ far
+  pub below : far < limit
+  pub near : (i : ℕ) (other : A) → i < number → Between (passes (get_or old i other)) place far
+  pub lacks : place < far → Lacks passes place far old number
+  pub moved : Moved (shown_all shown old) (shown_all shown now) start end
+
+module _ {A L : Type 0} (passes : A → ℕ → Bool) (shown : A → Shown L) where
+  pub reaching_starts : (words : List A) (place limit steps : ℕ) → place < limit → Reaching passes shown words words place limit place 0 steps steps
+  reaching_starts words place limit steps h = record {
+    same = same_words passes words place;
+    from = omega arith;
+    below = h;
+    near = λ i other less. absurd (omega (arith, less));
+    lacks = λ less. absurd (omega (arith, less));
+    moved = unmoved (shown_all shown words) steps;
+  }
+
+  module _ (old now : List A) (place limit far number start middle end : ℕ) (so_far : Reaching passes shown old now place limit far number start middle)
+      (x y : A) (within : number < length now) (read : x ≡ get_or now number x) (first : ℕ) (leads : Leads (passes x) place limit first)
+      (same : SameFrom place (passes y) (passes x)) (moved : Moved (shown x) (shown y) middle end) where
+    pub reached_same : SameWords passes place (set now number y) old
+    reached_same = same_after passes old now (set now number y) place so_far.same (same_set passes now number place x y within read same)
+
+    pub reached_moved : Moved (shown_all shown old) (shown_all shown (set now number y)) start end
+    reached_moved = moved_on (shown_all shown old) (shown_all shown now) (shown_all shown (set now number y)) start middle end so_far.moved (moved_in shown now number x y middle end within read moved)
+
+    -- the word as it was
+    was : (other : A) (p : ℕ) → place ≤ p → passes x p ≡ passes (get_or old number other) p
+    was other p le =
+        ap (λ a. passes a p) (get_or_read now number x within read other)
+        ∙ (so_far.same.same number other (omega (arith, within, so_far.same.long))).same p le
+
+    lacks_word : Lacks passes place first old (number + 1)
+    lacks_word = record { number = number; within = omega arith; none = λ other p le less. sym (was other p le) ∙ leads.none p le less }
+
+    pub reaching_goes_on : (first < limit → passes x first ≡ true) → first < limit → (farther : ℕ) → farther ≡ max far first → Reaching passes shown old (set now number y) place limit farther (number + 1) start end
+    reaching_goes_on there less farther e =
+        let below = so_far.below in
+        let from = so_far.from in
+        record {
+          same = reached_same;
+          from = omega (arith, e, from);
+          below = omega (arith, e, below, less);
+          near = near;
+          lacks = lacks;
+          moved = reached_moved;
+        }
+      where
+        near : (i : ℕ) (other : A) → i < number + 1 → Between (passes (get_or old i other)) place farther
+        near i other inside = elim (cases_eq i number) [
+          | inl here ↦ record {
+            place = first;
+            from = leads.from;
+            to = omega (arith, e);
+            there = ap (λ n. passes (get_or old n other) first) here ∙ sym (was other first leads.from) ∙ there less;
+          }
+          | inr ne ↦
+              let b = so_far.near i other (omega (arith, inside, ne)) in
+              record { place = b.place; from = b.from; to = omega (arith, e, b.to); there = b.there }
+        ]
+
+        lacks : place < farther → Lacks passes place farther old (number + 1)
+        lacks h = elim (cases_lt far first) [
+          | inl beyond ↦ let is : first ≡ farther = omega (arith, e, beyond) in subst (λ f. Lacks passes place f old (number + 1)) is lacks_word
+          | inr not_beyond ↦
+              let is : far ≡ farther = omega (arith, e, not_beyond) in
+              let l = so_far.lacks (omega (arith, is, h)) in
+              subst (λ f. Lacks passes place f old (number + 1)) is (record { number = l.number; within = omega (arith, l.within); none = l.none })
+        ]
+
+    pub reaching_fails : place < limit → limit ≤ first → Reaches passes old place limit limit
+    reaching_fails order h =
+        let to = leads.to in
+        let is : first ≡ limit = omega (arith, to, h) in
+        record {
+          from = omega (arith, order);
+          to = omega arith;
+          near = λ less number other inside. absurd (omega (arith, less));
+          lacks = λ less.
+              let l = subst (λ f. Lacks passes place f old (number + 1)) is lacks_word in
+              record { number = l.number; within = omega (arith, l.within, within, so_far.same.long); none = l.none };
+        }
+
+  pub reaching_ends : (old now : List A) (place limit far number start end : ℕ) → Reaching passes shown old now place limit far number start end → length now ≤ number → number ≤ length now → Reaches passes old place limit far
+  reaching_ends old now place limit far number start end so_far h k = record {
+    from = so_far.from;
+    to = omega (arith, so_far.below);
+    near = λ less i other inside. so_far.near i other (omega (arith, inside, h, so_far.same.long));
+    lacks = λ less. let l = so_far.lacks less in record { number = l.number; within = omega (arith, l.within, k, so_far.same.long); none = l.none };
+  }
+
+-- ---- the window
+
+-- a place of a span at which a word passes
+pub record Told {A : Type 0} (passes : A → ℕ → Bool) (first last : ℕ) (word : A) (place : ℕ) : Type 0 where
+  pub from : first ≤ place
+  pub to : place < last
+  pub there : passes word place ≡ true
+
+-- a choice of places between two others
+pub record Gathered {A : Type 0} (places : A → List ℕ) (words : List A) (low high : ℕ) : Type 0 where
+  pub chosen : List ℕ
+  pub each : is_chosen places words chosen ≡ true
+  pub within : all_between low high chosen ≡ true
+  pub long : length chosen ≡ length words
+
+-- all places of a choice that is near are at or behind a place
+pub record Ahead {A : Type 0} (places : A → List ℕ) (size low : ℕ) (words : List A) : Type 0 where
+  pub ahead : (chosen : List ℕ) → is_chosen places words chosen ≡ true → are_close size chosen ≡ true → (place : ℕ) → has chosen place ≡ true → low ≤ place
+
+-- a chosen place that is as far as another one
+pub record Beyond (chosen : List ℕ) (far last : ℕ) : Type 0 where
+  pub place : ℕ
+  pub in_choice : has chosen place ≡ true
+  pub beyond : far ≤ place
+  pub below : place < last
+
+-- the window begins at a place, and no choice that is near has a place in front of it
+pub record Narrowing {A L : Type 0} (passes : A → ℕ → Bool) (places : A → List ℕ) (shown : A → Shown L) (old now : List A) (size first low start end : ℕ) : Type 0 where
+  pub some : 0 < length old
+  pub from : first ≤ low
+  pub same : SameWords passes low now old
+  pub ahead : Ahead places size low old
+  pub moved : Moved (shown_all shown old) (shown_all shown now) start end
+
+module _ {A : Type 0} (passes : A → ℕ → Bool) (places : A → List ℕ) (from to : ℕ)
+    (told : (word : A) (place : ℕ) → has (places word) place ≡ ((nat_le from place && nat_lt place to) && passes word place)) where
+  pub told_there : (word : A) (place : ℕ) → has (places word) place ≡ true → Told passes from to word place
+  told_there word place h =
+      let parts = and_parts (nat_le from place && nat_lt place to) (passes word place) (sym (told word place) ∙ h) in
+      let bounds = and_parts (nat_le from place) (nat_lt place to) parts.0 in
+      record { from = leb-true from place bounds.0; to = ltb-true place to bounds.1; there = parts.1 }
+
+  pub told_from : (word : A) (place : ℕ) → from ≤ place → place < to → passes word place ≡ true → has (places word) place ≡ true
+  told_from word place a b h =
+      told word place ∙ and_from (nat_le from place && nat_lt place to) (passes word place) (and_from (nat_le from place) (nat_lt place to) (le-leb from place a) (lt-ltb place to b)) h
+
+  -- ---- a choice where each word has a hit near enough
+
+  pub gather : (words : List A) (low high : ℕ) → from ≤ low → high < to → ((number : ℕ) (other : A) → number < length words → Between (passes (get_or words number other)) low high) → Gathered places words low high
+  gather [] low high a b near = record { chosen = []; each = refl; within = refl; long = refl }
+  gather (x ∷ words) low high a b near =
+      let here : Between (passes x) low high = near 0 x (omega arith) in
+      let rest = gather words low high a b (λ number other h. near (suc number) other (omega (arith, h))) in
+      record {
+        chosen = here.place ∷ rest.chosen;
+        each = and_from (has (places x) here.place) (is_chosen places words rest.chosen) (told_from x here.place (omega (arith, a, here.from)) (omega (arith, b, here.to)) here.there) rest.each;
+        within = and_from (nat_le low here.place && nat_le here.place high) (all_between low high rest.chosen)
+            (and_from (nat_le low here.place) (nat_le here.place high) (le-leb low here.place here.from) (le-leb here.place high here.to)) rest.within;
+        long = ap suc rest.long;
+      }
+
+  pub close_found : (words now : List A) (size low far : ℕ) → 0 < length words → from ≤ low → SameWords passes low now words → Reaches passes now low to far → far < to → far - low < size
+      → some_choice (are_close size) (map places words) ≡ true
+  close_found words now size low far some order same reaches below near =
+      let g = gather words low far order below old_near in
+      let reach = reaches.from in
+      from_choice places (are_close size) words g.chosen g.each
+      (close_between size low far g.chosen (omega (arith, some, g.long)) g.within (omega (arith, near, reach)))
+    where
+      old_near : (number : ℕ) (other : A) → number < length words → Between (passes (get_or words number other)) low far
+      old_near number other h =
+          let b = reaches.near below number other (omega (arith, h, same.long)) in
+          record { place = b.place; from = b.from; to = b.to; there = sym ((same.same number other h).same b.place b.from) ∙ b.there }
+
+  -- where a word lacks a hit up to a place, the place that is chosen for it is not in front of that
+  module _ (words now : List A) (size low : ℕ) (ahead : Ahead places size low words) (same : SameWords passes low now words) (chosen : List ℕ) (each : is_chosen places words chosen ≡ true)
+      (close : are_close size chosen ≡ true) where
+    pub beyond_lack : (far : ℕ) → Lacks passes low far now (length now) → Beyond chosen far to
+    beyond_lack far lacks =
+        let inside : lacks.number < length words = omega (arith, lacks.within, same.long) in
+        let at = chosen_at places words chosen lacks.number each inside in
+        let there = told_there at.element at.place at.in_list in
+        let behind = ahead.ahead chosen each close at.place at.in_choice in
+        record {
+          place = at.place;
+          in_choice = at.in_choice;
+          beyond = elim (cases_lt at.place far) [
+            | inl less ↦
+                let none = lacks.none at.element at.place behind less in
+                let was = (same.same lacks.number at.element inside).same at.place behind in
+                let is : passes (get_or words lacks.number at.element) at.place ≡ true = ap (λ a. passes a at.place) (at.is at.element) ∙ there.there in
+                absurd (both_ways (passes (get_or now lacks.number at.element) at.place) none (was ∙ is))
+            | inr le ↦ le
+          ];
+          below = there.to;
+        }
+
+  pub close_fails : (words now : List A) (size low far : ℕ) → low < to → to ≤ far → Ahead places size low words → SameWords passes low now words → Reaches passes now low to far
+      → some_choice (are_close size) (map places words) ≡ false
+  close_fails words now size low far order h ahead same reaches =
+      false_from_ne_true (some_choice (are_close size) (map places words)) (λ e. none (choice places (are_close size) words e))
+    where
+      none : Chosen places (are_close size) words → ⊥
+      none c =
+          let b = beyond_lack words now size low ahead same c.chosen c.each c.passes far (reaches.lacks (omega (arith, order, h))) in
+          let far_place = b.beyond in
+          let below = b.below in
+          absurd (omega (arith, far_place, below, h))
+
+  pub close_ends : (words : List A) (size low : ℕ) → 0 < length words → to ≤ low → Ahead places size low words → some_choice (are_close size) (map places words) ≡ false
+  close_ends words size low some h ahead = false_from_ne_true (some_choice (are_close size) (map places words)) (λ e. none (choice places (are_close size) words e))
+    where
+      none : Chosen places (are_close size) words → ⊥
+      none c =
+          let at = chosen_at places words c.chosen 0 c.each some in
+          let there = told_there at.element at.place at.in_list in
+          let behind = ahead.ahead c.chosen c.each c.passes at.place at.in_choice in
+          let below = there.to in
+          absurd (omega (arith, behind, below, h))
+
+  pub close_goes_on : (words now : List A) (size low far : ℕ) → Ahead places size low words → SameWords passes low now words → Reaches passes now low to far → size ≤ far - low → Ahead places size (far - size + 1) words
+  close_goes_on words now size low far ahead same reaches h = record { ahead = later }
+    where
+      later : (chosen : List ℕ) → is_chosen places words chosen ≡ true → are_close size chosen ≡ true → (place : ℕ) → has chosen place ≡ true → far - size + 1 ≤ place
+      later chosen each close place e = elim (cases_lt low far) [
+        | inl less ↦
+            let b = beyond_lack words now size low ahead same chosen each close far (reaches.lacks less) in
+            let near = close_pair size chosen close place b.place e b.in_choice in
+            let far_place = b.beyond in
+            omega (arith, near, far_place)
+        | inr le ↦ let near = close_pair size chosen close place place e e in absurd (omega (arith, near, le, h))
+      ]
+
+  pub ahead_starts : (words : List A) (size : ℕ) → Ahead places size from words
+  ahead_starts words size = record { ahead = λ chosen each close place e. in_span words chosen place each e }
+    where
+      in_span : (words : List A) (chosen : List ℕ) (place : ℕ) → is_chosen places words chosen ≡ true → has chosen place ≡ true → from ≤ place
+      in_span words [] place each e = cc
+      in_span [] (p ∷ chosen) place each e = cc
+      in_span (x ∷ words) (p ∷ chosen) place each e =
+          let parts = and_parts (has (places x) p) (is_chosen places words chosen) each in
+          elim (or_cases (eqb p place) (has chosen place) e) [
+            | inl here ↦ let same = eqb-true p place here in let there = told_there x p parts.0 in omega (arith, same, there.from)
+            | inr later ↦ in_span words chosen place parts.1 later
+          ]
+
+  module _ {L : Type 0} (shown : A → Shown L) where
+    pub narrowing_starts : (words : List A) (size steps : ℕ) → 0 < length words → Narrowing passes places shown words words size from from steps steps
+    narrowing_starts words size steps some = record {
+      some = some;
+      from = omega arith;
+      same = same_words passes words from;
+      ahead = ahead_starts words size;
+      moved = unmoved (shown_all shown words) steps;
+    }
+
+    module _ (old now after : List A) (size low start middle end : ℕ) (so_far : Narrowing passes places shown old now size from low start middle) (far : ℕ)
+        (reaches : Reaches passes now low to far) (same : SameWords passes low after now) (moved : Moved (shown_all shown now) (shown_all shown after) middle end) where
+      pub narrowing_moved : Moved (shown_all shown old) (shown_all shown after) start end
+      narrowing_moved = moved_on (shown_all shown old) (shown_all shown now) (shown_all shown after) start middle end so_far.moved moved
+
+      pub narrowing_found : far < to → far - low < size → some_choice (are_close size) (map places old) ≡ true
+      narrowing_found below near = close_found old now size low far so_far.some so_far.from so_far.same reaches below near
+
+      pub narrowing_fails : low < to → to ≤ far → some_choice (are_close size) (map places old) ≡ false
+      narrowing_fails order h = close_fails old now size low far order h so_far.ahead so_far.same reaches
+
+      pub narrowing_goes_on : size ≤ far - low → low ≤ far - size + 1 → Narrowing passes places shown old after size from (far - size + 1) start end
+      narrowing_goes_on h later = record {
+        some = so_far.some;
+        from = omega (arith, later, so_far.from);
+        same = same_later passes after old low (far - size + 1) later (same_after passes old now after low so_far.same same);
+        ahead = close_goes_on old now size low far so_far.ahead so_far.same reaches h;
+        moved = narrowing_moved;
+      }
+
+    pub narrowing_ends : (old now : List A) (size low start end : ℕ) → Narrowing passes places shown old now size from low start end → to ≤ low → some_choice (are_close size) (map places old) ≡ false
+    narrowing_ends old now size low start end so_far h = close_ends old size low so_far.some h so_far.ahead

@@ -1,0 +1,9 @@
+pub mod ChoiceLemmas
+pub mod ChoiceTests
+pub mod WordLemmas
+pub mod CloseLemmas
+pub mod OrderLemmas
+pub mod FilterLemmas
+pub mod ShiftLemmas
+pub mod SingleSpots
+pub mod WantedLemmas

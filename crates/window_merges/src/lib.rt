@@ -1,0 +1,17 @@
+//! Words that stand near one another, or in order, found by going through their hits.
+//!
+//! Each word has some sources of hits, as one for each form in which it stands in a text. `stand_close` says whether all
+//! words have a hit among so many places that follow one another, `stand_in_order` whether their hits can be chosen so
+//! that none stands in front of one that was chosen for an earlier word. Neither tries choices: the sources go forward
+//! only, and no memory is taken.
+//!
+//! `laws` says what this has to do with `ftand` under `window` and `ordered`.
+#![tactic(auto)]
+
+mod close;
+pub mod examples;
+mod in_order;
+pub mod laws;
+
+pub use close::stand_close;
+pub use in_order::stand_in_order;
