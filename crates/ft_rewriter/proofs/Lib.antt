@@ -1,3 +1,4 @@
+pub mod AllowedRewriting
 pub mod Among
 pub mod Associative
 pub mod EachSelection

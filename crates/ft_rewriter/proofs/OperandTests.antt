@@ -115,7 +115,7 @@ module _ (c : Connective) (test : Form → Bool) where
       ∙ op_assoc c (many c test kept) (test x) (many c test rest)
       ∙ ap (op c (many c test kept)) (sym (many_more x rest))
 
-  many_without_repeats : (forms : List Form) → many c test (without_repeats forms) ≡ many c test forms
+  pub many_without_repeats : (forms : List Form) → many c test (without_repeats forms) ≡ many c test forms
   many_without_repeats forms = all_operands [] forms ∙ ap (λ b. op c b (many c test forms)) many_none ∙ unit_op c (many c test forms)
 
   many_flat : ((form : Form) → many c test (operands_in c form) ≡ test form) → (forms : List Form) → many c test (flat_map (operands_in c) forms) ≡ many c test forms

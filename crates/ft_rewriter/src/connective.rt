@@ -1,6 +1,6 @@
 /// What joins the operands of a selection.
 #[derive(Clone, Copy)]
-pub(crate) enum Connective {
+pub enum Connective {
     /// `ftor` (the standard's FTOr)
     Or,
     /// `ftand` (the standard's FTAnd)

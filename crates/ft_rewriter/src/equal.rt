@@ -73,7 +73,7 @@ fn put_selections(out: &mut Items<u32>, parts: &Selections) -> Result<(), Memory
 }
 
 /// The numbers of a selection, which no other selection has.
-fn numbers_of(alloc: Global, selection: &Selection) -> Result<Items<u32>, Memory>
+pub fn numbers_of(alloc: Global, selection: &Selection) -> Result<Items<u32>, Memory>
     ensures { IfOk result (λ numbers. numbers ≡ form_numbers (form selection.now)) }
 {
     let mut out = Items::new(alloc);

@@ -14,4 +14,6 @@ mod option_numbers;
 mod rewriting;
 mod simplified;
 
+pub use connective::Connective;
+pub use equal::numbers_of;
 pub use rewriting::rewrite;

@@ -1,4 +1,5 @@
-ghost use Rattle.std.specs.Prelude.{◌≡◌, IfOk, List};
+ghost use Rattle.std.specs.Prelude.{◌≡◌, true, IfOk, List};
+ghost use Rattle.all_matches.specs.Allowed.{is_allowed};
 ghost use Rattle.all_matches.specs.Meaning.{sat};
 ghost use Rattle.all_matches.specs.Variants.{Lexicon};
 ghost use Rattle.ft_base.specs.declared.token.Token.{Token};
@@ -22,11 +23,12 @@ fn give_and_simplify(alloc: Global, selection: &Selection) -> Result<Selection, 
 }
 
 /// The selection in a simpler form, which the same texts satisfy: options stand at words alone, `ftnot` in front of words, `not in` and
-/// selections with filters, and no operand of `ftor` or `ftand` twice.
+/// selections with filters, and no operand of `ftor` or `ftand` twice. In it `ftnot` and `occurs` stand where they may, if they did before.
 pub fn rewrite(alloc: Global, selection: &Selection) -> Result<Selection, Memory>
     ensures is { IfOk result (λ simple. form simple ≡ rewritten (form selection.now)) }
     ensures says_the_same { IfOk result (λ simple. (lexicon : Lexicon) (tokens : List Token)
         → sat lexicon (form simple) tokens ≡ sat lexicon (form selection.now) tokens) }
+    ensures allowed { IfOk result (λ simple. is_allowed (form selection.now) ≡ true → is_allowed (form simple) ≡ true) }
 {
     give_and_simplify(alloc, selection)
 }

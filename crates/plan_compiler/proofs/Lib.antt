@@ -12,6 +12,7 @@ mod AllowedLemmas
 pub mod SelectionMeaning
 mod PriceMeaning
 mod CompiledLemmas
+mod RewrittenPrices
 mod TermLaws
 mod RunViews
 mod PartLemmas

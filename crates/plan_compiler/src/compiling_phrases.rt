@@ -114,7 +114,8 @@ fn variant_tests(
     reading: &Reading<'_>,
     phrase: &[QueryItem],
 ) -> Result<Items<Items<ItemTest>>, Memory>
-    ensures { IfOk result (λ variants. map (map passes) variants ≡ map (map (spec.item_test reading.now)) (spec.phrases_for reading.now (map item phrase.now))) }
+    ensures { IfOk result (λ variants. map (map passes) variants
+        ≡ map (map (spec.item_test reading.now)) (spec.phrases_for reading.now (map item phrase.now))) }
 {
     let phrases = phrases_for(alloc, reading, phrase)?;
     tests_of_phrases(alloc, reading, phrases.as_slice())

@@ -23,7 +23,8 @@ pub trait Judge {
     ghost says: { Judgement };
 
     /// Whether the tokens of the span of the document satisfy the selection of the run, under its lists. The run stays over its
-    /// selection, its lists and its version. It takes no memory, and moves cursors by no more than the price of the selection there.
+    /// selection, its lists and its version. It takes no memory, and moves cursors by no more than the price of the selection there,
+    /// in which moves under a filter or `not in` aren't counted.
     fn judge<L: Ledger>(
         &self,
         run: &mut Run<'_>,

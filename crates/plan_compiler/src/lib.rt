@@ -46,6 +46,5 @@ mod words_plan;
 pub use fault::CompileFault;
 pub use judge::{Direct, Judge};
 pub use lists::Lists;
-pub use missing::missing_list;
 pub use plan::Plan;
 pub use run::Run;

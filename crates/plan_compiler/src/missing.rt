@@ -12,7 +12,7 @@ use ft_syntax::{Selection, Selections};
 /// The name of the first stop list or thesaurus, in the order of the selection's printed form, that isn't there. An option that is
 /// overridden further in counts too.
 #[cycle(missing)]
-pub fn missing_list<'a>(selection: &'a Selection, lists: &Lists) -> Option<&'a str>
+pub(crate) fn missing_list<'a>(selection: &'a Selection, lists: &Lists) -> Option<&'a str>
     ensures { option_copied result ≡ spec.first_missing lists.now (form selection.now) }
 {
     match selection {

@@ -20,6 +20,7 @@ use crate::opening::open_node;
 use crate::run::Run;
 use crate::served::is_served;
 use ft_base::{Line, Memory};
+use ft_rewriter::rewrite;
 use ft_syntax::{Selection, copy_selection};
 use index_versions::Version;
 use std::alloc::Global;
@@ -58,8 +59,7 @@ impl Plan {
             let name = Line::read(alloc, name)?;
             return Err(CompileFault::NoSuchList { name });
         }
-        let looks = looks_of(selection);
-        let root = compile(alloc, lists, looks, &none_chosen(), selection)?;
+        let (looks, root) = compile_rewritten(alloc, selection, lists)?;
         match copies_of(alloc, selection, lists) {
             Ok((selection, lists)) => Ok(Plan {
                 alloc,
@@ -92,6 +92,35 @@ impl Plan {
             root,
         })
     }
+}
+
+/// What is compiled in the place of the selection: a simpler one, which the same texts satisfy and which costs no more.
+fn compile_rewritten(
+    alloc: Global,
+    selection: &Selection,
+    lists: &Lists,
+) -> Result<(Looks, Node), Memory>
+    requires { IsTrue (is_allowed (form selection.now)) }
+    ensures { IfOk result (λ made. Compiles made.0 lists.now no_options made.1 (form selection.now)) }
+{
+    let simple = rewrite(alloc, selection)?;
+    let made = compile_simple(alloc, &simple, lists);
+    drop(simple);
+    made
+}
+
+/// The selection compiled, and what it looks at of each word of a text.
+fn compile_simple(
+    alloc: Global,
+    selection: &Selection,
+    lists: &Lists,
+) -> Result<(Looks, Node), Memory>
+    requires { IsTrue (is_allowed (form selection.now)) }
+    ensures { IfOk result (λ made. Compiles made.0 lists.now no_options made.1 (form selection.now)) }
+{
+    let looks = looks_of(selection);
+    let root = compile(alloc, lists, looks, &none_chosen(), selection)?;
+    Ok((looks, root))
 }
 
 /// A copy of the selection, and one of the lists, which shares the lists themselves.

@@ -46,7 +46,7 @@ impl<'v> Model for Run<'v> {
 
 impl<'v> Run<'v> {
     /// Whether the tokens of the span of the document satisfy the plan's selection. It moves cursors forward, at most as often as the
-    /// selection's price at the span says, and takes no memory.
+    /// selection's price at the span says, and takes no memory. Moves under a filter or `not in` aren't counted.
     pub fn test<L: Ledger>(&mut self, doc: DocId, span: Span, moves: &mut Steps<L>) -> bool
         requires there { has_document doc.0 self.old.version ≡ true }
         requires inside { (1 ≤ span.from) × (span.from ≤ span.to) × (span.to ≤ token_count (document_at doc.0 self.old.version) + 1) }

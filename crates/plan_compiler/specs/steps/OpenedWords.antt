@@ -20,7 +20,10 @@ use Rattle.plan_compiler.specs.declared.words_plan.WordsPlan.{WordsPlan}
 
 module _ (looks : Looks) (stems : List Stem) (version : List Numbered) where
   abbrev pub opened_group : List (List ItemTest) → GroupShape
-  opened_group variants = record { terms = map (opened_variant looks stems version) variants; sizes = map (map wanted_size) (map (opened_variant looks stems version) variants) }
+  opened_group variants = record {
+    terms = map (opened_variant looks stems version) variants;
+    sizes = map (map wanted_size) (map (opened_variant looks stems version) variants);
+  }
 
   abbrev pub opened_phrase : PhrasePlan → List GroupShape
   opened_phrase plan = map opened_group plan.groups
@@ -42,4 +45,5 @@ module _ (looks : Looks) (stems : List Stem) (version : List Numbered) where
     pub says : (asked : AskedSpan) → IsAsked version asked
         → map (λ run. run_truth version run asked) runs ≡ map (λ node. truth node (looked_text looks stems (tokens_in version asked))) nodes
     pub cost : (word_cost : WordTerms → ℕ) → (test_cost : ItemTest → ℕ)
-        → ((test : ItemTest) → word_cost (opened_item looks stems version test) ≤ test_cost test) → sum_by (run_cost word_cost) runs ≤ sum_by (node_cost test_cost) nodes
+        → ((test : ItemTest) → word_cost (opened_item looks stems version test) ≤ test_cost test)
+        → sum_by (run_cost word_cost) runs ≤ sum_by (node_cost test_cost) nodes
