@@ -6,11 +6,10 @@ use Rattle.std.specs.Map.{keys_of, lookup}
 use Rattle.std.specs.Str.{bytes_eq}
 use Rattle.std.proofs.lemmas.Slice.Eq.{bytes_eq-Decides}
 use Rattle.path_meaning.specs.Collection.{Named}
-use Rattle.ft_session.specs.declared.loaded.Loaded.{Loaded}
-use Rattle.ft_session.specs.State.{to_document}
+use Rattle.collections.specs.Loaded.{LoadedTree, to_document}
 
 abbrev Entry : Type 0
-Entry = List ℕ × Loaded
+Entry = List ℕ × LoadedTree
 
 abbrev of_name : List ℕ → List Entry → List Named
 of_name name entries = filter (λ d. bytes_eq name d.name) (map to_document entries)
@@ -34,7 +33,7 @@ others : (name : List ℕ) (es : List Entry) → AllByRecursion (λ other. bytes
 others name [] h = refl
 others name (e ∷ es) h = of_name-first name e es false h.0 ∙ others name es h.1
 
-pub one-named : (name : List ℕ) (es : List Entry) (found : Loaded) → IsDistinct bytes_eq (keys_of es) → lookup (bytes_eq name) es ≡ Some found → of_name name es ≡ to_document (name, found) ∷ []
+pub one-named : (name : List ℕ) (es : List Entry) (found : LoadedTree) → IsDistinct bytes_eq (keys_of es) → lookup (bytes_eq name) es ≡ Some found → of_name name es ≡ to_document (name, found) ∷ []
 unfolding IsDistinct
 one-named name [] found apart h = let no : ⊥ = cc in absurd no
 one-named name (e ∷ es) found apart h = by (λ is. one-named name es found apart.1 is) (bytes_eq name e.0) refl

@@ -1,14 +1,19 @@
 -- Which elements plans select, and when a path is refused.
-use Rattle.std.proofs.Common.{◌≡◌, ◌∙◌, sym, ap, refl, ℕ, zero, suc, ◌+◌, ◌<◌, Bool, cond, List, [], ◌∷◌, ◌++◌, length, map, take, drop, get_or, arith}
-use Rattle.std.specs.Prelude.{Option, Some, None, flat_map, sum_by}
+use Rattle.std.proofs.Common.{◌≡◌, ◌∙◌, sym, ap, refl, ℕ, zero, suc, ◌+◌, ◌<◌, Bool, cond, List, [], ◌∷◌, ◌++◌, ◌^◌, length, map, take, drop, get_or, arith}
+use Rattle.std.specs.Prelude.{Option, Some, None, Result, Ok, Err, flat_map, sum_by}
 use Rattle.std.specs.Option.{option_or}
-use Rattle.std.proofs.lemmas.List.{at_drop_more, map-append, take_more}
+use Rattle.std.proofs.lemmas.List.{at_drop_more, get_or-map, length-map, map_more}
+use Rattle.std.proofs.lemmas.List.Elements.{All-map}
 use Rattle.std.proofs.lemmas.List.Sums.{sum_by-cons}
+use Rattle.std.proofs.lemmas.Option.{none-some, same_Some}
 use Rattle.std.proofs.lemmas.Simd.{map-map}
 use Rattle.element_lines.specs.Lines.{element_line, printed_line}
 use Rattle.ft_base.specs.Selection.{Form}
 use Rattle.index_meaning.specs.Documents as indexed
+use Rattle.kept_plans.specs.PlanOf.{PlanOf, plan_of}
+use Rattle.kept_plans.specs.Preparation.{CanKeep, Preparation, texts_of}
 use Rattle.ordered_tree.specs.Numbered.{Numbered, plain}
+use Rattle.ft_base.specs.declared.fault.QueryFault.{QueryFault}
 use Rattle.ft_base.specs.declared.ids.NodeRef.{NodeRef}
 use Rattle.path_meaning.specs.Collection.{Named, documents}
 use Rattle.path_meaning.specs.Elements.{Element}
@@ -20,7 +25,8 @@ use Rattle.path_meaning.specs.Tests.{selected_tests}
 use Rattle.path_nodes.specs.Asked.{OfEach, OfStep, OfPredicates, OfPredicate, OfCondition, OfConditions}
 use Rattle.path_nodes.specs.Prices.{total_price}
 use Rattle.path_nodes.specs.References.{element_of}
-use Rattle.path_subset.specs.Paths.{PathForm}
+use Rattle.path_subset.specs.Paths.{PathForm, PlacedForm}
+use Rattle.path_subset.specs.declared.path.Extent.{Extent}
 use Rattle.plan_compiler.specs.Missing.{first_missing, names, IsMissing}
 use Rattle.plan_compiler.proofs.MissingLemmas.{missing_append}
 use Rattle.plan_compiler.specs.Judgement.{Judgement}
@@ -30,11 +36,17 @@ use Rattle.plan_compiler.specs.Price.{price}
 use Rattle.plan_compiler.specs.RunMeaning.{RunMeaning}
 use Rattle.plan_compiler.specs.declared.fault.CompileFault.{CompileFault}
 use Rattle.plan_compiler.specs.declared.fault.CompileFault.TheVariants as Fault
-use Rattle.plan_compiler.specs.declared.plan.Plan.{Plan}
-use Rattle.ft_session.specs.Paths.{lines_for, lines_of, missing_document, missing_list, satisfies, selections_of}
+use Rattle.ft_session.specs.Paths.{answer_listed, answer_read, answer_rooted, lines_for, lines_of, missing_document, missing_list, reply_with, satisfies, selections_of}
 use Rattle.ft_session.specs.PathPrices.{element_price, path_price, selection_prices}
-use Rattle.ft_session.specs.PlannedPaths.{is_meant, meant, planned_lines, planned_price, prices_in, run_meant, run_over, run_price, under, IsPlanOf}
-use Rattle.ft_session.specs.State.{has_name}
+use Rattle.ft_session.specs.Held.{Held}
+use Rattle.ft_session.specs.KeptTexts.{selection_texts, text_at}
+use Rattle.ft_session.specs.PlannedPaths.{is_meant, meant, plan_under, planned_lines, planned_price, plans_under, prices_in, run_meant, run_over, run_price, under, IsPlanOf}
+use Rattle.ft_session.specs.ReadyPaths.{path_refusal, refusal_found}
+use Rattle.ft_session.specs.State.{State}
+use Rattle.collections.specs.Documents.{has_name}
+use Rattle.session_text.specs.declared.reply.Refusal.{Refusal}
+use Rattle.session_text.specs.declared.reply.Refusal.TheVariants as refusal
+use Rattle.session_text.specs.declared.reply.Reply.TheVariants.{Refused}
 use Rattle.ft_session.specs.declared.planned.PlannedPath.{PlannedPath}
 use Rattle.ft_session.specs.declared.shown.Shown.{Shown}
 use Rattle.ft_session.specs.declared.shown.Shown.TheVariants.{Names, Texts}
@@ -44,7 +56,7 @@ pub missing-document : (root : PathRoot) (name : List ℕ) (documents : List Nam
 missing-document root name documents there is has = ap (λ r. missing_document r documents) is ∙ ap (λ t. cond t None (Some name)) has
 
 -- what each plan says, its selection says
-pub planned-as : (says : Judgement) (lists : NamedLists) (plans : List Plan) (forms : List Form) → map meant plans ≡ map (under lists) forms → is_meant says (map meant plans) ≡ satisfies says lists forms
+pub planned-as : (says : Judgement) (lists : NamedLists) (plans : List PlanOf) (forms : List Form) → map meant plans ≡ map (under lists) forms → is_meant says (map meant plans) ≡ satisfies says lists forms
 unfolding is_meant satisfies
 planned-as says lists plans forms same = ap (is_meant says) same ∙ (λ i k e. by forms k e i)
   where
@@ -54,7 +66,7 @@ planned-as says lists plans forms same = ap (is_meant says) same ∙ (λ i k e. 
     by (form ∷ forms) (suc k) e = by forms k e
 
 -- the runs of plans
-pub runs-meant : (version : List indexed.Numbered) (plans : List Plan) → map run_meant (map (run_over version) plans) ≡ map meant plans
+pub runs-meant : (version : List indexed.Numbered) (plans : List PlanOf) → map run_meant (map (run_over version) plans) ≡ map meant plans
 runs-meant version plans = map-map run_meant (run_over version) plans
 
 -- what holds of each number for which steps ask, and is more than something else
@@ -95,13 +107,24 @@ module _ (forms : List Form) (k : ℕ) (form : Form) (within : k < length forms)
       at_drop_more (missing_list lists) forms k form within
       ∙ (ap (λ f. missing_list lists (f ∷ drop (k + 1) forms)) (sym is) ∙ missing_append lists (names form) (flat_map names (drop (k + 1) forms)))
 
-  pub planned-more : (lists : NamedLists) (plans : List Plan) (plan : Plan) → map meant plans ≡ map (under lists) (take k forms) → meant plan ≡ under lists form
-      → map meant (plans ++ plan ∷ []) ≡ map (under lists) (take (k + 1) forms)
-  planned-more lists plans plan so_far one =
-      map-append meant plans (plan ∷ [])
-      ∙ ((λ i. so_far i ++ one i ∷ [])
-      ∙ (ap (λ f. map (under lists) (take k forms) ++ under lists f ∷ []) is
-      ∙ (sym (map-append (under lists) (take k forms) (get_or forms k form ∷ [])) ∙ ap (map (under lists)) (sym (take_more forms k form within)))))
+-- the plan of one selection more
+module _ (lists : NamedLists) (text : List ℕ) (all : List PlacedForm) (k : ℕ) (form : Form) (extent : Extent) (within : k < length all)
+    (form_is : form ≡ get_or (map (λ s. s.form) all) k form) (extent_is : extent ≡ get_or (map (λ s. s.extent) all) k extent) where
+  abbrev placed : PlacedForm
+  placed = record { form = form; extent = extent }
+
+  is_placed : get_or all k placed ≡ placed
+  is_placed =
+      let f : (get_or all k placed).form ≡ form = sym (get_or-map (λ (s : PlacedForm). s.form) all k placed form within) ∙ sym form_is in
+      let e : (get_or all k placed).extent ≡ extent = sym (get_or-map (λ (s : PlacedForm). s.extent) all k placed extent within) ∙ sym extent_is in
+      λ i. record { form = f i; extent = e i }
+
+  pub planned-more : (plans : List PlanOf) (plan : PlanOf) → plans ≡ map (plan_under lists text) (take k all) → plan ≡ plan_of (text_at text extent) form lists
+      → plans ++ plan ∷ [] ≡ map (plan_under lists text) (take (k + 1) all)
+  planned-more plans plan so_far one =
+      (λ i. so_far i ++ one i ∷ [])
+      ∙ (ap (λ (s : PlacedForm). map (plan_under lists text) (take k all) ++ plan_under lists text s ∷ []) (sym is_placed)
+      ∙ sym (map_more (plan_under lists text) all k placed within))
 
 -- the fault of a selection, where lists that others behind it name may be missing too
 pub missing-first : (fault : CompileFault) (a b all : Option (List ℕ)) → all ≡ option_or a b → IsMissing fault a → IsMissing fault all
@@ -117,17 +140,18 @@ module _ (document : List ℕ) (root : Numbered) (found : List NodeRef) (element
   lines-of-texts = sym (map-map (λ (e : Element). printed_line e.node) (element_of root) found) ∙ ap (map (λ (e : Element). printed_line e.node)) is
 
 -- what plans select is what the path selects
-pub planned-lines : (says : Judgement) (lists : NamedLists) (all : List Named) (p : PathForm) (planned : PlannedPath) (shown : Shown) → IsPlanOf lists p planned
-    → flat_map (planned_lines says shown planned) (documents planned.root.now all) ≡ lines_for says shown (record { documents = all; lists = lists }) p
-planned-lines says lists all p planned shown plan =
-    (λ i. flat_map (λ d. lines_of shown d.name d.root (selected (planned-as says lists planned.plans.items (selections_of p) plan.plans i) (plan.steps i) d.root)) (documents (plan.root i) all))
+pub planned-lines : (says : Judgement) (state : State) (p : PathForm) (planned : PlannedPath) (shown : Shown) → IsPlanOf state.lists p planned
+    → flat_map (planned_lines says shown planned) (documents planned.root.now state.documents) ≡ lines_for says shown state p
+planned-lines says state p planned shown plan =
+    (λ i. flat_map (λ d. lines_of shown d.name d.root (selected (planned-as says state.lists planned.plans.now (selections_of p) plan.plans i) (plan.steps i) d.root))
+    (documents (plan.root i) state.documents))
 
 -- the prices in one document
 pub prices-one : (says : Judgement) (path : PlannedPath) (runs : List RunMeaning) (d : Named) → prices_in says path runs (d ∷ []) ≡ planned_price says path runs d.root
 prices-one says path runs d = omega (arith, sum_by-cons (λ (x : Named). planned_price says path runs x.root) d [])
 
 -- what the runs of plans cost, their selections cost
-priced-as : (lists : NamedLists) (version : List indexed.Numbered) (p : PathForm) (plans : List Plan) → map meant plans ≡ map (under lists) (selections_of p)
+priced-as : (lists : NamedLists) (version : List indexed.Numbered) (p : PathForm) (plans : List PlanOf) → map meant plans ≡ map (under lists) (selections_of p)
     → map run_price (map (run_over version) plans) ≡ selection_prices lists version p
 priced-as lists version p plans same =
     let cost : NamedLists × Form → List (List ℕ) → ℕ = λ m text. price (lexicon m.0) m.1 version text in
@@ -135,9 +159,46 @@ priced-as lists version p plans same =
     ∙ (sym (map-map cost meant plans) ∙ (ap (map cost) same ∙ map-map cost (under lists) (selections_of p)))
 
 -- what the tests cost for which plans ask, those cost for which the path asks
-pub planned-prices : (says : Judgement) (lists : NamedLists) (version : List indexed.Numbered) (all : List Named) (p : PathForm) (planned : PlannedPath) → IsPlanOf lists p planned
-    → prices_in says planned (map (run_over version) planned.plans.items) (documents planned.root.now all)
-    ≡ path_price says (record { state = record { documents = all; lists = lists }; version = version }) p
-planned-prices says lists version all p planned plan =
-    (λ i. sum_by (λ d. total_price (element_price (priced-as lists version p planned.plans.items plan.plans i))
-    (selected_tests (planned-as says lists planned.plans.items (selections_of p) plan.plans i) (plan.steps i) d.root)) (documents (plan.root i) all))
+pub planned-prices : (says : Judgement) (held : Held) (p : PathForm) (planned : PlannedPath) → IsPlanOf held.state.lists p planned
+    → prices_in says planned (map (run_over held.version) planned.plans.now) (documents planned.root.now held.state.documents) ≡ path_price says held p
+planned-prices says held p planned plan =
+    let lists = held.state.lists in
+    (λ i. sum_by (λ d. total_price (element_price (priced-as lists held.version p planned.plans.now plan.plans i))
+    (selected_tests (planned-as says lists planned.plans.now (selections_of p) plan.plans i) (plan.steps i) d.root)) (documents (plan.root i) held.state.documents))
+
+-- what the plans of a path's selections are of, their texts, and that they may be kept
+module _ (lists : NamedLists) (text : List ℕ) (p : PathForm) where
+  pub meant-under : map meant (plans_under lists text p) ≡ map (under lists) (selections_of p)
+  meant-under = map-map meant (plan_under lists text) p.selections ∙ sym (map-map (under lists) (λ (s : PlacedForm). s.form) p.selections)
+
+  pub texts-under : texts_of (plans_under lists text p) ≡ selection_texts text p
+  texts-under = map-map (λ (plan : PlanOf). plan.text) (plan_under lists text) p.selections
+
+  pub as-many-under : length (plans_under lists text p) ≡ length p.selections
+  as-many-under = length-map p.selections (plan_under lists text)
+
+  pub can-keep-under : (prepared : Preparation) → prepared.lists ≡ lists → prepared.kept.hits + length p.selections < 2 ^ 64 → CanKeep prepared (plans_under lists text p)
+  can-keep-under prepared same few = record {
+    lists = All-map (λ (plan : PlanOf). plan.lists ≡ prepared.lists) (plan_under lists text) p.selections (λ k d less. sym same);
+    counted = omega (arith, few, as-many-under);
+  }
+
+-- a path that is refused is answered by its refusal
+module _ (says : Judgement) (shown : Shown) (state : State) (why : Refusal) where
+  listed : (p : PathForm) (list : Option (List ℕ)) → refusal_found None list ≡ Some why → answer_listed says shown state p list ≡ Refused why
+  listed p None is = elim (none-some why is) [ ]
+  listed p (Some name) is = ap Refused (same_Some (refusal.NoSuchList name) why is)
+
+  rooted : (p : PathForm) (document : Option (List ℕ)) → refusal_found document (missing_list state.lists (selections_of p)) ≡ Some why
+      → answer_rooted says shown state p document ≡ Refused why
+  rooted p None is = listed p (missing_list state.lists (selections_of p)) is
+  rooted p (Some name) is = ap Refused (same_Some (refusal.NoSuchDoc name) why is)
+
+  pub refused-answer : (read : Result PathForm QueryFault) → path_refusal state.documents state.lists read ≡ Some why → answer_read says shown state read ≡ Refused why
+  refused-answer (Err fault) is = ap Refused (same_Some (refusal.Query fault) why is)
+  refused-answer (Ok p) is = rooted p (missing_document p.path.root state.documents) is
+
+-- a path that may be gone along is answered by its lines
+pub ready-answer : (says : Judgement) (shown : Shown) (state : State) (p : PathForm) → missing_document p.path.root state.documents ≡ None
+    → missing_list state.lists (selections_of p) ≡ None → answer_read says shown state (Ok p) ≡ reply_with shown (lines_for says shown state p)
+ready-answer says shown state p document lists = ap (answer_rooted says shown state p) document ∙ ap (answer_listed says shown state p) lists

@@ -26,12 +26,12 @@ use Rattle.path_nodes.specs.Says.{Meaning}
 use Rattle.path_nodes.proofs.SpotLemmas.{spot-stand, spot-there}
 use Rattle.plan_compiler.specs.Judgement.{Judgement}
 use Rattle.plan_compiler.specs.RunMeaning.{RunMeaning}
-use Rattle.plan_compiler.specs.declared.plan.Plan.{Plan}
+use Rattle.kept_plans.specs.PlanOf.{PlanOf}
 use Rattle.tokenizer.specs.Tokens.{tokens}
 use Rattle.ft_session.specs.PathPrices.{element_price, words_of as element_words}
 use Rattle.ft_session.specs.PlannedPaths.{is_meant, meant, run_meant, run_over, run_price}
 use Rattle.ft_session.specs.SelectionTests.{asked_of, is_there, may_ask, AreOver, AreOverEach}
-use Rattle.ft_session.specs.steps.Numbering.{FollowsEach}
+use Rattle.collections.specs.Indexed.{FollowsEach}
 use Rattle.ft_session.proofs.TextLemmas.{tokens-at-span}
 
 -- the node that a reference names
@@ -109,7 +109,7 @@ may-asked runs root k less r e =
     ap (λ b. b && is_there root r) named ∙ element-there root r e
 
 -- there are as many runs as plans
-pub as-many : (plans : List Plan) (runs : List RunMeaning) → map run_meant runs ≡ map meant plans → length plans ≡ length runs
+pub as-many : (plans : List PlanOf) (runs : List RunMeaning) → map run_meant runs ≡ map meant plans → length plans ≡ length runs
 as-many plans runs same = sym (length-map plans meant) ∙ (ap length (sym same) ∙ length-map runs run_meant)
 
 -- ---- the run of a number
@@ -195,11 +195,11 @@ ruled-out says runs root k run doc is over none r asked =
 
 -- ---- runs of plans over one version
 
-over-all : (version : List indexed.Numbered) (plans : List Plan) (t : ℕ × Numbered) → Follows version t.0 t.1 → AreOver (map (run_over version) plans) t
+over-all : (version : List indexed.Numbered) (plans : List PlanOf) (t : ℕ × Numbered) → Follows version t.0 t.1 → AreOver (map (run_over version) plans) t
 over-all version [] t follows k d less = absurd (omega (arith, less))
 over-all version (plan ∷ plans) t follows zero d less = follows
 over-all version (plan ∷ plans) t follows (suc k) d less = over-all version plans t follows k d (omega (arith, less))
 
-pub over-each : (version : List indexed.Numbered) (plans : List Plan) (trees : List (ℕ × Numbered)) → FollowsEach version trees → AreOverEach (map (run_over version) plans) trees
+pub over-each : (version : List indexed.Numbered) (plans : List PlanOf) (trees : List (ℕ × Numbered)) → FollowsEach version trees → AreOverEach (map (run_over version) plans) trees
 over-each version plans [] follow = tt
 over-each version plans (t ∷ trees) follow = (over-all version plans t follow.0, over-each version plans trees follow.1)

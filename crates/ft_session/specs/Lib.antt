@@ -1,7 +1,6 @@
 pub mod Status
 pub mod State
 pub mod StateView
-pub mod Indexed
 pub mod Held
 pub mod Paths
 pub mod PathPrices
@@ -9,9 +8,14 @@ pub mod PlannedPaths
 pub mod SelectionTests
 pub mod Explained
 pub mod Lists
+pub mod KeptTexts
+pub mod ReadyPaths
+pub mod Marks
+pub mod KeptMarks
+pub mod Edits
+pub mod Stats
 pub mod Step
 pub mod StoredState
-pub mod LoadView
 pub mod Output
 pub mod Run
 pub mod Queries

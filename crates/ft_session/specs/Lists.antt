@@ -8,6 +8,8 @@ use Rattle.session_text.specs.declared.reply.FullOf.TheVariants as full
 use Rattle.session_text.specs.declared.reply.Refusal.TheVariants as refusal
 use Rattle.session_text.specs.declared.reply.Reply.{Reply}
 use Rattle.session_text.specs.declared.reply.Reply.TheVariants.{Done, Refused}
+use Rattle.kept_plans.specs.Preparation.{Preparation, with_new_lists}
+use Rattle.session_text.specs.Replies.{is_refusal}
 use Rattle.thesaurus_file.specs.Links.{Links}
 use Rattle.word_lists.specs.Stems.{Stem}
 use Rattle.ft_base.specs.Limits.{max_lists}
@@ -41,3 +43,7 @@ stems_put lists stems = read_into lists (λ stems. with_stems stems lists) stems
 abbrev pub Answers : ListFault → Reply → Type 0
 Answers (BadLine line) reply = reply ≡ Refused (refusal.List line)
 Answers Memory reply = ⊥
+
+-- what is prepared with other lists, and the reply. No plan is kept where a list came.
+abbrev pub with_prepared : Preparation → NamedLists × Reply → Preparation × Reply
+with_prepared prepared (lists, reply) = ((if is_refusal reply then prepared else with_new_lists lists prepared), reply)

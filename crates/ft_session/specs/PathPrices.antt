@@ -1,5 +1,5 @@
 -- How far cursors may move by which a path is answered: the prices of the tests for which it asks, over the version of the index.
-use Rattle.std.specs.Prelude.{ℕ, zero, suc, List, [], ◌∷◌, map, Result, Ok, Err}
+use Rattle.std.specs.Prelude.{ℕ, zero, suc, List, [], ◌∷◌, map, Option, Some, None, Result, Ok, Err}
 use Rattle.std.specs.List.{sum_by}
 use Rattle.ft_base.specs.declared.fault.QueryFault.{QueryFault}
 use Rattle.index_meaning.specs.Documents.{Numbered}
@@ -18,7 +18,9 @@ use Rattle.session_text.specs.declared.command.Command.{Command}
 use Rattle.session_text.specs.declared.command.Command.TheVariants as command
 use Rattle.tokenizer.specs.Tokens.{tokens}
 use Rattle.ft_session.specs.Held.{Held}
+use Rattle.ft_session.specs.Marks.{at_mark, mark_named, version_of_mark}
 use Rattle.ft_session.specs.Paths.{satisfies, selections_of}
+use Rattle.ft_session.specs.State.{Mark}
 
 -- the words of an element, in order
 abbrev pub words_of : Element → List (List ℕ)
@@ -48,8 +50,22 @@ abbrev pub read_price : Judgement → Held → Result PathForm QueryFault → �
 read_price says held (Err fault) = 0
 read_price says held (Ok p) = path_price says held p
 
+-- what a session holds, with the documents and the version of a mark in the place of those of now
+abbrev pub held_at : Held → List ℕ → Mark → Held
+held_at held name mark =
+    record held { state = at_mark held.state mark; version = version_of_mark name held.state.marks held.mark_versions }
+
+-- a path costs nothing at a mark that isn't there
+abbrev pub price_at : Judgement → Held → List ℕ → List ℕ → Option Mark → ℕ
+price_at says held name path None = 0
+price_at says held name path (Some mark) = read_price says (held_at held name mark) (path_read path)
+
 -- how far a command may move cursors: as far as the tests of its path cost
 unfoldable pub moves_for : Judgement → Held → Command → ℕ
+moves_for says held (command.Insert how path block) = read_price says held (path_read path)
+moves_for says held (command.Replace path block) = read_price says held (path_read path)
+moves_for says held (command.Delete path) = read_price says held (path_read path)
 moves_for says held (command.Query path) = read_price says held (path_read path)
+moves_for says held (command.QueryAt name path) = price_at says held name path (mark_named name held.state.marks)
 moves_for says held (command.Print path) = read_price says held (path_read path)
 moves_for says held _ = 0

@@ -21,7 +21,8 @@ use Rattle.session_text.specs.declared.reply.Reply.TheVariants.{Refused}
 use Rattle.tokenizer.specs.Tokens.{tokens}
 use Rattle.ft_session.specs.declared.shown.Shown.{Shown}
 use Rattle.ft_session.specs.declared.shown.Shown.TheVariants.{Names, Texts}
-use Rattle.ft_session.specs.State.{State, has_name}
+use Rattle.collections.specs.Documents.{has_name}
+use Rattle.ft_session.specs.State.{State}
 
 -- ---- which elements are selected
 

@@ -11,6 +11,7 @@ use Rattle.path_subset.specs.Paths.{PathForm, PlacedForm}
 use Rattle.plain_tree.specs.Document.{text}
 use Rattle.plan_compiler.specs.NamedLists.{NamedLists}
 use Rattle.ft_session.specs.Held.{Held}
+use Rattle.ft_session.specs.State.{opening}
 
 -- a path with these selections
 abbrev pub with_selections : PathRoot → List Step → List Form → PathForm
@@ -37,6 +38,7 @@ named_b =
 -- `letters` as the document `l`, and behind it `nested` as `n`
 abbrev pub two_held : NamedLists → List Numbered → Held
 two_held lists version = record {
-  state = record { documents = record { name = codes "l"; root = letters } ∷ record { name = codes "n"; root = nested } ∷ []; lists = lists };
+  state = record opening { documents = record { name = codes "l"; root = letters } ∷ record { name = codes "n"; root = nested } ∷ []; lists = lists };
   version = version;
+  mark_versions = [];
 }

@@ -1,23 +1,26 @@
 -- What a session holds.
-use Rattle.std.specs.Prelude.{ℕ, Bool, List, []}
-use Rattle.std.specs.List.{list_any}
-use Rattle.std.specs.Str.{bytes_eq}
-use Rattle.ordered_tree.specs.Numbered.{plain}
+use Rattle.std.specs.Prelude.{ℕ, List, []}
+use Rattle.kept_plans.specs.Kept.{Kept, nothing_kept}
 use Rattle.path_meaning.specs.Collection.{Named}
 use Rattle.plan_compiler.specs.NamedLists.{NamedLists, no_lists}
-use Rattle.ft_session.specs.declared.loaded.Loaded.{Loaded}
+use Rattle.session_text.specs.declared.reply.Reply.{Reply}
 
--- a document that was loaded and its name, as one
-abbrev pub to_document : List ℕ × Loaded → Named
-to_document e = record { name = e.0; root = plain e.1.tree.root }
+-- a mark: the documents as they were when it was set, under a name
+pub record Mark : Type 0 where
+  pub name : List ℕ
+  pub documents : List Named
 
--- the documents in the order in which they were loaded, and the lists
+-- the documents in the order in which they were loaded, the lists, the marks in the order in which they were set, and the texts of the
+-- selections whose plans are kept
 pub record State : Type 0 where
   pub documents : List Named
   pub lists : NamedLists
+  pub marks : List Mark
+  pub kept : Kept
 
 abbrev pub opening : State
-opening = record { documents = []; lists = no_lists }
+opening = record { documents = []; lists = no_lists; marks = []; kept = nothing_kept }
 
-abbrev pub has_name : List ℕ → List Named → Bool
-has_name name documents = list_any (λ d. bytes_eq name d.name) documents
+-- a state with other documents, and the reply
+abbrev pub with_documents : State → List Named × Reply → State × Reply
+with_documents state (documents, reply) = (record state { documents = documents }, reply)

@@ -55,8 +55,10 @@ pub(crate) fn answer<J: Judge + Drop, K: Sink, L: Ledger, M: Ledger>(
     requires { K.faults sink.old + 1 < 2 ^ 64 }
     ensures state { OnOk result (session.new.state ≡ (step J.says session.old.state command.now).0) }
     ensures refused { IfOk result (λ refused. refused ≡ is_refusal (step J.says session.old.state command.now).1) }
-    ensures written { OnOk result (K.written sink.new ≡ with_text (K.written sink.old) (portion_text portion (reply_text (step J.says session.old.state command.now).1))) }
-    ensures prefix { OnErr result (TookPrefix (K.written sink.old) (K.written sink.new) (portion_text portion (reply_text (step J.says session.old.state command.now).1))) }
+    ensures written { OnOk result (K.written sink.new
+        ≡ with_text (K.written sink.old) (portion_text portion (reply_text (step J.says session.old.state command.now).1))) }
+    ensures prefix { OnErr result (TookPrefix (K.written sink.old) (K.written sink.new)
+        (portion_text portion (reply_text (step J.says session.old.state command.now).1))) }
     ensures faults { OnOk result (K.faults sink.new ≡ K.faults sink.old) }
     ensures cause { IsErrOf result AnswerError.Fault → K.faults sink.old < K.faults sink.new }
 {

@@ -25,6 +25,7 @@ ghost use Rattle.plan_compiler.specs.NamedLists.{NamedLists};
 ghost use Rattle.plan_compiler.specs.Price.{price};
 ghost use Rattle.session_text.specs.declared.command.Command.TheVariants as command;
 ghost use Rattle.tokenizer.specs.Tokens.{tokens};
+ghost use Rattle.ft_session.specs.KeptTexts.{text_at};
 ghost use Rattle.ft_session.specs.Held.{Held};
 ghost use Rattle.ft_session.specs.PathPrices.{element_price, moves_for, path_price, price_in, read_price, words_of};
 ghost use Rattle.ft_session.specs.PriceExamples.{both_asked, first_asked, named_b, two_held, with_selections};
@@ -69,4 +70,12 @@ pub fn prices_of_commands()
     ensures query { (says : Judgement) → (held : Held) → (text : List ℕ) → moves_for says held (command.Query text) ≡ read_price says held (path_read text) }
     ensures print { (says : Judgement) → (held : Held) → (text : List ℕ) → moves_for says held (command.Print text) ≡ read_price says held (path_read text) }
     ensures drop { (says : Judgement) → (held : Held) → (name : List ℕ) → moves_for says held (command.Drop name) ≡ 0 }
+{}
+
+/// What stands at an extent of a text: a selection as it is written, with its quotes; nothing behind the text's end.
+pub fn texts_at_extents()
+    ensures inside { text_at (codes "//p[. contains text 'b']") (record { from = 20; to = 23 }) ≡ codes "'b'" }
+    ensures to_the_end { text_at (codes "'b'") (record { from = 0; to = 3 }) ≡ codes "'b'" }
+    ensures nothing { text_at (codes "'b'") (record { from = 2; to = 2 }) ≡ [] }
+    ensures behind { text_at (codes "'b'") (record { from = 2; to = 9 }) ≡ codes "'" }
 {}

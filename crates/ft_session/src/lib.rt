@@ -4,24 +4,29 @@
 
 mod answering;
 mod asked_runs;
-mod collection;
+pub mod command_examples;
+mod edit;
+mod editing;
 pub mod examples;
 mod explaining;
+mod keeping;
 pub mod laws;
 mod lists;
-mod loaded;
-mod loading;
 mod made;
+mod marks;
 mod paths;
 mod pieces;
 mod planned;
 mod portion;
 mod reading;
+mod refusing;
 mod running;
 mod selected;
 mod session;
 mod shown;
+mod stats;
 mod status;
+mod targets;
 mod writing;
 
 pub use running::run;

@@ -4,10 +4,10 @@ ghost use Rattle.std.specs.Prelude.{◌≡◌, IfOk, OnErr};
 ghost use Rattle.thesaurus_file.specs.Lines.{thesaurus_of};
 ghost use Rattle.word_lists.specs.Stems.{stems_of};
 ghost use Rattle.word_lists.specs.StopLists.{stop_list_of};
-ghost use Rattle.ft_session.specs.Lists.{Answers, stems_put, stop_list_put, thesaurus_put};
+ghost use Rattle.ft_session.specs.Lists.{with_prepared, Answers, stems_put, stop_list_put, thesaurus_put};
 
 use ft_base::{ListFault, MAX_LISTS, Memory};
-use plan_compiler::Lists;
+use kept_plans::Prepared;
 use session_text::{FullOf, Refusal, Reply};
 use std::alloc::Global;
 use thesaurus_file::Thesaurus;
@@ -17,20 +17,21 @@ use word_lists::{Stems, StopList};
 /// block is no stop list.
 pub(crate) fn put_stop_list(
     alloc: Global,
-    lists: &mut Lists,
+    prepared: &mut Prepared,
     name: &str,
     block: &[u8],
 ) -> Result<Reply, Memory>
-    ensures answer { IfOk result (λ reply. (lists.new, reply) ≡ stop_list_put lists.old name.now (stop_list_of block.now)) }
-    ensures err { OnErr result (lists.new ≡ lists.old) }
+    ensures answer { IfOk result (λ reply. (prepared.new, reply)
+        ≡ with_prepared prepared.old (stop_list_put prepared.old.lists name.now (stop_list_of block.now))) }
+    ensures err { OnErr result (prepared.new ≡ prepared.old) }
 {
-    if !lists.has_stop(name) && lists.stop_count() >= MAX_LISTS {
+    if !prepared.lists().has_stop(name) && prepared.lists().stop_count() >= MAX_LISTS {
         let what = FullOf::StopLists;
         return Ok(Reply::Refused(Refusal::Full { what }));
     }
     match StopList::read(alloc, block) {
         Ok(list) => {
-            lists.set_stop(name, list)?;
+            prepared.set_stop(name, list)?;
             Ok(Reply::Done)
         }
         Err(fault) => refuse(fault),
@@ -41,20 +42,21 @@ pub(crate) fn put_stop_list(
 /// block is no thesaurus.
 pub(crate) fn put_thesaurus(
     alloc: Global,
-    lists: &mut Lists,
+    prepared: &mut Prepared,
     name: &str,
     block: &[u8],
 ) -> Result<Reply, Memory>
-    ensures answer { IfOk result (λ reply. (lists.new, reply) ≡ thesaurus_put lists.old name.now (thesaurus_of block.now)) }
-    ensures err { OnErr result (lists.new ≡ lists.old) }
+    ensures answer { IfOk result (λ reply. (prepared.new, reply)
+        ≡ with_prepared prepared.old (thesaurus_put prepared.old.lists name.now (thesaurus_of block.now))) }
+    ensures err { OnErr result (prepared.new ≡ prepared.old) }
 {
-    if !lists.has_thesaurus(name) && lists.thesaurus_count() >= MAX_LISTS {
+    if !prepared.lists().has_thesaurus(name) && prepared.lists().thesaurus_count() >= MAX_LISTS {
         let what = FullOf::Thesauri;
         return Ok(Reply::Refused(Refusal::Full { what }));
     }
     match Thesaurus::read(alloc, block) {
         Ok(list) => {
-            lists.set_thesaurus(name, list)?;
+            prepared.set_thesaurus(name, list)?;
             Ok(Reply::Done)
         }
         Err(fault) => refuse(fault),
@@ -62,13 +64,17 @@ pub(crate) fn put_thesaurus(
 }
 
 /// Puts the dictionary of stems that the block is in the place of the one that is there, unless the block is none.
-pub(crate) fn put_stems(alloc: Global, lists: &mut Lists, block: &[u8]) -> Result<Reply, Memory>
-    ensures answer { IfOk result (λ reply. (lists.new, reply) ≡ stems_put lists.old (stems_of block.now)) }
-    ensures err { OnErr result (lists.new ≡ lists.old) }
+pub(crate) fn put_stems(
+    alloc: Global,
+    prepared: &mut Prepared,
+    block: &[u8],
+) -> Result<Reply, Memory>
+    ensures answer { IfOk result (λ reply. (prepared.new, reply) ≡ with_prepared prepared.old (stems_put prepared.old.lists (stems_of block.now))) }
+    ensures err { OnErr result (prepared.new ≡ prepared.old) }
 {
     match Stems::read(alloc, block) {
         Ok(stems) => {
-            lists.set_stems(stems)?;
+            prepared.set_stems(stems)?;
             Ok(Reply::Done)
         }
         Err(fault) => refuse(fault),

@@ -8,13 +8,12 @@ ghost use Rattle.path_nodes.specs.References.{IsElement, element_of};
 ghost use Rattle.ft_session.specs.Paths.{lines_of};
 ghost use Rattle.ft_session.specs.PlannedPaths.{planned_in, planned_lines, planned_price, prices_in, AreRunsOf, HasItsPlans};
 ghost use Rattle.ft_session.specs.SelectionTests.{AreOver, AreOverEach};
-ghost use Rattle.ft_session.specs.State.{to_document};
-ghost use Rattle.ft_session.specs.steps.Numbering.{trees_of};
+ghost use Rattle.collections.specs.Loaded.{to_document, trees_of};
 
 use crate::asked_runs::{Loan, SelectionTest};
-use crate::loaded::Loaded;
 use crate::planned::PlannedPath;
 use crate::shown::Shown;
+use collections::Loaded;
 use element_lines::{push_names, push_printed};
 use ft_base::{Line, Memory, Steps};
 use indexmap::IndexMap;
@@ -156,13 +155,13 @@ fn push_lines(
         ≡ lines.old ++ lines_of shown name.now (plain document.now.tree.root) (map (element_of document.now.tree.root) found.now)) }
 {
     match shown {
-        Shown::Names => push_names(alloc, name, &document.tree, found, lines),
-        Shown::Texts => push_printed(alloc, &document.tree, found, lines),
+        Shown::Names => push_names(alloc, name, document.tree(), found, lines),
+        Shown::Texts => push_printed(alloc, document.tree(), found, lines),
     }
 }
 
 /// The elements of a document that the path selects.
-fn select<J: Judge, M: Ledger>(
+pub(crate) fn select<J: Judge, M: Ledger>(
     judge: &J,
     document: &Loaded,
     path: &PlannedPath<'_>,
@@ -201,14 +200,15 @@ fn select_with<J: Judge, B: Loan, M: Ledger>(
     ensures price { moves.new ≤ moves.old + planned_price J.says path.now runs.old.items (plain document.now.tree.root) }
 {
     // The root is an element, as the clauses of `root` say.
-    let _root = document.tree.root();
+    let tree = document.tree();
+    let _root = tree.root();
     let mut test = SelectionTest::<'_, '_, '_, '_, '_, J, B, M> {
         judge,
-        doc: document.doc,
-        tree: &document.tree,
+        doc: document.doc(),
+        tree,
         runs,
         moves,
         loan: PhantomData,
     };
-    nodes(path.alloc, path.steps, &document.tree, &mut test)
+    nodes(path.alloc, path.steps, tree, &mut test)
 }

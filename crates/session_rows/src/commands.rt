@@ -1,9 +1,6 @@
-// Commands: how lines and blocks are divided, which lines are none, and which commands are not carried out yet.
-use crate::rows::{Row, expect_output, expect_rows};
-use call_rows::texts::joined;
+// Commands: how lines and blocks are divided, and which lines are none.
+use crate::rows::{Row, expect_rows};
 use ft_session::Status;
-use std::alloc::Global;
-use std::process::Abort;
 use std::test::Fail;
 
 pub(crate) const LINES: [Row; 5] = [
@@ -41,33 +38,4 @@ pub(crate) const LINES: [Row; 5] = [
 #[test]
 fn lines_and_blocks_are_divided_as_they_are_written(rt: HostRuntime) -> Result<(), Fail> {
     expect_rows(&rt, rt.alloc(), &LINES)
-}
-
-const NOT_YET: [&str; 7] = [
-    "insert last //a\n<b/>\n.",
-    "replace //a\n<b/>\n.",
-    "delete //a",
-    "query at m //a",
-    "mark m",
-    "unmark m",
-    "stats",
-];
-
-fn expect_not_yet(rt: &impl Abort, alloc: Global, command: &str) -> Result<(), Fail> {
-    let session = joined(alloc, &[command, "\n"])?;
-    expect_output(
-        rt,
-        alloc,
-        session.as_str(),
-        &["! 14 not yet\n"],
-        Status::SomeRefused,
-    )
-}
-
-#[test]
-fn what_is_not_there_yet_is_refused(rt: HostRuntime) -> Result<(), Fail> {
-    for command in &NOT_YET {
-        expect_not_yet(&rt, rt.alloc(), command)?;
-    }
-    Ok(())
 }

@@ -10,11 +10,15 @@ mod commands;
 #[cfg(test)]
 mod compared_words;
 #[cfg(test)]
+mod counts;
+#[cfg(test)]
 mod cut_sessions;
 #[cfg(test)]
 mod document_texts;
 #[cfg(test)]
 mod documents;
+#[cfg(test)]
+mod edits;
 #[cfg(test)]
 mod elements;
 #[cfg(test)]
@@ -31,6 +35,8 @@ mod limits;
 mod list_files;
 #[cfg(test)]
 mod lists;
+#[cfg(test)]
+mod marks;
 #[cfg(test)]
 mod named_lists;
 #[cfg(test)]

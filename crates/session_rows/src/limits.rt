@@ -162,14 +162,7 @@ const REPEATED: [RepeatedRow; 11] = [
         "! 2 bad name at line 1\n",
         Status::SomeRefused,
     ),
-    (
-        "mark ",
-        64,
-        "a",
-        "\r\n",
-        "! 14 not yet\n",
-        Status::SomeRefused,
-    ),
+    ("mark ", 64, "a", "\r\n", "ok\n", Status::Done),
     (
         "mark ",
         65,
@@ -229,6 +222,42 @@ fn lines_names_and_selections_have_a_longest(rt: HostRuntime) -> Result<(), Fail
     Ok(())
 }
 
+// The limits hold for what an edit makes, and a refused one leaves all as it was.
+const EDITED: [RepeatedRow; 3] = [
+    (
+        "load x\n<a>",
+        999_999,
+        "<b/>",
+        "</a>\n.\ninsert last collection()/a\n<c/>\n.\nquery collection()//c\n",
+        "ok\n! 13 limit: nodes\n= 0\n",
+        Status::SomeRefused,
+    ),
+    (
+        "load x\n<a>",
+        1_000_000,
+        "x ",
+        "</a>\n.\ninsert last collection()/a\n<b>y</b>\n.\nquery collection()//b\n",
+        "ok\n! 13 limit: tokens\n= 0\n",
+        Status::SomeRefused,
+    ),
+    (
+        "load x\n<a><b/>",
+        999_999,
+        "x ",
+        "</a>\n.\ninsert last collection()/a/b\ny\n.\nquery collection()/a[b contains text \"y\"]\n",
+        "ok\nok\n= 1\ndoc(\"x\")/a[1]\n",
+        Status::Done,
+    ),
+];
+
+#[test]
+fn an_edit_stays_within_the_limits_of_a_document(rt: HostRuntime) -> Result<(), Fail> {
+    for row in &EDITED {
+        expect_repeated(&rt, rt.alloc(), *row)?;
+    }
+    Ok(())
+}
+
 #[test]
 fn a_document_has_a_million_tokens_at_most(rt: HostRuntime) -> Result<(), Fail> {
     for row in &TOKENS {
@@ -256,7 +285,7 @@ type NestedRow = (
     &'static str,
 );
 
-const LEVELS: [NestedRow; 4] = [
+const LEVELS: [NestedRow; 6] = [
     (
         "load x\n",
         "<a>",
@@ -274,6 +303,24 @@ const LEVELS: [NestedRow; 4] = [
         "\n.\nload x\n<a/>\n.\n",
         200,
         "ok\n! 3 name taken: x\n",
+    ),
+    (
+        "load x\n",
+        "<a>",
+        "<b/>",
+        "</a>",
+        "\n.\ninsert last collection()//b\n<c/>\n.\nquery collection()//c\n",
+        199,
+        "ok\n! 13 limit: depth\n= 0\n",
+    ),
+    (
+        "load x\n",
+        "<a>",
+        "<b/>",
+        "</a>",
+        "\n.\ninsert last collection()//b\n<c/>\n.\nquery collection()//c/d\ndrop y\n",
+        198,
+        "ok\nok\n= 0\n! 4 no such name: y\n",
     ),
     (
         "load x\n<a>a</a>\n.\nquery collection()//a[. contains text ",

@@ -260,7 +260,7 @@ const REFUSALS: [FaultRow; 19] = [
         r#"query collection()//a[. contains text "a" and . contains text "a" "b"]"#,
         "! 7 query: syntax at 60\n",
     ),
-    ("delete collection()//a", "! 14 not yet\n"),
+    ("delete collection()//b", "! 10 no target\n"),
 ];
 
 fn expect_refusal(rt: &impl Abort, alloc: Global, command: &str, reply: &str) -> Result<(), Fail> {

@@ -5,7 +5,8 @@ use call_rows::texts::joined;
 use ft_io::{MemoryShelf, MemorySink};
 use ft_session::{Status, run};
 use plan_compiler::{Direct, Judge};
-use std::alloc::Global;
+use std::alloc::{AllocError, Global};
+use std::fmt::Write;
 use std::process::Abort;
 use std::test::Fail;
 
@@ -135,4 +136,22 @@ pub(crate) fn expect_truths_behind(
 /// The same with no commands before.
 pub(crate) fn expect_truths(rt: &impl Abort, alloc: Global, rows: &[TruthRow]) -> Result<(), Fail> {
     expect_truths_behind(rt, alloc, "", "", rows)
+}
+
+/// Lines that differ in a number, which goes from the first one on: so many of them.
+pub(crate) fn numbered_lines(
+    alloc: Global,
+    front: &str,
+    first: usize,
+    count: usize,
+    back: &str,
+) -> Result<String, AllocError> {
+    let mut lines = String::new(alloc);
+    for number in first..first.saturating_add(count) {
+        lines.push_str(front)?;
+        write!(lines, "{number}")?;
+        lines.push_str(back)?;
+        lines.push('\n')?;
+    }
+    Ok(lines)
 }

@@ -4,7 +4,7 @@ use Rattle.std.specs.Prelude.{Option, Some, None, Ok, Err, codes}
 use Rattle.ft_base.specs.Lists.{is_empty}
 use Rattle.session_text.specs.declared.command.Command.{Command}
 use Rattle.session_text.specs.declared.command.Command.TheVariants as command
-use Rattle.session_text.specs.declared.how.How.{How}
+use Rattle.plain_tree.specs.declared.place.How.{How}
 use Rattle.session_text.specs.Commands.{made, named, with_text, how_of, insertion, query_at, command_of_line, command_of_block}
 use Rattle.text_lines.specs.Lines.{trimmed_line, first_word, behind_first_word}
 use Rattle.session_text.specs.Words.{is_text, is_name, is_one_word, is_command_line}

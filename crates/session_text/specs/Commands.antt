@@ -4,8 +4,8 @@ use Rattle.std.specs.List.{starts_with, take_while, list_any, join_with_byte}
 use Rattle.ft_base.specs.Lists.{is_empty}
 use Rattle.session_text.specs.declared.command.Command.{Command}
 use Rattle.session_text.specs.declared.command.Command.TheVariants as command
-use Rattle.session_text.specs.declared.how.How.{How}
-use Rattle.session_text.specs.declared.how.How.TheVariants as how
+use Rattle.plain_tree.specs.declared.place.How.{How}
+use Rattle.plain_tree.specs.declared.place.How.TheVariants as how
 use Rattle.text_lines.specs.Lines.{behind_first_word, first_word, is_skipped, lines, trimmed_line, without_return}
 use Rattle.session_text.specs.Lines.{lines_of, without_mark}
 use Rattle.session_text.specs.Words.{is_text, is_name, is_command_line, is_one_word}

@@ -70,7 +70,6 @@ refusal_line refusal.NoTarget = codes "! 10 no target"
 refusal_line (refusal.ManyTargets count) = codes "! 11 many targets: " ++ decimal count
 refusal_line refusal.RootTarget = codes "! 12 root target"
 refusal_line (refusal.Limit what) = codes "! 13 limit: " ++ limit_words what
-refusal_line refusal.NotYet = codes "! 14 not yet"
 
 -- how many lines follow, and these lines
 abbrev pub counted_lines : List (List ℕ) → List ℕ

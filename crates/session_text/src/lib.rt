@@ -2,7 +2,6 @@
 #![tactic(auto)]
 
 mod command;
-mod how;
 mod line;
 mod named;
 mod parse;
@@ -13,7 +12,7 @@ mod unfinished;
 mod words;
 
 pub use command::{Command, Commands};
-pub use how::How;
+pub use plain_tree::How;
 pub use print::print_reply;
 pub use reader::Lines_;
 pub use reply::{Counts, FullOf, LimitOf, Refusal, Reply};

@@ -97,7 +97,6 @@ fn print_refusal(alloc: Global, refusal: &Refusal) -> Result<Line, Memory>
         Refusal::ManyTargets { count } => print_numbered(alloc, "! 11 many targets: ", *count),
         Refusal::RootTarget => print_named(alloc, "! 12 ", "root target"),
         Refusal::Limit { what } => print_named(alloc, "! 13 limit: ", limit(*what)),
-        Refusal::NotYet => print_named(alloc, "! 14 ", "not yet"),
     }
 }
 

@@ -83,8 +83,6 @@ pub enum Refusal {
     RootTarget,
     /// A document would have too many levels, nodes or tokens.
     Limit { what: LimitOf },
-    /// The command, or the form of its path, is not carried out yet.
-    NotYet,
 }
 
 impl Reply {

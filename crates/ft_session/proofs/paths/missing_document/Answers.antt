@@ -1,8 +1,9 @@
 -- A name is there where a look-up finds it.
 use Rattle.std.proofs.Common.{◌≡◌, ◌∙◌, sym, ap, true, false, map, Some}
-use Rattle.ft_session.specs.State.{has_name, to_document}
+use Rattle.collections.specs.Documents.{has_name}
+use Rattle.collections.specs.Loaded.{to_document}
 use Rattle.ft_session.proofs.PathLemmas.{missing-document}
-use Rattle.ft_session.proofs.SessionLemmas.{has_name-lookup}
+use Rattle.collections.proofs.LoadingLemmas.{has_name-lookup}
 use Rattle.ft_session.proofs.paths.missing_document.Goals as goal
 
 pub returns-then-contains_key : goal.returns-then-contains_key

@@ -3,8 +3,7 @@ use Rattle.std.proofs.Common.{◌≡◌, ◌≤◌, ◌+◌, ◌++◌, map}
 use Rattle.std.specs.List.{flat_map}
 use Rattle.ft_session.specs.PlannedPaths.{planned_lines, prices_in}
 use Rattle.ft_session.specs.SelectionTests.{AreOverEach}
-use Rattle.ft_session.specs.State.{to_document}
-use Rattle.ft_session.specs.steps.Numbering.{trees_of}
+use Rattle.collections.specs.Loaded.{to_document, trees_of}
 use Rattle.ft_session.proofs.selected.collect_all.Given as goal
 
 abbrev pub invariant-loop-name : goal.invariant-loop-name

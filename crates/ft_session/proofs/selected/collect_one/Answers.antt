@@ -9,9 +9,9 @@ use Rattle.path_meaning.specs.Collection.{documents}
 use Rattle.path_grammar.specs.declared.path.PathRoot.TheVariants.{Doc}
 use Rattle.ft_session.specs.PlannedPaths.{planned_lines, planned_price, prices_in}
 use Rattle.ft_session.specs.SelectionTests.{AreOver}
-use Rattle.ft_session.specs.State.{to_document}
+use Rattle.collections.specs.Loaded.{to_document}
 use Rattle.ft_session.proofs.NamedLemmas.{none-named, one-named}
-use Rattle.ft_session.proofs.NumberingLemmas.{found-tree}
+use Rattle.collections.proofs.NumberingLemmas.{found-tree}
 use Rattle.ft_session.proofs.PathLemmas.{prices-one}
 use Rattle.ft_session.proofs.selected.collect_one.Goals as goal
 

@@ -14,10 +14,10 @@ use Rattle.ft_session.proofs.selected.select_with.Goals as goal
 
 pub nodes-requires-clause-asked : goal.nodes-requires-clause-asked
 nodes-requires-clause-asked g c =
-    let root = c.args.document.now.tree.root in
+    let root = c.tree-tree.result.now.root in
     let runs = g.B.Loan.runs in
-    let count = as-many c.args.path.now.plans.items c.args.runs.now.items c.requires.runs ∙ ap length c.requires.lent_runs in
-    asked-weaker (λ k. k < length c.args.path.now.plans.items) (λ k. (r : NodeRef) → IsElement root r → IsTrue (may_ask runs root k r))
+    let count = as-many c.args.path.now.plans.now c.args.runs.now.items c.requires.runs ∙ ap length c.requires.lent_runs in
+    asked-weaker (λ k. k < length c.args.path.now.plans.now) (λ k. (r : NodeRef) → IsElement root r → IsTrue (may_ask runs root k r))
     (λ k less r e. may-asked runs root k (omega (arith, less, count)) r e) (steps (map step c.args.path.now.steps.now)) c.requires.plans
 
 pub returns-clause-runs : goal.returns-clause-runs
@@ -35,10 +35,11 @@ returns-clause-price g c =
     let says = g.J.Judge.says in
     let path = c.args.path.now in
     let runs = g.B.Loan.runs in
-    let root = c.args.document.now.tree.root in
-    let plans = map meant path.plans.items in
+    let root = c.tree-tree.result.now.root in
+    let plans = map meant path.plans.now in
     let meant_same : map run_meant runs ≡ plans = ap (map run_meant) (sym c.requires.lent_runs) ∙ c.requires.runs in
     let bound = c.nodes.ensures.costs (is_meant says plans) (element_price (map run_price runs)) (λ k r e. ap (λ ms. is_meant says ms k (element_of root r)) meant_same) (λ k r e. refl) in
-    let lent = ap (λ rs. planned_price says path rs (plain root)) c.requires.lent_runs in
+    let there = ap (λ t. planned_price says path runs (plain t.root)) c.tree-tree.ensures.tree in
+    let lent = ap (λ rs. planned_price says path rs (plain c.args.document.now.tree.root)) c.requires.lent_runs in
     let same = moves-loan says runs _ _ _ _ _ _ c.nodes.ensures.meaning in
     search rules

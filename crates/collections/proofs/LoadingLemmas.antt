@@ -1,0 +1,103 @@
+-- When a document is loaded or taken out, and when that is refused.
+use Rattle.std.proofs.Common.{◌≡◌, ◌≢◌, ◌∙◌, sym, ap, refl, ℕ, ◌<◌, ◌≤◌, Bool, true, false, cond, ◌||◌, List, [], ◌∷◌, length, map}
+use Rattle.std.specs.Prelude.{Some, Result, Ok, Err, is_some, nat_le}
+use Rattle.std.specs.Map.{lookup, remove_entry}
+use Rattle.std.specs.Str.{bytes_eq}
+use Rattle.std.proofs.lemmas.Bool.{lt-ltb, le-ltb}
+use Rattle.std.proofs.lemmas.List.{length-map}
+use Rattle.doc_profile.specs.declared.fault.DocFault.{DocFault}
+use Rattle.doc_profile.specs.declared.fault.DocFault.TheVariants as faults
+use Rattle.doc_grammar.specs.Limits.{node_count}
+use Rattle.ordered_tree.specs.Numbered.{plain}
+use Rattle.ordered_tree.specs.Numbering.{numbered}
+use Rattle.ordered_tree.specs.Stored.{Stored}
+use Rattle.ordered_tree.proofs.BuildingLemmas.{plain-numbered}
+use Rattle.path_meaning.specs.Collection.{Named}
+use Rattle.plain_tree.specs.Document.{Node}
+use Rattle.session_text.specs.declared.reply.FullOf.TheVariants.{Documents}
+use Rattle.session_text.specs.declared.reply.Refusal.{Refusal}
+use Rattle.session_text.specs.declared.reply.Refusal.TheVariants as refusal
+use Rattle.session_text.specs.declared.reply.Refusal.TheVariants.{Full, NameTaken, NoSuchName, TooManyTokens}
+use Rattle.session_text.specs.declared.reply.Reply.{Reply}
+use Rattle.session_text.specs.declared.reply.Reply.TheVariants.{Refused, Done}
+use Rattle.tokenizer.specs.Tokens.{tokens}
+use Rattle.doc_profile.specs.Readings.{Faults, document_of}
+use Rattle.collections.specs.Loaded.{LoadedTree, to_document}
+use Rattle.ft_base.specs.Limits.{max_documents, max_tokens}
+use Rattle.collections.specs.Documents.{added, has_name, dropped, loadable, loaded, tokens_loaded, with_few_tokens, without}
+
+-- a name is taken where a look-up finds it
+pub has_name-lookup : (name : List ℕ) (entries : List (List ℕ × LoadedTree)) → has_name name (map to_document entries) ≡ is_some (lookup (bytes_eq name) entries)
+has_name-lookup name [] = refl
+has_name-lookup name (e ∷ es) =
+    elim (bytes_eq name e.0) as (λ t. (t || has_name name (map to_document es)) ≡ is_some (cond t (Some e.1) (lookup (bytes_eq name) es)))
+    [ true ↦ refl | false ↦ has_name-lookup name es ]
+
+-- a name is taken in the documents of entries where a look-up for the same name finds it
+pub name-taken : (entries : List (List ℕ × LoadedTree)) (documents : List Named) (name asked : List ℕ) → map to_document entries ≡ documents → name ≡ asked
+    → has_name asked documents ≡ is_some (lookup (bytes_eq name) entries)
+name-taken entries documents name asked there same = ap (has_name asked) (sym there) ∙ (ap (λ n. has_name n (map to_document entries)) (sym same) ∙ has_name-lookup name entries)
+
+-- what is looked for before a document is loaded: whether its name is taken, and whether there is no room for one more
+module _ (entries : List (List ℕ × LoadedTree)) (documents : List Named) (name asked : List ℕ) (there : map to_document entries ≡ documents) (same : name ≡ asked)
+    (taken full : Bool) (found : is_some (lookup (bytes_eq name) entries) ≡ taken) (long : nat_le max_documents (length entries) ≡ full) where
+  has : has_name asked documents ≡ taken
+  has = name-taken entries documents name asked there same ∙ found
+
+  count : nat_le max_documents (length documents) ≡ full
+  count = ap (λ ds. nat_le max_documents (length ds)) (sym there) ∙ (ap (nat_le max_documents) (length-map entries to_document) ∙ long)
+
+  -- the two tests decide, before the block is looked at
+  pub loaded-by : (read : Result Node Refusal)
+      → loaded documents asked read ≡ cond taken (documents, Refused (NameTaken asked)) (cond full (documents, Refused (Full Documents)) (added documents asked read))
+  loaded-by read =
+      ap (λ t. cond t (documents, Refused (NameTaken asked)) (cond (nat_le max_documents (length documents)) (documents, Refused (Full Documents)) (added documents asked read))) has
+      ∙ ap (λ t. cond taken (documents, Refused (NameTaken asked)) (cond t (documents, Refused (Full Documents)) (added documents asked read))) count
+
+  -- the tokens of a document that comes
+  pub tokens-come : (root : Node) → tokens_loaded documents asked (Ok root) ≡ cond (taken || full) 0 (length (tokens root))
+  tokens-come root =
+      ap (λ t. cond (t || nat_le max_documents (length documents)) 0 (length (tokens root))) has ∙ ap (λ t. cond (taken || t) 0 (length (tokens root))) count
+
+pub dropped-test : (documents : List Named) (name : List ℕ) (there : Bool) → has_name name documents ≡ there
+    → dropped documents name ≡ cond there (without name documents, Done) (documents, Refused (NoSuchName name))
+dropped-test documents name there has = ap (λ t. cond t (without name documents, Done) (documents, Refused (NoSuchName name))) has
+
+-- the entries without the first of the name
+pub without-removed : (name : List ℕ) (entries : List (List ℕ × LoadedTree)) → map to_document (remove_entry (bytes_eq name) entries) ≡ without name (map to_document entries)
+without-removed name [] = refl
+without-removed name (e ∷ es) =
+    elim (bytes_eq name e.0) as (λ t. map to_document (cond t es (e ∷ remove_entry (bytes_eq name) es)) ≡ cond t (map to_document es) (to_document e ∷ without name (map to_document es)))
+    [ true ↦ refl | false ↦ ap (λ ds. to_document e ∷ ds) (without-removed name es) ]
+
+abbrev pub with_reply : List Named → Reply → List Named × Reply
+with_reply state reply = (state, reply)
+
+-- a document that was read, and too many tokens
+pub with_few_tokens-many : (root : Node) → max_tokens < length (tokens root) → with_few_tokens (Ok root) ≡ Err TooManyTokens
+with_few_tokens-many root many = ap (λ t. cond t (Err TooManyTokens) (Ok root)) (lt-ltb max_tokens (length (tokens root)) many)
+
+pub with_few_tokens-few : (root : Node) → length (tokens root) ≤ max_tokens → with_few_tokens (Ok root) ≡ Ok root
+with_few_tokens-few root few = ap (λ t. cond t (Err TooManyTokens) (Ok root)) (le-ltb max_tokens (length (tokens root)) few)
+
+-- a block's fault, or its document
+module _ (block : List ℕ) where
+  pub loadable-fault : (fault : DocFault) → document_of block ≡ Err fault → loadable block ≡ Err (refusal.Document fault)
+  unfolding loadable
+  loadable-fault fault is = ap with_few_tokens is
+
+  pub loadable-read : (root : Node) → document_of block ≡ Ok root → with_few_tokens (Ok root) ≡ loadable block
+  unfolding loadable
+  loadable-read root is = sym (ap with_few_tokens is)
+
+  -- a fault that isn't want of memory is the block's
+  pub loadable-refused : (fault : DocFault) (why : Refusal) → Faults (document_of block) fault → fault ≢ faults.Memory → why ≡ refusal.Document fault → Err why ≡ loadable block
+  loadable-refused (faults.NotUtf8 at) why h other is = ap Err is ∙ sym (loadable-fault (faults.NotUtf8 at) h)
+  loadable-refused (faults.Syntax at) why h other is = ap Err is ∙ sym (loadable-fault (faults.Syntax at) h)
+  loadable-refused (faults.Depth at) why h other is = ap Err is ∙ sym (loadable-fault (faults.Depth at) h)
+  loadable-refused (faults.Nodes at) why h other is = ap Err is ∙ sym (loadable-fault (faults.Nodes at) h)
+  loadable-refused faults.Memory why h other is = absurd (other refl)
+
+-- the document of a tree that was made of it
+pub tree-is : (tree : Stored) (document : Node) → tree ≡ record { root = numbered 0 document; slots = node_count document } → plain tree.root ≡ document
+tree-is tree document made = ap (λ (t : Stored). plain t.root) made ∙ plain-numbered document 0

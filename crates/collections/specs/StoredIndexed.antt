@@ -1,0 +1,26 @@
+-- How documents with their index are stored, by which proofs tell them apart.
+use Rattle.std.specs.Prelude.{ℕ, List, refl}
+use Rattle.std.specs.Coded.{Coded, code_by, coded×, coded_list, coded_ℕ}
+use Rattle.index_meaning.specs.Documents.{Numbered}
+use Rattle.index_versions.specs.contracts.version.Version as version
+use Rattle.ordered_tree.specs.Numbered as tree
+use Rattle.ordered_tree.specs.Stored.{Stored, numbered_code, stored_code}
+use Rattle.path_meaning.specs.Collection.{Named}
+use Rattle.plain_tree.specs.Document.{Node}
+use Rattle.plain_tree.specs.View.{node_code}
+use Rattle.collections.specs.Indexed.{Indexed}
+use Rattle.collections.specs.Loaded.{LoadedTree}
+
+abbrev pub loaded_code : Coded LoadedTree
+loaded_code =
+    code_by (ℕ × Stored) (coded× coded_ℕ stored_code) (λ l. (l.doc.0, l.tree)) (λ p. record { doc = record { 0 = p.0 }; tree = p.1 }) (λ _. refl)
+
+abbrev pub document_code : Coded Named
+document_code =
+    code_by (List ℕ × Node) (coded× (coded_list coded_ℕ) node_code) (λ d. (d.name, d.root)) (λ p. record { name = p.0; root = p.1 }) (λ _. refl)
+
+abbrev pub indexed_code : Coded Indexed
+indexed_code =
+    code_by (List Named × (List (ℕ × tree.Numbered) × List Numbered))
+    (coded× (coded_list document_code) (coded× (coded_list (coded× coded_ℕ numbered_code)) version.the_row.coded))
+    (λ i. (i.documents, (i.trees, i.version))) (λ p. record { documents = p.0; trees = p.1.0; version = p.1.1 }) (λ _. refl)

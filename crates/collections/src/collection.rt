@@ -1,0 +1,277 @@
+//! The documents of a session with the version of the index that is theirs.
+
+ghost use Rattle.std.specs.Prelude.{◌≡◌, ◌≤◌, ◌+◌, ◌++◌, ◌∷◌, ◌||◌, [], false, map, nat_le, not, true, IfOk, OnErr, OnOk, length};
+ghost use Rattle.std.specs.List.{list_any, sum_by};
+ghost use Rattle.doc_profile.specs.Faults.{AreWithin};
+ghost use Rattle.ft_base.specs.Lists.{is_empty};
+ghost use Rattle.ordered_tree.specs.Numbered.{plain};
+ghost use Rattle.plain_tree.specs.Document.{nodes};
+ghost use Rattle.plain_tree.specs.View.{node};
+ghost use Rattle.tokenizer.specs.Tokens.{tokens};
+ghost use Rattle.tree_edits.specs.steps.Acts.{stays};
+ghost use Rattle.collections.specs.Documents.{dropped, edited_within, has_name, key_total, loadable, loaded};
+ghost use Rattle.collections.specs.Documents.{token_total, tokens_loaded, tokens_named, touched_in};
+ghost use Rattle.collections.specs.Indexed.{nothing_indexed, FollowsEach, IsIndexOf};
+ghost use Rattle.collections.specs.Loaded.{to_document, trees_of};
+ghost use Rattle.collections.specs.Targets.{edit_of, places_of_targets, AreTargets};
+
+use crate::applying::{Edited, apply_all};
+use crate::limits::exceeded;
+use crate::loaded::{Loadable, Loaded};
+use crate::loading::{Outcome, read_document};
+use crate::making::{index_document, share_documents};
+use crate::planning::plan_all;
+use crate::tokens::token_count;
+use ft_base::{DocId, Line, MAX_DOCUMENTS, Memory, Steps};
+use index_updates::drop_doc;
+use index_versions::{Version, WordHints};
+use indexmap::IndexMap;
+use ordered_tree::NodeRefs;
+use plain_tree::{How, Kids};
+use session_text::{FullOf, LimitOf, Refusal, Reply};
+use std::alloc::Global;
+use std::marker::Model;
+use std::sync::ledger::Ledger;
+
+/// The documents of a session by their names, in the order in which they were loaded, and their index. Each document has
+/// a number in it, which is greater than those of the documents that were loaded before.
+#[derive(Drop)]
+pub struct Collection {
+    alloc: Global,
+    documents: IndexMap<Line, Loaded>,
+    version: Version,
+    /// Where the version's dictionary has words: what a document that comes looks at first.
+    hints: WordHints,
+    /// The number of the document that is loaded next.
+    next: u32,
+    /// How many tokens the documents have.
+    tokens: usize,
+}
+
+impl Model for Collection {
+    ghost use Rattle.std.specs.Prelude.{map};
+    ghost use Rattle.collections.specs.Indexed.{Indexed};
+    ghost use Rattle.collections.specs.StoredIndexed.{indexed_code};
+
+    ghost Value = { Indexed };
+
+    ghost coded = { indexed_code };
+
+    ghost use Rattle.collections.specs.Loaded.{to_document, trees_of};
+    ghost use Rattle.collections.specs.steps.Numbering.{IsKept};
+
+    ghost view = { λ inside. record {
+      documents = map to_document inside.documents.entries;
+      trees = trees_of inside.documents.entries;
+      version = inside.version;
+    } };
+
+    ghost invariant = { λ inside. IsKept inside.documents.entries inside.version inside.next inside.tokens };
+}
+
+impl Collection {
+    /// The collection without documents.
+    pub fn new(alloc: Global) -> Collection
+        ensures { result ≡ nothing_indexed }
+    {
+        Collection {
+            alloc,
+            documents: IndexMap::new(alloc),
+            version: Version::empty(alloc),
+            hints: WordHints::new(alloc),
+            next: 0,
+            tokens: 0,
+        }
+    }
+
+    /// The same documents with their index once more. The two share trees and the index's memory, and neither sees a change
+    /// to the other.
+    pub fn copy(&self) -> Result<Collection, Memory>
+        ensures { IfOk result (λ copy. copy ≡ self.now) }
+    {
+        let documents = share_documents(self.alloc, &self.documents)?;
+        match self.version.clone_version() {
+            Ok(version) => Ok(Collection {
+                alloc: self.alloc,
+                documents,
+                version,
+                hints: WordHints::new(self.alloc),
+                next: self.next,
+                tokens: self.tokens,
+            }),
+            Err(memory) => {
+                drop(documents);
+                Err(memory)
+            }
+        }
+    }
+
+    /// The documents. The version is their index, and it follows the tree of each under its number.
+    pub fn documents(&self) -> &IndexMap<Line, Loaded>
+        ensures documents { map to_document result.now.entries ≡ self.now.documents }
+        ensures trees { trees_of result.now.entries ≡ self.now.trees }
+        ensures indexed { IsIndexOf self.now.documents self.now.version }
+        ensures followed { FollowsEach self.now.version self.now.trees }
+    {
+        &self.documents
+    }
+
+    /// The version of the index.
+    pub fn version(&self) -> &Version
+        ensures { result.now ≡ self.now.version }
+    {
+        &self.version
+    }
+
+    /// How many documents there are.
+    pub fn len(&self) -> usize
+        ensures { result ≡ length self.now.documents }
+    {
+        self.documents.len()
+    }
+
+    /// How many tokens the documents have.
+    pub fn token_total(&self) -> usize
+        ensures { result ≡ token_total self.now.documents }
+    {
+        self.tokens
+    }
+
+    /// How many different keys the tokens of the documents have.
+    pub fn key_total(&self) -> usize
+        ensures { result ≡ key_total self.now.documents }
+    {
+        self.version.key_count()
+    }
+
+    /// Puts the document that the block is behind those that are there, unless its name is taken, there are as many as
+    /// there may be, or the block is none that can be loaded.
+    pub fn load<L: Ledger>(
+        &mut self,
+        name: &Line,
+        block: &[u8],
+        rows: &mut Steps<L>,
+    ) -> Result<Reply, Memory>
+        ensures answer { IfOk result (λ reply. (self.new.documents, reply) ≡ loaded self.old.documents name.now (loadable block.now)) }
+        ensures err { OnErr result (self.new ≡ self.old) }
+        ensures rows { rows.new ≤ rows.old + tokens_loaded self.old.documents name.now (loadable block.now) }
+    {
+        let name = Line::read(self.alloc, name.as_str())?;
+        if self.documents.contains_key(&name) {
+            return Ok(Reply::Refused(Refusal::NameTaken { name }));
+        }
+        if self.documents.len() >= MAX_DOCUMENTS {
+            let what = FullOf::Documents;
+            return Ok(Reply::Refused(Refusal::Full { what }));
+        }
+        match read_document(self.alloc, block)? {
+            Outcome::Refused(refusal) => Ok(Reply::Refused(refusal)),
+            Outcome::Document(document) => match self.add(name, document, rows) {
+                Ok(()) => Ok(Reply::Done),
+                Err(memory) => Err(memory),
+            },
+        }
+    }
+
+    /// Puts a document behind the others, under the next number.
+    fn add<L: Ledger>(
+        &mut self,
+        name: Line,
+        document: Loadable,
+        rows: &mut Steps<L>,
+    ) -> Result<(), Memory>
+        requires { has_name name self.old.documents ≡ false }
+        ensures documents { OnOk result (self.new.documents ≡ self.old.documents ++ record { name = name; root = plain document.read.tree.root } ∷ []) }
+        ensures err { OnErr result (self.new ≡ self.old) }
+        ensures rows { rows.new ≤ rows.old + length (tokens (plain document.read.tree.root)) }
+    {
+        let doc = DocId(self.next);
+        let hints = &mut self.hints;
+        let made = index_document(self.alloc, &self.version, hints, doc, document, rows);
+        let Ok((loaded, version)) = made else {
+            drop(name);
+            return Err(Memory);
+        };
+        let Some(next) = self.next.checked_add(1) else {
+            drop((name, loaded, version));
+            return Err(Memory);
+        };
+        let Some(tokens) = self.tokens.checked_add(token_count(loaded.tree())) else {
+            drop((name, loaded, version));
+            return Err(Memory);
+        };
+        match self.documents.insert(name, loaded) {
+            Ok(before) => {
+                drop(before);
+                drop(std::mem::replace(&mut self.version, version));
+                self.next = next;
+                self.tokens = tokens;
+                Ok(())
+            }
+            Err(_) => {
+                drop(version);
+                Err(Memory)
+            }
+        }
+    }
+
+    /// Takes the document of the name out, unless there is none.
+    pub fn remove<L: Ledger>(&mut self, name: &Line, rows: &mut Steps<L>) -> Result<Reply, Memory>
+        ensures answer { IfOk result (λ reply. (self.new.documents, reply) ≡ dropped self.old.documents name.now) }
+        ensures err { OnErr result (self.new ≡ self.old) }
+        ensures rows { rows.new ≤ rows.old + tokens_named self.old.documents name.now }
+    {
+        let name = Line::read(self.alloc, name.as_str())?;
+        let Some(document) = self.documents.get(&name) else {
+            return Ok(Reply::Refused(Refusal::NoSuchName { name }));
+        };
+        let doc = document.doc();
+        let tokens = token_count(document.tree());
+        let Ok(version) = drop_doc(&self.version, doc, rows) else {
+            drop(name);
+            return Err(Memory);
+        };
+        drop(self.documents.shift_remove(&name));
+        drop(std::mem::replace(&mut self.version, version));
+        self.tokens -= tokens;
+        drop(name);
+        Ok(Reply::Done)
+    }
+
+    /// Edits elements of the documents: of each document in order, those of these references. What comes into or beside an
+    /// element, or into its place, is the content. All documents stay as they are where one of them would exceed a limit. A
+    /// document without such elements is not looked at.
+    pub fn edit<L: Ledger>(
+        &mut self,
+        targets: &[NodeRefs],
+        how: Option<How>,
+        content: &Kids,
+        rows: &mut Steps<L>,
+    ) -> Result<Option<LimitOf>, Memory>
+        requires there { AreTargets self.old.trees targets.now }
+        requires once { (nat_le (sum_by length targets.now) 1 || is_empty content.now) ≡ true }
+        requires inner { (stays how || not (list_any (list_any is_empty) (places_of_targets self.old.trees targets.now))) ≡ true }
+        requires few_nodes { AreWithin (nodes (map node content.now)) }
+        ensures edited { IfOk result (λ limit. (self.new.documents, limit)
+            ≡ edited_within (edit_of how content.now) (places_of_targets self.old.trees targets.now) self.old.documents) }
+        ensures err { OnErr result (self.new ≡ self.old) }
+        ensures rows { rows.new ≤ rows.old + touched_in (edit_of how content.now) (places_of_targets self.old.trees targets.now) self.old.documents }
+    {
+        // No two documents have one name, as the clauses of `iter` say.
+        let _entries = self.documents.iter();
+        let planned = plan_all(self.alloc, &self.documents, targets, how, content)?;
+        if let Some(limit) = exceeded(planned.as_slice()) {
+            drop(planned);
+            return Ok(Some(limit));
+        }
+        let Edited {
+            documents,
+            version,
+            tokens,
+        } = apply_all(self.alloc, &self.version, planned, rows)?;
+        drop(std::mem::replace(&mut self.documents, documents));
+        drop(std::mem::replace(&mut self.version, version));
+        self.tokens = tokens;
+        Ok(None)
+    }
+}

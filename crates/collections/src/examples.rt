@@ -1,0 +1,31 @@
+//! The definitions on small documents, by computation.
+
+ghost use Rattle.std.specs.Prelude.{◌≡◌, ◌∷◌, [], None, codes, false, true};
+ghost use Rattle.std.specs.Set.{distinct_count, unique_keys};
+ghost use Rattle.std.specs.Str.{bytes_eq};
+ghost use Rattle.collections.specs.Documents.{changed_roots, edited_documents, has_name, limit_of, without};
+ghost use Rattle.collections.specs.Examples.{bare, deletion, first_named, last_named, second_named};
+
+/// Documents by their names.
+pub fn named_documents()
+    ensures there { has_name (codes "b") (first_named ∷ second_named ∷ []) ≡ true }
+    ensures not_there { has_name (codes "c") (first_named ∷ second_named ∷ []) ≡ false }
+    ensures gone { without (codes "a") (first_named ∷ second_named ∷ []) ≡ second_named ∷ [] }
+    ensures nothing_gone { without (codes "c") (first_named ∷ second_named ∷ []) ≡ first_named ∷ second_named ∷ [] }
+{}
+
+/// An edit of the second of three documents leaves the others; the places of those behind may be left out.
+pub fn edits_of_documents()
+    ensures edited { edited_documents deletion ([] ∷ ((1 ∷ []) ∷ []) ∷ []) (first_named ∷ second_named ∷ last_named ∷ [])
+        ≡ first_named ∷ record { name = codes "b"; root = bare } ∷ last_named ∷ [] }
+    ensures changed { changed_roots deletion ([] ∷ ((1 ∷ []) ∷ []) ∷ []) (first_named ∷ second_named ∷ last_named ∷ []) ≡ bare ∷ [] }
+    ensures none { changed_roots deletion ([] ∷ [] ∷ []) (first_named ∷ second_named ∷ []) ≡ [] }
+    ensures no_documents { limit_of [] ≡ None }
+{}
+
+/// A text that stands twice counts once.
+pub fn different_texts()
+    ensures once { unique_keys bytes_eq (codes "a" ∷ codes "b" ∷ codes "a" ∷ []) ≡ codes "b" ∷ codes "a" ∷ [] }
+    ensures count { distinct_count bytes_eq (codes "a" ∷ codes "b" ∷ codes "a" ∷ []) ≡ 2 }
+    ensures nothing { distinct_count bytes_eq [] ≡ 0 }
+{}

@@ -1,0 +1,15 @@
+//! The documents of a session with their index: what loading, dropping and editing do to them, and how much there is.
+#![tactic(auto)]
+
+mod applying;
+mod collection;
+pub mod examples;
+mod limits;
+mod loaded;
+mod loading;
+mod making;
+mod planning;
+mod tokens;
+
+pub use collection::Collection;
+pub use loaded::Loaded;
