@@ -11,7 +11,7 @@ from rich.cells import cell_len
 from rich.console import Console
 from rich.text import Text
 
-from ftq_client import Element, NotYet, QueryFault, Refusal
+from ftq_client import Element, QueryFault, Refusal
 
 from .collection import Collection
 from .locating import Located
@@ -111,8 +111,6 @@ def say_refusal(console: Console, path: str, refusal: Refusal, prefix: str = "")
             say(console, Text(f"    {advice.why}" + ("; write:" if advice.write else ""), "yellow"))
             if advice.write:
                 say(console, Text(f"    {advice.write}", "green"))
-    elif isinstance(refusal, NotYet):
-        say(console, Text(f"{prefix}this is read as it should be, and this program doesn't carry it out yet", "red"))
     else:
         say(console, Text(prefix + _in_words(refusal), "red"))
 

@@ -24,7 +24,6 @@ from .faults import (
     NoSuchList,
     NoSuchName,
     NoTarget,
-    NotYet,
     OverLimit,
     ProgramEnded,
     ProgramMissing,
@@ -35,14 +34,15 @@ from .faults import (
     refusal_of,
 )
 from .program import find_program
-from .replies import Done, Element, Found, Reply, Said, Step
-from .session import Engine, Session
+from .replies import Counts, Done, Element, Found, Reply, Said, Step
+from .session import Engine, Position, Session
 
 __all__ = [
     "BadCommand",
     "BadLine",
     "BadName",
     "ClientError",
+    "Counts",
     "DocumentFault",
     "Done",
     "Element",
@@ -55,8 +55,8 @@ __all__ = [
     "NoSuchList",
     "NoSuchName",
     "NoTarget",
-    "NotYet",
     "OverLimit",
+    "Position",
     "ProgramEnded",
     "ProgramMissing",
     "QueryFault",

@@ -149,12 +149,6 @@ class OverLimit(Refusal):
     number, kind = 13, "limit"
 
 
-class NotYet(Refusal):
-    """The command, or this form of it, is not carried out by this program."""
-
-    number, kind = 14, "not yet"
-
-
 _FORMS: list[tuple[type[Refusal], re.Pattern[str]]] = [
     (BadCommand, re.compile(r"! 1 bad command at line (?P<line>\d+)")),
     (BadName, re.compile(r"! 2 bad name at line (?P<line>\d+)")),
@@ -171,7 +165,6 @@ _FORMS: list[tuple[type[Refusal], re.Pattern[str]]] = [
     (ManyTargets, re.compile(r"! 11 many targets: (?P<count>\d+)")),
     (RootTarget, re.compile(r"! 12 root target")),
     (OverLimit, re.compile(r"! 13 limit: (?P<kind>depth|nodes|tokens)")),
-    (NotYet, re.compile(r"! 14 not yet")),
 ]
 
 

@@ -51,6 +51,28 @@ class Found:
 
 
 @dataclass(frozen=True)
+class Counts:
+    """How much a session holds: documents, their tokens, the different keys of these, marks, plans that are kept, and how often one was used again."""
+
+    documents: int
+    tokens: int
+    terms: int
+    marks: int
+    plans: int
+    hits: int
+
+    TEXT = re.compile(r"documents (\d+) tokens (\d+) terms (\d+) marks (\d+) plans (\d+) hits (\d+)")
+
+    @classmethod
+    def read(cls, text: str) -> "Counts":
+        """The counts that a reply tells; a `ValueError` where it is of another form."""
+        parts = cls.TEXT.fullmatch(text)
+        if not parts:
+            raise ValueError(f"no counts: {text!r}")
+        return cls(*map(int, parts.groups()))
+
+
+@dataclass(frozen=True)
 class Said:
     """`= ` and a text, all of the reply."""
 

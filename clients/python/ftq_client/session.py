@@ -4,15 +4,17 @@ from __future__ import annotations
 
 from pathlib import Path
 from types import TracebackType
-from typing import Protocol, TypeVar
+from typing import Literal, Protocol, TypeVar
 
 from .blocks import command_bytes
 from .faults import ClientError, Refusal, SessionFull
 from .history import History
 from .program import MOST_BYTES, Process, find_program
-from .replies import Done, Element, Found, Reply, Said
+from .replies import Counts, Done, Element, Found, Reply, Said
 
 Wanted = TypeVar("Wanted", Done, Found, Said)
+
+Position = Literal["first", "last", "before", "after"]
 
 
 class Engine(Protocol):
@@ -89,6 +91,35 @@ class Session:
     def print(self, path: str) -> list[str]:
         """The elements that the path selects as XML, each on one line, in the order of `query`."""
         return list(self._said(self.command(f"print {path}"), Found).lines)
+
+    def insert(self, position: Position, path: str, content: bytes) -> None:
+        """Reads `content` as nodes and puts them into the one element that the path selects, as its first or last children, or before or after it."""
+        self._said(self.command(f"insert {position} {path}", content), Done)
+
+    def replace(self, path: str, content: bytes) -> None:
+        """Reads `content` as nodes and puts them in the place of the one element that the path selects."""
+        self._said(self.command(f"replace {path}", content), Done)
+
+    def delete(self, path: str) -> None:
+        """Takes out all elements that the path selects."""
+        self._said(self.command(f"delete {path}"), Done)
+
+    def mark(self, name: str) -> None:
+        """Keeps the collection as it is, under a name, for `query_at`."""
+        self._said(self.command(f"mark {name}"), Done)
+
+    def unmark(self, name: str) -> None:
+        """Gives the mark up."""
+        self._said(self.command(f"unmark {name}"), Done)
+
+    def query_at(self, mark: str, path: str) -> list[Element]:
+        """The elements that the path selects in the collection as the mark has it; lists are those of now."""
+        found = self._said(self.command(f"query at {mark} {path}"), Found)
+        return [Element.read(line) for line in found.lines]
+
+    def stats(self) -> Counts:
+        """How much the session holds."""
+        return Counts.read(self._said(self.command("stats"), Said).text)
 
     def explain(self, selection: str) -> str:
         """A simpler form of the selection, which the same texts satisfy. No list is looked at."""

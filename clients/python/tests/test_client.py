@@ -15,20 +15,24 @@ from ftq_client import (
     BadCommand,
     BadLine,
     BadName,
+    Counts,
     DocumentFault,
     Done,
     Element,
     Found,
     Full,
+    ManyTargets,
     NameTaken,
     NoSuchDocument,
     NoSuchList,
     NoSuchName,
-    NotYet,
+    NoTarget,
     ProgramEnded,
     ProgramMissing,
     QueryFault,
     Refusal,
+    RootTarget,
+    Said,
     Session,
     SessionFull,
     Step,
@@ -141,7 +145,6 @@ def test_more_lists_than_there_may_be(session: Session) -> None:
         ("! 11 many targets: 12", 11, {"count": 12}),
         ("! 12 root target", 12, {}),
         ("! 13 limit: nodes", 13, {"kind": "nodes"}),
-        ("! 14 not yet", 14, {}),
         ("! 5 full at 4096 documents", 5, {"count": 4096, "kind": "documents"}),
         ("! 99 something new", 0, {"reply": "! 99 something new"}),
     ],
@@ -155,12 +158,33 @@ def test_refusals_that_are_known_by_their_text(reply: str, number: int, parts: d
 def test_any_command_has_a_reply_or_a_refusal(session: Session) -> None:
     assert session.command("load d", b"<a>x</a>") == Done()
     assert session.command("  query\tcollection()/a  ") == Found(('doc("d")/a[1]',))
-    for line, block in [("stats", None), ("mark m", None), ("delete collection()/a/b", None), ("insert last collection()/a", b"x")]:
-        try:
-            session.command(line, block)
-        except NotYet:
-            pass
-    assert session.query("collection()/a")
+    assert session.command("mark m") == Done()
+    assert session.command("insert last collection()/a", b"y") == Done()
+    with pytest.raises(NoTarget):
+        session.command("delete collection()/a/b")
+    assert session.command("stats") == Said("documents 1 tokens 1 terms 1 marks 1 plans 0 hits 0")
+    assert session.command("print collection()/a") == Found(("<a>xy</a>",))
+
+
+def test_edits_and_marks(session: Session) -> None:
+    session.load("d", b"<a><p>one</p><p>two</p></a>")
+    session.mark("before")
+    session.insert("last", "collection()/a", b"<p>three</p>")
+    session.insert("before", 'collection()//p[. contains text "two"]', b".<q/>")
+    session.replace('collection()//p[. contains text "one"]', b"<p>four</p>")
+    assert session.print("collection()/a") == ["<a><p>four</p>.<q/><p>two</p><p>three</p></a>"]
+    session.delete("collection()//p")
+    assert session.print("collection()/a") == ["<a>.<q/></a>"]
+    assert [it.line for it in session.query_at("before", 'collection()//p[. contains text "one"]')] == ['doc("d")/a[1]/p[1]']
+    session.unmark("before")
+    with pytest.raises(NoSuchName):
+        session.query_at("before", "collection()//p")
+    with pytest.raises(RootTarget):
+        session.delete("collection()/a")
+    with pytest.raises(ManyTargets) as caught:
+        session.replace("collection()//*", b"<b/>")
+    assert caught.value.count == 2
+    assert session.stats() == Counts(documents=1, tokens=0, terms=0, marks=0, plans=2, hits=1)
 
 
 @pytest.mark.parametrize("line", ["", "   ", "# remark", "\t#", "\ufeff# x", "query a\nquery b", "load d", "stems", "\r"])

@@ -10,7 +10,7 @@ from ftq_ask.hints import hints  # noqa: E402
 from ftq_ask.mistakes import FAULTS, MISTAKES, Mistake, advice_for  # noqa: E402
 from ftq_ask.paths import asked_strings, missing_end, names_in  # noqa: E402
 from ftq_ask.reading import Vocabulary  # noqa: E402
-from ftq_client import BadCommand, NoSuchDocument, NotYet, QueryFault, Session  # noqa: E402
+from ftq_client import BadCommand, NoSuchDocument, QueryFault, Session  # noqa: E402
 
 KNOWN = Vocabulary({"book": 2, "p": 2, "title": 2, "db:para": 1}, {"id": 2, "year": 1}, {"book": 2})
 
@@ -32,7 +32,7 @@ def test_the_program_refuses_what_is_wrong_and_reads_what_is_written_instead(mis
         return
     try:
         session.query(advice.write)
-    except (NotYet, NoSuchDocument):
+    except NoSuchDocument:
         pass
 
 
