@@ -3,6 +3,7 @@ use Rattle.std.proofs.Common.{◌≡◌, ◌∙◌, sym, ap, ap₂, refl, arith,
 use Rattle.std.specs.Prelude.{◌&&◌, not, nat_le, nat_lt, Option, Some, None, Result, Ok, Err, IfOk, All}
 use Rattle.std.specs.List.{list_any, sum_by}
 use Rattle.std.proofs.lemmas.Bool.Decides.{nat_tests}
+use Rattle.std.proofs.Math.Bool.{or-true}
 use Rattle.std.proofs.lemmas.List.{length-map}
 use Rattle.std.proofs.lemmas.List.Sums.{sum_by-cons}
 use Rattle.std.proofs.lemmas.Simd.{map-map}
@@ -109,10 +110,6 @@ as-many-targets (t ∷ ts) (r ∷ rs) h =
     let rest = as-many-targets ts rs h.1 in
     let one = length-map r (λ (x : NodeRef). (element_of t.1 x).place) in
     sum_by-cons length r rs ∙ (omega (arith, rest, one, sum_by-cons length (places_of t.1 r) (places_of_targets ts rs)))
-
-or-true : (b : Bool) → (b || true) ≡ true
-or-true true = refl
-or-true false = refl
 
 -- where an edit isn't refused it is of one element alone, or has no content
 pub once-holds : (targets : Targets) (how : Option How) (count n : ℕ) (rooted : Bool) (content : List Tree) → targets_refused targets how count rooted ≡ None

@@ -18,6 +18,8 @@ use Rattle.ft_base.specs.declared.ids.NodeRef.{NodeRef}
 use Rattle.path_meaning.specs.Collection.{Named, documents}
 use Rattle.path_meaning.specs.Elements.{Element}
 use Rattle.path_grammar.specs.Form.{Steps, no_steps, step_then, Step, step, Predicates, no_predicates, predicate_then, Predicate, number, holds, Condition, or_of, and_of, not_of, attribute, exists, contains, Conditions, no_conditions, condition_then}
+use Rattle.path_grammar.specs.Form as form
+use Rattle.path_grammar.specs.View as view
 use Rattle.path_grammar.specs.declared.path.PathRoot.{PathRoot}
 use Rattle.path_grammar.specs.declared.path.PathRoot.TheVariants.{Doc}
 use Rattle.path_meaning.specs.Meaning.{selected}
@@ -25,7 +27,7 @@ use Rattle.path_meaning.specs.Tests.{selected_tests}
 use Rattle.path_nodes.specs.Asked.{OfEach, OfStep, OfPredicates, OfPredicate, OfCondition, OfConditions}
 use Rattle.path_nodes.specs.Prices.{total_price}
 use Rattle.path_nodes.specs.References.{element_of}
-use Rattle.path_subset.specs.Paths.{PathForm, PlacedForm}
+use Rattle.path_subset.specs.Paths.{PathForm, PlacedForm, read_form}
 use Rattle.path_subset.specs.declared.path.Extent.{Extent}
 use Rattle.plan_compiler.specs.Missing.{first_missing, names, IsMissing}
 use Rattle.plan_compiler.proofs.MissingLemmas.{missing_append}
@@ -41,7 +43,8 @@ use Rattle.ft_session.specs.PathPrices.{element_price, path_price, selection_pri
 use Rattle.ft_session.specs.Held.{Held}
 use Rattle.ft_session.specs.KeptTexts.{selection_texts, text_at}
 use Rattle.ft_session.specs.PlannedPaths.{is_meant, meant, plan_under, planned_lines, planned_price, plans_under, prices_in, run_meant, run_over, run_price, under, IsPlanOf}
-use Rattle.ft_session.specs.ReadyPaths.{path_refusal, refusal_found}
+use Rattle.ft_session.specs.ReadyPaths.{path_refusal, refusal_found, IsReadyPath}
+use Rattle.ft_session.specs.declared.paths.ReadyPath.{ReadyPath}
 use Rattle.ft_session.specs.State.{State}
 use Rattle.collections.specs.Documents.{has_name}
 use Rattle.session_text.specs.declared.reply.Refusal.{Refusal}
@@ -182,6 +185,17 @@ module _ (lists : NamedLists) (text : List ℕ) (p : PathForm) where
     lists = All-map (λ (plan : PlanOf). plan.lists ≡ prepared.lists) (plan_under lists text) p.selections (λ k d less. sym same);
     counted = omega (arith, few, as-many-under);
   }
+
+-- a path that may be gone along has a plan for each of its selections
+pub ready-plan : (documents : List Named) (prepared : Preparation) (text : List ℕ) (ready : ReadyPath) → IsReadyPath documents prepared text ready
+    → (planned : PlannedPath) → planned.root.now ≡ (read_form ready.path).path.root
+    → form.steps (map view.step planned.steps.now) ≡ (read_form ready.path).path.steps → planned.plans.now ≡ ready.plans.items
+    → IsPlanOf prepared.lists (read_form ready.path) planned
+ready-plan documents prepared text ready is planned root leads plans = record {
+  root = root;
+  steps = leads;
+  plans = ap (map meant) (plans ∙ is.plans) ∙ meant-under prepared.lists text (read_form ready.path);
+}
 
 -- a path that is refused is answered by its refusal
 module _ (says : Judgement) (shown : Shown) (state : State) (why : Refusal) where

@@ -25,7 +25,7 @@ use Rattle.tree_edits.specs.steps.Acts.{act, act_on}
 use Rattle.tree_edits.proofs.ChangedLemmas.{same_choice}
 use Rattle.tree_edits.proofs.EditLemmas.{turned, insertion_order, removal_order, replacement_order}
 use Rattle.tree_edits.proofs.FreshLemmas.{all_fresh-refs}
-use Rattle.tree_edits.proofs.JoiningLemmas.{append_none}
+use Rattle.tree_edits.proofs.PlainLemmas.{append_none}
 use Rattle.tree_edits.proofs.References.{same_ref}
 
 one_among : (r q : NodeRef) → is_among (r ∷ []) q ≡ is_same r q

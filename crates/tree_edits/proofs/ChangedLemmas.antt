@@ -8,7 +8,7 @@ use Rattle.ordered_tree.specs.Numbered.{Numbered, element_at, text_at, Children,
 use Rattle.ordered_tree.proofs.SlotsLemmas.{All-left, All-right}
 use Rattle.plain_tree.specs.declared.tree.Attr.{Attr}
 use Rattle.tree_edits.specs.Edits.{only, append, changed, all_changed, references_in, references_of}
-use Rattle.tree_edits.proofs.JoiningLemmas.{append_append, append_none}
+use Rattle.tree_edits.proofs.PlainLemmas.{append_append, append_none}
 
 module _ (chosen : NodeRef → Bool) (change : Numbered → Children) where
   pub all_changed_append : (a b : Children) → all_changed chosen change (append a b) ≡ append (all_changed chosen change a) (all_changed chosen change b)

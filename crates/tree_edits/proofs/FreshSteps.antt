@@ -12,7 +12,7 @@ use Rattle.plain_tree.specs.View.{node}
 use Rattle.plain_tree.specs.declared.tree.Tree.{Tree}
 use Rattle.tree_edits.specs.Edits.{append, only}
 use Rattle.tree_edits.specs.Fresh.{first_ref, fresh, all_fresh}
-use Rattle.tree_edits.proofs.JoiningLemmas.{append_append, append_none}
+use Rattle.tree_edits.proofs.PlainLemmas.{append_append, append_none}
 use Rattle.tree_edits.proofs.RowsJoined.{row, row_append}
 
 pub first_left : (refs : List NodeRef) (next : ℕ) → first_ref (drop next refs) ≡ get_or refs next (record { 0 = 0 })

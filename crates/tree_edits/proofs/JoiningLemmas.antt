@@ -8,19 +8,11 @@ use Rattle.plain_tree.specs.Edits as plain_edit
 use Rattle.plain_tree.specs.declared.tree.Attr.{Attr}
 use Rattle.plain_tree.proofs.JoiningLemmas.{front, joined_are, before_text, before_element, behind_element, together}
 use Rattle.tree_edits.specs.Edits.{only, append, text_then, joined, joined_then}
-use Rattle.tree_edits.proofs.PlainLemmas.{plain-append, plain-joined}
+use Rattle.tree_edits.proofs.PlainLemmas.{append_append, append_none, plain-append, plain-joined}
 
 -- whether texts are joined already
 abbrev pub are_joined_at : Children → Bool
 are_joined_at ns = are_joined (plain_children ns)
-
-pub append_none : (ns : Children) → append ns no_children ≡ ns
-append_none no_children = refl
-append_none (child_then n ns) = ap (child_then n) (append_none ns)
-
-pub append_append : (xs ys zs : Children) → append (append xs ys) zs ≡ append xs (append ys zs)
-append_append no_children ys zs = refl
-append_append (child_then n xs) ys zs = ap (child_then n) (append_append xs ys zs)
 
 pub joined-are_joined : (ns : Children) → are_joined_at (joined ns) ≡ true
 joined-are_joined ns = ap are_joined (plain-joined ns) ∙ joined_are (plain_children ns)

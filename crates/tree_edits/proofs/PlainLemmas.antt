@@ -14,6 +14,16 @@ use Rattle.tree_edits.specs.Edits.{only, append, text_then, joined, references_i
 use Rattle.tree_edits.proofs.References.{weight, weight_yes, same_self, times, times-append, Distinct}
 use Rattle.tree_edits.proofs.Gathered.{unchanged, all_unchanged}
 
+-- ---- nodes behind nodes
+
+pub append_none : (ns : Children) → append ns no_children ≡ ns
+append_none no_children = refl
+append_none (child_then n ns) = ap (child_then n) (append_none ns)
+
+pub append_append : (xs ys zs : Children) → append (append xs ys) zs ≡ append xs (append ys zs)
+append_append no_children ys zs = refl
+append_append (child_then n xs) ys zs = ap (child_then n) (append_append xs ys zs)
+
 -- ---- joining
 
 pub plain-append : (a b : Children) → plain_children (append a b) ≡ plain_edit.append (plain_children a) (plain_children b)
@@ -128,14 +138,6 @@ two_texts r q c bytes (d ∷ more) (child_then (element_at p name attrs kids) ns
 all_changed-append : (chosen : NodeRef → Bool) (change : Numbered → Children) (a b : Children) → all_changed chosen change (append a b) ≡ append (all_changed chosen change a) (all_changed chosen change b)
 all_changed-append chosen change no_children b = refl
 all_changed-append chosen change (child_then n a) b = ap (append (changed chosen change n)) (all_changed-append chosen change a b) ∙ sym (append_append (changed chosen change n) (all_changed chosen change a) (all_changed chosen change b))
-  where
-    append_append : (a b c : Children) → append (append a b) c ≡ append a (append b c)
-    append_append no_children b c = refl
-    append_append (child_then n a) b c = ap (child_then n) (append_append a b c)
-
-append_none : (a : Children) → append a no_children ≡ a
-append_none no_children = refl
-append_none (child_then n a) = ap (child_then n) (append_none a)
 
 module _ (chosen : NodeRef → Bool) where
   abbrev drops : Children → Children

@@ -12,8 +12,8 @@ use Rattle.plain_tree.specs.Edits as plain_edit
 use Rattle.plain_tree.specs.declared.tree.Attr.{Attr}
 use Rattle.plain_tree.proofs.JoiningLemmas.{front, rest_joined}
 use Rattle.tree_edits.specs.Edits.{only, append, joined}
-use Rattle.tree_edits.proofs.JoiningLemmas.{are_joined_at, append_none, append_append, joined_same, joined_front, joined-are_joined, nothing_behind, text_behind_text, text_behind_element, element_behind}
-use Rattle.tree_edits.proofs.PlainLemmas.{plain-append}
+use Rattle.tree_edits.proofs.JoiningLemmas.{are_joined_at, joined_same, joined_front, joined-are_joined, nothing_behind, text_behind_text, text_behind_element, element_behind}
+use Rattle.tree_edits.proofs.PlainLemmas.{append_append, append_none, plain-append}
 
 abbrev pub row : List RefTree → Children
 row trees = ref_nodes (map ref_node trees)

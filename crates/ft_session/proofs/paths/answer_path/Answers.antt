@@ -13,10 +13,10 @@ use Rattle.session_text.specs.declared.reply.Reply.{Reply}
 use Rattle.ft_session.specs.KeptTexts.{kept_behind}
 use Rattle.ft_session.specs.PathPrices.{read_price}
 use Rattle.ft_session.specs.Paths.{answer, answer_read, reply_with}
-use Rattle.ft_session.specs.PlannedPaths.{meant, AskBelow, IsPlanOf}
+use Rattle.ft_session.specs.PlannedPaths.{AskBelow}
 use Rattle.ft_session.specs.ReadyPaths.{IsReady, IsReadyPath}
 use Rattle.ft_session.specs.StateView.{held_of, state_of}
-use Rattle.ft_session.proofs.PathLemmas.{meant-under, planned-lines, planned-prices, ready-answer, refused-answer, texts-under}
+use Rattle.ft_session.proofs.PathLemmas.{planned-lines, planned-prices, ready-answer, ready-plan, refused-answer, texts-under}
 use Rattle.ft_session.proofs.paths.answer_path.Goals as goal
 
 pub answer_planned-answered-requires : goal.answer_planned-answered-requires
@@ -43,11 +43,8 @@ returns-in-Ok-Path-clause-reply g c =
     let planned = c.planned.result in
     let ready : IsReadyPath c.args.collection.now.documents c.args.prepared.now text c.in-Ok-Path.ready =
     subst (IsReady c.args.collection.now.documents c.args.prepared.now text) c.in-Ok-Path.field-0-is c.in-Ok-Path.ensures in
-    let plan : IsPlanOf lists p planned = record {
-      root = c.planned.ensures.root;
-      steps = c.planned.ensures.steps;
-      plans = ap (map meant) (c.planned.ensures.plans ∙ ready.plans) ∙ meant-under lists text p;
-    } in
+    let plan = ready-plan c.args.collection.now.documents c.args.prepared.now text c.in-Ok-Path.ready ready planned c.planned.ensures.root c.planned.ensures.steps
+    c.planned.ensures.plans in
     let whole = ap (reply_with shown) (planned-lines says state p planned shown plan)
     ∙ (sym (ready-answer says shown state p ready.document ready.lists) ∙ ap (answer_read says shown state) (sym ready.read)) in
     subst (λ (r : Result Reply Memory). IfOk r (λ reply. reply ≡ answer says shown state text)) (sym c.keep_accepted.ensures.same)
@@ -82,11 +79,8 @@ returns-in-Ok-Path-clause-price g c =
     let planned = c.planned.result in
     let ready : IsReadyPath c.args.collection.now.documents c.args.prepared.now text c.in-Ok-Path.ready =
     subst (IsReady c.args.collection.now.documents c.args.prepared.now text) c.in-Ok-Path.field-0-is c.in-Ok-Path.ensures in
-    let plan : IsPlanOf lists p planned = record {
-      root = c.planned.ensures.root;
-      steps = c.planned.ensures.steps;
-      plans = ap (map meant) (c.planned.ensures.plans ∙ ready.plans) ∙ meant-under lists text p;
-    } in
+    let plan = ready-plan c.args.collection.now.documents c.args.prepared.now text c.in-Ok-Path.ready ready planned c.planned.ensures.root c.planned.ensures.steps
+    c.planned.ensures.plans in
     subst (λ n. c.answer_planned-answered.new.moves ≤ c.args.moves.now + n)
     (planned-prices says held p planned plan ∙ ap (read_price says held) (sym ready.read)) c.answer_planned-answered.ensures.price
 

@@ -1,5 +1,5 @@
 -- The elements that the path selects are edited, and its plans are kept.
-use Rattle.std.proofs.Common.{◌≡◌, ◌∙◌, ◌≤◌, ◌+◌, refl, sym, ap, subst, ℕ, map}
+use Rattle.std.proofs.Common.{◌≡◌, ◌∙◌, ◌≤◌, ◌+◌, refl, sym, ap, subst, ℕ}
 use Rattle.std.specs.Prelude.{IfOk, Result}
 use Rattle.ft_base.specs.declared.memory.Memory.{Memory}
 use Rattle.kept_plans.specs.Preparation.{texts_of}
@@ -10,12 +10,11 @@ use Rattle.ft_session.specs.Edits.{edit_path, touched_path}
 use Rattle.ft_session.specs.Held.{Held}
 use Rattle.ft_session.specs.KeptTexts.{keep_plans}
 use Rattle.ft_session.specs.PathPrices.{read_price}
-use Rattle.ft_session.specs.PlannedPaths.{meant, IsPlanOf}
 use Rattle.ft_session.specs.ReadyPaths.{IsReadyPath}
 use Rattle.ft_session.specs.StateView.{prepared_of}
 use Rattle.ft_session.specs.steps.Chosen.{edit_of}
 use Rattle.ft_session.proofs.EditLemmas.{edit-kept, replied, touched-ready, with_prepared_in}
-use Rattle.ft_session.proofs.PathLemmas.{meant-under, planned-prices, texts-under}
+use Rattle.ft_session.proofs.PathLemmas.{planned-prices, ready-plan, texts-under}
 use Rattle.ft_session.proofs.StateLemmas.{held_as}
 use Rattle.ft_session.proofs.session.Session.edit_ready.Goals as goal
 
@@ -28,11 +27,8 @@ returns-clause-answer g c =
     let edit = c.args.edit.now in
     let ready : IsReadyPath was.state.documents (prepared_of was.state) text c.args.ready =
     subst (λ (h : Held). IsReadyPath h.state.documents (prepared_of h.state) text c.args.ready) (sym c.self.view_is) c.requires in
-    let plan : IsPlanOf inside.prepared.lists p c.planned-planned.result = record {
-      root = c.planned-planned.ensures.root;
-      steps = c.planned-planned.ensures.steps;
-      plans = ap (map meant) (c.planned-planned.ensures.plans ∙ ready.plans) ∙ meant-under inside.prepared.lists text p;
-    } in
+    let plan = ready-plan was.state.documents (prepared_of was.state) text c.args.ready ready c.planned-planned.result c.planned-planned.ensures.root
+    c.planned-planned.ensures.steps c.planned-planned.ensures.plans in
     let q = c.keep_accepted.new.prepared in
     let documents = c.edit_along-edited.new.collection.documents in
     let texts = ap texts_of ready.plans ∙ texts-under inside.prepared.lists text p in
@@ -52,11 +48,8 @@ returns-clause-price g c =
     let p = read_form c.args.ready.path in
     let ready : IsReadyPath was.state.documents (prepared_of was.state) text c.args.ready =
     subst (λ (h : Held). IsReadyPath h.state.documents (prepared_of h.state) text c.args.ready) (sym c.self.view_is) c.requires in
-    let plan : IsPlanOf inside.prepared.lists p c.planned-planned.result = record {
-      root = c.planned-planned.ensures.root;
-      steps = c.planned-planned.ensures.steps;
-      plans = ap (map meant) (c.planned-planned.ensures.plans ∙ ready.plans) ∙ meant-under inside.prepared.lists text p;
-    } in
+    let plan = ready-plan was.state.documents (prepared_of was.state) text c.args.ready ready c.planned-planned.result c.planned-planned.ensures.root
+    c.planned-planned.ensures.steps c.planned-planned.ensures.plans in
     subst (λ (h : Held). c.edit_along-edited.new.moves ≤ c.args.moves.now + read_price says h (path_read text)) c.self.view_is
     (subst (λ (n : ℕ). c.edit_along-edited.new.moves ≤ c.args.moves.now + n)
     (planned-prices says was p c.planned-planned.result plan ∙ ap (read_price says was) (sym ready.read)) c.edit_along-edited.ensures.price)
@@ -70,11 +63,8 @@ returns-clause-rows g c =
     let edit = c.args.edit.now in
     let ready : IsReadyPath was.state.documents (prepared_of was.state) text c.args.ready =
     subst (λ (h : Held). IsReadyPath h.state.documents (prepared_of h.state) text c.args.ready) (sym c.self.view_is) c.requires in
-    let plan : IsPlanOf inside.prepared.lists p c.planned-planned.result = record {
-      root = c.planned-planned.ensures.root;
-      steps = c.planned-planned.ensures.steps;
-      plans = ap (map meant) (c.planned-planned.ensures.plans ∙ ready.plans) ∙ meant-under inside.prepared.lists text p;
-    } in
+    let plan = ready-plan was.state.documents (prepared_of was.state) text c.args.ready ready c.planned-planned.result c.planned-planned.ensures.root
+    c.planned-planned.ensures.steps c.planned-planned.ensures.plans in
     subst (λ (h : Held). c.edit_along-edited.new.rows ≤ c.args.rows.now + touched_path g.J.Judge.says h.state edit.targets (edit_of edit) text) c.self.view_is
     (subst (λ (n : ℕ). c.edit_along-edited.new.rows ≤ c.args.rows.now + n)
     (touched-ready g.J.Judge.says was.state edit.targets (edit_of edit) text p ready.read c.planned-planned.result plan) c.edit_along-edited.ensures.rows)
