@@ -1,5 +1,5 @@
 -- Choices of one element of each list: each is made of elements of the lists, and no choice is left out.
-use Rattle.std.proofs.Common.{◌≡◌, refl, sym, ap, ◌∙◌, ℕ, zero, suc, ◌+◌, ◌<◌, ◌≤◌, min, max, Bool, true, false, ◌&&◌, eqb, List, [], ◌∷◌, map, length, get_or, arith, inl, inr}
+use Rattle.std.proofs.Common.{◌≡◌, refl, sym, ap, ◌∙◌, ℕ, zero, suc, ◌+◌, ◌-◌, ◌<◌, ◌≤◌, min, max, Bool, true, false, ◌&&◌, eqb, List, [], ◌∷◌, map, length, get_or, arith, inl, inr}
 use Rattle.std.specs.Prelude.{nat_le}
 use Rattle.std.specs.List.{list_any, list_all}
 use Rattle.std.proofs.lemmas.Bool.{and_from, and_parts, or_left, or_right, or_cases, eqb-true, eq-eqb, lt-ltb, ltb-true, leb-true}
@@ -192,3 +192,11 @@ close_pair size (first ∷ rest) h p q a b =
       | inl here ↦ let same = eqb-true first place here in let less = greatest_first first rest in omega (arith, same, less)
       | inr later ↦ greatest_of first rest place later
     ]
+
+-- where the farthest of the first hits is near enough, all choices of hits up to it are near
+pub close_enough : (size low far : ℕ) → low ≤ far → far - low < size → (chosen : List ℕ) → 0 < length chosen → all_between low far chosen ≡ true → are_close size chosen ≡ true
+close_enough size low far order near chosen some within = close_between size low far chosen some within (omega (arith, order, near))
+
+-- a choice that is near has no place too far in front of one that is as far as the farthest
+pub close_rule : (size low far : ℕ) → size ≤ far - low → (chosen : List ℕ) → are_close size chosen ≡ true → (p q : ℕ) → has chosen p ≡ true → has chosen q ≡ true → far ≤ q → far - size + 1 ≤ p
+close_rule size low far h chosen close p q a b beyond = let near = close_pair size chosen close p q a b in omega (arith, near, beyond, h)

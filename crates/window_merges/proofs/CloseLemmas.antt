@@ -1,13 +1,13 @@
--- Words near one another: the hits that a search reaches, and choices that are left as the window goes on.
-use Rattle.std.proofs.Common.{◌≡◌, refl, sym, ap, subst, ◌∙◌, ℕ, suc, ◌+◌, ◌-◌, ◌<◌, ◌≤◌, max, Bool, true, false, ◌&&◌, eqb, List, [], ◌∷◌, map, length, get_or, set, arith, inl, inr}
+-- Words that stand together: the hits that a search reaches, and the choices that are left as the places that count become fewer.
+use Rattle.std.proofs.Common.{◌≡◌, refl, sym, ap, subst, ◌∙◌, ℕ, suc, ◌+◌, ◌<◌, ◌≤◌, max, Bool, true, false, ◌&&◌, eqb, List, [], ◌∷◌, map, length, get_or, set, arith, inl, inr}
 use Rattle.std.specs.Prelude.{nat_le, nat_lt}
 use Rattle.std.proofs.lemmas.Bool.{and_from, and_parts, both_ways, cases_eq, cases_lt, eqb-true, false_from_ne_true, le-leb, lt-ltb, leb-true, ltb-true, or_cases}
 use Rattle.std.proofs.lemmas.List.{get_or_read}
 use Rattle.place_merges.specs.steps.Searching.{Shown, Leads, SameFrom, Moved, shown_all, has}
 use Rattle.place_merges.proofs.MoveLemmas.{unmoved, moved_on, moved_in}
-use Rattle.window_merges.specs.Choices.{are_close, some_choice}
+use Rattle.window_merges.specs.Choices.{some_choice}
 use Rattle.window_merges.specs.steps.Reaching.{Between, Lacks, Reaches, SameWords}
-use Rattle.window_merges.proofs.ChoiceLemmas.{Chosen, all_between, choice, chosen_at, close_between, close_pair, from_choice, is_chosen}
+use Rattle.window_merges.proofs.ChoiceLemmas.{Chosen, all_between, choice, chosen_at, from_choice, is_chosen}
 use Rattle.window_merges.proofs.WordLemmas.{same_after, same_later, same_set, same_words}
 
 -- ---- one search through all words
@@ -107,7 +107,7 @@ module _ {A L : Type 0} (passes : A → ℕ → Bool) (shown : A → Shown L) wh
     lacks = λ less. let l = so_far.lacks less in record { number = l.number; within = omega (arith, l.within, k, so_far.same.long); none = l.none };
   }
 
--- ---- the window
+-- ---- the places that count
 
 -- a place of a span at which a word passes
 pub record Told {A : Type 0} (passes : A → ℕ → Bool) (first last : ℕ) (word : A) (place : ℕ) : Type 0 where
@@ -122,9 +122,9 @@ pub record Gathered {A : Type 0} (places : A → List ℕ) (words : List A) (low
   pub within : all_between low high chosen ≡ true
   pub long : length chosen ≡ length words
 
--- all places of a choice that is near are at or behind a place
-pub record Ahead {A : Type 0} (places : A → List ℕ) (size low : ℕ) (words : List A) : Type 0 where
-  pub ahead : (chosen : List ℕ) → is_chosen places words chosen ≡ true → are_close size chosen ≡ true → (place : ℕ) → has chosen place ≡ true → low ≤ place
+-- all places of a choice that passes are at or behind a place
+pub record Ahead {A : Type 0} (places : A → List ℕ) (good : List ℕ → Bool) (low : ℕ) (words : List A) : Type 0 where
+  pub ahead : (chosen : List ℕ) → is_chosen places words chosen ≡ true → good chosen ≡ true → (place : ℕ) → has chosen place ≡ true → low ≤ place
 
 -- a chosen place that is as far as another one
 pub record Beyond (chosen : List ℕ) (far last : ℕ) : Type 0 where
@@ -133,12 +133,12 @@ pub record Beyond (chosen : List ℕ) (far last : ℕ) : Type 0 where
   pub beyond : far ≤ place
   pub below : place < last
 
--- the window begins at a place, and no choice that is near has a place in front of it
-pub record Narrowing {A L : Type 0} (passes : A → ℕ → Bool) (places : A → List ℕ) (shown : A → Shown L) (old now : List A) (size first low start end : ℕ) : Type 0 where
+-- no choice that passes has a place in front of this one
+pub record Narrowing {A L : Type 0} (passes : A → ℕ → Bool) (places : A → List ℕ) (shown : A → Shown L) (old now : List A) (good : List ℕ → Bool) (first low start end : ℕ) : Type 0 where
   pub some : 0 < length old
   pub from : first ≤ low
   pub same : SameWords passes low now old
-  pub ahead : Ahead places size low old
+  pub ahead : Ahead places good low old
   pub moved : Moved (shown_all shown old) (shown_all shown now) start end
 
 module _ {A : Type 0} (passes : A → ℕ → Bool) (places : A → List ℕ) (from to : ℕ)
@@ -168,120 +168,120 @@ module _ {A : Type 0} (passes : A → ℕ → Bool) (places : A → List ℕ) (f
         long = ap suc rest.long;
       }
 
-  pub close_found : (words now : List A) (size low far : ℕ) → 0 < length words → from ≤ low → SameWords passes low now words → Reaches passes now low to far → far < to → far - low < size
-      → some_choice (are_close size) (map places words) ≡ true
-  close_found words now size low far some order same reaches below near =
-      let g = gather words low far order below old_near in
-      let reach = reaches.from in
-      from_choice places (are_close size) words g.chosen g.each
-      (close_between size low far g.chosen (omega (arith, some, g.long)) g.within (omega (arith, near, reach)))
-    where
-      old_near : (number : ℕ) (other : A) → number < length words → Between (passes (get_or words number other)) low far
-      old_near number other h =
-          let b = reaches.near below number other (omega (arith, h, same.long)) in
-          record { place = b.place; from = b.from; to = b.to; there = sym ((same.same number other h).same b.place b.from) ∙ b.there }
+  module _ (good : List ℕ → Bool) where
+    choice_found : (words now : List A) (low far : ℕ) → 0 < length words → from ≤ low → SameWords passes low now words → Reaches passes now low to far → far < to
+        → ((chosen : List ℕ) → 0 < length chosen → all_between low far chosen ≡ true → good chosen ≡ true) → some_choice good (map places words) ≡ true
+    choice_found words now low far some order same reaches below enough =
+        let g = gather words low far order below old_near in
+        from_choice places good words g.chosen g.each (enough g.chosen (omega (arith, some, g.long)) g.within)
+      where
+        old_near : (number : ℕ) (other : A) → number < length words → Between (passes (get_or words number other)) low far
+        old_near number other h =
+            let b = reaches.near below number other (omega (arith, h, same.long)) in
+            record { place = b.place; from = b.from; to = b.to; there = sym ((same.same number other h).same b.place b.from) ∙ b.there }
 
-  -- where a word lacks a hit up to a place, the place that is chosen for it is not in front of that
-  module _ (words now : List A) (size low : ℕ) (ahead : Ahead places size low words) (same : SameWords passes low now words) (chosen : List ℕ) (each : is_chosen places words chosen ≡ true)
-      (close : are_close size chosen ≡ true) where
-    pub beyond_lack : (far : ℕ) → Lacks passes low far now (length now) → Beyond chosen far to
-    beyond_lack far lacks =
-        let inside : lacks.number < length words = omega (arith, lacks.within, same.long) in
-        let at = chosen_at places words chosen lacks.number each inside in
-        let there = told_there at.element at.place at.in_list in
-        let behind = ahead.ahead chosen each close at.place at.in_choice in
-        record {
-          place = at.place;
-          in_choice = at.in_choice;
-          beyond = elim (cases_lt at.place far) [
-            | inl less ↦
-                let none = lacks.none at.element at.place behind less in
-                let was = (same.same lacks.number at.element inside).same at.place behind in
-                let is : passes (get_or words lacks.number at.element) at.place ≡ true = ap (λ a. passes a at.place) (at.is at.element) ∙ there.there in
-                absurd (both_ways (passes (get_or now lacks.number at.element) at.place) none (was ∙ is))
-            | inr le ↦ le
-          ];
-          below = there.to;
-        }
-
-  pub close_fails : (words now : List A) (size low far : ℕ) → low < to → to ≤ far → Ahead places size low words → SameWords passes low now words → Reaches passes now low to far
-      → some_choice (are_close size) (map places words) ≡ false
-  close_fails words now size low far order h ahead same reaches =
-      false_from_ne_true (some_choice (are_close size) (map places words)) (λ e. none (choice places (are_close size) words e))
-    where
-      none : Chosen places (are_close size) words → ⊥
-      none c =
-          let b = beyond_lack words now size low ahead same c.chosen c.each c.passes far (reaches.lacks (omega (arith, order, h))) in
-          let far_place = b.beyond in
-          let below = b.below in
-          absurd (omega (arith, far_place, below, h))
-
-  pub close_ends : (words : List A) (size low : ℕ) → 0 < length words → to ≤ low → Ahead places size low words → some_choice (are_close size) (map places words) ≡ false
-  close_ends words size low some h ahead = false_from_ne_true (some_choice (are_close size) (map places words)) (λ e. none (choice places (are_close size) words e))
-    where
-      none : Chosen places (are_close size) words → ⊥
-      none c =
-          let at = chosen_at places words c.chosen 0 c.each some in
+    -- where a word lacks a hit up to a place, the place that is chosen for it is not in front of that
+    module _ (words now : List A) (low : ℕ) (ahead : Ahead places good low words) (same : SameWords passes low now words) (chosen : List ℕ) (each : is_chosen places words chosen ≡ true)
+        (passed : good chosen ≡ true) where
+      beyond_lack : (far : ℕ) → Lacks passes low far now (length now) → Beyond chosen far to
+      beyond_lack far lacks =
+          let inside : lacks.number < length words = omega (arith, lacks.within, same.long) in
+          let at = chosen_at places words chosen lacks.number each inside in
           let there = told_there at.element at.place at.in_list in
-          let behind = ahead.ahead c.chosen c.each c.passes at.place at.in_choice in
-          let below = there.to in
-          absurd (omega (arith, behind, below, h))
+          let behind = ahead.ahead chosen each passed at.place at.in_choice in
+          record {
+            place = at.place;
+            in_choice = at.in_choice;
+            beyond = elim (cases_lt at.place far) [
+              | inl less ↦
+                  let none = lacks.none at.element at.place behind less in
+                  let was = (same.same lacks.number at.element inside).same at.place behind in
+                  let is : passes (get_or words lacks.number at.element) at.place ≡ true = ap (λ a. passes a at.place) (at.is at.element) ∙ there.there in
+                  absurd (both_ways (passes (get_or now lacks.number at.element) at.place) none (was ∙ is))
+              | inr le ↦ le
+            ];
+            below = there.to;
+          }
 
-  pub close_goes_on : (words now : List A) (size low far : ℕ) → Ahead places size low words → SameWords passes low now words → Reaches passes now low to far → size ≤ far - low → Ahead places size (far - size + 1) words
-  close_goes_on words now size low far ahead same reaches h = record { ahead = later }
-    where
-      later : (chosen : List ℕ) → is_chosen places words chosen ≡ true → are_close size chosen ≡ true → (place : ℕ) → has chosen place ≡ true → far - size + 1 ≤ place
-      later chosen each close place e = elim (cases_lt low far) [
-        | inl less ↦
-            let b = beyond_lack words now size low ahead same chosen each close far (reaches.lacks less) in
-            let near = close_pair size chosen close place b.place e b.in_choice in
+    choice_fails : (words now : List A) (low far : ℕ) → low < to → to ≤ far → Ahead places good low words → SameWords passes low now words → Reaches passes now low to far
+        → some_choice good (map places words) ≡ false
+    choice_fails words now low far order h ahead same reaches =
+        false_from_ne_true (some_choice good (map places words)) (λ e. none (choice places good words e))
+      where
+        none : Chosen places good words → ⊥
+        none c =
+            let b = beyond_lack words now low ahead same c.chosen c.each c.passes far (reaches.lacks (omega (arith, order, h))) in
             let far_place = b.beyond in
-            omega (arith, near, far_place)
-        | inr le ↦ let near = close_pair size chosen close place place e e in absurd (omega (arith, near, le, h))
-      ]
+            let below = b.below in
+            absurd (omega (arith, far_place, below, h))
 
-  pub ahead_starts : (words : List A) (size : ℕ) → Ahead places size from words
-  ahead_starts words size = record { ahead = λ chosen each close place e. in_span words chosen place each e }
-    where
-      in_span : (words : List A) (chosen : List ℕ) (place : ℕ) → is_chosen places words chosen ≡ true → has chosen place ≡ true → from ≤ place
-      in_span words [] place each e = cc
-      in_span [] (p ∷ chosen) place each e = cc
-      in_span (x ∷ words) (p ∷ chosen) place each e =
-          let parts = and_parts (has (places x) p) (is_chosen places words chosen) each in
-          elim (or_cases (eqb p place) (has chosen place) e) [
-            | inl here ↦ let same = eqb-true p place here in let there = told_there x p parts.0 in omega (arith, same, there.from)
-            | inr later ↦ in_span words chosen place parts.1 later
-          ]
+    choice_ends : (words : List A) (low : ℕ) → 0 < length words → to ≤ low → Ahead places good low words → some_choice good (map places words) ≡ false
+    choice_ends words low some h ahead = false_from_ne_true (some_choice good (map places words)) (λ e. none (choice places good words e))
+      where
+        none : Chosen places good words → ⊥
+        none c =
+            let at = chosen_at places words c.chosen 0 c.each some in
+            let there = told_there at.element at.place at.in_list in
+            let behind = ahead.ahead c.chosen c.each c.passes at.place at.in_choice in
+            let below = there.to in
+            absurd (omega (arith, behind, below, h))
 
-  module _ {L : Type 0} (shown : A → Shown L) where
-    pub narrowing_starts : (words : List A) (size steps : ℕ) → 0 < length words → Narrowing passes places shown words words size from from steps steps
-    narrowing_starts words size steps some = record {
-      some = some;
-      from = omega arith;
-      same = same_words passes words from;
-      ahead = ahead_starts words size;
-      moved = unmoved (shown_all shown words) steps;
-    }
+    -- a choice that passes has a place as far as the farthest hit, and so none in front of what that one allows
+    ahead_goes_on : (words now : List A) (low far next : ℕ) → Ahead places good low words → SameWords passes low now words → Reaches passes now low to far
+        → ((chosen : List ℕ) → good chosen ≡ true → (p q : ℕ) → has chosen p ≡ true → has chosen q ≡ true → far ≤ q → next ≤ p) → Ahead places good next words
+    ahead_goes_on words now low far next ahead same reaches rule = record { ahead = later }
+      where
+        later : (chosen : List ℕ) → is_chosen places words chosen ≡ true → good chosen ≡ true → (place : ℕ) → has chosen place ≡ true → next ≤ place
+        later chosen each passed place e = elim (cases_lt low far) [
+          | inl less ↦
+              let b = beyond_lack words now low ahead same chosen each passed far (reaches.lacks less) in
+              rule chosen passed place b.place e b.in_choice b.beyond
+          | inr le ↦ let behind = ahead.ahead chosen each passed place e in rule chosen passed place place e e (omega (arith, le, behind))
+        ]
 
-    module _ (old now after : List A) (size low start middle end : ℕ) (so_far : Narrowing passes places shown old now size from low start middle) (far : ℕ)
-        (reaches : Reaches passes now low to far) (same : SameWords passes low after now) (moved : Moved (shown_all shown now) (shown_all shown after) middle end) where
-      pub narrowing_moved : Moved (shown_all shown old) (shown_all shown after) start end
-      narrowing_moved = moved_on (shown_all shown old) (shown_all shown now) (shown_all shown after) start middle end so_far.moved moved
+    ahead_starts : (words : List A) → Ahead places good from words
+    ahead_starts words = record { ahead = λ chosen each passed place e. in_span words chosen place each e }
+      where
+        in_span : (words : List A) (chosen : List ℕ) (place : ℕ) → is_chosen places words chosen ≡ true → has chosen place ≡ true → from ≤ place
+        in_span words [] place each e = cc
+        in_span [] (p ∷ chosen) place each e = cc
+        in_span (x ∷ words) (p ∷ chosen) place each e =
+            let parts = and_parts (has (places x) p) (is_chosen places words chosen) each in
+            elim (or_cases (eqb p place) (has chosen place) e) [
+              | inl here ↦ let same = eqb-true p place here in let there = told_there x p parts.0 in omega (arith, same, there.from)
+              | inr later ↦ in_span words chosen place parts.1 later
+            ]
 
-      pub narrowing_found : far < to → far - low < size → some_choice (are_close size) (map places old) ≡ true
-      narrowing_found below near = close_found old now size low far so_far.some so_far.from so_far.same reaches below near
-
-      pub narrowing_fails : low < to → to ≤ far → some_choice (are_close size) (map places old) ≡ false
-      narrowing_fails order h = close_fails old now size low far order h so_far.ahead so_far.same reaches
-
-      pub narrowing_goes_on : size ≤ far - low → low ≤ far - size + 1 → Narrowing passes places shown old after size from (far - size + 1) start end
-      narrowing_goes_on h later = record {
-        some = so_far.some;
-        from = omega (arith, later, so_far.from);
-        same = same_later passes after old low (far - size + 1) later (same_after passes old now after low so_far.same same);
-        ahead = close_goes_on old now size low far so_far.ahead so_far.same reaches h;
-        moved = narrowing_moved;
+    module _ {L : Type 0} (shown : A → Shown L) where
+      pub narrowing_starts : (words : List A) (steps : ℕ) → 0 < length words → Narrowing passes places shown words words good from from steps steps
+      narrowing_starts words steps some = record {
+        some = some;
+        from = omega arith;
+        same = same_words passes words from;
+        ahead = ahead_starts words;
+        moved = unmoved (shown_all shown words) steps;
       }
 
-    pub narrowing_ends : (old now : List A) (size low start end : ℕ) → Narrowing passes places shown old now size from low start end → to ≤ low → some_choice (are_close size) (map places old) ≡ false
-    narrowing_ends old now size low start end so_far h = close_ends old size low so_far.some h so_far.ahead
+      module _ (old now after : List A) (low start middle end : ℕ) (so_far : Narrowing passes places shown old now good from low start middle) (far : ℕ)
+          (reaches : Reaches passes now low to far) (same : SameWords passes low after now) (moved : Moved (shown_all shown now) (shown_all shown after) middle end) where
+        narrowing_moved : Moved (shown_all shown old) (shown_all shown after) start end
+        narrowing_moved = moved_on (shown_all shown old) (shown_all shown now) (shown_all shown after) start middle end so_far.moved moved
+
+        pub narrowing_found : far < to → ((chosen : List ℕ) → 0 < length chosen → all_between low far chosen ≡ true → good chosen ≡ true) → some_choice good (map places old) ≡ true
+        narrowing_found below enough = choice_found old now low far so_far.some so_far.from so_far.same reaches below enough
+
+        pub narrowing_fails : low < to → to ≤ far → some_choice good (map places old) ≡ false
+        narrowing_fails order h = choice_fails old now low far order h so_far.ahead so_far.same reaches
+
+        pub narrowing_goes_on : (next : ℕ) → ((chosen : List ℕ) → good chosen ≡ true → (p q : ℕ) → has chosen p ≡ true → has chosen q ≡ true → far ≤ q → next ≤ p) → low ≤ next
+            → Narrowing passes places shown old after good from next start end
+        narrowing_goes_on next rule later = record {
+          some = so_far.some;
+          from = omega (arith, later, so_far.from);
+          same = same_later passes after old low next later (same_after passes old now after low so_far.same same);
+          ahead = ahead_goes_on old now low far next so_far.ahead so_far.same reaches rule;
+          moved = narrowing_moved;
+        }
+
+      pub narrowing_ends : (old now : List A) (low start end : ℕ) → Narrowing passes places shown old now good from low start end → to ≤ low → some_choice good (map places old) ≡ false
+      narrowing_ends old now low start end so_far h = choice_ends old low so_far.some h so_far.ahead

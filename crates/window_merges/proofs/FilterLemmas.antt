@@ -84,7 +84,7 @@ filtered_choices kind item hits words =
 
 -- ---- a window
 
-abbrev is_single : Hit → Bool
+abbrev pub is_single : Hit → Bool
 is_single hit = eqb hit.to hit.from
 
 last_words : (hits : List Hit) → list_all is_single hits ≡ true → map (λ hit. hit.to) hits ≡ map (λ hit. hit.from) hits

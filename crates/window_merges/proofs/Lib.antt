@@ -2,8 +2,11 @@ pub mod ChoiceLemmas
 pub mod ChoiceTests
 pub mod WordLemmas
 pub mod CloseLemmas
+pub mod UnitLemmas
 pub mod OrderLemmas
 pub mod FilterLemmas
+pub mod UnitFilter
+pub mod DistanceFilter
 pub mod ShiftLemmas
 pub mod SingleSpots
 pub mod WantedLemmas

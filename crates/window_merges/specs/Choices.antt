@@ -1,5 +1,5 @@
 -- Choices of one element of each of some lists, and what is asked of the places that are chosen.
-use Rattle.std.specs.Prelude.{ℕ, ◌+◌, Bool, true, false, ◌&&◌, nat_le, nat_lt, List, [], ◌∷◌}
+use Rattle.std.specs.Prelude.{ℕ, ◌+◌, Bool, true, false, ◌&&◌, ◌==◌, nat_le, nat_lt, List, [], ◌∷◌}
 use Rattle.std.specs.List.{list_any, list_all}
 use Rattle.all_matches.specs.Join.{least, greatest}
 
@@ -17,3 +17,8 @@ are_close size (first ∷ rest) = nat_lt (greatest first rest) (least first rest
 abbrev pub are_in_order : List ℕ → Bool
 are_in_order [] = true
 are_in_order (first ∷ rest) = list_all (nat_le first) rest && are_in_order rest
+
+-- whether all places lie in one unit, each told by the number of the unit round it
+abbrev pub are_in_one : (ℕ → ℕ) → List ℕ → Bool
+are_in_one unit [] = true
+are_in_one unit (first ∷ rest) = list_all (λ place. unit place == unit first) rest

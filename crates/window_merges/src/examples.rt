@@ -3,14 +3,14 @@
 
 ghost use Rattle.std.specs.Prelude.{◌≡◌, ◌∷◌, [], true, false};
 ghost use Rattle.ft_base.specs.declared.filter.Filter.TheVariants as F;
-ghost use Rattle.ft_base.specs.declared.unit.TextUnit.TheVariants.{Words};
+ghost use Rattle.ft_base.specs.declared.unit.TextUnit.TheVariants.{Paragraphs, Sentences, Words};
 ghost use Rattle.ft_base.specs.Hits.{HitPlace, hit_place};
 ghost use Rattle.all_matches.specs.Boolean.{satisfied};
 ghost use Rattle.all_matches.specs.Ways.{matches_of};
-ghost use Rattle.window_merges.specs.Choices.{are_close, are_in_order, some_choice};
+ghost use Rattle.window_merges.specs.Choices.{are_close, are_in_one, are_in_order, some_choice};
 ghost use Rattle.window_merges.specs.Rows.{places_in};
-ghost use Rattle.window_merges.specs.Words.{are_numbered, are_single, filtered_words, first_words};
-ghost use Rattle.window_merges.specs.Examples.{hits_at, item, long_hit};
+ghost use Rattle.window_merges.specs.Words.{are_numbered, are_single, are_told, filtered_words, first_words};
+ghost use Rattle.window_merges.specs.Examples.{by_threes, hits_at, hits_by_threes, item, long_hit, spread_hit};
 
 /// In `a x b` the words `a` and `b` stand among three words, and not among two. A word that is asked for twice stands
 /// near itself.
@@ -40,6 +40,15 @@ pub fn order()
     ensures no_words { some_choice are_in_order [] ≡ true }
 {}
 
+/// Where a sentence has three places, `a` at the first and `b` at the third stand in one, and with `b` at the fourth they don't.
+pub fn in_one_unit()
+    ensures inside { some_choice (are_in_one by_threes) ((0 ∷ []) ∷ (2 ∷ []) ∷ []) ≡ true }
+    ensures next { some_choice (are_in_one by_threes) ((2 ∷ []) ∷ (3 ∷ []) ∷ []) ≡ false }
+    ensures a_later_one { some_choice (are_in_one by_threes) ((0 ∷ 5 ∷ []) ∷ (3 ∷ []) ∷ (4 ∷ 9 ∷ []) ∷ []) ≡ true }
+    ensures two_and_two { some_choice (are_in_one by_threes) ((0 ∷ 3 ∷ []) ∷ (1 ∷ 6 ∷ []) ∷ (4 ∷ 7 ∷ []) ∷ []) ≡ false }
+    ensures no_words { some_choice (are_in_one by_threes) [] ≡ true }
+{}
+
 /// The places of a word are those of all its sources, from where these stand, in the span.
 pub fn places_of_words()
     ensures of_two_sources { places_in (λ at. at) (record { from = 2; to = 7 })
@@ -54,6 +63,15 @@ pub fn words_under_filters()
     ensures not_in_two { satisfied (matches_of item (filtered_words (F.Window 2 Words) (hits_at 1 (1 ∷ []) ∷ hits_at 2 (3 ∷ []) ∷ []))) ≡ false }
     ensures behind { satisfied (matches_of item (filtered_words F.Ordered (hits_at 1 (3 ∷ []) ∷ hits_at 2 (1 ∷ 3 ∷ []) ∷ []))) ≡ true }
     ensures in_front { satisfied (matches_of item (filtered_words F.Ordered (hits_at 1 (3 ∷ []) ∷ hits_at 2 (1 ∷ 2 ∷ []) ∷ []))) ≡ false }
+{}
+
+/// Words under `same sentence`, by all choices of their hits: as the choices of their places have it.
+pub fn words_in_sentences()
+    ensures inside { satisfied (matches_of item (filtered_words F.SameSentence (hits_by_threes 1 (0 ∷ []) ∷ hits_by_threes 2 (2 ∷ []) ∷ []))) ≡ true }
+    ensures next { satisfied (matches_of item (filtered_words F.SameSentence (hits_by_threes 1 (2 ∷ []) ∷ hits_by_threes 2 (3 ∷ []) ∷ []))) ≡ false }
+    ensures told { are_told Sentences by_threes (hits_by_threes 1 (0 ∷ 4 ∷ []) ∷ []) ≡ true }
+    ensures of_other_units { are_told Paragraphs by_threes (hits_by_threes 1 (0 ∷ 4 ∷ []) ∷ []) ≡ false }
+    ensures over_two { are_told Sentences by_threes ((spread_hit ∷ []) ∷ []) ≡ false }
 {}
 
 /// Hits of more than one word aren't single, and the words are numbered one after the other.

@@ -1,13 +1,14 @@
 //! What choices of places have to do with words that are joined by `ftand` under a filter.
 
-ghost use Rattle.std.specs.Prelude.{◌≡◌, ◌-◌, ℕ, Bool, List, [], ◌∷◌, filter, flat_map, get_or, length, map, nat_le, true};
+ghost use Rattle.std.specs.Prelude.{◌≡◌, ◌+◌, ◌-◌, ◌≤◌, ◌==◌, ℕ, Bool, List, [], ◌∷◌, filter, flat_map, get_or, length, map, nat_le, true};
 ghost use Rattle.std.specs.List.{list_all, list_any, range_with_len};
 ghost use Rattle.ft_base.specs.declared.filter.Filter.{Filter};
 ghost use Rattle.ft_base.specs.declared.filter.Filter.TheVariants as F;
 ghost use Rattle.ft_base.specs.declared.hit.Hit.{Hit};
+ghost use Rattle.ft_base.specs.declared.range.Range.TheVariants.{AtMost};
 ghost use Rattle.ft_base.specs.declared.span.Span.{Span};
 ghost use Rattle.ft_base.specs.Hits.{HitPlace};
-ghost use Rattle.ft_base.specs.declared.unit.TextUnit.TheVariants.{Words};
+ghost use Rattle.ft_base.specs.declared.unit.TextUnit.TheVariants.{Paragraphs, Sentences, Words};
 ghost use Rattle.all_matches.specs.Boolean.{satisfied};
 ghost use Rattle.all_matches.specs.Filters.{passes};
 ghost use Rattle.all_matches.specs.Ways.{matches_of};
@@ -15,9 +16,9 @@ ghost use Rattle.place_merges.specs.Places.{Wanted, fits, one_of};
 ghost use Rattle.place_merges.specs.Sources.{places_left};
 ghost use Rattle.place_merges.specs.Spots.{some_at, spot, spots_between};
 ghost use Rattle.place_merges.specs.steps.Searching.{has};
-ghost use Rattle.window_merges.specs.Choices.{are_close, are_in_order, some_choice};
+ghost use Rattle.window_merges.specs.Choices.{are_close, are_in_one, are_in_order, some_choice};
 ghost use Rattle.window_merges.specs.Rows.{places_in};
-ghost use Rattle.window_merges.specs.Words.{are_numbered, are_single, filtered_words, first_words};
+ghost use Rattle.window_merges.specs.Words.{are_numbered, are_single, are_told, filtered_words, first_words};
 
 /// Whether a choice passes depends on which places the lists have, and not on how often or in which order.
 pub fn same_places_law()
@@ -36,6 +37,28 @@ pub fn filtered_words_law()
 pub fn window_law()
     ensures { (size : ℕ) (item : Span) (hits : List Hit) (words : List (List Hit)) → are_single (hits ∷ words) ≡ true
         → satisfied (matches_of item (filtered_words (F.Window size Words) (hits ∷ words))) ≡ some_choice (are_close size) (first_words (hits ∷ words)) }
+{}
+
+/// Two words at a distance of at most `size` words, each hit of which is one word, fit into a window of two words more.
+pub fn distance_law()
+    ensures { (size : ℕ) (item : Span) (first second : List Hit) → are_single (first ∷ second ∷ []) ≡ true
+        → satisfied (matches_of item (filtered_words (F.Distance (AtMost size) Words) (first ∷ second ∷ []))) ≡ some_choice (are_close (size + 2)) (first_words (first ∷ second ∷ [])) }
+{}
+
+/// Under `same sentence` and `same paragraph`, where each hit lies in the unit of its first word, some choice of their first
+/// words has to lie in one unit.
+pub fn unit_law()
+    ensures sentence { (unit : ℕ → ℕ) (item : Span) (hits : List Hit) (words : List (List Hit)) → are_told Sentences unit (hits ∷ words) ≡ true
+        → satisfied (matches_of item (filtered_words F.SameSentence (hits ∷ words))) ≡ some_choice (are_in_one unit) (first_words (hits ∷ words)) }
+    ensures paragraph { (unit : ℕ → ℕ) (item : Span) (hits : List Hit) (words : List (List Hit)) → are_told Paragraphs unit (hits ∷ words) ≡ true
+        → satisfied (matches_of item (filtered_words F.SameParagraph (hits ∷ words))) ≡ some_choice (are_in_one unit) (first_words (hits ∷ words)) }
+{}
+
+/// Units may have other numbers, as long as those places that share one share one still, and places may be counted from another one on.
+pub fn counted_units_law()
+    ensures { (unit other : ℕ → ℕ) (offset low : ℕ) (lists : List (List ℕ)) → list_all (list_all (nat_le low)) lists ≡ true
+        → ((p q : ℕ) → low ≤ p → low ≤ q → (unit (p - offset) == unit (q - offset)) ≡ (other p == other q))
+        → some_choice (are_in_one unit) (map (map (λ place. place - offset)) lists) ≡ some_choice (are_in_one other) lists }
 {}
 
 /// Under `ordered`, where each word has a phrase of its own, some choice of their first words has to be in order.

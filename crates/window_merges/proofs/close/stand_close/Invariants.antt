@@ -1,5 +1,6 @@
 -- No choice that is near has a place in front of the window.
 use Rattle.std.proofs.Common.{◌-◌}
+use Rattle.window_merges.specs.Choices.{are_close}
 use Rattle.window_merges.specs.Rows.{places_in}
 use Rattle.window_merges.specs.steps.Reaching.{has_hit, shown_word}
 use Rattle.window_merges.proofs.CloseLemmas.{Narrowing}
@@ -8,7 +9,7 @@ use Rattle.window_merges.proofs.close.stand_close.Given as goal
 abbrev pub invariant-loop-low : goal.invariant-loop-low
 invariant-loop-low g l =
     let stand = g.H.Hits.stand in
-    Narrowing (has_hit stand) (λ word. places_in stand l.span word.items) (shown_word stand g.H.Hits.plain) l.fn.words.items l.words.items l.size l.span.from l.low l.fn.steps l.steps
+    Narrowing (has_hit stand) (λ word. places_in stand l.span word.items) (shown_word stand g.H.Hits.plain) l.fn.words.items l.words.items (are_close l.size) l.span.from l.low l.fn.steps l.steps
 
 abbrev pub decreases-loop-low : goal.decreases-loop-low
 decreases-loop-low g l = l.span.to - l.low

@@ -2,7 +2,7 @@
 use Rattle.std.proofs.Common.{arith}
 use Rattle.window_merges.specs.steps.Reaching.{has_hit, shown_word}
 use Rattle.window_merges.proofs.CloseLemmas.{reached_moved, reached_same, reaching_fails, reaching_goes_on}
-use Rattle.window_merges.proofs.close.farthest.Goals as goal
+use Rattle.window_merges.proofs.farthest.farthest.Goals as goal
 
 pub returns-then-first-limit-clause-reaches : goal.returns-then-first-limit-clause-reaches
 returns-then-first-limit-clause-reaches g c =

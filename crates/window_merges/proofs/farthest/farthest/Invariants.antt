@@ -1,7 +1,7 @@
 -- The words in front of this one have a hit up to the farthest.
 use Rattle.window_merges.specs.steps.Reaching.{has_hit, shown_word}
 use Rattle.window_merges.proofs.CloseLemmas.{Reaching}
-use Rattle.window_merges.proofs.close.farthest.Given as goal
+use Rattle.window_merges.proofs.farthest.farthest.Given as goal
 
 abbrev pub invariant-loop-number : goal.invariant-loop-number
 invariant-loop-number g l =
