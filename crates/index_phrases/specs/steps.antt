@@ -1,2 +1,3 @@
 pub mod Aiming
 pub mod Left
+pub mod Numbers

@@ -1,28 +1,35 @@
 //! The next hit of a phrase.
 
 ghost use Rattle.std.specs.Prelude.{◌≡◌, ◌≤◌, map};
+ghost use Rattle.std.specs.Option.{ForSome};
 ghost use Rattle.place_merges.specs.Sources.{all_lists, wanted_words};
 ghost use Rattle.place_merges.specs.Spots.{spots_left};
+ghost use Rattle.place_merges.specs.steps.Spotting.{IsInside};
 ghost use Rattle.index_phrases.specs.Phrases.{told};
 ghost use Rattle.index_phrases.specs.steps.Left.{rest_of};
+ghost use Rattle.index_phrases.specs.steps.Numbers.{numbers_at};
 
 use crate::found::Found;
 use crate::target::Target;
 use crate::telling::tell;
+use crate::unit_numbers::UnitNumbers;
 use ft_base::Steps;
 use index_versions::TermCursor;
 use place_merges::{Spot, Variant, next_spot};
 use std::sync::ledger::Ledger;
 
-/// The first spot behind that one at which a variant stands, with the hit of the phrase of that number on it.
+/// The first spot behind that one at which a variant stands, with the hit of the phrase of that number on it. The numbers of
+/// the span's first word are given, where they are known from a hit in front of it.
 pub(crate) fn found_behind<'v, L: Ledger>(
     variants: &mut Vec<Variant<TermCursor<'v>>>,
     number: u32,
     target: &Target<'v>,
+    known: Option<UnitNumbers>,
     behind: Spot,
     steps: &mut Steps<L>,
 ) -> Option<Found<'v>>
-    requires { target.now.span.from ≤ behind.place }
+    requires place { target.now.span.from ≤ behind.place }
+    requires known { ForSome known (λ first. first ≡ numbers_at target.now.breaks.breaks.now target.now.span.from) }
     ensures left { map (told number target.now.breaks.breaks.now target.now.span)
         (spots_left target.now.span.to (wanted_words (λ cursor. cursor) variants.old.items) behind)
         ≡ rest_of number (wanted_words (λ cursor. cursor) variants.new.items) result }
@@ -30,11 +37,34 @@ pub(crate) fn found_behind<'v, L: Ledger>(
     ensures grown { steps.old ≤ steps.new }
 {
     match next_spot(variants, behind, target.span.to, steps) {
-        Some(spot) => Some(Found {
-            target: *target,
-            spot,
-            hit: tell(number, target, target.span.to, spot),
-        }),
+        Some(spot) => Some(found_on(number, target, target.span.to, known, spot)),
         None => None,
+    }
+}
+
+/// What is found on a spot of the span, which ends at `to`.
+fn found_on<'v>(
+    number: u32,
+    target: &Target<'v>,
+    to: u32,
+    known: Option<UnitNumbers>,
+    spot: Spot,
+) -> Found<'v>
+    requires inside { IsInside target.now.span.from to spot }
+    requires known { ForSome known (λ first. first ≡ numbers_at target.now.breaks.breaks.now target.now.span.from) }
+    ensures target { result.target ≡ target.now }
+    ensures spot { result.spot ≡ spot }
+    ensures hit { result.hit ≡ told number target.now.breaks.breaks.now target.now.span spot }
+{
+    let first = match known {
+        Some(first) => first,
+        None => UnitNumbers::at(target.breaks, target.span.from),
+    };
+    let hit = tell(number, target, to, first, spot);
+    Found {
+        target: *target,
+        first,
+        spot,
+        hit,
     }
 }

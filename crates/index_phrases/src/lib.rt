@@ -14,6 +14,7 @@ pub mod laws;
 mod phrase_cursor;
 mod target;
 mod telling;
+mod unit_numbers;
 mod word_terms;
 
 pub use phrase_cursor::PhraseCursor;

@@ -74,7 +74,7 @@ impl<'v> PhraseCursor<'v> {
             place: target.span.from,
             words: 0,
         };
-        self.found = found_behind(&mut self.variants, self.number, target, front, steps);
+        self.found = found_behind(&mut self.variants, self.number, target, None, front, steps);
         self.target = Some(*target);
     }
 }
@@ -105,6 +105,7 @@ impl<'v> PhraseHits for PhraseCursor<'v> {
                     &mut self.variants,
                     self.number,
                     &found.target,
+                    Some(found.first),
                     found.spot,
                     steps,
                 );

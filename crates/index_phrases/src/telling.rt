@@ -1,50 +1,58 @@
 //! Hits on spots, told in the numbers of a span.
 
-ghost use Rattle.std.specs.Prelude.{◌≡◌, ◌-◌, ◌<◌, ◌^◌, ℕ};
+ghost use Rattle.std.specs.Prelude.{◌≡◌, ◌<◌, ◌-◌, ◌^◌};
 ghost use Rattle.place_merges.specs.steps.Spotting.{IsInside};
-ghost use Rattle.index_phrases.specs.Phrases.{own_number, told};
+ghost use Rattle.index_phrases.specs.Phrases.{told};
+ghost use Rattle.index_phrases.specs.steps.Numbers.{numbers_at, own_numbers};
 
 use crate::target::Target;
+use crate::unit_numbers::UnitNumbers;
 use ft_base::Hit;
 use place_merges::Spot;
 
-/// The hit of the phrase of that number on a spot of the span, which ends at `to`: so no position leaves its type.
-pub(crate) fn tell(number: u32, target: &Target<'_>, to: u32, at: Spot) -> Hit
-    requires { IsInside target.now.span.from to at }
+/// The hit of the phrase of that number on a spot of the span, which ends at `to`: so no position leaves its type. The numbers
+/// of the span's first word are given, since all hits of the span are counted from them.
+pub(crate) fn tell(number: u32, target: &Target<'_>, to: u32, first: UnitNumbers, at: Spot) -> Hit
+    requires inside { IsInside target.now.span.from to at }
+    requires first { first ≡ numbers_at target.now.breaks.breaks.now target.now.span.from }
     ensures { result ≡ told number target.now.breaks.breaks.now target.now.span at }
 {
     let before = target.span.from.saturating_sub(1);
     let last = at.place + (at.words - 1);
+    let begin = numbers_in_span(target, first, at.place);
+    let end = if last == at.place {
+        begin
+    } else {
+        numbers_in_span(target, first, last)
+    };
     Hit {
         query: number,
         from: at.place - before,
         to: last - before,
-        sent_from: own_sentence(target, at.place),
-        sent_to: own_sentence(target, last),
-        para_from: own_paragraph(target, at.place),
-        para_to: own_paragraph(target, last),
+        sent_from: begin.sentence,
+        sent_to: end.sentence,
+        para_from: begin.paragraph,
+        para_to: end.paragraph,
         whole: true,
     }
 }
 
-/// The number of the sentence of the word at a position, where the span's first word is in its first sentence.
-fn own_sentence(target: &Target<'_>, position: u32) -> u32
-    requires from { target.now.span.from < 2 ^ 32 - 1 }
+/// The numbers of the word at a position, where the span's first word is in its first sentence and paragraph.
+fn numbers_in_span(target: &Target<'_>, first: UnitNumbers, position: u32) -> UnitNumbers
     requires position { position < 2 ^ 32 - 1 }
-    ensures { result ≡ own_number target.now.breaks.breaks.now.sentences target.now.span.from position }
+    requires first { first ≡ numbers_at target.now.breaks.breaks.now target.now.span.from }
+    ensures { result ≡ own_numbers target.now.breaks.breaks.now target.now.span.from position }
 {
-    let first = target.breaks.sentence_of(target.span.from);
-    let number = target.breaks.sentence_of(position);
-    number.saturating_sub(first.saturating_sub(1))
+    let there = UnitNumbers::at(target.breaks, position);
+    UnitNumbers {
+        sentence: counted_from(first.sentence, there.sentence),
+        paragraph: counted_from(first.paragraph, there.paragraph),
+    }
 }
 
-/// The same of paragraphs.
-fn own_paragraph(target: &Target<'_>, position: u32) -> u32
-    requires from { target.now.span.from < 2 ^ 32 - 1 }
-    requires position { position < 2 ^ 32 - 1 }
-    ensures { result ≡ own_number target.now.breaks.breaks.now.paragraphs target.now.span.from position }
+/// A number counted from the first one, which is 1.
+fn counted_from(first: u32, number: u32) -> u32
+    ensures { result ≡ number - (first - 1) }
 {
-    let first = target.breaks.paragraph_of(target.span.from);
-    let number = target.breaks.paragraph_of(position);
     number.saturating_sub(first.saturating_sub(1))
 }

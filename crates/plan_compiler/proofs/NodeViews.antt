@@ -2,7 +2,7 @@
 use Rattle.std.proofs.Common.{◌≡◌, refl, ap, ◌∙◌, ℕ, sum, List, [], ◌∷◌, map, Box, Global, rules, not, ◌&&◌, ◌||◌}
 use Rattle.std.specs.List.{list_any, list_all, sum_by}
 use Rattle.std.proofs.lemmas.List.Sums.{sum-map}
-use Rattle.plan_compiler.specs.NodeCosts.{node_cost, words_cost}
+use Rattle.plan_compiler.specs.NodeCosts.{node_cost, operator_cost, words_cost}
 use Rattle.plan_compiler.specs.NodeMeaning.{layer, truth}
 use Rattle.plan_compiler.specs.Operators.{LookedText, operator_at, satisfied_over}
 use Rattle.plan_compiler.specs.TextWords.{words_of_tokens}
@@ -72,6 +72,6 @@ module _ (cost : ItemTest → ℕ) where
   unfolding node_cost
   cost-Not part = search (rules, the_lemmas)
 
-  pub cost-Ways : (plan : WaysPlan) → node_cost cost (Ways plan) ≡ 0
+  pub cost-Ways : (plan : WaysPlan) → node_cost cost (Ways plan) ≡ operator_cost cost plan.operator
   unfolding node_cost
   cost-Ways plan = search (rules, the_lemmas)

@@ -1,7 +1,9 @@
--- Selections are compiled to operators by their parts.
+-- Selections are compiled to operators by their parts, whose tests cost together what theirs do.
 use Rattle.std.proofs.Common.{◌≡◌, refl, sym, ap, subst, ◌∙◌, ℕ, ◌+◌, ◌<◌, true, ◌&&◌, List, [], ◌∷◌, ◌++◌, map, take, get_or, length, arith, Box, Global}
+use Rattle.std.specs.List.{sum_by}
 use Rattle.std.proofs.lemmas.Bool.{and_parts}
 use Rattle.std.proofs.lemmas.List.{take_more, map-append}
+use Rattle.std.proofs.lemmas.List.Sums.{sum_by_push}
 use Rattle.ft_base.specs.Selection.{words}
 use Rattle.ft_base.specs.declared.filter.Filter.{Filter}
 use Rattle.ft_base.specs.declared.options.Options.{Options}
@@ -14,11 +16,16 @@ use Rattle.ft_syntax.proofs.Views.{form-Or, form-And, form-MildNot}
 use Rattle.all_matches.specs.Meaning.{inside, phrase_count, phrase_counts}
 use Rattle.all_matches.specs.Operators.{either_of, together_of, operator_of, operators_of}
 use Rattle.all_matches.specs.Ways.{Operator, apart, negated, through_filter}
+use Rattle.index_meaning.specs.Entries.{Entry}
 use Rattle.plan_compiler.specs.CompiledOperators.{CompilesTo, EachCompilesTo, ValueCompilesTo}
+use Rattle.plan_compiler.specs.CompiledSelection.{compiled_price}
 use Rattle.plan_compiler.specs.Lexicon.{lexicon}
 use Rattle.plan_compiler.specs.NamedLists.{NamedLists}
+use Rattle.plan_compiler.specs.NodeCosts.{operator_cost}
 use Rattle.plan_compiler.specs.Operators.{LookedText, joined_of, looked_text, operator_at}
+use Rattle.plan_compiler.specs.Price.{price_under, prices_under}
 use Rattle.plan_compiler.specs.Served.{are_served, is_served, all_served}
+use Rattle.plan_compiler.specs.declared.item_matching.ItemTest.{ItemTest}
 use Rattle.plan_compiler.specs.declared.joining.Join.TheVariants.{Choice, Both}
 use Rattle.plan_compiler.specs.declared.looks.Looks.{Looks}
 use Rattle.plan_compiler.specs.declared.operator_plan.OperatorPlan.{OperatorPlan}
@@ -29,10 +36,11 @@ module _ (lists : NamedLists) (options : Options) (first next : ℕ) (plan : Ope
   -- ---- words
 
   pub words_to : (value : Words) → ValueCompilesTo lists (inside value.options options) first next plan value → CompilesTo lists options first next plan (words value)
-  unfolding operator_of is_served phrase_count
+  unfolding operator_of is_served phrase_count price_under
   words_to value one = record {
     same = λ looks tokens outer inner. one.same looks tokens (served_inside looks value.options options inner outer);
     numbered = one.numbered;
+    price = λ looks terms text outer inner. one.price looks terms text (served_inside looks value.options options inner outer);
   }
 
   module _ (selection : Selection) where
@@ -42,26 +50,31 @@ module _ (lists : NamedLists) (options : Options) (first next : ℕ) (plan : Ope
     -- ---- operands
 
     pub or_to : (parts : List Selection) → selection ≡ S.Or parts → (plans : List OperatorPlan) → EachCompilesTo lists options first next plans parts
-        → ((text : LookedText) → operator_at text plan ≡ joined_of Choice (map (operator_at text) plans)) → CompilesTo lists options first next plan (form selection)
-    unfolding operator_of is_served phrase_count
-    or_to parts e plans each joined = subst (CompilesTo lists options first next plan) (sym (ap form e ∙ form-Or parts)) (record {
+        → ((text : LookedText) → operator_at text plan ≡ joined_of Choice (map (operator_at text) plans)) → ((cost : ItemTest → ℕ) → operator_cost cost plan ≡ sum_by (operator_cost cost) plans)
+        → CompilesTo lists options first next plan (form selection)
+    unfolding operator_of is_served phrase_count price_under
+    or_to parts e plans each joined sum = subst (CompilesTo lists options first next plan) (sym (ap form e ∙ form-Or parts)) (record {
       same = λ looks tokens outer inner. joined (looked_text looks lists.stems tokens) ∙ ap either_of (each.same looks tokens outer inner);
       numbered = each.numbered;
+      price = λ looks terms text outer inner. omega (arith, sum (compiled_price looks lists.stems terms text), each.price looks terms text outer inner);
     })
 
     pub and_to : (parts : List Selection) → selection ≡ S.And parts → (plans : List OperatorPlan) → EachCompilesTo lists options first next plans parts
-        → ((text : LookedText) → operator_at text plan ≡ joined_of Both (map (operator_at text) plans)) → CompilesTo lists options first next plan (form selection)
-    unfolding operator_of is_served phrase_count
-    and_to parts e plans each joined = subst (CompilesTo lists options first next plan) (sym (ap form e ∙ form-And parts)) (record {
+        → ((text : LookedText) → operator_at text plan ≡ joined_of Both (map (operator_at text) plans)) → ((cost : ItemTest → ℕ) → operator_cost cost plan ≡ sum_by (operator_cost cost) plans)
+        → CompilesTo lists options first next plan (form selection)
+    unfolding operator_of is_served phrase_count price_under
+    and_to parts e plans each joined sum = subst (CompilesTo lists options first next plan) (sym (ap form e ∙ form-And parts)) (record {
       same = λ looks tokens outer inner. joined (looked_text looks lists.stems tokens) ∙ ap together_of (each.same looks tokens outer inner);
       numbered = each.numbered;
+      price = λ looks terms text outer inner. omega (arith, sum (compiled_price looks lists.stems terms text), each.price looks terms text outer inner);
     })
 
     pub mild_not_to : (left right : Box Selection Global) → selection ≡ S.MildNot left right → (middle : ℕ) (own other : OperatorPlan)
         → CompilesTo lists options first middle own (form left.value) → CompilesTo lists options middle next other (form right.value)
-        → ((text : LookedText) → operator_at text plan ≡ apart (operator_at text own) (operator_at text other)) → CompilesTo lists options first next plan (form selection)
-    unfolding operator_of is_served phrase_count
-    mild_not_to left right e middle own other one two joined = subst (CompilesTo lists options first next plan) (sym (ap form e ∙ form-MildNot left right)) (record {
+        → ((text : LookedText) → operator_at text plan ≡ apart (operator_at text own) (operator_at text other))
+        → ((cost : ItemTest → ℕ) → operator_cost cost plan ≡ operator_cost cost own + operator_cost cost other) → CompilesTo lists options first next plan (form selection)
+    unfolding operator_of is_served phrase_count price_under
+    mild_not_to left right e middle own other one two joined sum = subst (CompilesTo lists options first next plan) (sym (ap form e ∙ form-MildNot left right)) (record {
       same = λ looks tokens outer inner.
           let sides = and_parts (is_served looks (form left.value)) (is_served looks (form right.value)) inner in
           joined (looked_text looks lists.stems tokens)
@@ -71,32 +84,42 @@ module _ (lists : NamedLists) (options : Options) (first next : ℕ) (plan : Ope
           let half = one.numbered in
           let whole = two.numbered in
           omega (arith, half, whole);
+      price = λ looks terms text outer inner.
+          let sides = and_parts (is_served looks (form left.value)) (is_served looks (form right.value)) inner in
+          omega (arith, sum (compiled_price looks lists.stems terms text), one.price looks terms text outer sides.0, two.price looks terms text outer sides.1);
     })
 
     pub not_to : (operand : Box Selection Global) → selection ≡ S.Not operand → (own : OperatorPlan) → CompilesTo lists options first next own (form operand.value)
-        → ((text : LookedText) → operator_at text plan ≡ negated (operator_at text own)) → CompilesTo lists options first next plan (form selection)
-    unfolding operator_of is_served phrase_count
-    not_to operand e own one joined = subst (CompilesTo lists options first next plan) (sym (ap form e ∙ form-Not operand)) (record {
+        → ((text : LookedText) → operator_at text plan ≡ negated (operator_at text own)) → ((cost : ItemTest → ℕ) → operator_cost cost plan ≡ operator_cost cost own)
+        → CompilesTo lists options first next plan (form selection)
+    unfolding operator_of is_served phrase_count price_under
+    not_to operand e own one joined same = subst (CompilesTo lists options first next plan) (sym (ap form e ∙ form-Not operand)) (record {
       same = λ looks tokens outer inner. joined (looked_text looks lists.stems tokens) ∙ ap negated (one.same looks tokens outer inner);
       numbered = one.numbered;
+      price = λ looks terms text outer inner. omega (arith, same (compiled_price looks lists.stems terms text), one.price looks terms text outer inner);
     })
 
     pub filtered_to : (operand : Box Selection Global) (kind : Filter) → selection ≡ S.Filtered operand kind → (own : OperatorPlan) → CompilesTo lists options first next own (form operand.value)
-        → ((text : LookedText) → operator_at text plan ≡ through_filter (operator_at text own) kind) → CompilesTo lists options first next plan (form selection)
-    unfolding operator_of is_served phrase_count
-    filtered_to operand kind e own one joined = subst (CompilesTo lists options first next plan) (sym (ap form e ∙ form-Filtered operand kind)) (record {
+        → ((text : LookedText) → operator_at text plan ≡ through_filter (operator_at text own) kind) → ((cost : ItemTest → ℕ) → operator_cost cost plan ≡ operator_cost cost own)
+        → CompilesTo lists options first next plan (form selection)
+    unfolding operator_of is_served phrase_count price_under
+    filtered_to operand kind e own one joined same = subst (CompilesTo lists options first next plan) (sym (ap form e ∙ form-Filtered operand kind)) (record {
       same = λ looks tokens outer inner. joined (looked_text looks lists.stems tokens) ∙ ap (λ operator. through_filter operator kind) (one.same looks tokens outer inner);
       numbered = one.numbered;
+      price = λ looks terms text outer inner. omega (arith, same (compiled_price looks lists.stems terms text), one.price looks terms text outer inner);
     })
 
     pub with_to : (operand : Box Selection Global) (own : Options) → selection ≡ S.With operand own → CompilesTo lists (inside own options) first next plan (form operand.value)
         → CompilesTo lists options first next plan (form selection)
-    unfolding operator_of is_served phrase_count
+    unfolding operator_of is_served phrase_count price_under
     with_to operand own e one = subst (CompilesTo lists options first next plan) (sym (ap form e ∙ form-With operand own)) (record {
       same = λ looks tokens outer inner.
           let parts = and_parts (are_served looks own) (is_served looks (form operand.value)) inner in
           one.same looks tokens (served_inside looks own options parts.0 outer) parts.1;
       numbered = one.numbered;
+      price = λ looks terms text outer inner.
+          let parts = and_parts (are_served looks own) (is_served looks (form operand.value)) inner in
+          one.price looks terms text (served_inside looks own options parts.0 outer) parts.1;
     })
 
 -- ---- one operand more
@@ -121,6 +144,13 @@ module _ (lists : NamedLists) (options : Options) where
       ap (λ ops. operator_of (lexicon lists) options first tokens (form one) ∷ ops)
       (operators_more tokens (first + own) parts part
       ∙ ap (λ n. operators_of (lexicon lists) options (first + own) tokens (forms_of (map form parts)) ++ operator_of (lexicon lists) options n tokens (form part) ∷ []) at)
+
+  prices_more : (terms : List Entry) (text : List (List ℕ)) (parts : List Selection) (part : Selection)
+      → prices_under (lexicon lists) options terms text (forms_of (map form (parts ++ part ∷ [])))
+      ≡ prices_under (lexicon lists) options terms text (forms_of (map form parts)) + price_under (lexicon lists) options terms text (form part)
+  unfolding price_under
+  prices_more terms text [] part = omega arith
+  prices_more terms text (one ∷ parts) part = let rest = prices_more terms text parts part in omega (arith, rest)
 
 served_parts : (looks : Looks) (parts : List Selection) (part : Selection) → all_served looks (forms_of (map form (parts ++ part ∷ []))) ≡ true
     → (all_served looks (forms_of (map form parts)) ≡ true) × (is_served looks (form part) ≡ true)
@@ -150,11 +180,18 @@ each_more lists options first middle next before after plan parts i part h is pu
           let half = all.numbered in
           let whole = one.numbered in
           omega (arith, more, half, whole);
+      price = λ looks terms text outer inner.
+          let cost : OperatorPlan → ℕ = operator_cost (compiled_price looks lists.stems terms text) in
+          let sides = served_parts looks (take i parts) part inner in
+          let made = ap (sum_by cost) pushed ∙ sum_by_push cost before plan in
+          let more = prices_more lists options terms text (take i parts) part in
+          omega (arith, made, more, all.price looks terms text outer sides.0, one.price looks terms text outer sides.1);
     })
 
 pub each_none : (lists : NamedLists) (options : Options) (first : ℕ) (plans : List OperatorPlan) → plans ≡ [] → EachCompilesTo lists options first first plans []
-unfolding operator_of phrase_count
+unfolding operator_of phrase_count price_under
 each_none lists options first plans empty = record {
   same = λ looks tokens outer inner. ap (map (operator_at (looked_text looks lists.stems tokens))) empty;
   numbered = omega arith;
+  price = λ looks terms text outer inner. let none = ap (sum_by (operator_cost (compiled_price looks lists.stems terms text))) empty in omega (arith, none);
 }

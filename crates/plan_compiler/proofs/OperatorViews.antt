@@ -1,8 +1,11 @@
--- What the kinds of compiled operators are over a text, and opened over a version.
-use Rattle.std.proofs.Common.{◌≡◌, refl, ap, ℕ, false, List, [], ◌∷◌, map, filter, length, Box, Global}
+-- What the kinds of compiled operators are over a text, and what their tests cost.
+use Rattle.std.proofs.Common.{◌≡◌, refl, ap, ℕ, ◌+◌, false, List, [], ◌∷◌, map, filter, length, Box, Global}
+use Rattle.std.specs.List.{sum_by}
 use Rattle.all_matches.specs.Hits.{Interval, hit_on, intervals}
 use Rattle.all_matches.specs.Ways.{phrase, either, together, apart, negated, through_filter}
+use Rattle.plan_compiler.specs.NodeCosts.{operator_cost}
 use Rattle.plan_compiler.specs.Operators.{LookedText, hits_by_tests, operator_at}
+use Rattle.plan_compiler.specs.declared.item_matching.ItemTest.{ItemTest}
 use Rattle.plan_compiler.specs.declared.operator_plan.FilteredPlan.{FilteredPlan}
 use Rattle.plan_compiler.specs.declared.operator_plan.NegatedPlan.{NegatedPlan}
 use Rattle.plan_compiler.specs.declared.operator_plan.OperatorPlan as O
@@ -41,3 +44,30 @@ module _ (text : LookedText) where
   -- a phrase without variants stands nowhere
   pub at_none : (number : ℕ) → phrase (hits_by_tests text number []) ≡ phrase []
   at_none number = ap (λ (found : List Interval). phrase (map (hit_on text.tokens number) found)) (none_kept (intervals (length text.tokens)))
+
+-- ---- what their tests cost
+
+module _ (cost : ItemTest → ℕ) where
+  pub cost_Phrase : (found : PhraseTests) → operator_cost cost (O.Phrase found) ≡ sum_by (sum_by cost) found.variants
+  unfolding operator_cost
+  cost_Phrase found = refl
+
+  pub cost_Choice : (sides : Box OperatorSides Global) → operator_cost cost (O.Choice sides) ≡ operator_cost cost sides.value.left + operator_cost cost sides.value.right
+  unfolding operator_cost
+  cost_Choice sides = refl
+
+  pub cost_Both : (sides : Box OperatorSides Global) → operator_cost cost (O.Both sides) ≡ operator_cost cost sides.value.left + operator_cost cost sides.value.right
+  unfolding operator_cost
+  cost_Both sides = refl
+
+  pub cost_MildNot : (sides : Box OperatorSides Global) → operator_cost cost (O.MildNot sides) ≡ operator_cost cost sides.value.left + operator_cost cost sides.value.right
+  unfolding operator_cost
+  cost_MildNot sides = refl
+
+  pub cost_Negated : (plan : Box NegatedPlan Global) → operator_cost cost (O.Negated plan) ≡ operator_cost cost plan.value.operand
+  unfolding operator_cost
+  cost_Negated plan = refl
+
+  pub cost_Filtered : (plan : Box FilteredPlan Global) → operator_cost cost (O.Filtered plan) ≡ operator_cost cost plan.value.operand
+  unfolding operator_cost
+  cost_Filtered plan = refl

@@ -46,10 +46,10 @@ use Rattle.plan_compiler.proofs.ItemMeaning.{by_forms, case_by_forms, stops_mean
 -- ---- tests in the place of items
 
 -- a test, asked
-abbrev asked : (TextWord → Bool) → TextWord → Bool
+abbrev pub asked : (TextWord → Bool) → TextWord → Bool
 asked test w = test w
 
-begins_tests : (tests : List ItemTest) (words : List TextWord) → begins_as passes tests words ≡ begins_as asked (map passes tests) words
+pub begins_tests : (tests : List ItemTest) (words : List TextWord) → begins_as passes tests words ≡ begins_as asked (map passes tests) words
 begins_tests [] words = refl
 begins_tests (test ∷ tests) [] = refl
 begins_tests (test ∷ tests) (w ∷ words) = ap (λ b. passes test w && b) (begins_tests tests words)
@@ -170,7 +170,7 @@ module _ (looks : Looks) (lists : NamedLists) (options : Options) (reading : Rea
   abbrev text : List Token → List TextWord
   text tokens = words_of_tokens looks lists.stems tokens
 
-  phrase_begins : (phrase : List Item) (tokens : List Token) → begins_as asked (map (item_test reading) phrase) (text tokens) ≡ begins_as (passes_item (lexicon lists) options) (map bare phrase) tokens
+  pub phrase_begins : (phrase : List Item) (tokens : List Token) → begins_as asked (map (item_test reading) phrase) (text tokens) ≡ begins_as (passes_item (lexicon lists) options) (map bare phrase) tokens
   phrase_begins [] tokens = refl
   phrase_begins (item ∷ phrase) [] = refl
   phrase_begins (item ∷ phrase) (token ∷ tokens) = λ i. word_passes item token i && phrase_begins phrase tokens i

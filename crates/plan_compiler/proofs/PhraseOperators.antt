@@ -1,31 +1,36 @@
--- The hits of a compiled phrase are those of the phrase as it is read.
-use Rattle.std.proofs.Common.{◌≡◌, refl, sym, ap, ◌∙◌, ℕ, ◌+◌, Bool, true, false, ◌&&◌, ◌||◌, List, [], ◌∷◌, ◌++◌, map, length, arith}
-use Rattle.std.proofs.lemmas.List.{map-append}
+-- The hits of a compiled phrase are those of the phrase as it is read, and its tests have together at most its price.
+use Rattle.std.proofs.Common.{◌≡◌, refl, sym, ap, ◌∙◌, ℕ, ◌+◌, ◌==◌, Bool, true, false, ◌&&◌, ◌||◌, List, [], ◌∷◌, ◌++◌, map, length, arith}
+use Rattle.std.proofs.Math.Dec.{eqb-suc-suc, eqb-suc-zero, eqb-zero-suc}
+use Rattle.std.proofs.lemmas.List.{length-map, map-append}
+use Rattle.std.proofs.lemmas.List.Sums.{sum_by_push}
 use Rattle.std.specs.Prelude.{flat_map, filter, if◌then◌else◌}
-use Rattle.std.specs.List.{list_all, list_any}
+use Rattle.std.specs.List.{list_all, list_any, sum_by}
 use Rattle.ft_base.specs.Lists.{is_empty}
 use Rattle.ft_base.specs.declared.options.Options.{Options}
 use Rattle.ft_base.specs.declared.token.Token.{Token}
 use Rattle.ft_base.specs.declared.words.Words.{Words}
 use Rattle.ft_base.specs.declared.words.Mode.{Mode}
 use Rattle.ft_base.specs.declared.words.Mode.TheVariants.{Any, AnyWord, All, AllWords, Phrase}
-use Rattle.all_matches.specs.Hits.{Interval, hit_on, hits, intervals, stands_as, tokens_in}
+use Rattle.all_matches.specs.Counting.{begins_as}
+use Rattle.all_matches.specs.Hits.{Interval, hit_on, hits, intervals, passes_item, stands_as, tokens_in}
 use Rattle.all_matches.specs.Meaning.{phrases_by, singly, strings_of}
 use Rattle.all_matches.specs.Operators.{operator_by, phrase_operators}
-use Rattle.all_matches.specs.Variants.{Item, variants, without_stop_word, word, reached_keys}
+use Rattle.all_matches.specs.Variants.{Item, Lexicon, variants, without_stop_word, word, reached_keys}
 use Rattle.all_matches.specs.Ways.{Operator, phrase}
-use Rattle.index_phrases.specs.Tokens.{stands_on}
 use Rattle.match_options.specs.Items.{item, items_of}
 use Rattle.match_options.specs.declared.item.QueryItem.{QueryItem}
 use Rattle.thesaurus_file.specs.Phrases.{in_order}
 use Rattle.plan_compiler.specs.CompiledOperators.{PhraseCompilesTo, PhrasesCompileTo, ValueCompilesTo}
+use Rattle.plan_compiler.specs.CompiledSelection.{compiled_price}
 use Rattle.plan_compiler.specs.ItemTests.{passes}
 use Rattle.plan_compiler.specs.Lexicon.{lexicon}
 use Rattle.plan_compiler.specs.NamedLists.{NamedLists}
-use Rattle.plan_compiler.specs.Operators.{LookedText, hits_by_tests, joined_of, looked_text, operator_at, passes_test}
+use Rattle.plan_compiler.specs.NodeCosts.{operator_cost}
+use Rattle.plan_compiler.specs.Operators.{LookedText, hits_by_tests, joined_of, looked_text, operator_at, stand_on}
+use Rattle.plan_compiler.specs.Price.{phrase_price}
 use Rattle.plan_compiler.specs.ReadingMeaning.{Reads}
 use Rattle.plan_compiler.specs.Served.{are_served}
-use Rattle.plan_compiler.specs.TextWords.{word_as}
+use Rattle.plan_compiler.specs.TextWords.{word_as, words_of_tokens}
 use Rattle.plan_compiler.specs.WordsMeaning.{item_test, phrases_for}
 use Rattle.plan_compiler.specs.declared.item_matching.ItemTest.{ItemTest}
 use Rattle.plan_compiler.specs.declared.joining.Join.{Join}
@@ -34,66 +39,77 @@ use Rattle.plan_compiler.specs.declared.operator_plan.OperatorPlan.{OperatorPlan
 use Rattle.plan_compiler.specs.declared.operator_plan.OperatorPlan as O
 use Rattle.plan_compiler.specs.declared.reading.Reading.{Reading}
 use Rattle.plan_compiler.specs.declared.text_word.TextWord.{TextWord}
-use Rattle.plan_compiler.proofs.OperatorViews.{at_Phrase}
-use Rattle.plan_compiler.proofs.PhraseMeaning.{flat_empty, flat_some, once_alike, word_passes}
+use Rattle.plan_compiler.proofs.OperatorViews.{at_Phrase, cost_Phrase}
+use Rattle.plan_compiler.proofs.PhraseMeaning.{asked, begins_tests, flat_empty, flat_some, once_alike, phrase_begins}
+use Rattle.plan_compiler.proofs.PriceMeaning.{variants_cost}
 
--- ---- tests, asked of tokens
+-- ---- tests in the place of items, one for each word
 
-module _ (looks : Looks) (lists : NamedLists) where
-  abbrev text : List Token → LookedText
-  text tokens = looked_text looks lists.stems tokens
+swapped : (a b c : Bool) → (a && (b && c)) ≡ (b && (a && c))
+swapped true b c = refl
+swapped false true c = refl
+swapped false false c = refl
 
-  abbrev asked : (TextWord → Bool) → Token → Bool
-  asked test token = test (word_as looks lists.stems token.word)
+-- items stand on tokens where these are as many and begin with them
+as_many_begin : (lexicon : Lexicon) (options : Options) (items : List Item) (tokens : List Token)
+    → ((length items == length tokens) && begins_as (passes_item lexicon options) items tokens) ≡ stands_as lexicon options items tokens
+as_many_begin lexicon options [] [] = refl
+as_many_begin lexicon options [] (token ∷ tokens) = ap (λ b. b && true) (eqb-zero-suc (length tokens))
+as_many_begin lexicon options (item ∷ items) [] = ap (λ b. b && false) (eqb-suc-zero (length items))
+as_many_begin lexicon options (item ∷ items) (token ∷ tokens) =
+    ap (λ b. b && (passes_item lexicon options item token && begins_as (passes_item lexicon options) items tokens)) (eqb-suc-suc (length items) (length tokens))
+    ∙ swapped (length items == length tokens) (passes_item lexicon options item token) (begins_as (passes_item lexicon options) items tokens)
+    ∙ ap (λ b. passes_item lexicon options item token && b) (as_many_begin lexicon options items tokens)
 
-  stand_asked : (whole : List Token) (tests : List ItemTest) (tokens : List Token) → stands_on (passes_test (text whole)) tests tokens ≡ stands_on asked (map passes tests) tokens
-  stand_asked whole [] [] = refl
-  stand_asked whole [] (token ∷ tokens) = refl
-  stand_asked whole (test ∷ tests) [] = refl
-  stand_asked whole (test ∷ tests) (token ∷ tokens) = ap (λ b. passes test (word_as looks lists.stems token.word) && b) (stand_asked whole tests tokens)
+abbrev stand : List (TextWord → Bool) → List TextWord → Bool
+stand tests words = (length tests == length words) && begins_as asked tests words
 
-  some_asked : (whole : List Token) (variants : List (List ItemTest)) (tokens : List Token)
-      → list_any (λ tests. stands_on (passes_test (text whole)) tests tokens) variants ≡ list_any (λ tests. stands_on asked tests tokens) (map (map passes) variants)
-  some_asked whole [] tokens = refl
-  some_asked whole (tests ∷ variants) tokens = λ i. stand_asked whole tests tokens i || some_asked whole variants tokens i
+some_asked : (variants : List (List ItemTest)) (words : List TextWord)
+    → list_any (λ tests. stand_on tests words) variants ≡ list_any (λ tests. stand tests words) (map (map passes) variants)
+some_asked [] words = refl
+some_asked (tests ∷ variants) words = λ i. ((sym (length-map tests passes) i == length words) && begins_tests tests words i) || some_asked variants words i
 
-  module _ (options : Options) (reading : Reading) (reads : Reads reading lists options) (served : are_served looks options ≡ true) where
-    abbrev bare : Item → Item
-    bare = without_stop_word (lexicon lists) options
+module _ (looks : Looks) (lists : NamedLists) (options : Options) (reading : Reading) (reads : Reads reading lists options) (served : are_served looks options ≡ true) where
+  abbrev bare : Item → Item
+  bare = without_stop_word (lexicon lists) options
 
-    items_stand : (items : List Item) (tokens : List Token) → stands_on asked (map (item_test reading) items) tokens ≡ stands_as (lexicon lists) options (map bare items) tokens
-    items_stand [] [] = refl
-    items_stand [] (token ∷ tokens) = refl
-    items_stand (item ∷ items) [] = refl
-    items_stand (item ∷ items) (token ∷ tokens) = λ i. word_passes looks lists options reading reads served item token i && items_stand items tokens i
+  abbrev words_at : List Token → List TextWord
+  words_at tokens = words_of_tokens looks lists.stems tokens
 
-    some_stands : (phrases : List (List Item)) (tokens : List Token)
-        → list_any (λ tests. stands_on asked tests tokens) (map (map (item_test reading)) phrases) ≡ list_any (λ items. stands_as (lexicon lists) options items tokens) (map (map bare) phrases)
-    some_stands [] tokens = refl
-    some_stands (items ∷ phrases) tokens = λ i. items_stand items tokens i || some_stands phrases tokens i
+  items_stand : (items : List Item) (tokens : List Token) → stand (map (item_test reading) items) (words_at tokens) ≡ stands_as (lexicon lists) options (map bare items) tokens
+  items_stand items tokens =
+      let tests_many : length (map (item_test reading) items) ≡ length (map bare items) = length-map items (item_test reading) ∙ sym (length-map items bare) in
+      let words_many : length (words_at tokens) ≡ length tokens = length-map tokens (λ (token : Token). word_as looks lists.stems token.word) in
+      (λ i. (tests_many i == words_many i) && phrase_begins looks lists options reading reads served items tokens i)
+      ∙ as_many_begin (lexicon lists) options (map bare items) tokens
 
-    phrases_stand : (items : List Item) (tokens : List Token)
-        → list_any (λ tests. stands_on asked tests tokens) (map (map (item_test reading)) (phrases_for reading items))
-        ≡ list_any (λ variant. stands_as (lexicon lists) options variant tokens) (variants (lexicon lists) options items)
-    phrases_stand [] tokens = refl
-    phrases_stand (item ∷ items) tokens =
-        let same : phrases_for reading (item ∷ items) ≡ (item ∷ items) ∷ map (map word) (in_order (reached_keys (lexicon lists) options.thesaurus (item ∷ items))) =
-        λ i. (item ∷ items) ∷ map (map word) (in_order (reached_keys (lexicon (reads.named i)) (reads.thesaurus i) (item ∷ items))) in
-        some_stands (phrases_for reading (item ∷ items)) tokens
-        ∙ ap (λ ps. list_any (λ v. stands_as (lexicon lists) options v tokens) (map (map bare) ps)) same
-        ∙ once_alike looks lists options reading reads served (item ∷ items) (reached_keys (lexicon lists) options.thesaurus (item ∷ items)) (λ v. stands_as (lexicon lists) options v tokens)
+  some_stands : (phrases : List (List Item)) (tokens : List Token)
+      → list_any (λ tests. stand tests (words_at tokens)) (map (map (item_test reading)) phrases) ≡ list_any (λ items. stands_as (lexicon lists) options items tokens) (map (map bare) phrases)
+  some_stands [] tokens = refl
+  some_stands (items ∷ phrases) tokens = λ i. items_stand items tokens i || some_stands phrases tokens i
 
-    pub phrase_same : (tests : List (List ItemTest)) (items : List Item) → map (map passes) tests ≡ map (map (item_test reading)) (phrases_for reading items)
-        → (number : ℕ) (tokens : List Token) → hits_by_tests (text tokens) number tests ≡ hits (lexicon lists) options number items tokens
-    phrase_same tests items is number tokens =
-        λ i. map (hit_on tokens number) (filter (λ interval. same interval i) (intervals (length tokens)))
-      where
-        same : (interval : Interval) → list_any (λ test. stands_on (passes_test (text tokens)) test (tokens_in tokens interval)) tests
-            ≡ list_any (λ variant. stands_as (lexicon lists) options variant (tokens_in tokens interval)) (variants (lexicon lists) options items)
-        same interval =
-            some_asked tokens tests (tokens_in tokens interval)
-            ∙ ap (λ ts. list_any (λ test. stands_on asked test (tokens_in tokens interval)) ts) is
-            ∙ phrases_stand items (tokens_in tokens interval)
+  phrases_stand : (items : List Item) (tokens : List Token)
+      → list_any (λ tests. stand tests (words_at tokens)) (map (map (item_test reading)) (phrases_for reading items))
+      ≡ list_any (λ variant. stands_as (lexicon lists) options variant tokens) (variants (lexicon lists) options items)
+  phrases_stand [] tokens = refl
+  phrases_stand (item ∷ items) tokens =
+      let same : phrases_for reading (item ∷ items) ≡ (item ∷ items) ∷ map (map word) (in_order (reached_keys (lexicon lists) options.thesaurus (item ∷ items))) =
+      λ i. (item ∷ items) ∷ map (map word) (in_order (reached_keys (lexicon (reads.named i)) (reads.thesaurus i) (item ∷ items))) in
+      some_stands (phrases_for reading (item ∷ items)) tokens
+      ∙ ap (λ ps. list_any (λ v. stands_as (lexicon lists) options v tokens) (map (map bare) ps)) same
+      ∙ once_alike looks lists options reading reads served (item ∷ items) (reached_keys (lexicon lists) options.thesaurus (item ∷ items)) (λ v. stands_as (lexicon lists) options v tokens)
+
+  pub phrase_same : (tests : List (List ItemTest)) (items : List Item) → map (map passes) tests ≡ map (map (item_test reading)) (phrases_for reading items)
+      → (number : ℕ) (tokens : List Token) → hits_by_tests (looked_text looks lists.stems tokens) number tests ≡ hits (lexicon lists) options number items tokens
+  phrase_same tests items is number tokens =
+      λ i. map (hit_on tokens number) (filter (λ interval. same interval i) (intervals (length tokens)))
+    where
+      same : (interval : Interval) → list_any (λ test. stand_on test (words_at (tokens_in tokens interval))) tests
+          ≡ list_any (λ variant. stands_as (lexicon lists) options variant (tokens_in tokens interval)) (variants (lexicon lists) options items)
+      same interval =
+          some_asked tests (words_at (tokens_in tokens interval))
+          ∙ ap (λ ts. list_any (λ test. stand test (words_at (tokens_in tokens interval))) ts) is
+          ∙ phrases_stand items (tokens_in tokens interval)
 
 -- ---- phrases, one more
 
@@ -125,6 +141,11 @@ phrases_compiled_more reading first middle next before after plan phrases items 
       let more = one.numbered in
       let many = all.numbered in
       omega (arith, behind, more, many);
+  price = λ lists options reads looks terms text served.
+      let cost : OperatorPlan → ℕ = operator_cost (compiled_price looks lists.stems terms text) in
+      let made = ap (sum_by cost) pushed ∙ sum_by_push cost before plan in
+      let whole = sum_by_push (phrase_price (lexicon lists) options terms text) phrases items in
+      omega (arith, made, whole, all.price lists options reads looks terms text served, one.price lists options reads looks terms text served);
 }
 
 -- ---- values
@@ -163,19 +184,20 @@ module _ (lists : NamedLists) (options : Options) (reading : Reading) (reads : R
     value_numbered = all.numbered ∙ ap (λ strings. first + length (phrases_by value.mode strings)) strings_same
 
     pub empty_value : (plan : OperatorPlan) → list_all is_empty (phrases_by value.mode read_strings) ≡ true → ((text : LookedText) → operator_at text plan ≡ phrase [])
-        → ValueCompilesTo lists options first next plan value
-    empty_value plan empty none = record {
+        → ((cost : ItemTest → ℕ) → operator_cost cost plan ≡ 0) → ValueCompilesTo lists options first next plan value
+    empty_value plan empty none nothing = record {
       same = λ looks tokens served.
           let is : list_all is_empty (strings_of (lexicon lists) options value) ≡ true = ap (λ strings. list_all is_empty strings) (sym strings_same) ∙ sym (none_empty value.mode read_strings) ∙ empty in
           none (looked_text looks lists.stems tokens)
           ∙ sym (ap (λ (b : Bool). if b then phrase [] else operator_by value.mode (phrase_operators (lexicon lists) options tokens first (phrases_by value.mode (strings_of (lexicon lists) options value)))) is);
       numbered = value_numbered;
+      price = λ looks terms text served. omega (arith, nothing (compiled_price looks lists.stems terms text));
     }
 
     pub joined_value : (join : Join) (plan : OperatorPlan) → list_all is_empty (phrases_by value.mode read_strings) ≡ false
         → ((operands : List Operator) → joined_of join operands ≡ operator_by value.mode operands) → ((text : LookedText) → operator_at text plan ≡ joined_of join (map (operator_at text) plans))
-        → ValueCompilesTo lists options first next plan value
-    joined_value join plan some by joined = record {
+        → ((cost : ItemTest → ℕ) → operator_cost cost plan ≡ sum_by (operator_cost cost) plans) → ValueCompilesTo lists options first next plan value
+    joined_value join plan some by joined sum = record {
       same = λ looks tokens served.
           let text = looked_text looks lists.stems tokens in
           let is : list_all is_empty (strings_of (lexicon lists) options value) ≡ false = ap (λ strings. list_all is_empty strings) (sym strings_same) ∙ sym (none_empty value.mode read_strings) ∙ some in
@@ -184,6 +206,10 @@ module _ (lists : NamedLists) (options : Options) (reading : Reading) (reads : R
           ∙ ap (operator_by value.mode) (all.same lists options reads looks tokens served ∙ ap (λ strings. phrase_operators (lexicon lists) options tokens first (phrases_by value.mode strings)) strings_same)
           ∙ sym (ap (λ (b : Bool). if b then phrase [] else operator_by value.mode (phrase_operators (lexicon lists) options tokens first (phrases_by value.mode (strings_of (lexicon lists) options value)))) is);
       numbered = value_numbered;
+      price = λ looks terms text served.
+          let most = all.price lists options reads looks terms text served in
+          let whole = ap (λ strings. sum_by (phrase_price (lexicon lists) options terms text) (phrases_by value.mode strings)) strings_same in
+          omega (arith, sum (compiled_price looks lists.stems terms text), most, whole);
     }
 
 -- ---- a phrase
@@ -195,6 +221,10 @@ phrase_to reading number next tests items is following = record {
       at_Phrase (looked_text looks lists.stems tokens) (record { number = number; variants = tests })
       ∙ ap phrase (phrase_same looks lists options reading reads served tests items is number tokens);
   numbered = following;
+  price = λ lists options reads looks terms text served.
+      let own = cost_Phrase (compiled_price looks lists.stems terms text) (record { number = number; variants = tests }) in
+      let most = variants_cost looks lists terms text options reading reads served tests items is in
+      omega (arith, own, most);
 }
 
 -- a phrase has as many items as were read

@@ -138,25 +138,41 @@ module _ (looks : Looks) (lists : NamedLists) (terms : List Entry) (text : List 
         ∙ sum_over (λ items. sum_by priced (map bare items)) (λ key. sum_by priced (map bare (map word key))) (map word) (λ key. refl) keys in
         omega (arith, first, others)
 
-    phrase_priced : (phrase : List Item) → sum_by (sum_by (sum_by asked_price)) (grouped_tests reading phrase) ≤ phrase_price (lexicon lists) options terms text phrase
-    phrase_priced [] =
-        let none : sum_by (sum_by (sum_by asked_price)) (grouped_tests reading []) ≡ phrase_price (lexicon lists) options terms text [] = refl in
+    -- each variant that thesauri reach costs once
+    once_priced : (phrase : List Item)
+        → sum_by (sum_by asked_price) (map (map (item_test reading)) (phrases_for reading phrase)) ≤ phrase_price (lexicon lists) options terms text phrase
+    once_priced [] =
+        let none : sum_by (sum_by asked_price) (map (map (item_test reading)) (phrases_for reading [])) ≡ phrase_price (lexicon lists) options terms text [] = refl in
         omega (arith, none)
-    phrase_priced (item ∷ phrase) =
+    once_priced (item ∷ phrase) =
         let keys = reached_keys (lexicon lists) options.thesaurus (item ∷ phrase) in
         let once = (item ∷ phrase) ∷ map (map word) (in_order keys) in
         let same : phrases_for reading (item ∷ phrase) ≡ once =
         λ i. (item ∷ phrase) ∷ map (map word) (in_order (reached_keys (lexicon (reads.named i)) (reads.thesaurus i) (item ∷ phrase))) in
-        let told : sum_by (sum_by (sum_by asked_price)) (grouped_tests reading (item ∷ phrase)) ≡ sum_by (sum_by priced) (map (map bare) once) =
-        ap (λ phrases. sum_by (sum_by (sum_by asked_price)) (map (λ group. group.1) (by_length (map (map (item_test reading)) phrases)))) same
-        ∙ sum_over (sum_by (sum_by asked_price)) (of_group (sum_by asked_price) refl) (λ group. group.1) (λ group. refl) (by_length (map (map (item_test reading)) once))
-        ∙ by_length-sum (sum_by asked_price) refl (map (map (item_test reading)) once)
-        ∙ variants_priced once in
+        let told : sum_by (sum_by asked_price) (map (map (item_test reading)) (phrases_for reading (item ∷ phrase))) ≡ sum_by (sum_by priced) (map (map bare) once) =
+        ap (λ phrases. sum_by (sum_by asked_price) (map (map (item_test reading)) phrases)) same ∙ variants_priced once in
         let whole : phrase_price (lexicon lists) options terms text (item ∷ phrase)
         ≡ sum_by priced (map bare (item ∷ phrase)) + sum_by (λ key. sum_by priced (map bare (map word key))) keys = with_reached (item ∷ phrase) keys in
         let kept = with_reached (item ∷ phrase) (in_order keys) in
         let less = in_order_sum (λ key. sum_by priced (map bare (map word key))) keys in
         omega (arith, told, whole, kept, less)
+
+    -- by length or not, the sum is the same
+    phrase_priced : (phrase : List Item) → sum_by (sum_by (sum_by asked_price)) (grouped_tests reading phrase) ≤ phrase_price (lexicon lists) options terms text phrase
+    phrase_priced phrase =
+        let tests = map (map (item_test reading)) (phrases_for reading phrase) in
+        let told : sum_by (sum_by (sum_by asked_price)) (grouped_tests reading phrase) ≡ sum_by (sum_by asked_price) tests =
+        sum_over (sum_by (sum_by asked_price)) (of_group (sum_by asked_price) refl) (λ group. group.1) (λ group. refl) (by_length tests)
+        ∙ by_length-sum (sum_by asked_price) refl tests in
+        let most = once_priced phrase in
+        omega (arith, told, most)
+
+    pub variants_cost : (variants : List (List ItemTest)) (phrase : List Item) → map (map passes) variants ≡ map (map (item_test reading)) (phrases_for reading phrase)
+        → sum_by (sum_by (compiled_price looks lists.stems terms text)) variants ≤ phrase_price (lexicon lists) options terms text phrase
+    variants_cost variants phrase is =
+        let told = sym (group_costs variants) ∙ ap (sum_by (sum_by asked_price)) is in
+        let most = once_priced phrase in
+        omega (arith, told, most)
 
   pub words_priced : (options : Options) (plan : WordsPlan) (value : Words) → IsCompiled plan lists options value → are_served looks options ≡ true
       → words_cost (compiled_price looks lists.stems terms text) plan ≤ value_price (lexicon lists) options terms text value

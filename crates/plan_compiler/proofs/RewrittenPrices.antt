@@ -6,7 +6,7 @@ use Rattle.ft_base.specs.declared.options.Options.{Options}
 use Rattle.ft_base.specs.Selection.{no_options, Form, Forms, words, or_of, and_of, mild_not, not_of, filtered, with_options, none, more}
 use Rattle.ft_syntax.specs.View.{forms_of}
 use Rattle.ft_rewriter.specs.Code.{same_form}
-use Rattle.ft_rewriter.specs.Rewriting.{given, each_given, listed, operands_in, with_operand, without_repeats, joined_operands, connected, flattened, simplified, negated, each_simplified, each_negated, rewritten}
+use Rattle.ft_rewriter.specs.Rewriting.{given, each_given, listed, operands_in, with_operand, without_repeats, joined_operands, connected, flattened, each_flattened, simplified, negated, each_simplified, each_negated, rewritten}
 use Rattle.ft_rewriter.specs.declared.connective.Connective.{Connective}
 use Rattle.ft_rewriter.specs.declared.connective.Connective.TheVariants.{Or, And}
 use Rattle.ft_rewriter.proofs.GivenOptions.{inside_none}
@@ -34,9 +34,9 @@ module _ (lexicon : Lexicon) (terms : List Entry) (text : List (List ℕ)) where
     price_given outer (words value) = ap (λ options. value_price lexicon options terms text value) (inside_none (inside value.options outer))
     price_given outer (or_of forms) = prices_given outer forms
     price_given outer (and_of forms) = prices_given outer forms
-    price_given outer (mild_not left right) = refl
+    price_given outer (mild_not left right) = λ i. price_given outer left i + price_given outer right i
     price_given outer (not_of form) = price_given outer form
-    price_given outer (filtered form kind) = refl
+    price_given outer (filtered form kind) = price_given outer form
     price_given outer (with_options form inner) = price_given (inside inner outer) form
 
     prices_given : (outer : Options) (forms : Forms) → prices_under lexicon no_options terms text (each_given outer forms) ≡ prices_under lexicon outer terms text forms
@@ -114,10 +114,31 @@ module _ (lexicon : Lexicon) (terms : List Entry) (text : List (List ℕ)) where
         let flat = prices_flat c forms in
         omega (arith, joined, kept, flat)
 
+  -- ---- operands in the place of their selection, under filters and in `not in`
+
+  mutual
+    unfolding flattened price_under
+
+    price_flattened : (options : Options) (form : Form) → price_of options (flattened form) ≡ price_of options form
+    price_flattened options (words value) = refl
+    price_flattened options (or_of forms) = prices_flat options Or (each_flattened forms) ∙ prices_flattened options forms
+    price_flattened options (and_of forms) = prices_flat options And (each_flattened forms) ∙ prices_flattened options forms
+    price_flattened options (mild_not left right) = λ i. price_flattened options left i + price_flattened options right i
+    price_flattened options (not_of form) = price_flattened options form
+    price_flattened options (filtered form kind) = price_flattened options form
+    price_flattened options (with_options form inner) = price_flattened (inside inner options) form
+
+    prices_flattened : (options : Options) (forms : Forms) → all_prices options (each_flattened forms) ≡ prices_under lexicon options terms text forms
+    prices_flattened options none = refl
+    prices_flattened options (more form rest) = λ i. price_flattened options form i + prices_flattened options rest i
+
+  flattened_most : (options : Options) (form : Form) → price_of options (flattened form) ≤ price_of options form
+  flattened_most options form = omega (arith, price_flattened options form)
+
   -- ---- `ftnot` moved inwards
 
   mutual
-    unfolding simplified flattened price_under
+    unfolding simplified price_under
 
     price_simplified : (options : Options) (form : Form) → price_of options (simplified form) ≤ price_of options form
     price_simplified options (words value) = omega arith
@@ -129,9 +150,9 @@ module _ (lexicon : Lexicon) (terms : List Entry) (text : List (List ℕ)) where
         let all = price_connected options And (each_simplified forms) in
         let each = prices_simplified options forms in
         omega (arith, all, each)
-    price_simplified options (mild_not left right) = omega arith
+    price_simplified options (mild_not left right) = flattened_most options (mild_not left right)
     price_simplified options (not_of form) = price_negated options form
-    price_simplified options (filtered form kind) = omega arith
+    price_simplified options (filtered form kind) = flattened_most options (filtered form kind)
     price_simplified options (with_options form inner) = price_simplified (inside inner options) form
 
     price_negated : (options : Options) (form : Form) → price_of options (negated form) ≤ price_of options form
@@ -144,9 +165,9 @@ module _ (lexicon : Lexicon) (terms : List Entry) (text : List (List ℕ)) where
         let all = price_connected options Or (each_negated forms) in
         let each = prices_negated options forms in
         omega (arith, all, each)
-    price_negated options (mild_not left right) = omega arith
+    price_negated options (mild_not left right) = flattened_most options (mild_not left right)
     price_negated options (not_of form) = price_simplified options form
-    price_negated options (filtered form kind) = omega arith
+    price_negated options (filtered form kind) = flattened_most options (filtered form kind)
     price_negated options (with_options form inner) = price_simplified (inside inner options) form
 
     prices_simplified : (options : Options) (forms : Forms) → all_prices options (each_simplified forms) ≤ prices_under lexicon options terms text forms

@@ -62,5 +62,8 @@ ways_compile looks lists options next plan selection compiled allowed outer inne
       truth-Ways plan (looked_text looks lists.stems tokens)
       ∙ ap (satisfied_over tokens) (compiled.same looks tokens outer inner)
       ∙ ap satisfied (operator-matches (lexicon lists) options 1 tokens selection parts.0);
-  price = λ terms text. let none = cost-Ways (compiled_price looks lists.stems terms text) plan in omega (arith, none);
+  price = λ terms text.
+      let cost = cost-Ways (compiled_price looks lists.stems terms text) plan in
+      let most = compiled.price looks terms text outer inner in
+      omega (arith, cost, most);
 }

@@ -1,5 +1,6 @@
--- Selections compiled to operators, under the options that stand round them.
-use Rattle.std.specs.Prelude.{◌≡◌, ℕ, ◌+◌, true, List, map, length}
+-- Selections compiled to operators, under the options that stand round them, and what their tests cost.
+use Rattle.std.specs.Prelude.{◌≡◌, ◌≤◌, ℕ, ◌+◌, true, List, map, length}
+use Rattle.std.specs.List.{sum_by}
 use Rattle.ft_base.specs.Selection.{Form}
 use Rattle.ft_base.specs.declared.options.Options.{Options}
 use Rattle.ft_base.specs.declared.token.Token.{Token}
@@ -11,9 +12,13 @@ use Rattle.all_matches.specs.Meaning.{phrases_by, phrase_count, phrase_counts, s
 use Rattle.all_matches.specs.Operators.{operator_of, operators_of, phrase_operators, value_operator}
 use Rattle.all_matches.specs.Variants.{Item}
 use Rattle.all_matches.specs.Ways.{phrase}
+use Rattle.index_meaning.specs.Entries.{Entry}
+use Rattle.plan_compiler.specs.CompiledSelection.{compiled_price}
 use Rattle.plan_compiler.specs.Lexicon.{lexicon}
 use Rattle.plan_compiler.specs.NamedLists.{NamedLists}
+use Rattle.plan_compiler.specs.NodeCosts.{operator_cost}
 use Rattle.plan_compiler.specs.Operators.{looked_text, operator_at}
+use Rattle.plan_compiler.specs.Price.{phrase_price, price_under, prices_under, value_price}
 use Rattle.plan_compiler.specs.ReadingMeaning.{Reads}
 use Rattle.plan_compiler.specs.Served.{all_served, are_served, is_served}
 use Rattle.plan_compiler.specs.declared.looks.Looks.{Looks}
@@ -21,23 +26,32 @@ use Rattle.plan_compiler.specs.declared.operator_plan.OperatorPlan.{OperatorPlan
 use Rattle.plan_compiler.specs.declared.reading.Reading.{Reading}
 
 module _ (lists : NamedLists) (options : Options) where
-  -- over each text it is what the selection is there. Its phrases have the numbers from the first one on; behind them comes the next one
+  -- Over each text it is what the selection is there, and its tests have together at most the price of the selection. Its phrases have the
+  -- numbers from the first one on; behind them comes the next one
   pub record CompilesTo (first next : ℕ) (plan : OperatorPlan) (selection : Form) : Type 0 where
     pub same : (looks : Looks) (tokens : List Token) → are_served looks options ≡ true → is_served looks selection ≡ true
         → operator_at (looked_text looks lists.stems tokens) plan ≡ operator_of (lexicon lists) options first tokens selection
     pub numbered : next ≡ first + phrase_count (lexicon lists) options selection
+    pub price : (looks : Looks) (terms : List Entry) (text : List (List ℕ)) → are_served looks options ≡ true → is_served looks selection ≡ true
+        → operator_cost (compiled_price looks lists.stems terms text) plan ≤ price_under (lexicon lists) options terms text selection
 
   -- the same of lists of both
   pub record EachCompilesTo (first next : ℕ) (plans : List OperatorPlan) (parts : List Selection) : Type 0 where
     pub same : (looks : Looks) (tokens : List Token) → are_served looks options ≡ true → all_served looks (forms_of (map form parts)) ≡ true
         → map (operator_at (looked_text looks lists.stems tokens)) plans ≡ operators_of (lexicon lists) options first tokens (forms_of (map form parts))
     pub numbered : next ≡ first + phrase_counts (lexicon lists) options (forms_of (map form parts))
+    pub price : (looks : Looks) (terms : List Entry) (text : List (List ℕ)) → are_served looks options ≡ true
+        → all_served looks (forms_of (map form parts)) ≡ true
+        → sum_by (operator_cost (compiled_price looks lists.stems terms text)) plans
+        ≤ prices_under (lexicon lists) options terms text (forms_of (map form parts))
 
   -- the same of a value, under the options that hold for it
   pub record ValueCompilesTo (first next : ℕ) (plan : OperatorPlan) (value : Words) : Type 0 where
     pub same : (looks : Looks) (tokens : List Token) → are_served looks options ≡ true
         → operator_at (looked_text looks lists.stems tokens) plan ≡ value_operator (lexicon lists) options first value tokens
     pub numbered : next ≡ first + length (phrases_by value.mode (strings_of (lexicon lists) options value))
+    pub price : (looks : Looks) (terms : List Entry) (text : List (List ℕ)) → are_served looks options ≡ true
+        → operator_cost (compiled_price looks lists.stems terms text) plan ≤ value_price (lexicon lists) options terms text value
 
 module _ (reading : Reading) where
   -- the same of a phrase, as it is read
@@ -45,9 +59,15 @@ module _ (reading : Reading) where
     pub same : (lists : NamedLists) (options : Options) → Reads reading lists options → (looks : Looks) (tokens : List Token) → are_served looks options ≡ true
         → operator_at (looked_text looks lists.stems tokens) plan ≡ phrase (hits (lexicon lists) options first items tokens)
     pub numbered : next ≡ first + 1
+    pub price : (lists : NamedLists) (options : Options) → Reads reading lists options → (looks : Looks) (terms : List Entry) (text : List (List ℕ))
+        → are_served looks options ≡ true
+        → operator_cost (compiled_price looks lists.stems terms text) plan ≤ phrase_price (lexicon lists) options terms text items
 
   -- and of phrases
   pub record PhrasesCompileTo (first next : ℕ) (plans : List OperatorPlan) (phrases : List (List Item)) : Type 0 where
     pub same : (lists : NamedLists) (options : Options) → Reads reading lists options → (looks : Looks) (tokens : List Token) → are_served looks options ≡ true
         → map (operator_at (looked_text looks lists.stems tokens)) plans ≡ phrase_operators (lexicon lists) options tokens first phrases
     pub numbered : next ≡ first + length phrases
+    pub price : (lists : NamedLists) (options : Options) → Reads reading lists options → (looks : Looks) (terms : List Entry) (text : List (List ℕ))
+        → are_served looks options ≡ true
+        → sum_by (operator_cost (compiled_price looks lists.stems terms text)) plans ≤ sum_by (phrase_price (lexicon lists) options terms text) phrases

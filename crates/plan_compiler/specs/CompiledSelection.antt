@@ -26,7 +26,7 @@ abbrev pub compiled_price : Looks → List Stem → List Entry → List (List �
 compiled_price looks stems terms text test = test_price (λ word. passes test (word_as looks stems word)) terms text
 
 module _ (looks : Looks) (lists : NamedLists) (options : Options) where
-  -- a node that says of every text whether the text satisfies the selection, and whose tests outside filters and `not in` have together at most its price
+  -- a node that says of every text whether the text satisfies the selection, and whose tests have together at most its price
   pub record Compiles (node : Node) (selection : Form) : Type 0 where
     pub says : (tokens : List Token) → truth node (looked_text looks lists.stems tokens) ≡ sat_under (lexicon lists) options selection tokens
     pub price : (terms : List Entry) → (text : List (List ℕ))

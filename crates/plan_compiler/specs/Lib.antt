@@ -16,9 +16,7 @@ pub mod CompiledWords
 pub mod NodeMeaning
 pub mod NodeCosts
 pub mod PlanMeaning
-pub mod RunMeaning
 pub mod Price
 pub mod PriceExamples
-pub mod Judgement
 pub mod CompiledSelection
 pub mod steps

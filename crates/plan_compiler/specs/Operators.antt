@@ -1,22 +1,23 @@
 -- What a compiled selection with filters or `not in` is over a text, by what is looked at of the text's words.
-use Rattle.std.specs.Prelude.{ℕ, Bool, List, map, filter, length}
+use Rattle.std.specs.Prelude.{ℕ, ◌==◌, Bool, ◌&&◌, List, map, filter, length}
 use Rattle.std.specs.List.{list_any}
 use Rattle.ft_base.specs.declared.hit.Hit.{Hit}
 use Rattle.ft_base.specs.declared.token.Token.{Token}
 use Rattle.all_matches.specs.Boolean.{satisfied}
-use Rattle.all_matches.specs.Hits.{hit_on, intervals, tokens_in}
+use Rattle.all_matches.specs.Counting.{begins_as}
+use Rattle.all_matches.specs.Hits.{Interval, hit_on, intervals, tokens_in}
 use Rattle.all_matches.specs.Operators.{either_of, together_of}
 use Rattle.all_matches.specs.Spans.{whole_text}
 use Rattle.all_matches.specs.Ways.{Operator, phrase, either, together, apart, negated, through_filter, matches_of}
-use Rattle.index_phrases.specs.Tokens.{stands_on}
 use Rattle.word_lists.specs.Stems.{Stem}
 use Rattle.plan_compiler.specs.ItemTests.{passes}
-use Rattle.plan_compiler.specs.TextWords.{word_as}
+use Rattle.plan_compiler.specs.TextWords.{words_of_tokens}
 use Rattle.plan_compiler.specs.declared.item_matching.ItemTest.{ItemTest}
 use Rattle.plan_compiler.specs.declared.joining.Join.{Join}
 use Rattle.plan_compiler.specs.declared.joining.Join.TheVariants.{Choice, Both}
 use Rattle.plan_compiler.specs.declared.looks.Looks.{Looks}
 use Rattle.plan_compiler.specs.declared.operator_plan.OperatorPlan.{OperatorPlan, Phrase, Choice', Both', MildNot', Negated', Filtered'}
+use Rattle.plan_compiler.specs.declared.text_word.TextWord.{TextWord}
 
 -- a text, and what is looked at of its words
 pub record LookedText : Type 0 where
@@ -27,15 +28,19 @@ pub record LookedText : Type 0 where
 abbrev pub looked_text : Looks → List Stem → List Token → LookedText
 looked_text looks stems tokens = record { looks = looks; stems = stems; tokens = tokens }
 
--- whether a token passes a test
-abbrev pub passes_test : LookedText → ItemTest → Token → Bool
-passes_test text test token = passes test (word_as text.looks text.stems token.word)
+-- the words of a part of a text, as they are looked at
+abbrev pub words_on : LookedText → Interval → List TextWord
+words_on text interval = words_of_tokens text.looks text.stems (tokens_in text.tokens interval)
+
+-- whether the words are as many as the tests, and each passes its own
+abbrev pub stand_on : List ItemTest → List TextWord → Bool
+stand_on tests words = (length tests == length words) && begins_as passes tests words
 
 -- the hits of the phrase of that number: one on each interval on which some variant of it stands
 abbrev pub hits_by_tests : LookedText → ℕ → List (List ItemTest) → List Hit
 hits_by_tests text number variants =
     map (hit_on text.tokens number)
-    (filter (λ interval. list_any (λ tests. stands_on (passes_test text) tests (tokens_in text.tokens interval)) variants) (intervals (length text.tokens)))
+    (filter (λ interval. list_any (λ tests. stand_on tests (words_on text interval)) variants) (intervals (length text.tokens)))
 
 unfoldable pub operator_at : LookedText → OperatorPlan → Operator
 operator_at text (Phrase found) = phrase (hits_by_tests text found.number found.variants)

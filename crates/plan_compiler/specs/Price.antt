@@ -1,20 +1,14 @@
--- The price of a test: an upper bound for the moves of cursors by which a selection is tested at the words of a span. Moves under a
--- filter or `not in` are not in it, and aren't counted among the moves.
+-- The price of a test: an upper bound for the moves of cursors that are counted where a selection is tested at the words of a span. It is
+-- a sum over each item of each variant of each phrase, whatever operators stand round them.
 use Rattle.std.specs.Prelude.{ℕ, ◌+◌, ◌*◌, Bool, List}
 use Rattle.std.specs.List.{count_by, sum_by}
 use Rattle.ft_base.specs.declared.options.Options.{Options}
-use Rattle.ft_base.specs.declared.span.Span.{Span}
 use Rattle.ft_base.specs.declared.words.Words.{Words}
-use Rattle.ft_base.specs.Selection.{no_options, Form, Forms, words, or_of, and_of, mild_not, not_of, filtered, with_options, none, more}
+use Rattle.ft_base.specs.Selection.{Form, Forms, words, or_of, and_of, mild_not, not_of, filtered, with_options, none, more}
 use Rattle.all_matches.specs.Hits.{passes_item}
 use Rattle.all_matches.specs.Meaning.{inside, phrases_by, strings_of}
 use Rattle.all_matches.specs.Variants.{Item, Lexicon, variants}
-use Rattle.index_meaning.specs.Documents.{Numbered, document_at}
 use Rattle.index_meaning.specs.Entries.{Entry}
-use Rattle.index_phrases.specs.Phrases.{words_at}
-use Rattle.index_versions.specs.Versions.{terms_of}
-use Rattle.plan_compiler.specs.Lexicon.{lexicon}
-use Rattle.plan_compiler.specs.RunMeaning.{RunMeaning}
 
 -- whether a word passes an item, in whatever sentence it stands
 abbrev pub word_passes : Lexicon → Options → Item → List ℕ → Bool
@@ -36,25 +30,18 @@ abbrev pub value_price : Lexicon → Options → List Entry → List (List ℕ) 
 value_price lexicon options terms text value =
     sum_by (phrase_price lexicon options terms text) (phrases_by value.mode (strings_of lexicon options value))
 
--- of a selection under the options that stand round it: the sum over its values outside filters and `not in`
+-- of a selection under the options that stand round it: the sum over its values
 unfoldable mutual
   pub price_under : Lexicon → Options → List Entry → List (List ℕ) → Form → ℕ
   price_under lexicon options terms text (words value) = value_price lexicon (inside value.options options) terms text value
   price_under lexicon options terms text (or_of forms) = prices_under lexicon options terms text forms
   price_under lexicon options terms text (and_of forms) = prices_under lexicon options terms text forms
-  price_under lexicon options terms text (mild_not left right) = 0
+  price_under lexicon options terms text (mild_not left right) =
+      price_under lexicon options terms text left + price_under lexicon options terms text right
   price_under lexicon options terms text (not_of form) = price_under lexicon options terms text form
-  price_under lexicon options terms text (filtered form kind) = 0
+  price_under lexicon options terms text (filtered form kind) = price_under lexicon options terms text form
   price_under lexicon options terms text (with_options form inner) = price_under lexicon (inside inner options) terms text form
 
   pub prices_under : Lexicon → Options → List Entry → List (List ℕ) → Forms → ℕ
   prices_under lexicon options terms text none = 0
   prices_under lexicon options terms text (more form rest) = price_under lexicon options terms text form + prices_under lexicon options terms text rest
-
--- of a selection over the documents of a version, at these words of one of them
-abbrev pub price : Lexicon → Form → List Numbered → List (List ℕ) → ℕ
-price lexicon form version text = price_under lexicon no_options (terms_of version) text form
-
--- of a run at the span of the document of that number
-abbrev pub price_at : RunMeaning → ℕ → Span → ℕ
-price_at run doc span = price (lexicon run.lists) run.form run.version (words_at span (document_at doc run.version))

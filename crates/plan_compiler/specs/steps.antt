@@ -1,14 +1,2 @@
-pub mod RunCode
-pub mod ChosenTerms
-pub mod AskedKeys
-pub mod RunShapes
-pub mod RunTruth
-pub mod RuledOut
-pub mod OpenedItems
-pub mod OpenedOperators
-pub mod OpenedWords
 pub mod Joins
-pub mod AskedSpans
-pub mod AskedPlaces
-pub mod RunCosts
-pub mod Telling
+pub mod FormCode

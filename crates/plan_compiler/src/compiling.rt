@@ -19,7 +19,7 @@ use ft_syntax::{Selection, Selections};
 use std::alloc::Global;
 
 /// The compiled form of a selection under the options that stand round it: it says of every text whether the text satisfies the
-/// selection, by what is looked at of its words, and its tests outside filters and `not in` have together at most the price of the selection.
+/// selection, by what is looked at of its words, and its tests have together at most the price of the selection.
 #[cycle(compile)]
 pub(crate) fn compile(
     alloc: Global,

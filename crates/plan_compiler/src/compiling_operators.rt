@@ -21,7 +21,7 @@ use ft_syntax::{Selection, Selections};
 use std::alloc::Global;
 use std::mem::drop;
 
-/// The compiled form of a selection that is decided by its ways, under the options that stand round it. None of its steps is in the price.
+/// The compiled form of a selection with filters or `not in`, under the options that stand round it.
 pub(crate) fn compile_ways(
     alloc: Global,
     lists: &Lists,

@@ -6,17 +6,12 @@ ghost use Rattle.ft_base.specs.declared.filter.Filter.TheVariants as F;
 ghost use Rattle.ft_base.specs.declared.options.StopChoice.TheVariants as S;
 ghost use Rattle.ft_base.specs.declared.options.StopSource.TheVariants as W;
 ghost use Rattle.ft_base.specs.declared.options.ThesaurusChoice.TheVariants as T;
-ghost use Rattle.ft_base.specs.declared.range.Range.TheVariants as R;
+ghost use Rattle.ft_base.specs.declared.unit.TextUnit.TheVariants as U;
 ghost use Rattle.ft_base.specs.declared.words.Mode.TheVariants as M;
-ghost use Rattle.ft_base.specs.Selection.{Form, filtered, mild_not, not_of, with_options, words};
-ghost use Rattle.all_matches.specs.Examples.{plain, quoted, span, stemmed, stopped, twice_a, two_and, two_or};
+ghost use Rattle.ft_base.specs.Selection.{filtered, mild_not, not_of, with_options, words};
+ghost use Rattle.all_matches.specs.Examples.{quoted, stemmed, stopped, twice_a, two_and, two_or};
 ghost use Rattle.all_matches.specs.Examples.{value, with_thesaurus, word_a, word_b, word_c, word_x};
-ghost use Rattle.index_meaning.specs.Examples.{bare, greeting, short};
-ghost use Rattle.plan_compiler.specs.Lexicon.{lexicon};
-ghost use Rattle.plan_compiler.specs.NamedLists.{NamedLists};
-ghost use Rattle.plan_compiler.specs.Price.{price, price_at};
 ghost use Rattle.plan_compiler.specs.PriceExamples.{price_of};
-ghost use Rattle.plan_compiler.specs.RunMeaning.{run_of};
 
 /// Two moves for each place of a word in the span, and 64 for its term.
 pub fn prices_of_words()
@@ -48,19 +43,15 @@ pub fn prices_under_options()
         (with_thesaurus (T.Uses (record { name = codes "t"; relationship = None; levels = None } ∷ [])))) ≡ (2 * 3 + 64) + (2 + 64) + 64 }
 {}
 
-/// Operators add the prices of their operands. What stands under a filter or in `not in` has none.
+/// Operators add the prices of their operands, and a filter adds nothing.
 pub fn prices_of_operators()
     ensures and { price_of (two_and word_a word_b) ≡ (2 * 3 + 64) + (2 + 64) }
     ensures or { price_of (two_or word_a word_b) ≡ (2 * 3 + 64) + (2 + 64) }
     ensures not { price_of (not_of word_b) ≡ 2 + 64 }
-    ensures mild_not { price_of (mild_not word_a word_b) ≡ 0 }
-    ensures filtered { price_of (filtered (two_and word_a word_b) F.Ordered) ≡ 0 }
-    ensures beside { price_of (two_and word_b (filtered word_a F.Ordered)) ≡ 2 + 64 }
-{}
-
-/// The terms are those of all documents of the version, and the words those of the span.
-pub fn prices_at_spans()
-    ensures over_documents { price plain (quoted (codes "world")) (short ∷ bare ∷ []) (codes "world" ∷ []) ≡ 2 + 64 }
-    ensures at_a_span { (form : Form) → (lists : NamedLists) → price_at (run_of form lists (short ∷ greeting ∷ [])) 7 (span 2 4)
-        ≡ price (lexicon lists) form (short ∷ greeting ∷ []) (codes "hello" ∷ codes "world" ∷ []) }
+    ensures mild_not { price_of (mild_not word_a word_b) ≡ (2 * 3 + 64) + (2 + 64) }
+    ensures ordered { price_of (filtered (two_and word_a word_b) F.Ordered) ≡ (2 * 3 + 64) + (2 + 64) }
+    ensures window { price_of (filtered (two_and word_a word_b) (F.Window 2 U.Words)) ≡ (2 * 3 + 64) + (2 + 64) }
+    ensures beside { price_of (two_and word_b (filtered word_a F.AtStart)) ≡ (2 + 64) + (2 * 3 + 64) }
+    ensures options_inside { price_of (filtered (with_options word_a (stemmed true)) F.Ordered) ≡ 2 * 4 + 64 * 2 }
+    ensures options_round { price_of (with_options (mild_not word_b (filtered word_a F.Ordered)) (stemmed true)) ≡ (2 + 64) + (2 * 4 + 64 * 2) }
 {}

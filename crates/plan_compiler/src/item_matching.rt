@@ -10,7 +10,7 @@ use match_options::{Forms, PlaceRow, WordTest};
 
 /// What a word of a text has to be.
 #[derive(Drop)]
-pub(crate) enum ItemTest {
+pub enum ItemTest {
     /// A word that passes by its forms.
     ByForms(WordTest),
     /// A word with the stem, in the case that is asked for.
@@ -20,7 +20,7 @@ pub(crate) enum ItemTest {
 impl ItemTest {
     /// Whether a word passes. Patterns are compared with words in a row of places that is kept from one word to the next.
     #[tactic(auto, unfolding(crate::specs::ItemTests::passes))]
-    pub(crate) fn passes_in(&self, word: &TextWord, row: &mut PlaceRow) -> Result<bool, Memory>
+    pub fn passes_in(&self, word: &TextWord, row: &mut PlaceRow) -> Result<bool, Memory>
         ensures { IfOk result (λ passed. passed ≡ spec.passes self.now word.now) }
     {
         match self {

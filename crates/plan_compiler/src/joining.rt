@@ -1,9 +1,12 @@
 //! Operands of compiled selections, joined.
 
-ghost use Rattle.std.specs.Prelude.{◌≡◌, [], map, option_map, IfOk, None};
+ghost use Rattle.std.specs.Prelude.{◌≡◌, ℕ, ◌+◌, [], map, option_map, IfOk, None};
+ghost use Rattle.std.specs.List.{sum_by};
 ghost use Rattle.all_matches.specs.Ways.{apart, negated, phrase, through_filter};
+ghost use Rattle.plan_compiler.specs.NodeCosts.{operator_cost};
 ghost use Rattle.plan_compiler.specs.Operators.{LookedText, joined_of, operator_at};
-ghost use Rattle.plan_compiler.specs.steps.Joins.{joined, joined_behind, joined_from};
+ghost use Rattle.plan_compiler.specs.declared.item_matching.ItemTest.{ItemTest};
+ghost use Rattle.plan_compiler.specs.steps.Joins.{cost_before, joined, joined_behind, joined_from};
 
 use crate::operator_plan::{FilteredPlan, NegatedPlan, OperatorPlan, OperatorSides, PhraseTests};
 use ft_base::{Filter, Items, Memory};
@@ -23,7 +26,8 @@ pub(crate) fn join_operands(
     join: Join,
     operands: Items<OperatorPlan>,
 ) -> Result<OperatorPlan, Memory>
-    ensures { IfOk result (λ plan. (text : LookedText) → operator_at text plan ≡ joined_of join (map (operator_at text) operands)) }
+    ensures same { IfOk result (λ plan. (text : LookedText) → operator_at text plan ≡ joined_of join (map (operator_at text) operands)) }
+    ensures cost { IfOk result (λ plan. (cost : ItemTest → ℕ) → operator_cost cost plan ≡ sum_by (operator_cost cost) operands) }
 {
     let joined = join_some(alloc, join, operands)?;
     match joined {
@@ -38,8 +42,9 @@ fn join_some(
     join: Join,
     operands: Items<OperatorPlan>,
 ) -> Result<Option<OperatorPlan>, Memory>
-    ensures { IfOk result (λ plan. (text : LookedText)
+    ensures same { IfOk result (λ plan. (text : LookedText)
         → option_map (operator_at text) plan ≡ joined_from join None (map (operator_at text) operands)) }
+    ensures cost { IfOk result (λ plan. (cost : ItemTest → ℕ) → cost_before cost plan ≡ sum_by (operator_cost cost) operands) }
 {
     let mut before = None;
     for next in operands.into_vec() {
@@ -55,8 +60,9 @@ fn plan_behind(
     before: Option<OperatorPlan>,
     next: OperatorPlan,
 ) -> Result<OperatorPlan, Memory>
-    ensures { IfOk result (λ plan. (text : LookedText)
+    ensures same { IfOk result (λ plan. (text : LookedText)
         → operator_at text plan ≡ joined_behind join (option_map (operator_at text) before) (operator_at text next)) }
+    ensures cost { IfOk result (λ plan. (cost : ItemTest → ℕ) → operator_cost cost plan ≡ cost_before cost before + operator_cost cost next) }
 {
     match before {
         Some(left) => joined_plan(alloc, join, left, next),
@@ -70,7 +76,8 @@ fn joined_plan(
     left: OperatorPlan,
     right: OperatorPlan,
 ) -> Result<OperatorPlan, Memory>
-    ensures { IfOk result (λ plan. (text : LookedText) → operator_at text plan ≡ joined join (operator_at text left) (operator_at text right)) }
+    ensures same { IfOk result (λ plan. (text : LookedText) → operator_at text plan ≡ joined join (operator_at text left) (operator_at text right)) }
+    ensures cost { IfOk result (λ plan. (cost : ItemTest → ℕ) → operator_cost cost plan ≡ operator_cost cost left + operator_cost cost right) }
 {
     let sides = boxed_sides(alloc, left, right)?;
     match join {
@@ -81,7 +88,8 @@ fn joined_plan(
 
 /// What is made of no operand: of a choice, what has no hit; of all of none, what needs nothing.
 fn without_operands(alloc: Global, join: Join) -> Result<OperatorPlan, Memory>
-    ensures { IfOk result (λ plan. (text : LookedText) → operator_at text plan ≡ joined_of join []) }
+    ensures same { IfOk result (λ plan. (text : LookedText) → operator_at text plan ≡ joined_of join []) }
+    ensures cost { IfOk result (λ plan. (cost : ItemTest → ℕ) → operator_cost cost plan ≡ 0) }
 {
     match join {
         Join::Choice => Ok(no_hit(alloc)),
@@ -91,7 +99,8 @@ fn without_operands(alloc: Global, join: Join) -> Result<OperatorPlan, Memory>
 
 /// A phrase that stands nowhere.
 pub(crate) fn no_hit(alloc: Global) -> OperatorPlan
-    ensures { (text : LookedText) → operator_at text result ≡ phrase [] }
+    ensures same { (text : LookedText) → operator_at text result ≡ phrase [] }
+    ensures cost { (cost : ItemTest → ℕ) → operator_cost cost result ≡ 0 }
 {
     OperatorPlan::Phrase(PhraseTests {
         number: 0,
@@ -104,7 +113,8 @@ pub(crate) fn mild_not_plan(
     left: OperatorPlan,
     right: OperatorPlan,
 ) -> Result<OperatorPlan, Memory>
-    ensures { IfOk result (λ plan. (text : LookedText) → operator_at text plan ≡ apart (operator_at text left) (operator_at text right)) }
+    ensures same { IfOk result (λ plan. (text : LookedText) → operator_at text plan ≡ apart (operator_at text left) (operator_at text right)) }
+    ensures cost { IfOk result (λ plan. (cost : ItemTest → ℕ) → operator_cost cost plan ≡ operator_cost cost left + operator_cost cost right) }
 {
     Ok(OperatorPlan::MildNot(boxed_sides(alloc, left, right)?))
 }
@@ -126,7 +136,8 @@ fn boxed_sides(
 }
 
 pub(crate) fn negated_plan(alloc: Global, operand: OperatorPlan) -> Result<OperatorPlan, Memory>
-    ensures { IfOk result (λ plan. (text : LookedText) → operator_at text plan ≡ negated (operator_at text operand)) }
+    ensures same { IfOk result (λ plan. (text : LookedText) → operator_at text plan ≡ negated (operator_at text operand)) }
+    ensures cost { IfOk result (λ plan. (cost : ItemTest → ℕ) → operator_cost cost plan ≡ operator_cost cost operand) }
 {
     match Box::new(alloc, NegatedPlan { operand }) {
         Ok(plan) => Ok(OperatorPlan::Negated(plan)),
@@ -142,7 +153,8 @@ pub(crate) fn filtered_plan(
     operand: OperatorPlan,
     kind: Filter,
 ) -> Result<OperatorPlan, Memory>
-    ensures { IfOk result (λ plan. (text : LookedText) → operator_at text plan ≡ through_filter (operator_at text operand) kind) }
+    ensures same { IfOk result (λ plan. (text : LookedText) → operator_at text plan ≡ through_filter (operator_at text operand) kind) }
+    ensures cost { IfOk result (λ plan. (cost : ItemTest → ℕ) → operator_cost cost plan ≡ operator_cost cost operand) }
 {
     match Box::new(alloc, FilteredPlan { operand, kind }) {
         Ok(plan) => Ok(OperatorPlan::Filtered(plan)),

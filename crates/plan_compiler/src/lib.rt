@@ -1,12 +1,9 @@
-//! Plans: selections compiled, so that a text can be tested against them.
+//! Plans: selections compiled, so that texts can be tested against them.
 //!
-//! A plan decides a selection outside filters and `not in` by truth values and counts, and what stands under them by a walk through its
-//! ways. It makes no AllMatches.
+//! Truth values and counts tell whether a text satisfies what stands outside filters and `not in`; under them the ways tell it, in which
+//! hits may be chosen. No AllMatches are made. `plan_runs` opens a plan over a version of an index.
 #![tactic(auto)]
 
-mod aiming;
-mod asked_place;
-mod choosing;
 mod chosen;
 mod compiling;
 mod compiling_operators;
@@ -14,37 +11,32 @@ mod compiling_phrases;
 mod compiling_words;
 pub mod examples;
 mod fault;
-mod holding;
 mod item_matching;
 mod joining;
-mod judge;
 mod lists;
 mod looks;
 mod missing;
 mod node;
-mod occurrence_ranges;
-mod opening;
-mod opening_operators;
 mod operator_plan;
 mod phrase_plan;
 mod plan;
-mod rarity;
 mod reaching;
 mod reading;
-mod ruling_out;
-mod run;
-mod run_node;
-mod run_ways;
 mod served;
 mod stops;
 mod text_word;
 mod variants;
-mod ways_holding;
-mod words_holding;
 mod words_plan;
 
 pub use fault::CompileFault;
-pub use judge::{Direct, Judge};
+pub use item_matching::ItemTest;
 pub use lists::Lists;
+pub use looks::Looks;
+pub use node::Node;
+pub use operator_plan::{
+    FilteredPlan, NegatedPlan, OperatorPlan, OperatorSides, PhraseTests, WaysPlan,
+};
+pub use phrase_plan::PhrasePlan;
 pub use plan::Plan;
-pub use run::Run;
+pub use text_word::TextWord;
+pub use words_plan::WordsPlan;

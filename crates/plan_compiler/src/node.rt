@@ -4,7 +4,7 @@ use ft_base::Items;
 
 /// A selection, compiled.
 #[derive(Drop)]
-pub(crate) enum Node {
+pub enum Node {
     Words(WordsPlan),
     /// One of the parts.
     Or(Items<Node>),

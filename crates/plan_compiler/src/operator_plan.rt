@@ -9,15 +9,15 @@ use ft_base::{Filter, Items};
 
 /// A selection with filters or `not in`, compiled. No negated selection stands in another one, nor in `not in`.
 #[derive(Drop)]
-pub(crate) struct WaysPlan {
-    pub(crate) operator: OperatorPlan,
-    ghost plain: { (text : LookedText) → is_plain (operator_at text operator) ≡ true },
+pub struct WaysPlan {
+    pub operator: OperatorPlan,
+    pub ghost plain: { (text : LookedText) → is_plain (operator_at text operator) ≡ true },
 }
 
 /// A phrase, or what is made of phrases.
 #[cycle(operator)]
 #[derive(Drop)]
-pub(crate) enum OperatorPlan {
+pub enum OperatorPlan {
     Phrase(PhraseTests),
     /// One of two sides.
     Choice(Box<OperatorSides>),
@@ -31,27 +31,27 @@ pub(crate) enum OperatorPlan {
 
 #[cycle(operator)]
 #[derive(Drop)]
-pub(crate) struct OperatorSides {
-    pub(crate) left: OperatorPlan,
-    pub(crate) right: OperatorPlan,
+pub struct OperatorSides {
+    pub left: OperatorPlan,
+    pub right: OperatorPlan,
 }
 
 #[cycle(operator)]
 #[derive(Drop)]
-pub(crate) struct NegatedPlan {
-    pub(crate) operand: OperatorPlan,
+pub struct NegatedPlan {
+    pub operand: OperatorPlan,
 }
 
 #[cycle(operator)]
 #[derive(Drop)]
-pub(crate) struct FilteredPlan {
-    pub(crate) operand: OperatorPlan,
-    pub(crate) kind: Filter,
+pub struct FilteredPlan {
+    pub operand: OperatorPlan,
+    pub kind: Filter,
 }
 
 /// The phrase of that number in its selection: what the words of each of its variants have to be.
 #[derive(Drop)]
-pub(crate) struct PhraseTests {
-    pub(crate) number: u32,
-    pub(crate) variants: Items<Items<ItemTest>>,
+pub struct PhraseTests {
+    pub number: u32,
+    pub variants: Items<Items<ItemTest>>,
 }

@@ -18,9 +18,9 @@ use std::alloc::Global;
 
 /// A phrase of a query with all that it stands for.
 #[derive(Drop)]
-pub(crate) struct PhrasePlan {
+pub struct PhrasePlan {
     /// What the words of each variant have to be, the variants of one length together.
-    pub(crate) groups: Items<Items<Items<ItemTest>>>,
+    pub groups: Items<Items<Items<ItemTest>>>,
 }
 
 /// The plan of a phrase.

@@ -1,4 +1,4 @@
-//! Plans, and whether a text satisfies the selection of a plan.
+//! Plans: selections compiled with the lists that they name.
 
 ghost use Rattle.std.specs.Prelude.{◌≡◌, IfErr, IfOk, IsTrue, None};
 ghost use Rattle.ft_syntax.specs.View.{form};
@@ -8,7 +8,6 @@ ghost use Rattle.plan_compiler.specs.CompiledSelection.{Compiles};
 ghost use Rattle.plan_compiler.specs.Missing.{first_missing, IsMissing};
 ghost use Rattle.plan_compiler.specs.Served.{is_served};
 
-use crate::choosing::Opening;
 use crate::chosen::none_chosen;
 use crate::compiling::compile;
 use crate::fault::CompileFault;
@@ -16,31 +15,28 @@ use crate::lists::Lists;
 use crate::looks::Looks;
 use crate::missing::missing_list;
 use crate::node::Node;
-use crate::opening::open_node;
-use crate::run::Run;
 use crate::served::is_served;
 use ft_base::{Line, Memory};
 use ft_rewriter::rewrite;
 use ft_syntax::{Selection, copy_selection};
-use index_versions::Version;
 use std::alloc::Global;
 
-/// A selection, compiled with the lists that it names. Outside filters and `not in` it decides by truth values and counts; what stands
-/// under them is decided by the ways in which its hits may be chosen, one after the other.
+/// A selection, compiled with the lists that it names. Truth values and counts tell whether a text satisfies what stands outside filters
+/// and `not in`; under them the ways tell it, in which hits may be chosen.
 #[derive(Drop)]
 pub struct Plan {
-    alloc: Global,
     selection: Selection,
-    pub(crate) lists: Lists,
+    /// The lists with which it was compiled.
+    pub lists: Lists,
     /// What it looks at of the words of a text.
-    pub(crate) looks: Looks,
-    pub(crate) root: Node,
-    ghost sound: { Compiles looks lists no_options root (form selection) },
+    pub looks: Looks,
+    /// The selection, compiled.
+    pub root: Node,
+    pub ghost sound: { Compiles looks lists no_options root (form selection) },
 }
 
 impl Plan {
     ghost use Rattle.plan_compiler.specs.PlanMeaning.{plan_form, plan_lists};
-    ghost use Rattle.plan_compiler.specs.RunMeaning.{run_of};
 
     /// The plan of a selection, as every selection is that is read. A list that it names and that isn't there is a fault: the first one in the
     /// order of its printed form. The plan shares the lists.
@@ -62,7 +58,6 @@ impl Plan {
         let (looks, root) = compile_rewritten(alloc, selection, lists)?;
         match copies_of(alloc, selection, lists) {
             Ok((selection, lists)) => Ok(Plan {
-                alloc,
                 selection,
                 lists,
                 looks,
@@ -73,24 +68,6 @@ impl Plan {
                 Err(CompileFault::Memory)
             }
         }
-    }
-
-    /// The plan over a version of the index: its words and patterns are resolved to terms of the version.
-    pub fn open<'v>(&'v self, version: &'v Version) -> Result<Run<'v>, Memory>
-        ensures { IfOk result (λ run. run ≡ run_of (plan_form self.now) (plan_lists self.now) version.now) }
-    {
-        let opening = Opening {
-            alloc: self.alloc,
-            version,
-            looks: self.looks,
-            lists: &self.lists,
-        };
-        let root = open_node(&opening, &self.root)?;
-        Ok(Run {
-            plan: self,
-            version,
-            root,
-        })
     }
 }
 

@@ -1,7 +1,6 @@
 //! The words of a text, as far as a plan looks at them.
 
 ghost use Rattle.std.specs.Prelude.{◌≡◌, IfOk};
-ghost use Rattle.plan_compiler.specs.TextWords.{word_as};
 ghost use Rattle.plan_compiler.specs.TextWords as spec;
 
 use crate::lists::Lists;
@@ -12,24 +11,23 @@ use std::alloc::Global;
 
 /// A word of a text.
 #[derive(Drop)]
-pub(crate) struct TextWord {
-    pub(crate) forms: Forms,
+pub struct TextWord {
+    pub forms: Forms,
     /// The stem of its key, or empty where no stem is looked at.
-    pub(crate) stem: Line,
+    pub stem: Line,
 }
 
-/// What is looked at of a word.
-pub(crate) fn text_word(
-    alloc: Global,
-    looks: Looks,
-    lists: &Lists,
-    word: &str,
-) -> Result<TextWord, Memory>
-    ensures { IfOk result (λ text. text ≡ word_as looks lists.now.stems word.now) }
-{
-    let forms = forms_as(alloc, looks.all_forms, word)?;
-    let stem = stem_as(alloc, looks.stems, lists, forms.key.as_str())?;
-    Ok(TextWord { forms, stem })
+impl TextWord {
+    ghost use Rattle.plan_compiler.specs.TextWords.{word_as};
+
+    /// What is looked at of a word.
+    pub fn new(alloc: Global, looks: Looks, lists: &Lists, word: &str) -> Result<TextWord, Memory>
+        ensures { IfOk result (λ text. text ≡ word_as looks lists.now.stems word.now) }
+    {
+        let forms = forms_as(alloc, looks.all_forms, word)?;
+        let stem = stem_as(alloc, looks.stems, lists, forms.key.as_str())?;
+        Ok(TextWord { forms, stem })
+    }
 }
 
 fn stem_as(alloc: Global, asked: bool, lists: &Lists, key: &str) -> Result<Line, Memory>

@@ -3,10 +3,10 @@ use ft_base::{Items, Range};
 
 /// The words of a selection, ready to be counted.
 #[derive(Drop)]
-pub(crate) struct WordsPlan {
-    pub(crate) phrases: Items<PhrasePlan>,
+pub struct WordsPlan {
+    pub phrases: Items<PhrasePlan>,
     /// Whether a hit of each phrase is wanted, and not of one of them.
-    pub(crate) all: bool,
+    pub all: bool,
     /// How often they have to occur, if this was written.
-    pub(crate) times: Option<Range>,
+    pub times: Option<Range>,
 }

@@ -1,8 +1,11 @@
 -- Operands joined from the left to the right.
-use Rattle.std.specs.Prelude.{List, [], ◌∷◌, Option, Some, None}
+use Rattle.std.specs.Prelude.{ℕ, List, [], ◌∷◌, Option, Some, None}
 use Rattle.all_matches.specs.Ways.{Operator, either, together}
+use Rattle.plan_compiler.specs.NodeCosts.{operator_cost}
+use Rattle.plan_compiler.specs.declared.item_matching.ItemTest.{ItemTest}
 use Rattle.plan_compiler.specs.declared.joining.Join.{Join}
 use Rattle.plan_compiler.specs.declared.joining.Join.TheVariants.{Choice, Both}
+use Rattle.plan_compiler.specs.declared.operator_plan.OperatorPlan.{OperatorPlan}
 
 abbrev pub joined : Join → Operator → Operator → Operator
 joined Choice left right = either left right
@@ -16,3 +19,8 @@ joined_behind join (Some before) next = joined join before next
 abbrev pub joined_from : Join → Option Operator → List Operator → Option Operator
 joined_from join before [] = before
 joined_from join before (next ∷ rest) = joined_from join (Some (joined_behind join before next)) rest
+
+-- what those cost that were joined before, if there were some
+abbrev pub cost_before : (ItemTest → ℕ) → Option OperatorPlan → ℕ
+cost_before cost None = 0
+cost_before cost (Some plan) = operator_cost cost plan

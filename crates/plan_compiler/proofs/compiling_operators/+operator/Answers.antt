@@ -19,12 +19,12 @@ compile_operands-loop-part-preserved t c =
 pub compile_operator-returns-in_ok-plan-in-Or : goal.compile_operator-returns-in_ok-plan-in-Or
 compile_operator-returns-in_ok-plan-in-Or t c =
     or_to c.args.lists.now (options_of c.args.chosen.now) c.args.next.now c.compile_operands.new.next c.in_ok-plan-in-Or.plan c.args.selection.now c.in-Or.parts c.in-Or.is
-    c.in_ok-operands-in-Or.operands c.in_ok-operands-in-Or.ensures c.in_ok-plan-in-Or.ensures
+    c.in_ok-operands-in-Or.operands c.in_ok-operands-in-Or.ensures c.in_ok-plan-in-Or.ensures.same c.in_ok-plan-in-Or.ensures.cost
 
 pub compile_operator-returns-in_ok-plan-in-And : goal.compile_operator-returns-in_ok-plan-in-And
 compile_operator-returns-in_ok-plan-in-And t c =
     and_to c.args.lists.now (options_of c.args.chosen.now) c.args.next.now c.compile_operands-in-And.new.next c.in_ok-plan-in-And.plan c.args.selection.now c.in-And.parts c.in-And.is
-    c.in_ok-operands-in-And.operands c.in_ok-operands-in-And.ensures c.in_ok-plan-in-And.ensures
+    c.in_ok-operands-in-And.operands c.in_ok-operands-in-And.ensures c.in_ok-plan-in-And.ensures.same c.in_ok-plan-in-And.ensures.cost
 
 pub compile_operator-returns-in_ok-plan-in-Ok : goal.compile_operator-returns-in_ok-plan-in-Ok
 compile_operator-returns-in_ok-plan-in-Ok t c =
@@ -35,7 +35,7 @@ compile_operator-returns-in_ok-plan-in-Ok t c =
     mild_not_to lists options c.args.next.now next c.in_ok-plan-in-Ok.plan c.args.selection.now c.in-MildNot.left c.in-MildNot.right c.in-MildNot.is middle c.in_ok-left-in-MildNot.left c.in-Ok.right
     (subst (λ (s : Selection). CompilesTo lists options c.args.next.now middle c.in_ok-left-in-MildNot.left (form s)) c.deref.ensures c.in_ok-left-in-MildNot.ensures)
     (subst (λ (s : Selection). CompilesTo lists options middle next c.in-Ok.right (form s)) c.deref-in-MildNot.ensures c.in-Ok.ensures)
-    c.in_ok-plan-in-Ok.ensures
+    c.in_ok-plan-in-Ok.ensures.same c.in_ok-plan-in-Ok.ensures.cost
 
 pub compile_operator-returns-in_ok-plan-in-Not : goal.compile_operator-returns-in_ok-plan-in-Not
 compile_operator-returns-in_ok-plan-in-Not t c =
@@ -44,7 +44,7 @@ compile_operator-returns-in_ok-plan-in-Not t c =
     let next = c.compile_operator-in-Not.new.next in
     not_to lists options c.args.next.now next c.in_ok-plan-in-Not.plan c.args.selection.now c.in-Not.operand c.in-Not.is c.in_ok-operand-in-Not.operand
     (subst (λ (s : Selection). CompilesTo lists options c.args.next.now next c.in_ok-operand-in-Not.operand (form s)) c.deref-in-Not.ensures c.in_ok-operand-in-Not.ensures)
-    c.in_ok-plan-in-Not.ensures
+    c.in_ok-plan-in-Not.ensures.same c.in_ok-plan-in-Not.ensures.cost
 
 pub compile_operator-returns-in_ok-plan-in-Filtered : goal.compile_operator-returns-in_ok-plan-in-Filtered
 compile_operator-returns-in_ok-plan-in-Filtered t c =
@@ -53,7 +53,7 @@ compile_operator-returns-in_ok-plan-in-Filtered t c =
     let next = c.compile_operator-in-Filtered.new.next in
     filtered_to lists options c.args.next.now next c.in_ok-plan-in-Filtered.plan c.args.selection.now c.in-Filtered.operand c.in-Filtered.filter c.in-Filtered.is c.in_ok-operand-in-Filtered.operand
     (subst (λ (s : Selection). CompilesTo lists options c.args.next.now next c.in_ok-operand-in-Filtered.operand (form s)) c.deref-in-Filtered.ensures c.in_ok-operand-in-Filtered.ensures)
-    c.in_ok-plan-in-Filtered.ensures
+    c.in_ok-plan-in-Filtered.ensures.same c.in_ok-plan-in-Filtered.ensures.cost
 
 pub compile_operator-returns-in_ok-plan-in-With : goal.compile_operator-returns-in_ok-plan-in-With
 compile_operator-returns-in_ok-plan-in-With t c =

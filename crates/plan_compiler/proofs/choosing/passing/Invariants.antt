@@ -1,9 +1,0 @@
--- Of the first numbers, those of terms whose words pass.
-use Rattle.std.proofs.Common.{◌≡◌, ◌-◌}
-use Rattle.std.specs.List.{range_with_len}
-use Rattle.plan_compiler.specs.steps.ChosenTerms.{passing}
-use Rattle.plan_compiler.specs.steps.OpenedItems.{word_test}
-use Rattle.plan_compiler.proofs.choosing.passing.Given as goal
-
-abbrev pub invariant-loop-number : goal.invariant-loop-number
-invariant-loop-number l = l.numbers ≡ passing (word_test l.opening.looks l.opening.lists.now.stems l.test) l.opening.version.now (range_with_len l.from (l.number - l.from))

@@ -1,0 +1,21 @@
+mod SumLemmas
+pub mod Capped
+mod TermLaws
+mod RunViews
+mod GroupLaw
+mod AimLemmas
+mod TermCosts
+mod OpenedLemmas
+mod OpenedViews
+mod LackingLaw
+mod LackingViews
+mod OpenedWays
+mod MergeLaw
+mod MergeCosts
+mod OpenedMerges
+mod KnownTexts
+mod RunLaw
+mod RuledOutLaw
+mod TellingLemmas
+mod ChoosingLemmas
+mod TreeLemmas

@@ -1,0 +1,279 @@
+-- Compiled words opened over a version say of words of its documents what they say by tests.
+use Rattle.std.proofs.Common.{◌≡◌, refl, sym, ap, ◌∙◌, ℕ, ◌+◌, ◌<◌, ◌≤◌, suc, Bool, true, false, ◌&&◌, ◌||◌, not, cond, List, [], ◌∷◌, ◌++◌, map, sum, length, get_or, take, true≢false, arith, subst, Box, Global}
+use Rattle.std.specs.List.{All, list_all, list_any, range_with_len, sum_by}
+use Rattle.std.specs.declared.vec.Vec.{Vec}
+use Rattle.std.proofs.lemmas.List.{map_more, map_push}
+use Rattle.std.proofs.lemmas.List.Elements.{All-filter, All-from_get_or, All-map, All-nil, All-push}
+use Rattle.std.proofs.lemmas.List.Sums.{sum_by_more, sum_by_push}
+use Rattle.std.proofs.lemmas.List.FromFn.{get_or-range_with_len, length-range_with_len}
+use Rattle.all_matches.specs.Compositional.{enough}
+use Rattle.all_matches.specs.Counting.{begins_as, places}
+use Rattle.all_matches.proofs.ListTests.{list_any-map}
+use Rattle.index_meaning.specs.Documents.{Numbered}
+use Rattle.index_versions.specs.Terms.{VersionTerm, version_term}
+use Rattle.index_versions.specs.Versions.{term_at, terms_of}
+use Rattle.match_options.specs.WordTests as tests
+use Rattle.match_options.specs.declared.word_forms.Forms.{Forms}
+use Rattle.match_options.specs.declared.word_matching.WordTest.{WordTest}
+use Rattle.match_options.specs.declared.word_matching.WordTest.TheVariants as The
+use Rattle.word_lists.specs.Stems.{Stem}
+use Rattle.plan_runs.specs.steps.AskedKeys.{asks_nothing, forms_pass}
+use Rattle.plan_runs.specs.steps.ChosenTerms.{AreKnown, IsKnown, is_among, terms_for}
+use Rattle.plan_compiler.specs.ItemTests.{passes}
+use Rattle.plan_compiler.specs.NodeCosts.{node_cost}
+use Rattle.plan_compiler.specs.NodeCosts as node
+use Rattle.plan_compiler.specs.NodeMeaning.{truth}
+use Rattle.plan_runs.specs.steps.RunCosts.{group_cost, phrase_cost, run_cost, words_cost}
+use Rattle.plan_compiler.specs.Operators.{looked_text}
+use Rattle.plan_runs.specs.steps.AskedSpans.{AskedSpan, tokens_in, words_in}
+use Rattle.plan_runs.specs.steps.OpenedItems.{opened_item, opened_variant, word_test}
+use Rattle.plan_runs.specs.steps.OpenedWords.{AreOpened, IsOpened, opened_group, opened_phrase, opened_words}
+use Rattle.plan_runs.specs.steps.RunShapes.{GroupShape, Shape, shape, shapes_of, words, words_shape}
+use Rattle.index_phrases.specs.steps.Aiming.{AreThere}
+use Rattle.plan_runs.specs.steps.RunTruth.{AreSound, IsGroup, IsSound, IsWords, all_true, group_count, is_wanted, phrase_total, run_truth, some_true, words_say}
+use Rattle.plan_compiler.specs.TextWords.{word_as}
+use Rattle.plan_compiler.specs.WordsMeaning.{joined, phrase_count, words_truth}
+use Rattle.plan_compiler.specs.declared.item_matching.ItemTest.{ItemTest}
+use Rattle.plan_compiler.specs.declared.item_matching.ItemTest.TheVariants as Test
+use Rattle.plan_compiler.specs.declared.looks.Looks.{Looks}
+use Rattle.plan_compiler.specs.declared.node.Node.{Node}
+use Rattle.plan_compiler.specs.declared.node.Node as N
+use Rattle.plan_compiler.specs.declared.phrase_plan.PhrasePlan.{PhrasePlan}
+use Rattle.plan_runs.specs.declared.run_node.RunNode.{RunNode}
+use Rattle.plan_runs.specs.declared.run_node.RunNode as R
+use Rattle.plan_runs.specs.declared.run_node.RunWords.{RunWords}
+use Rattle.index_phrases.specs.declared.word_terms.WordTerms.{WordTerms}
+use Rattle.index_phrases.specs.declared.word_terms.WordTerms.TheVariants as Terms
+use Rattle.plan_compiler.specs.declared.text_word.TextWord.{TextWord}
+use Rattle.plan_compiler.specs.declared.words_plan.WordsPlan.{WordsPlan}
+use Rattle.plan_runs.proofs.KnownTexts.{looked_words, text_known}
+use Rattle.plan_compiler.proofs.NodeViews.{truth-Words, truth-Or, truth-And, truth-Not, cost-Words, cost-Or, cost-And, cost-Not}
+use Rattle.plan_compiler.proofs.SumLemmas.{sum_over_le}
+use Rattle.plan_runs.proofs.TermLaws.{numbers_again}
+use Rattle.plan_runs.proofs.TreeLemmas.{costs_are}
+use Rattle.plan_runs.proofs.RunViews.{shape-Words, shape-Or, shape-And, shape-Not}
+
+-- ---- lists
+
+pub every : {X : Type 0} (P : X → Type 0) → ((x : X) → P x) → (xs : List X) → All P xs
+every P all xs = λ k d h. all (get_or xs k d)
+
+map_both : {A B C : Type 0} (f : B → C) (g : A → B) (h : A → C) → ((a : A) → f (g a) ≡ h a) → (xs : List A) → map f (map g xs) ≡ map h xs
+map_both f g h same [] = refl
+map_both f g h same (x ∷ xs) = λ i. same x i ∷ map_both f g h same xs i
+
+below_end : (n : ℕ) → All (λ number. number < n) (range_with_len 0 n)
+below_end n = All-from_get_or (λ number. number < n) (range_with_len 0 n) 0 (λ i h.
+    let many = length-range_with_len 0 n in
+    let is = get_or-range_with_len 0 n i 0 (omega arith) in
+    omega arith)
+
+-- two tests of items that say the same of words and of what is looked at of them
+module _ {A X Y W : Type 0} (p : X → Y → Bool) (q : A → W → Bool) (f : A → X) (g : Y → W) where
+  abbrev Agrees : Y → Type 0
+  Agrees y = (a : A) → p (f a) y ≡ q a (g y)
+
+  pub begins_same : (items : List A) (text : List Y) → All Agrees text → begins_as p (map f items) text ≡ begins_as q items (map g text)
+  begins_same [] text h = refl
+  begins_same (a ∷ items) [] h = refl
+  begins_same (a ∷ items) (y ∷ text) h = λ i. h 0 y (omega arith) a i && begins_same items text (λ k d lt. h (suc k) d (omega arith)) i
+
+  some_same : (variants : List (List A)) (text : List Y) → All Agrees text
+      → list_any (λ items. begins_as p items text) (map (map f) variants) ≡ list_any (λ items. begins_as q items (map g text)) variants
+  some_same [] text h = refl
+  some_same (items ∷ variants) text h = λ i. begins_same items text h i || some_same variants text h i
+
+  places_same : (variants : List (List A)) (text : List Y) → All Agrees text → places p (map (map f) variants) text ≡ places q variants (map g text)
+  places_same variants [] h = refl
+  places_same variants (y ∷ text) h = λ i. cond (some_same variants (y ∷ text) h i) 1 0 + places_same variants text (λ k d lt. h (suc k) d (omega arith)) i
+
+-- ---- tests that each word passes
+
+any_form_passes : (test : WordTest) (forms : Forms) → forms_pass test ≡ true → tests.passes test forms ≡ true
+unfolding tests.passes
+any_form_passes The.Any forms h = refl
+any_form_passes (The.Same choice query) forms h = absurd (true≢false (sym h))
+any_form_passes (The.Covered choice wild) forms h = absurd (true≢false (sym h))
+any_form_passes The.Never forms h = absurd (true≢false (sym h))
+
+any_passes : (test : ItemTest) (w : TextWord) → asks_nothing test ≡ true → passes test w ≡ true
+unfolding passes
+any_passes (Test.ByForms test) w h = any_form_passes test w.forms h
+any_passes (Test.ByStem stem case) w h = absurd (true≢false (sym h))
+
+-- terms that pass a test are terms of the version
+pub chosen_there : (test : List ℕ → Bool) (version : List Numbered) → All (λ number. number < length (terms_of version)) (terms_for test version)
+chosen_there test version =
+    All-filter (λ number. test (term_at number version).word) (λ number. number < length (terms_of version)) (range_with_len 0 (length (terms_of version)))
+    (below_end (length (terms_of version)))
+
+module _ (looks : Looks) (stems : List Stem) (version : List Numbered) where
+  -- ---- what opened words say
+
+  pub item_says : (word : List ℕ) → IsKnown version word → (test : ItemTest) → is_wanted version (opened_item looks stems version test) word ≡ passes test (word_as looks stems word)
+  unfolding is_wanted
+  item_says word known test =
+      elim (asks_nothing test) as (λ b. asks_nothing test ≡ b → is_wanted version (cond b Terms.Any (Terms.Of (map (version_term version) (terms_for (word_test looks stems test) version)))) word ≡ passes test (word_as looks stems word)) [
+        | true ↦ λ h. sym (any_passes test (word_as looks stems word) h)
+        | false ↦ λ h. ap (λ ns. is_among version ns word) (numbers_again version (terms_for (word_test looks stems test) version)) ∙ known (word_test looks stems test)
+      ] refl
+
+  all_say : (text : List (List ℕ)) → AreKnown version text → All (Agrees (is_wanted version) passes (opened_item looks stems version) (word_as looks stems)) text
+  all_say text known = λ k d h. item_says (get_or text k d) (known k d h)
+
+  module _ (text : List (List ℕ)) (known : AreKnown version text) where
+    group_says : (variants : List (List ItemTest)) → group_count version (opened_group looks stems version variants) text ≡ places passes variants (map (word_as looks stems) text)
+    group_says variants = places_same (is_wanted version) passes (opened_item looks stems version) (word_as looks stems) variants text (all_say text known)
+
+    phrase_says : (plan : PhrasePlan) → phrase_total version (opened_phrase looks stems version plan) text ≡ phrase_count plan (map (word_as looks stems) text)
+    phrase_says plan =
+        ap sum (map_both (λ (group : GroupShape). group_count version group text) (opened_group looks stems version) (λ (group : List (List ItemTest)). places passes group (map (word_as looks stems) text)) group_says plan.groups)
+
+    words_says : (plan : WordsPlan) → words_say version (opened_words looks stems version plan) text ≡ words_truth plan (map (word_as looks stems) text)
+    words_says plan =
+        ap (λ counts. enough plan.times (joined plan.all counts))
+        (map_both (λ (phrase : List GroupShape). phrase_total version phrase text) (opened_phrase looks stems version) (λ (phrase : PhrasePlan). phrase_count phrase (map (word_as looks stems) text)) phrase_says plan.phrases)
+
+  -- ---- opened words fit the version
+
+  item_there : (test : ItemTest) → AreThere version (opened_item looks stems version test)
+  item_there test =
+      elim (asks_nothing test) as (λ b. AreThere version (cond b Terms.Any (Terms.Of (map (version_term version) (terms_for (word_test looks stems test) version))))) [
+        | true ↦ All-nil (λ (source : VersionTerm). source.version ≡ version)
+        | false ↦ All-map (λ (source : VersionTerm). source.version ≡ version) (version_term version) (terms_for (word_test looks stems test) version)
+            (every (λ (number : ℕ). version ≡ version) (λ number. refl) (terms_for (word_test looks stems test) version))
+      ]
+
+  pub variants_there : (variants : List (List ItemTest)) → All (All (AreThere version)) (map (opened_variant looks stems version) variants)
+  variants_there variants =
+      All-map (All (AreThere version)) (opened_variant looks stems version) variants
+      (every _ (λ (tests : List ItemTest). All-map (AreThere version) (opened_item looks stems version) tests (every _ item_there tests)) variants)
+
+  group_fits : (variants : List (List ItemTest)) → IsGroup version (opened_group looks stems version variants)
+  group_fits variants = record { sized = refl; there = variants_there variants }
+
+  words_fit : (plan : WordsPlan) → IsWords version (opened_words looks stems version plan)
+  words_fit plan =
+      All-map (All (IsGroup version)) (opened_phrase looks stems version) plan.phrases
+      (every _ (λ (phrase : PhrasePlan). All-map (IsGroup version) (opened_group looks stems version) phrase.groups (every _ group_fits phrase.groups)) plan.phrases)
+
+  -- ---- what opened words cost, where no word costs more than its test
+
+  module _ (word_cost : WordTerms → ℕ) (test_cost : ItemTest → ℕ) (most : (test : ItemTest) → word_cost (opened_item looks stems version test) ≤ test_cost test) where
+    group_cheap : (variants : List (List ItemTest)) → group_cost word_cost (opened_group looks stems version variants) ≤ sum_by (sum_by test_cost) variants
+    group_cheap variants =
+        sum_over_le (sum_by word_cost) (sum_by test_cost) (opened_variant looks stems version)
+        (sum_over_le word_cost test_cost (opened_item looks stems version) most) variants
+
+    phrase_cheap : (plan : PhrasePlan) → phrase_cost word_cost (opened_phrase looks stems version plan) ≤ node.phrase_cost test_cost plan
+    phrase_cheap plan = sum_over_le (group_cost word_cost) (sum_by (sum_by test_cost)) (opened_group looks stems version) group_cheap plan.groups
+
+    words_cheap : (plan : WordsPlan) → words_cost word_cost (opened_words looks stems version plan) ≤ node.words_cost test_cost plan
+    words_cheap plan = sum_over_le (phrase_cost word_cost) (node.phrase_cost test_cost) (opened_phrase looks stems version) phrase_cheap plan.phrases
+
+  -- ---- the kinds of a tree
+
+  pub words_opened : (run : RunWords) (plan : WordsPlan) (node : Node) → node ≡ N.Words plan → words_shape run ≡ opened_words looks stems version plan → IsOpened looks stems version (shape (R.Words run)) node
+  unfolding run_truth IsSound run_cost
+  words_opened run plan node is opened =
+      let own : shape (R.Words run) ≡ words (opened_words looks stems version plan) = shape-Words run ∙ ap words opened in
+      subst (λ (s : Shape). IsOpened looks stems version s node) (sym own) (record {
+        sound = words_fit plan;
+        says = λ asked there.
+            words_says (words_in version asked) (text_known version asked there) plan
+            ∙ ap (words_truth plan) (looked_words looks stems version asked)
+            ∙ sym (ap (λ (n : Node). truth n (looked_text looks stems (tokens_in version asked))) is ∙ truth-Words plan (looked_text looks stems (tokens_in version asked)));
+        cost = λ word_cost test_cost fair most.
+            let cheap = words_cheap word_cost test_cost most plan in
+            let whole = ap (node_cost test_cost) is ∙ cost-Words test_cost plan in
+            omega (arith, cheap, whole);
+      })
+
+  are_sound : (runs : List Shape) → All (IsSound version) runs → AreSound version (shapes_of runs)
+  unfolding AreSound
+  are_sound [] h = tt
+  are_sound (run ∷ runs) h = (h 0 run (omega arith), are_sound runs (λ k d lt. h (suc k) d (omega arith)))
+
+  some_is : (runs : List Shape) (asked : AskedSpan) → some_true version (shapes_of runs) asked ≡ list_any (λ b. b) (map (λ run. run_truth version run asked) runs)
+  unfolding some_true
+  some_is [] asked = refl
+  some_is (run ∷ runs) asked = ap (λ b. run_truth version run asked || b) (some_is runs asked)
+
+  all_is : (runs : List Shape) (asked : AskedSpan) → all_true version (shapes_of runs) asked ≡ list_all (λ b. b) (map (λ run. run_truth version run asked) runs)
+  unfolding all_true
+  all_is [] asked = refl
+  all_is (run ∷ runs) asked = ap (λ b. run_truth version run asked && b) (all_is runs asked)
+
+  list_all-map : {X Y : Type 0} (p : Y → Bool) (f : X → Y) (xs : List X) → list_all p (map f xs) ≡ list_all (λ x. p (f x)) xs
+  list_all-map p f [] = refl
+  list_all-map p f (x ∷ xs) = ap (λ b. p (f x) && b) (list_all-map p f xs)
+
+  pub or_opened : (runs : Vec RunNode Global) (parts : List Node) (node : Node) → node ≡ N.Or parts → AreOpened looks stems version (map shape runs.items) parts → IsOpened looks stems version (shape (R.Or runs)) node
+  unfolding run_truth IsSound run_cost
+  or_opened runs parts node is opened =
+      subst (λ (s : Shape). IsOpened looks stems version s node) (sym (shape-Or runs)) (record {
+        sound = are_sound (map shape runs.items) opened.sound;
+        says = λ asked there.
+            some_is (map shape runs.items) asked
+            ∙ ap (list_any (λ b. b)) (opened.says asked there)
+            ∙ list_any-map (λ b. b) (λ (n : Node). truth n (looked_text looks stems (tokens_in version asked))) parts
+            ∙ sym (ap (λ (n : Node). truth n (looked_text looks stems (tokens_in version asked))) is ∙ truth-Or parts (looked_text looks stems (tokens_in version asked)));
+        cost = λ word_cost test_cost fair most.
+            let cheap = opened.cost word_cost test_cost fair most in
+            let all = costs_are word_cost (map shape runs.items) in
+            let whole = ap (node_cost test_cost) is ∙ cost-Or test_cost parts in
+            omega (arith, cheap, all, whole);
+      })
+
+  pub and_opened : (runs : Vec RunNode Global) (parts : List Node) (node : Node) → node ≡ N.And parts → AreOpened looks stems version (map shape runs.items) parts → IsOpened looks stems version (shape (R.And runs)) node
+  unfolding run_truth IsSound run_cost
+  and_opened runs parts node is opened =
+      subst (λ (s : Shape). IsOpened looks stems version s node) (sym (shape-And runs)) (record {
+        sound = are_sound (map shape runs.items) opened.sound;
+        says = λ asked there.
+            all_is (map shape runs.items) asked
+            ∙ ap (list_all (λ b. b)) (opened.says asked there)
+            ∙ list_all-map (λ b. b) (λ (n : Node). truth n (looked_text looks stems (tokens_in version asked))) parts
+            ∙ sym (ap (λ (n : Node). truth n (looked_text looks stems (tokens_in version asked))) is ∙ truth-And parts (looked_text looks stems (tokens_in version asked)));
+        cost = λ word_cost test_cost fair most.
+            let cheap = opened.cost word_cost test_cost fair most in
+            let all = costs_are word_cost (map shape runs.items) in
+            let whole = ap (node_cost test_cost) is ∙ cost-And test_cost parts in
+            omega (arith, cheap, all, whole);
+      })
+
+  pub not_opened : (run : Box RunNode Global) (part : Box Node Global) (node : Node) → node ≡ N.Not part → IsOpened looks stems version (shape run.value) part.value → IsOpened looks stems version (shape (R.Not run)) node
+  unfolding run_truth IsSound run_cost
+  not_opened run part node is opened =
+      subst (λ (s : Shape). IsOpened looks stems version s node) (sym (shape-Not run)) (record {
+        sound = opened.sound;
+        says = λ asked there.
+            ap not (opened.says asked there)
+            ∙ sym (ap (λ (n : Node). truth n (looked_text looks stems (tokens_in version asked))) is ∙ truth-Not part (looked_text looks stems (tokens_in version asked)));
+        cost = λ word_cost test_cost fair most.
+            let cheap = opened.cost word_cost test_cost fair most in
+            let whole = ap (node_cost test_cost) is ∙ cost-Not test_cost part in
+            omega (arith, cheap, whole);
+      })
+
+  -- one part more
+  pub opened_more : (before after : List RunNode) (run : RunNode) (nodes : List Node) (i : ℕ) (node : Node) → i < length nodes → node ≡ get_or nodes i node → after ≡ before ++ run ∷ []
+      → IsOpened looks stems version (shape run) node → AreOpened looks stems version (map shape before) (take i nodes) → AreOpened looks stems version (map shape after) (take (i + 1) nodes)
+  opened_more before after run nodes i node h is pushed opened all =
+      let shapes : map shape after ≡ map shape before ++ shape run ∷ [] = ap (map shape) pushed ∙ map_push shape before run in
+      record {
+        sound = subst (All (IsSound version)) (sym shapes) (All-push (IsSound version) (map shape before) (shape run) all.sound opened.sound);
+        says = λ asked there.
+            ap (map (λ (s : Shape). run_truth version s asked)) shapes
+            ∙ map_push (λ (s : Shape). run_truth version s asked) (map shape before) (shape run)
+            ∙ (λ j. all.says asked there j ++ opened.says asked there j ∷ [])
+            ∙ ap (λ (n : Node). map (λ (m : Node). truth m (looked_text looks stems (tokens_in version asked))) (take i nodes) ++ truth n (looked_text looks stems (tokens_in version asked)) ∷ []) is
+            ∙ sym (map_more (λ (m : Node). truth m (looked_text looks stems (tokens_in version asked))) nodes i node h);
+        cost = λ word_cost test_cost fair most.
+            let sum = ap (sum_by (run_cost word_cost)) shapes ∙ sum_by_push (run_cost word_cost) (map shape before) (shape run) in
+            let more = sum_by_more (node_cost test_cost) nodes i node h in
+            let own = ap (node_cost test_cost) is in
+            let first = all.cost word_cost test_cost fair most in
+            let then = opened.cost word_cost test_cost fair most in
+            omega (arith, sum, more, own, first, then);
+      }

@@ -1,0 +1,196 @@
+-- What the kinds of a run's tree say, what they cost, and when they fit.
+use Rattle.std.proofs.Common.{◌≡◌, refl, sym, ap, subst, ◌∙◌, ℕ, ◌+◌, ◌<◌, ◌≤◌, true, false, not, ◌&&◌, ◌||◌, List, [], ◌∷◌, map, length, get_or, drop, take, suc, zero, arith, Box, Global}
+use Rattle.std.specs.declared.vec.Vec.{Vec}
+use Rattle.std.specs.List.{sum_by}
+use Rattle.std.proofs.lemmas.List.{drop_all, drop_more}
+use Rattle.std.proofs.lemmas.List.Sums.{sum_by-cons}
+use Rattle.index_meaning.specs.Documents.{Numbered}
+use Rattle.plan_runs.specs.steps.RunCosts.{run_cost, run_costs, words_cost}
+use Rattle.plan_runs.specs.steps.RunShapes.{Shape, Shapes, shape, shapes_of, words, any_of, all_of, not_of, by_ways, by_merge, none, more, merge_shape, words_shape, ways_shape}
+use Rattle.plan_runs.specs.steps.AskedSpans.{AskedSpan, words_in}
+use Rattle.plan_runs.specs.steps.Merges.{IsMerge, merge_cost, merge_says}
+use Rattle.plan_runs.specs.steps.Lacking.{lacks_of}
+use Rattle.plan_runs.specs.steps.OpenedOperators.{AreAims, aims_of}
+use Rattle.plan_runs.specs.steps.RunTruth.{AreSound, AreWays, IsSound, IsWords, aims_say, all_true, run_truth, some_true, words_say}
+use Rattle.plan_runs.specs.declared.run_node.RunWords.{RunWords}
+use Rattle.plan_runs.specs.declared.run_merge.RunMerge.{RunMerge}
+use Rattle.plan_runs.specs.declared.run_ways.RunWays.{RunWays}
+use Rattle.index_phrases.specs.declared.word_terms.WordTerms.{WordTerms}
+use Rattle.plan_runs.specs.declared.run_node.RunNode.{RunNode}
+use Rattle.plan_runs.specs.declared.run_node.RunNode as R
+use Rattle.plan_runs.proofs.SumLemmas.{so_far}
+use Rattle.plan_runs.proofs.RunViews.{shape-Words, shape-Or, shape-And, shape-Not, shape-Ways, shape-Merge}
+
+module _ (version : List Numbered) (asked : AskedSpan) (node : RunNode) where
+  -- ---- when they fit
+
+  pub sound-Words : (run : RunWords) → node ≡ R.Words run → IsSound version (shape node) → IsWords version (words_shape run)
+  unfolding IsSound
+  sound-Words run is h = subst (IsSound version) (ap shape is ∙ shape-Words run) h
+
+  pub sound-Or : (parts : Vec RunNode Global) → node ≡ R.Or parts → IsSound version (shape node) → AreSound version (shapes_of (map shape parts.items))
+  unfolding IsSound
+  sound-Or parts is h = subst (IsSound version) (ap shape is ∙ shape-Or parts) h
+
+  pub sound-And : (parts : Vec RunNode Global) → node ≡ R.And parts → IsSound version (shape node) → AreSound version (shapes_of (map shape parts.items))
+  unfolding IsSound
+  sound-And parts is h = subst (IsSound version) (ap shape is ∙ shape-And parts) h
+
+  pub sound-Not : (part : Box RunNode Global) → node ≡ R.Not part → IsSound version (shape node) → IsSound version (shape part.value)
+  unfolding IsSound
+  sound-Not part is h = subst (IsSound version) (ap shape is ∙ shape-Not part) h
+
+  pub sound-Ways : (run : Box RunWays Global) → node ≡ R.Ways run → IsSound version (shape node) → AreAims version (aims_of run.value.tuples)
+  unfolding IsSound
+  sound-Ways run is h =
+      let fits : AreWays version (ways_shape run.value) = subst (IsSound version) (ap shape is ∙ shape-Ways run) h in
+      fits.aims
+
+  pub sound-Merge : (run : RunMerge) → node ≡ R.Merge run → IsSound version (shape node) → IsMerge version (merge_shape run)
+  unfolding IsSound
+  sound-Merge run is h = subst (IsSound version) (ap shape is ∙ shape-Merge run) h
+
+  -- ---- what they say
+
+  pub says-Words : (run : RunWords) → node ≡ R.Words run → words_say version (words_shape run) (words_in version asked) ≡ run_truth version (shape node) asked
+  unfolding run_truth
+  says-Words run is = sym (ap (λ s. run_truth version s asked) (ap shape is ∙ shape-Words run))
+
+  pub says-Or : (parts : Vec RunNode Global) → node ≡ R.Or parts → some_true version (shapes_of (map shape parts.items)) asked ≡ run_truth version (shape node) asked
+  unfolding run_truth
+  says-Or parts is = sym (ap (λ s. run_truth version s asked) (ap shape is ∙ shape-Or parts))
+
+  pub says-And : (parts : Vec RunNode Global) → node ≡ R.And parts → all_true version (shapes_of (map shape parts.items)) asked ≡ run_truth version (shape node) asked
+  unfolding run_truth
+  says-And parts is = sym (ap (λ s. run_truth version s asked) (ap shape is ∙ shape-And parts))
+
+  pub says-Not : (part : Box RunNode Global) → node ≡ R.Not part → not (run_truth version (shape part.value) asked) ≡ run_truth version (shape node) asked
+  unfolding run_truth
+  says-Not part is = sym (ap (λ s. run_truth version s asked) (ap shape is ∙ shape-Not part))
+
+  pub says-Ways : (run : Box RunWays Global) → node ≡ R.Ways run → aims_say (aims_of run.value.tuples) asked ≡ run_truth version (shape node) asked
+  unfolding run_truth
+  says-Ways run is = sym (ap (λ s. run_truth version s asked) (ap shape is ∙ shape-Ways run))
+
+  pub says-Merge : (run : RunMerge) → node ≡ R.Merge run → merge_says version (merge_shape run) asked ≡ run_truth version (shape node) asked
+  unfolding run_truth
+  says-Merge run is = sym (ap (λ s. run_truth version s asked) (ap shape is ∙ shape-Merge run))
+
+-- ---- what they look like
+
+module _ (node : RunNode) where
+  pub same-Words : (old new : RunWords) → node ≡ R.Words old → words_shape new ≡ words_shape old → shape (R.Words new) ≡ shape node
+  same-Words old new is same = shape-Words new ∙ ap words same ∙ sym (ap shape is ∙ shape-Words old)
+
+  pub same-Or : (old new : Vec RunNode Global) → node ≡ R.Or old → map shape new.items ≡ map shape old.items → shape (R.Or new) ≡ shape node
+  same-Or old new is same = shape-Or new ∙ ap (λ ss. any_of (shapes_of ss)) same ∙ sym (ap shape is ∙ shape-Or old)
+
+  pub same-And : (old new : Vec RunNode Global) → node ≡ R.And old → map shape new.items ≡ map shape old.items → shape (R.And new) ≡ shape node
+  same-And old new is same = shape-And new ∙ ap (λ ss. all_of (shapes_of ss)) same ∙ sym (ap shape is ∙ shape-And old)
+
+  pub same-Not : (old new : Box RunNode Global) → node ≡ R.Not old → shape new.value ≡ shape old.value → shape (R.Not new) ≡ shape node
+  same-Not old new is same = shape-Not new ∙ ap not_of same ∙ sym (ap shape is ∙ shape-Not old)
+
+  pub same-Ways : (old new : Box RunWays Global) → node ≡ R.Ways old → aims_of new.value.tuples ≡ aims_of old.value.tuples → new.value.needs ≡ old.value.needs → shape (R.Ways new) ≡ shape node
+  same-Ways old new is aims needs = shape-Ways new ∙ (λ i. by_ways (record { aims = aims i; lacks = lacks_of (needs i) })) ∙ sym (ap shape is ∙ shape-Ways old)
+
+  pub same-Merge : (old new : RunMerge) → node ≡ R.Merge old → merge_shape new ≡ merge_shape old → shape (R.Merge new) ≡ shape node
+  same-Merge old new is same = shape-Merge new ∙ ap by_merge same ∙ sym (ap shape is ∙ shape-Merge old)
+
+-- ---- lists of parts
+
+module _ (version : List Numbered) where
+  pub each_sound : (shapes : List Shape) → AreSound version (shapes_of shapes) → (k : ℕ) (d : Shape) → k < length shapes → IsSound version (get_or shapes k d)
+  unfolding AreSound
+  each_sound [] h k d lt = absurd (omega arith)
+  each_sound (first ∷ rest) h zero d lt = h.0
+  each_sound (first ∷ rest) h (suc k) d lt = each_sound rest h.1 k d (omega arith)
+
+  module _ (asked : AskedSpan) (shapes : List Shape) (i : ℕ) where
+    pub some_more : (s : Shape) → i < length shapes → s ≡ get_or shapes i s
+        → some_true version (shapes_of (drop i shapes)) asked ≡ (run_truth version s asked || some_true version (shapes_of (drop (i + 1) shapes)) asked)
+    unfolding some_true
+    some_more s h is =
+        ap (λ ss. some_true version (shapes_of ss) asked) (drop_more shapes i s h)
+        ∙ ap (λ p. run_truth version p asked || some_true version (shapes_of (drop (i + 1) shapes)) asked) (sym is)
+
+    pub some_end : length shapes ≤ i → some_true version (shapes_of (drop i shapes)) asked ≡ false
+    unfolding some_true
+    some_end h = ap (λ ss. some_true version (shapes_of ss) asked) (drop_all i shapes h)
+
+    pub all_more : (s : Shape) → i < length shapes → s ≡ get_or shapes i s
+        → all_true version (shapes_of (drop i shapes)) asked ≡ (run_truth version s asked && all_true version (shapes_of (drop (i + 1) shapes)) asked)
+    unfolding all_true
+    all_more s h is =
+        ap (λ ss. all_true version (shapes_of ss) asked) (drop_more shapes i s h)
+        ∙ ap (λ p. run_truth version p asked && all_true version (shapes_of (drop (i + 1) shapes)) asked) (sym is)
+
+    pub all_end : length shapes ≤ i → all_true version (shapes_of (drop i shapes)) asked ≡ true
+    unfolding all_true
+    all_end h = ap (λ ss. all_true version (shapes_of ss) asked) (drop_all i shapes h)
+
+-- ---- how deep tests go
+
+unfoldable mutual
+  pub weight : Shape → ℕ
+  weight (words run) = 1
+  weight (any_of parts) = 1 + weights parts
+  weight (all_of parts) = 1 + weights parts
+  weight (not_of part) = 1 + weight part
+  weight (by_ways run) = 1
+  weight (by_merge merge) = 1
+
+  pub weights : Shapes → ℕ
+  weights none = 0
+  weights (more part rest) = weight part + weights rest
+
+pub weight_at : (shapes : List Shape) (i : ℕ) (s : Shape) → i < length shapes → s ≡ get_or shapes i s → weight s ≤ weights (shapes_of shapes)
+unfolding weights
+weight_at [] i s h is = absurd (omega arith)
+weight_at (first ∷ rest) zero s h is = let e = ap weight is in omega arith
+weight_at (first ∷ rest) (suc i) s h is = let e = weight_at rest i s (omega arith) is in omega arith
+
+module _ (node : RunNode) where
+  pub weight-Or : (parts : Vec RunNode Global) → node ≡ R.Or parts → weight (shape node) ≡ 1 + weights (shapes_of (map shape parts.items))
+  unfolding weight
+  weight-Or parts is = ap weight (ap shape is ∙ shape-Or parts)
+
+  pub weight-And : (parts : Vec RunNode Global) → node ≡ R.And parts → weight (shape node) ≡ 1 + weights (shapes_of (map shape parts.items))
+  unfolding weight
+  weight-And parts is = ap weight (ap shape is ∙ shape-And parts)
+
+  pub weight-Not : (part : Box RunNode Global) → node ≡ R.Not part → weight (shape node) ≡ 1 + weight (shape part.value)
+  unfolding weight
+  weight-Not part is = ap weight (ap shape is ∙ shape-Not part)
+
+-- ---- what they cost
+
+module _ (cost : WordTerms → ℕ) (node : RunNode) where
+  pub cost-Words : (run : RunWords) → node ≡ R.Words run → run_cost cost (shape node) ≡ words_cost cost (words_shape run)
+  unfolding run_cost
+  cost-Words run is = ap (run_cost cost) (ap shape is ∙ shape-Words run)
+
+  pub cost-Or : (parts : Vec RunNode Global) → node ≡ R.Or parts → run_cost cost (shape node) ≡ run_costs cost (shapes_of (map shape parts.items))
+  unfolding run_cost
+  cost-Or parts is = ap (run_cost cost) (ap shape is ∙ shape-Or parts)
+
+  pub cost-And : (parts : Vec RunNode Global) → node ≡ R.And parts → run_cost cost (shape node) ≡ run_costs cost (shapes_of (map shape parts.items))
+  unfolding run_cost
+  cost-And parts is = ap (run_cost cost) (ap shape is ∙ shape-And parts)
+
+  pub cost-Not : (part : Box RunNode Global) → node ≡ R.Not part → run_cost cost (shape node) ≡ run_cost cost (shape part.value)
+  unfolding run_cost
+  cost-Not part is = ap (run_cost cost) (ap shape is ∙ shape-Not part)
+
+  pub cost-Merge : (run : RunMerge) → node ≡ R.Merge run → run_cost cost (shape node) ≡ merge_cost cost (merge_shape run)
+  unfolding run_cost
+  cost-Merge run is = ap (run_cost cost) (ap shape is ∙ shape-Merge run)
+
+pub costs_are : (cost : WordTerms → ℕ) (shapes : List Shape) → run_costs cost (shapes_of shapes) ≡ sum_by (run_cost cost) shapes
+unfolding run_costs
+costs_are cost [] = refl
+costs_are cost (first ∷ rest) = ap (λ n. run_cost cost first + n) (costs_are cost rest) ∙ sym (sum_by-cons (run_cost cost) first rest)
+
+-- the parts so far
+pub costs_so_far : (cost : WordTerms → ℕ) (shapes : List Shape) (i start end : ℕ) → end ≤ start + sum_by (run_cost cost) (take i shapes) → end ≤ start + run_costs cost (shapes_of shapes)
+costs_so_far cost shapes i start end h = omega (arith, so_far (run_cost cost) shapes i start end h, costs_are cost shapes)

@@ -1,0 +1,4 @@
+pub mod RunMeaning
+pub mod Judgement
+pub mod RunPrice
+pub mod steps

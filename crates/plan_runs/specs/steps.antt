@@ -1,0 +1,16 @@
+pub mod RunCode
+pub mod ChosenTerms
+pub mod AskedKeys
+pub mod RisingUnits
+pub mod Merges
+pub mod RunShapes
+pub mod RunTruth
+pub mod RuledOut
+pub mod Lacking
+pub mod OpenedItems
+pub mod OpenedOperators
+pub mod OpenedWords
+pub mod AskedSpans
+pub mod AskedPlaces
+pub mod RunCosts
+pub mod Telling

@@ -1,0 +1,50 @@
+-- Compiled words opened over a version: terms in the place of tests.
+use Rattle.std.specs.Prelude.{◌≡◌, ◌≤◌, ℕ, List, map}
+use Rattle.std.specs.List.{All, sum_by}
+use Rattle.index_meaning.specs.Documents.{Numbered}
+use Rattle.word_lists.specs.Stems.{Stem}
+use Rattle.plan_compiler.specs.Operators.{looked_text}
+use Rattle.plan_runs.specs.steps.AskedSpans.{AskedSpan, IsAsked, tokens_in}
+use Rattle.plan_runs.specs.steps.OpenedItems.{opened_item, opened_variant}
+use Rattle.plan_compiler.specs.NodeCosts.{node_cost}
+use Rattle.plan_compiler.specs.NodeMeaning.{truth}
+use Rattle.plan_runs.specs.steps.RunCosts.{IsFair, run_cost}
+use Rattle.index_phrases.specs.steps.Aiming.{wanted_size}
+use Rattle.plan_runs.specs.steps.RunShapes.{GroupShape, WordsShape, Shape}
+use Rattle.plan_runs.specs.steps.RunTruth.{IsSound, run_truth}
+use Rattle.plan_compiler.specs.declared.item_matching.ItemTest.{ItemTest}
+use Rattle.plan_compiler.specs.declared.looks.Looks.{Looks}
+use Rattle.plan_compiler.specs.declared.node.Node.{Node}
+use Rattle.plan_compiler.specs.declared.phrase_plan.PhrasePlan.{PhrasePlan}
+use Rattle.index_phrases.specs.declared.word_terms.WordTerms.{WordTerms}
+use Rattle.plan_compiler.specs.declared.words_plan.WordsPlan.{WordsPlan}
+
+module _ (looks : Looks) (stems : List Stem) (version : List Numbered) where
+  abbrev pub opened_group : List (List ItemTest) → GroupShape
+  opened_group variants = record {
+    terms = map (opened_variant looks stems version) variants;
+    sizes = map (map wanted_size) (map (opened_variant looks stems version) variants);
+  }
+
+  abbrev pub opened_phrase : PhrasePlan → List GroupShape
+  opened_phrase plan = map opened_group plan.groups
+
+  abbrev pub opened_words : WordsPlan → WordsShape
+  opened_words plan = record { phrases = map opened_phrase plan.phrases; all = plan.all; times = plan.times }
+
+  -- a tree that says of spans of documents what the compiled selection says of their tokens, and costs no more where no word costs more
+  -- than its test
+  pub record IsOpened (run : Shape) (node : Node) : Type 0 where
+    pub sound : IsSound version run
+    pub says : (asked : AskedSpan) → IsAsked version asked → run_truth version run asked ≡ truth node (looked_text looks stems (tokens_in version asked))
+    pub cost : (word_cost : WordTerms → ℕ) → (test_cost : ItemTest → ℕ) → IsFair word_cost
+        → ((test : ItemTest) → word_cost (opened_item looks stems version test) ≤ test_cost test) → run_cost word_cost run ≤ node_cost test_cost node
+
+  -- the same of lists of both
+  pub record AreOpened (runs : List Shape) (nodes : List Node) : Type 0 where
+    pub sound : All (IsSound version) runs
+    pub says : (asked : AskedSpan) → IsAsked version asked
+        → map (λ run. run_truth version run asked) runs ≡ map (λ node. truth node (looked_text looks stems (tokens_in version asked))) nodes
+    pub cost : (word_cost : WordTerms → ℕ) → (test_cost : ItemTest → ℕ) → IsFair word_cost
+        → ((test : ItemTest) → word_cost (opened_item looks stems version test) ≤ test_cost test)
+        → sum_by (run_cost word_cost) runs ≤ sum_by (node_cost test_cost) nodes

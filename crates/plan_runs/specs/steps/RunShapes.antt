@@ -1,0 +1,85 @@
+-- A run's tree as plain data: what it is, whatever its cursors stand at.
+use Rattle.std.specs.Prelude.{ℕ, Bool, List, [], ◌∷◌, map, length, Option}
+use Rattle.std.specs.declared.alloc.Global.{Global}
+use Rattle.std.specs.declared.vec.Vec.{Vec}
+use Rattle.ft_base.specs.Hits.{HitPlace}
+use Rattle.ft_base.specs.declared.range.Range.{Range}
+use Rattle.ft_operators.specs.Standing.{Aims}
+use Rattle.index_phrases.specs.declared.word_terms.WordTerms.{WordTerms}
+use Rattle.index_phrases.specs.steps.Aiming.{sizes_of, variant_words}
+use Rattle.plan_runs.specs.steps.Merges.{MergeShape}
+use Rattle.plan_runs.specs.steps.Lacking.{lacks_of}
+use Rattle.plan_runs.specs.steps.OpenedOperators.{aims_of}
+use Rattle.plan_runs.specs.declared.run_merge.RunMerge.{RunMerge}
+use Rattle.plan_runs.specs.declared.run_node.RunGroup.{RunGroup}
+use Rattle.plan_runs.specs.declared.run_node.RunPhrase.{RunPhrase}
+use Rattle.plan_runs.specs.declared.run_node.RunWords.{RunWords}
+use Rattle.plan_runs.specs.declared.run_ways.RunWays.{RunWays}
+use Rattle.plan_runs.specs.declared.run_node.RunNode.{RunNode, fold-RunNode}
+use Rattle.plan_runs.specs.declared.run_node.RunNode.TheOpen.{RunNode-F}
+
+-- the terms of each word of each variant, and how many cursors there are for it
+pub record GroupShape : Type 0 where
+  pub terms : List (List WordTerms)
+  pub sizes : List (List (Option ℕ))
+
+pub record WordsShape : Type 0 where
+  pub phrases : List (List GroupShape)
+  pub all : Bool
+  pub times : Option Range
+
+-- what the walk through the ways is at the spans of documents, and the documents in which what it needs is lacking
+pub record WaysShape : Type 0 where
+  pub aims : Aims
+  pub lacks : ℕ → Bool
+
+mutual
+  pub data Shape : Type 0 where
+    words : WordsShape → Shape
+    any_of : Shapes → Shape
+    all_of : Shapes → Shape
+    not_of : Shape → Shape
+    by_ways : WaysShape → Shape
+    by_merge : MergeShape → Shape
+
+  pub data Shapes : Type 0 where
+    none : Shapes
+    more : Shape → Shapes → Shapes
+
+abbrev pub shapes_of : List Shape → Shapes
+shapes_of [] = none
+shapes_of (first ∷ rest) = more first (shapes_of rest)
+
+abbrev pub group_shape : RunGroup → GroupShape
+group_shape group = record { terms = map variant_words group.terms.items; sizes = map sizes_of group.variants.items }
+
+abbrev pub phrase_shape : RunPhrase → List GroupShape
+phrase_shape phrase = map group_shape phrase.groups.items
+
+abbrev pub words_shape : RunWords → WordsShape
+words_shape run = record { phrases = map phrase_shape run.phrases.items; all = run.all; times = run.times }
+
+-- the cursors of a word of a merge, and how many there are
+abbrev pub cursors_of : Vec HitPlace Global → List HitPlace
+cursors_of word = word.items
+
+abbrev pub count_of : Vec HitPlace Global → ℕ
+count_of word = length word.items
+
+abbrev pub merge_shape : RunMerge → MergeShape
+merge_shape run = record { kind = run.kind; words = run.words.items; sizes = map count_of run.cursors.items }
+
+abbrev pub ways_shape : RunWays → WaysShape
+ways_shape run = record { aims = aims_of run.tuples; lacks = lacks_of run.needs }
+
+-- one level, with the shape of each part
+abbrev pub layer : RunNode-F Shape → Shape
+layer (RunNode-F.Words run) = words (words_shape run)
+layer (RunNode-F.Or parts) = any_of (shapes_of parts.items)
+layer (RunNode-F.And parts) = all_of (shapes_of parts.items)
+layer (RunNode-F.Not part) = not_of part.value
+layer (RunNode-F.Ways run) = by_ways (ways_shape run.value)
+layer (RunNode-F.Merge run) = by_merge (merge_shape run)
+
+unfoldable pub shape : RunNode → Shape
+shape = fold-RunNode Shape layer

@@ -1,0 +1,89 @@
+-- What a run's tree says of a span of a document, and when it fits a version.
+use Rattle.std.specs.Prelude.{◌≡◌, ⊤, ℕ, Bool, true, false, not, ◌&&◌, ◌||◌, List, [], map, sum}
+use Rattle.std.specs.List.{All}
+use Rattle.ft_base.specs.declared.span.Span.{Span}
+use Rattle.all_matches.specs.Boolean.{satisfied}
+use Rattle.all_matches.specs.Counting.{places}
+use Rattle.all_matches.specs.Compositional.{enough}
+use Rattle.all_matches.specs.Ways.{matches_of}
+use Rattle.ft_operators.specs.Standing.{Aims}
+use Rattle.ft_operators.specs.Walk.{own_span}
+use Rattle.index_meaning.specs.Documents.{Numbered}
+use Rattle.plan_runs.specs.steps.AskedSpans.{AskedSpan, words_in}
+use Rattle.plan_runs.specs.steps.ChosenTerms.{is_among, numbers_of}
+use Rattle.plan_runs.specs.steps.Merges.{IsMerge, merge_says}
+use Rattle.plan_runs.specs.steps.OpenedOperators.{AreAims}
+use Rattle.index_phrases.specs.steps.Aiming.{AreThere, wanted_size}
+use Rattle.plan_runs.specs.steps.RunShapes.{GroupShape, WaysShape, WordsShape}
+use Rattle.plan_runs.specs.steps.RunShapes.{Shape, Shapes, words, any_of, all_of, not_of, by_ways, by_merge, none, more}
+use Rattle.plan_compiler.specs.WordsMeaning.{joined}
+use Rattle.index_phrases.specs.declared.word_terms.WordTerms.{WordTerms}
+use Rattle.index_phrases.specs.declared.word_terms.WordTerms.TheVariants as Terms
+
+-- ---- what it says
+
+-- whether a word may stand where these terms are wanted
+unfoldable pub is_wanted : List Numbered → WordTerms → List ℕ → Bool
+is_wanted version Terms.Any word = true
+is_wanted version (Terms.Of sources) word = is_among version (numbers_of sources) word
+
+abbrev pub group_count : List Numbered → GroupShape → List (List ℕ) → ℕ
+group_count version group text = places (is_wanted version) group.terms text
+
+abbrev pub phrase_total : List Numbered → List GroupShape → List (List ℕ) → ℕ
+phrase_total version phrase text = sum (map (λ group. group_count version group text) phrase)
+
+abbrev pub words_total : List Numbered → WordsShape → List (List ℕ) → ℕ
+words_total version run text = joined run.all (map (λ phrase. phrase_total version phrase text) run.phrases)
+
+abbrev pub words_say : List Numbered → WordsShape → List (List ℕ) → Bool
+words_say version run text = enough run.times (words_total version run text)
+
+-- whether a walk has a way that leaves no exclude
+abbrev pub aims_say : Aims → AskedSpan → Bool
+aims_say aims asked = satisfied (matches_of (own_span asked.span) (aims.operators asked.doc asked.span))
+
+unfoldable mutual
+  pub run_truth : List Numbered → Shape → AskedSpan → Bool
+  run_truth version (words run) asked = words_say version run (words_in version asked)
+  run_truth version (any_of parts) asked = some_true version parts asked
+  run_truth version (all_of parts) asked = all_true version parts asked
+  run_truth version (not_of part) asked = not (run_truth version part asked)
+  run_truth version (by_ways run) asked = aims_say run.aims asked
+  run_truth version (by_merge merge) asked = merge_says version merge asked
+
+  pub some_true : List Numbered → Shapes → AskedSpan → Bool
+  some_true version none asked = false
+  some_true version (more part rest) asked = run_truth version part asked || some_true version rest asked
+
+  pub all_true : List Numbered → Shapes → AskedSpan → Bool
+  all_true version none asked = true
+  all_true version (more part rest) asked = run_truth version part asked && all_true version rest asked
+
+-- ---- when it fits
+
+-- each word has as many cursors as terms, which are those of the version
+pub record IsGroup (version : List Numbered) (group : GroupShape) : Type 0 where
+  pub sized : group.sizes ≡ map (map wanted_size) group.terms
+  pub there : All (All (AreThere version)) group.terms
+
+abbrev pub IsWords : List Numbered → WordsShape → Type 0
+IsWords version run = All (All (IsGroup version)) run.phrases
+
+-- the walk fits the version, and where what it needs is lacking there is no Match
+pub record AreWays (version : List Numbered) (run : WaysShape) : Type 0 where
+  pub aims : AreAims version run.aims
+  pub lacking : (doc : ℕ) (span : Span) → run.lacks doc ≡ true → matches_of (own_span span) (run.aims.operators doc span) ≡ []
+
+unfoldable mutual
+  pub IsSound : List Numbered → Shape → Type 0
+  IsSound version (words run) = IsWords version run
+  IsSound version (any_of parts) = AreSound version parts
+  IsSound version (all_of parts) = AreSound version parts
+  IsSound version (not_of part) = IsSound version part
+  IsSound version (by_ways run) = AreWays version run
+  IsSound version (by_merge merge) = IsMerge version merge
+
+  pub AreSound : List Numbered → Shapes → Type 0
+  AreSound version none = ⊤
+  AreSound version (more part rest) = IsSound version part × AreSound version rest

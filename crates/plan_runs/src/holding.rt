@@ -1,0 +1,93 @@
+//! Whether the words of a span satisfy an opened selection.
+
+ghost use Rattle.std.specs.Prelude.{◌≡◌, ◌≤◌, ◌+◌, map};
+ghost use Rattle.plan_runs.specs.steps.RunCosts.{moves_for, run_cost, run_costs};
+ghost use Rattle.plan_runs.specs.steps.RunShapes.{shape, shapes_of};
+ghost use Rattle.plan_runs.specs.steps.RunTruth.{AreSound, IsSound, all_true, run_truth, some_true};
+ghost use Rattle.plan_runs.specs.steps.AskedPlaces.{asked_at};
+
+use crate::asked_place::AskedPlace;
+use crate::merge_holding::merge_holds;
+use crate::run_node::RunNode;
+use crate::ways_holding::ways_hold;
+use crate::words_holding::words_hold;
+use ft_base::Steps;
+use std::sync::ledger::Ledger;
+
+/// Whether the words of the span satisfy the selection.
+#[cycle(holding)]
+pub(crate) fn node_holds<'v, L: Ledger>(
+    place: &AskedPlace<'v>,
+    node: &mut RunNode<'v>,
+    moves: &mut Steps<L>,
+) -> bool
+    requires { IsSound place.now.version.now (shape node.old) }
+    ensures says { result ≡ run_truth place.now.version.now (shape node.old) (asked_at place.now) }
+    ensures same { shape node.new ≡ shape node.old }
+    ensures price { moves.new ≤ moves.old + run_cost (moves_for place.now) (shape node.old) }
+    ensures grown { moves.old ≤ moves.new }
+{
+    match node {
+        RunNode::Words(words) => words_hold(place, words, moves),
+        RunNode::Or(parts) => some_holds(place, parts, moves),
+        RunNode::And(parts) => all_hold(place, parts, moves),
+        RunNode::Not(part) => !part_holds(place, part, moves),
+        RunNode::Ways(ways) => ways_hold(place, ways),
+        RunNode::Merge(merge) => merge_holds(place, merge, moves),
+    }
+}
+
+#[cycle(holding)]
+fn part_holds<'v, L: Ledger>(
+    place: &AskedPlace<'v>,
+    part: &mut Box<RunNode<'v>>,
+    moves: &mut Steps<L>,
+) -> bool
+    requires { IsSound place.now.version.now (shape part.old.value) }
+    ensures says { result ≡ run_truth place.now.version.now (shape part.old.value) (asked_at place.now) }
+    ensures same { shape part.new.value ≡ shape part.old.value }
+    ensures price { moves.new ≤ moves.old + run_cost (moves_for place.now) (shape part.old.value) }
+    ensures grown { moves.old ≤ moves.new }
+{
+    node_holds(place, part, moves)
+}
+
+#[cycle(holding)]
+fn some_holds<'v, L: Ledger>(
+    place: &AskedPlace<'v>,
+    parts: &mut Vec<RunNode<'v>>,
+    moves: &mut Steps<L>,
+) -> bool
+    requires { AreSound place.now.version.now (shapes_of (map shape parts.old.items)) }
+    ensures says { result ≡ some_true place.now.version.now (shapes_of (map shape parts.old.items)) (asked_at place.now) }
+    ensures same { map shape parts.new.items ≡ map shape parts.old.items }
+    ensures price { moves.new ≤ moves.old + run_costs (moves_for place.now) (shapes_of (map shape parts.old.items)) }
+    ensures grown { moves.old ≤ moves.new }
+{
+    for number in 0..parts.len() {
+        if node_holds(place, &mut parts[number], moves) {
+            return true;
+        }
+    }
+    false
+}
+
+#[cycle(holding)]
+fn all_hold<'v, L: Ledger>(
+    place: &AskedPlace<'v>,
+    parts: &mut Vec<RunNode<'v>>,
+    moves: &mut Steps<L>,
+) -> bool
+    requires { AreSound place.now.version.now (shapes_of (map shape parts.old.items)) }
+    ensures says { result ≡ all_true place.now.version.now (shapes_of (map shape parts.old.items)) (asked_at place.now) }
+    ensures same { map shape parts.new.items ≡ map shape parts.old.items }
+    ensures price { moves.new ≤ moves.old + run_costs (moves_for place.now) (shapes_of (map shape parts.old.items)) }
+    ensures grown { moves.old ≤ moves.new }
+{
+    for number in 0..parts.len() {
+        if !node_holds(place, &mut parts[number], moves) {
+            return false;
+        }
+    }
+    true
+}

@@ -1,0 +1,78 @@
+//! Who says whether the tokens of an element satisfy a selection.
+
+ghost use Rattle.std.specs.Prelude.{◌≡◌, ◌≤◌, ◌+◌, List, true, false};
+ghost use Rattle.ft_base.specs.Selection.{Form};
+ghost use Rattle.ft_base.specs.declared.span.Span.{Span};
+ghost use Rattle.ft_base.specs.declared.token.Token.{Token};
+ghost use Rattle.all_matches.specs.Meaning.{sat};
+ghost use Rattle.index_meaning.specs.Documents.{document_at, has_document, token_count};
+ghost use Rattle.index_phrases.specs.Tokens.{span_tokens};
+ghost use Rattle.plan_runs.specs.Judgement.{Judgement};
+ghost use Rattle.plan_compiler.specs.Lexicon.{lexicon};
+ghost use Rattle.plan_compiler.specs.NamedLists.{NamedLists};
+ghost use Rattle.plan_runs.specs.RunPrice.{price_at};
+
+use crate::run::Run;
+use ft_base::{DocId, Span, Steps};
+use std::sync::ledger::Ledger;
+
+/// Says whether the tokens of an element satisfy a selection. A session asks its judge for each `contains text`, and hands it the
+/// run of the selection over the version of its index.
+pub trait Judge {
+    /// Whether tokens satisfy a selection under lists, as judges of this type say it. It never changes.
+    ghost says: { Judgement };
+
+    /// Whether the tokens of the span of the document satisfy the selection of the run, under its lists. The run stays over its
+    /// selection, its lists and its version. It takes no memory, and moves cursors by no more than the price of the selection there;
+    /// the moves of a walk through the ways of a filter or `not in` aren't counted.
+    fn judge<L: Ledger>(
+        &self,
+        run: &mut Run<'_>,
+        doc: DocId,
+        span: Span,
+        moves: &mut Steps<L>,
+    ) -> bool
+        requires there { has_document doc.0 run.old.version ≡ true }
+        requires inside { (1 ≤ span.from) × (span.from ≤ span.to) × (span.to ≤ token_count (document_at doc.0 run.old.version) + 1) }
+        ensures says { result ≡ says run.old.form run.old.lists (span_tokens span (document_at doc.0 run.old.version)) }
+        ensures same { run.new ≡ run.old }
+        ensures grown { moves.old ≤ moves.new }
+        ensures price { moves.new ≤ moves.old + price_at run.old doc.0 span };
+
+    /// Whether it is known at once that `judge` says of no span of the document that its tokens satisfy the selection of the run.
+    /// `false` says nothing. It moves no cursor and takes no memory.
+    fn rules_out(&self, run: &Run<'_>, doc: DocId) -> bool
+        requires there { has_document doc.0 run.now.version ≡ true }
+        ensures none { result ≡ true → (span : Span)
+            → (1 ≤ span.from) × (span.from ≤ span.to) × (span.to ≤ token_count (document_at doc.0 run.now.version) + 1)
+            → says run.now.form run.now.lists (span_tokens span (document_at doc.0 run.now.version)) ≡ false };
+}
+
+/// The judge that asks the run itself. It says what the standard's definitions say.
+#[derive(Clone, Copy)]
+pub struct Direct;
+
+impl Judge for Direct {
+    ghost use Rattle.plan_runs.specs.Judgement.{by_definition};
+
+    ghost says = { by_definition };
+
+    fn judge<L: Ledger>(
+        &self,
+        run: &mut Run<'_>,
+        doc: DocId,
+        span: Span,
+        moves: &mut Steps<L>,
+    ) -> bool {
+        run.test(doc, span, moves)
+    }
+
+    fn rules_out(&self, run: &Run<'_>, doc: DocId) -> bool {
+        run.rules_out(doc)
+    }
+}
+
+/// `Direct` says that tokens satisfy a selection where they satisfy it by the standard's definitions, under these lists.
+pub fn direct_law()
+    ensures { (form : Form) (lists : NamedLists) (tokens : List Token) → ⟦<Direct as Judge>⟧.says form lists tokens ≡ sat (lexicon lists) form tokens }
+{}

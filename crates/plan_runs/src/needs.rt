@@ -1,0 +1,23 @@
+//! What a selection with filters or `not in` needs of a document.
+
+use index_phrases::WordTerms;
+
+/// Where this is lacking, the selection has no Match in the document, whatever the span.
+#[cycle(needs)]
+#[derive(Drop)]
+pub(crate) enum Needs<'v> {
+    Nothing,
+    /// A phrase: the words of one of its variants, each by one of its terms.
+    Phrase(Vec<Vec<WordTerms<'v>>>),
+    /// One of two sides.
+    OneOf(Box<NeededSides<'v>>),
+    /// Both sides.
+    AllOf(Box<NeededSides<'v>>),
+}
+
+#[cycle(needs)]
+#[derive(Drop)]
+pub(crate) struct NeededSides<'v> {
+    pub(crate) left: Needs<'v>,
+    pub(crate) right: Needs<'v>,
+}

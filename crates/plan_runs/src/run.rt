@@ -1,0 +1,98 @@
+//! Plans opened over a version of the index, and tested at spans of its documents.
+
+ghost use Rattle.std.specs.Prelude.{◌≡◌, ◌≤◌, ◌+◌, true, false, IfOk};
+ghost use Rattle.ft_base.specs.declared.span.Span.{Span};
+ghost use Rattle.all_matches.specs.Meaning.{sat};
+ghost use Rattle.index_meaning.specs.Documents.{document_at, has_document, token_count};
+ghost use Rattle.index_phrases.specs.Tokens.{span_tokens};
+ghost use Rattle.plan_compiler.specs.Lexicon.{lexicon};
+ghost use Rattle.plan_runs.specs.RunPrice.{price_at};
+
+use crate::asked_place::AskedPlace;
+use crate::choosing::Opening;
+use crate::holding::node_holds;
+use crate::opening::open_node;
+use crate::ruling_out::is_ruled_out;
+use crate::run_node::RunNode;
+use ft_base::{DocId, Memory, Span, Steps};
+use index_versions::Version;
+use plan_compiler::Plan;
+use std::alloc::Global;
+use std::marker::Model;
+use std::sync::ledger::Ledger;
+
+/// A plan opened over a version of the index, which stays as it is as long as the run is there. Contracts see the selection and the
+/// lists of the plan, and the documents of the version.
+#[derive(Drop)]
+pub struct Run<'v> {
+    pub(crate) plan: &'v Plan,
+    pub(crate) version: &'v Version,
+    pub(crate) root: RunNode<'v>,
+}
+
+impl<'v> Model for Run<'v> {
+    ghost use Rattle.plan_runs.specs.steps.OpenedWords.{IsOpened};
+    ghost use Rattle.plan_compiler.specs.PlanMeaning.{plan_form, plan_lists};
+    ghost use Rattle.plan_runs.specs.steps.RunCode.{run_code};
+    ghost use Rattle.plan_runs.specs.RunMeaning.{RunMeaning, run_of};
+    ghost use Rattle.plan_runs.specs.steps.RunShapes.{shape};
+
+    ghost Value = { RunMeaning };
+
+    ghost coded = { run_code };
+
+    ghost view = { λ inside. run_of (plan_form inside.plan.now) (plan_lists inside.plan.now) inside.version.now };
+
+    ghost invariant = { λ inside.
+        IsOpened inside.plan.now.looks inside.plan.now.lists.stems inside.version.now (shape inside.root) inside.plan.now.root };
+}
+
+impl<'v> Run<'v> {
+    ghost use Rattle.plan_compiler.specs.PlanMeaning.{plan_form, plan_lists};
+    ghost use Rattle.plan_runs.specs.RunMeaning.{run_of};
+
+    /// The plan over a version of the index: its words and patterns are resolved to terms of the version.
+    pub fn open(alloc: Global, plan: &'v Plan, version: &'v Version) -> Result<Run<'v>, Memory>
+        ensures { IfOk result (λ run. run ≡ run_of (plan_form plan.now) (plan_lists plan.now) version.now) }
+    {
+        let opening = Opening {
+            alloc,
+            version,
+            looks: plan.looks,
+            lists: &plan.lists,
+        };
+        let root = open_node(&opening, &plan.root)?;
+        Ok(Run {
+            plan,
+            version,
+            root,
+        })
+    }
+
+    /// Whether the tokens of the span of the document satisfy the plan's selection. It moves cursors forward, and takes no memory. The
+    /// moves that are counted are at most the selection's price at the span. Those of a walk through the ways of a filter or `not in`
+    /// aren't counted; each other one is. Windows in words and `ordered` over single words need no such walk.
+    pub fn test<L: Ledger>(&mut self, doc: DocId, span: Span, moves: &mut Steps<L>) -> bool
+        requires there { has_document doc.0 self.old.version ≡ true }
+        requires inside { (1 ≤ span.from) × (span.from ≤ span.to) × (span.to ≤ token_count (document_at doc.0 self.old.version) + 1) }
+        ensures says { result ≡ sat (lexicon self.old.lists) self.old.form (span_tokens span (document_at doc.0 self.old.version)) }
+        ensures same { self.new ≡ self.old }
+        ensures price { moves.new ≤ moves.old + price_at self.old doc.0 span }
+        ensures grown { moves.old ≤ moves.new }
+    {
+        let version = self.version;
+        let place = AskedPlace { version, doc, span };
+        node_holds(&place, &mut self.root, moves)
+    }
+
+    /// Whether it is known at once that no span of the document satisfies the plan's selection, since words that it needs don't stand
+    /// in the document. `false` says nothing. It moves no cursor and takes no memory.
+    pub fn rules_out(&self, doc: DocId) -> bool
+        requires there { has_document doc.0 self.now.version ≡ true }
+        ensures none { result ≡ true → (span : Span)
+            → (1 ≤ span.from) × (span.from ≤ span.to) × (span.to ≤ token_count (document_at doc.0 self.now.version) + 1)
+            → sat (lexicon self.now.lists) self.now.form (span_tokens span (document_at doc.0 self.now.version)) ≡ false }
+    {
+        is_ruled_out(doc, &self.root)
+    }
+}
