@@ -5,6 +5,7 @@ use Rattle.ordered_tree.specs.Numbered.{Numbered, element_at, text_at, Children,
 use Rattle.ft_base.specs.declared.ids.LeafId.{LeafId}
 use Rattle.ordered_tree.specs.declared.leaf.LeafWords.{LeafWords}
 use Rattle.ft_base.specs.declared.ids.NodeRef.{NodeRef}
+use Rattle.ordered_tree.specs.declared.texts.TextAt.{TextAt}
 
 abbrev mutual
   pub texts : Numbered → List (NodeRef × List ℕ)
@@ -14,6 +15,10 @@ abbrev mutual
   pub texts_of : Children → List (NodeRef × List ℕ)
   texts_of no_children = []
   texts_of (child_then n ns) = texts n ++ texts_of ns
+
+-- a text by itself, wherever it is in memory
+abbrev pub text_of : TextAt → NodeRef × List ℕ
+text_of t = (t.node, t.text.now)
 
 -- the leaf of a text has the number of the text's reference
 abbrev pub leaf_of : NodeRef → LeafId

@@ -15,6 +15,7 @@ ghost use Rattle.ordered_tree.specs.steps.Gathering.{Gathers, parts_of};
 
 use crate::NodeRef;
 use crate::around::Around;
+use crate::shared_text::SharedText;
 use crate::slot::{Held, Slot};
 use crate::texts_read::TextsRead;
 use ft_base::{Line, Memory};
@@ -163,14 +164,20 @@ fn add_text(
     ensures full { result ≡ Err TokenFault.Tokens → read.old.most < words_seen read.old.starts + length (words content) }
 {
     let here = slots.len();
-    let words = read.pass_text(NodeRef(here as u32), content.as_str())?;
+    let text = read.pass_text(NodeRef(here as u32), content)?;
+    let words = text.word_count() as u32;
     let next = sibling(is_last, here + 1);
-    push_text(slots, content, Around { next, ..around }, words)?;
+    push_text(slots, text, Around { next, ..around }, words)?;
     Ok(Added { words, levels: 0 })
 }
 
 /// Puts the slot of a text of so many words to the end.
-fn push_text(slots: &mut Vec<Slot>, text: Line, around: Around, words: u32) -> Result<(), Memory>
+fn push_text(
+    slots: &mut Vec<Slot>,
+    text: SharedText,
+    around: Around,
+    words: u32,
+) -> Result<(), Memory>
     ensures { OnOk result (slots.new.items ≡ slots.old.items ++ record {
       held = Held.Text text;
       around = around;

@@ -5,7 +5,7 @@ use ft_base::{Line, Memory};
 use plain_tree::copy_attrs;
 use std::alloc::Global;
 
-/// A copy of the slots.
+/// A copy of the slots, which shares their texts.
 pub(crate) fn copy_slots(alloc: Global, slots: &Vec<Slot>) -> Result<Vec<Slot>, Memory>
     ensures { IfOk result (λ copies. copies.items ≡ slots.now.items) }
 {
@@ -37,7 +37,7 @@ fn copy_held(alloc: Global, held: &Held) -> Result<Held, Memory>
             attrs: copy_attrs(alloc, attrs)?,
         }),
         Held::Text { text } => Ok(Held::Text {
-            text: Line::read(alloc, text.as_str())?,
+            text: text.share()?,
         }),
         Held::Free => Ok(Held::Free),
     }

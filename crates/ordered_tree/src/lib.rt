@@ -20,7 +20,9 @@ mod read;
 mod reading;
 mod ref_tree;
 mod referenced;
+mod shared_text;
 mod slot;
+mod texts;
 mod texts_read;
 
 pub use counting::count_nodes;
@@ -32,6 +34,8 @@ pub use leaf::LeafWords;
 pub use plain_tree::Place;
 pub use read::{Read, load_doc};
 pub use ref_tree::{RefKids, RefTree};
+pub use shared_text::SharedText;
+pub use texts::TextAt;
 
 /// A list of leaves.
 pub type LeafIds = Items<LeafId>;

@@ -13,10 +13,10 @@ use crate::NodeRef;
 use crate::around::Around;
 use crate::building::greater;
 use crate::ref_tree::{RefKids, RefTree, last_reference};
+use crate::shared_text::SharedText;
 use crate::slot::{Held, Slot};
 use ft_base::{Line, Memory};
 use plain_tree::Attrs;
-use tokenizer::count_words;
 
 /// What is known of a node that has its slot.
 #[derive(Clone, Copy)]
@@ -146,7 +146,7 @@ fn place_children(
 fn place_text(
     slots: &mut Vec<Slot>,
     node: NodeRef,
-    text: Line,
+    text: SharedText,
     around: Around,
 ) -> Result<Placed, Memory>
     requires here { node.0 < length slots.old.items }
@@ -156,7 +156,7 @@ fn place_text(
     ensures levels { IfOk result (λ done. done.levels ≡ 0) }
     ensures nodes { IfOk result (λ done. done.nodes ≡ 1) }
 {
-    let words = count_words(text.as_str())? as u32;
+    let words = text.word_count() as u32;
     slots[node.0 as usize] = Slot {
         held: Held::Text { text },
         around,

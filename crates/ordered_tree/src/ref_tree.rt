@@ -5,6 +5,7 @@ ghost use Rattle.ordered_tree.specs.Numbered.{first_of, reference};
 ghost use Rattle.ordered_tree.specs.RefView.{ref_node, ref_nodes};
 
 use crate::NodeRef;
+use crate::shared_text::SharedText;
 use ft_base::{Items, Line};
 use plain_tree::Attrs;
 
@@ -24,7 +25,7 @@ pub enum RefTree {
     /// A text.
     Text {
         node: NodeRef,
-        text: Line,
+        text: SharedText,
     },
 }
 

@@ -21,7 +21,7 @@ use plain_tree::copy_attrs;
 use std::alloc::Global;
 
 impl DocTree {
-    /// The document out of the slots, with the references of its nodes.
+    /// The document out of the slots, with the references of its nodes. It shares the texts.
     pub fn to_referenced(&self) -> Result<RefTree, Memory>
         ensures { IfOk result (λ tree. ref_node tree ≡ self.now.root) }
     {
@@ -81,7 +81,7 @@ fn referenced(alloc: Global, slots: &Vec<Slot>, here: NodeRef) -> Result<RefTree
     match &slot.held {
         Held::Text { text } => Ok(RefTree::Text {
             node: here,
-            text: Line::read(alloc, text.as_str())?,
+            text: text.share()?,
         }),
         Held::Element { name, attrs } => Ok(RefTree::Element {
             node: here,

@@ -1,5 +1,6 @@
 use crate::NodeRef;
 use crate::around::Around;
+use crate::shared_text::SharedText;
 use ft_base::Line;
 use plain_tree::Attrs;
 
@@ -7,7 +8,7 @@ use plain_tree::Attrs;
 #[derive(Drop)]
 pub(crate) enum Held {
     Element { name: Line, attrs: Attrs },
-    Text { text: Line },
+    Text { text: SharedText },
     /// Nothing: the slot is on the list of free ones.
     Free,
 }

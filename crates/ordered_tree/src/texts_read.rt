@@ -6,8 +6,9 @@ ghost use Rattle.tokenizer.specs.Words.{words};
 ghost use Rattle.tokenizer.specs.steps.StartsLeft.{words_seen, sentences_in, paragraphs_in};
 
 use crate::leaf::LeafWords;
+use crate::shared_text::SharedText;
 use crate::{Leaves, NodeRef};
-use ft_base::{Breaks, LeafId};
+use ft_base::{Breaks, LeafId, Line};
 use std::alloc::Global;
 use tokenizer::{Starts, TokenFault};
 
@@ -57,15 +58,15 @@ impl TextsRead {
         self.starts.pass_tag(name);
     }
 
-    /// Goes past the text of a node, and gives how many words it has.
-    pub(crate) fn pass_text(&mut self, node: NodeRef, text: &str) -> Result<u32, TokenFault>
-        ensures gathers { OnOk result (Gathers self.old ((node, text.now) ∷ []) (map part_of_segment (word_bounds text.now)) self.new) }
-        ensures words { IfOk result (λ count. count ≡ length (words text.now)) }
-        ensures counted { OnOk result (words_seen self.new.starts ≡ words_seen self.old.starts + length (words text.now)) }
-        ensures full { result ≡ Err TokenFault.Tokens → self.old.most < words_seen self.old.starts + length (words text.now) }
+    /// Goes past the text of a node, and gives it back with the number of its words.
+    pub(crate) fn pass_text(&mut self, node: NodeRef, text: Line) -> Result<SharedText, TokenFault>
+        ensures gathers { OnOk result (Gathers self.old ((node, text) ∷ []) (map part_of_segment (word_bounds text)) self.new) }
+        ensures text { IfOk result (λ shared. shared ≡ text) }
+        ensures counted { OnOk result (words_seen self.new.starts ≡ words_seen self.old.starts + length (words text)) }
+        ensures full { result ≡ Err TokenFault.Tokens → self.old.most < words_seen self.old.starts + length (words text) }
     {
-        let words = self.starts.pass_text(self.alloc, text, self.most)?;
-        let count = words.len() as u32;
+        let words = self.starts.pass_text(self.alloc, text.as_str(), self.most)?;
+        let shared = SharedText::counted(self.alloc, text, words.len())?;
         let leaf = LeafId(node.0);
         self.leaves.push(LeafWords {
             leaf,
@@ -73,7 +74,7 @@ impl TextsRead {
             words,
         })?;
         self.last = Some(leaf);
-        Ok(count)
+        Ok(shared)
     }
 
     /// The leaves and the places, where the document ends here.

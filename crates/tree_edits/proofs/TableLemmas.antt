@@ -9,15 +9,15 @@ use Rattle.std.proofs.lemmas.List.Folds.{list_any-append}
 use Rattle.ft_base.proofs.Truth.{or_false}
 use Rattle.ft_base.specs.declared.ids.LeafId.{LeafId}
 use Rattle.ft_base.specs.declared.ids.NodeRef.{NodeRef}
-use Rattle.ordered_tree.specs.Leaves.{leaf_of, texts}
+use Rattle.ordered_tree.specs.Leaves.{leaf_of, text_of, texts}
 use Rattle.ordered_tree.specs.Numbered.{Numbered}
 use Rattle.ordered_tree.specs.Stands.{references}
 use Rattle.ordered_tree.proofs.ApartLemmas.{All-before_map}
 use Rattle.tokenizer.specs.Words.{words}
 use Rattle.tree_edits.specs.Changed.{Text, is_text, put_by, stays}
 use Rattle.tree_edits.specs.Edits.{is_same}
-use Rattle.tree_edits.specs.declared.changing.TextAt.{TextAt}
-use Rattle.tree_edits.specs.steps.TextTable.{is_entry, is_held, text_of}
+use Rattle.ordered_tree.specs.declared.texts.TextAt.{TextAt}
+use Rattle.tree_edits.specs.steps.TextTable.{is_entry, is_held}
 use Rattle.tree_edits.proofs.EditLemmas.{references-are}
 use Rattle.tree_edits.proofs.Gathered.{texts-refs, texts_part}
 use Rattle.tree_edits.proofs.RefSteps.{drop_next}

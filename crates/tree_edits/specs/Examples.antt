@@ -5,7 +5,7 @@ use Rattle.ft_base.specs.declared.ids.NodeRef.{NodeRef}
 use Rattle.ordered_tree.specs.declared.leaf.LeafWords.{LeafWords}
 use Rattle.ordered_tree.specs.Numbered.{Numbered, element_at, text_at, Children, no_children, child_then}
 use Rattle.tree_edits.specs.declared.change.Change.{Change}
-use Rattle.tree_edits.specs.declared.changing.TextAt.{TextAt}
+use Rattle.ordered_tree.specs.declared.texts.TextAt.{TextAt}
 
 abbrev pub ref : ℕ → NodeRef
 ref number = record { 0 = number }

@@ -1,27 +1,20 @@
 //! What an edit changed, by the texts of the document of before and of that behind it.
 
 ghost use Rattle.std.specs.Prelude.{◌≡◌, ◌≢◌, ◌<◌, ◌++◌, All, AllPairs, IfOk, OnOk, filter, length, map, not, replicate, slice_set, None, Some};
-ghost use Rattle.ordered_tree.specs.Leaves.{leaf_of, texts, texts_of};
+ghost use Rattle.ordered_tree.specs.Leaves.{leaf_of, text_of, texts, texts_of};
 ghost use Rattle.ordered_tree.specs.RefView.{ref_node, ref_nodes};
 ghost use Rattle.ordered_tree.specs.Stands.{references};
 ghost use Rattle.tokenizer.specs.Words.{words};
 ghost use Rattle.tree_edits.specs.Changed as spec;
 ghost use Rattle.tree_edits.specs.Changed.{put_by};
-ghost use Rattle.tree_edits.specs.steps.TextTable.{is_held, text_of};
+ghost use Rattle.tree_edits.specs.steps.TextTable.{is_held};
 
 use crate::change::Change;
-use ft_base::{LeafId, Memory, NodeRef};
-use ordered_tree::{LeafIds, LeafWords, Leaves, RefTree};
+use ft_base::{LeafId, Memory};
+use ordered_tree::{DocTree, LeafIds, LeafWords, Leaves, RefTree, TextAt};
 use std::alloc::Global;
 use text_list::TextList;
 use tokenizer::words_of;
-
-/// A text of a document, with its reference.
-#[derive(Clone, Copy)]
-pub(crate) struct TextAt<'a> {
-    pub(crate) node: NodeRef,
-    pub(crate) text: &'a str,
-}
 
 /// The texts of a document, in its order and by the numbers of their references.
 #[derive(Drop)]
@@ -30,22 +23,32 @@ struct Texts<'a> {
     table: Vec<Option<TextAt<'a>>>,
 }
 
-/// What changed as one document became the other. The references of each are below its number.
+/// What changed as a document in slots became the other, whose references are below the number.
 pub(crate) fn change_from(
     alloc: Global,
-    old: &RefTree,
-    old_size: usize,
+    old: &DocTree,
     new: &RefTree,
     new_size: usize,
 ) -> Result<Change, Memory>
-    requires order { spec.KeepsOrder (ref_node old.now) (ref_node new.now) }
-    requires old_below { All (λ r. r.0 < old_size) (references (ref_node old.now)) }
-    requires new_below { All (λ r. r.0 < new_size) (references (ref_node new.now)) }
-    ensures { IfOk result (λ change. spec.Made (ref_node old.now) change (ref_node new.now)) }
+    requires order { spec.KeepsOrder old.now.root (ref_node new.now) }
+    requires below { All (λ r. r.0 < new_size) (references (ref_node new.now)) }
+    ensures { IfOk result (λ change. spec.Made old.now.root change (ref_node new.now)) }
 {
-    let old = texts_in(alloc, old, old_size)?;
+    let old = texts_in_slots(alloc, old)?;
     let new = texts_in(alloc, new, new_size)?;
     change_between(alloc, &old, &new)
+}
+
+/// The texts of a document in slots.
+fn texts_in_slots<'a>(alloc: Global, tree: &'a DocTree) -> Result<Texts<'a>, Memory>
+    ensures list { IfOk result (λ made. map text_of made.list.items ≡ texts tree.now.root) }
+    ensures table { IfOk result (λ made. (t : spec.Text) → is_held made.table.items t ≡ spec.stays (texts tree.now.root) t) }
+{
+    // No two nodes have one reference, as the clauses of `root` say.
+    let _root = tree.root();
+    let list = tree.all_texts()?;
+    let table = table_of(alloc, list.as_slice(), tree.slot_count())?;
+    Ok(Texts { list, table })
 }
 
 /// The texts of a document whose references are below the number.

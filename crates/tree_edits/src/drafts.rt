@@ -56,10 +56,7 @@ impl Draft {
         requires { KeepsOrder old.now.root (ref_node self.now.root) }
         ensures { IfOk result (λ change. Made old.now.root change (ref_node self.now.root)) }
     {
-        let before = old.to_referenced()?;
-        let change = change_from(alloc, &before, old.slot_count(), &self.root, self.slots);
-        drop(before);
-        change
+        change_from(alloc, old, &self.root, self.slots)
     }
 
     /// The document in slots. Where it has 2^31 words or more, there is no memory for it.

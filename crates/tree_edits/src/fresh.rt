@@ -8,7 +8,7 @@ ghost use Rattle.plain_tree.specs.View.{node};
 ghost use Rattle.tree_edits.specs.Fresh.{all_fresh, fresh};
 
 use ft_base::{Line, Memory};
-use ordered_tree::{NodeRef, RefKids, RefTree};
+use ordered_tree::{NodeRef, RefKids, RefTree, SharedText};
 use plain_tree::{Tree, copy_attrs};
 use std::alloc::Global;
 
@@ -42,7 +42,7 @@ fn fresh_tree(
     match tree {
         Tree::Text { text } => Ok(RefTree::Text {
             node: own,
-            text: Line::read(alloc, text.as_str())?,
+            text: copy_text(alloc, text.as_str())?,
         }),
         Tree::Elem { name, attrs, kids } => Ok(RefTree::Element {
             node: own,
@@ -70,4 +70,12 @@ fn fresh_all(
         kids.push(fresh_tree(alloc, tree, refs, next)?)?;
     }
     Ok(kids)
+}
+
+/// A copy of a text.
+fn copy_text(alloc: Global, text: &str) -> Result<SharedText, Memory>
+    ensures { IfOk result (λ made. made ≡ text.now) }
+{
+    let copy = Line::read(alloc, text)?;
+    SharedText::new(alloc, copy)
 }

@@ -8,7 +8,7 @@ ghost use Rattle.plain_tree.specs.Document.{are_joined};
 ghost use Rattle.tree_edits.specs.Edits.{append, joined, only};
 
 use ft_base::{Line, Memory, NodeRef};
-use ordered_tree::{RefKids, RefTree};
+use ordered_tree::{RefKids, RefTree, SharedText};
 use std::alloc::Global;
 
 /// Puts nodes to the end of others that are joined already, and joins their texts. Where memory runs out, the others are given up.
@@ -32,7 +32,7 @@ pub(crate) fn join_tree(alloc: Global, list: &mut Vec<RefTree>, tree: RefTree) -
         → ref_nodes (map ref_node list.new.items) ≡ joined (append (ref_nodes (map ref_node list.old.items)) (only (ref_node tree)))) }
 {
     match tree {
-        RefTree::Text { node, text } => join_text(list, node, text),
+        RefTree::Text { node, text } => join_text(alloc, list, node, text),
         RefTree::Element {
             node,
             name,
@@ -54,7 +54,12 @@ pub(crate) fn join_tree(alloc: Global, list: &mut Vec<RefTree>, tree: RefTree) -
 
 /// Puts a text to the end of nodes that are joined already, and joins it with a text that stands there, under the reference of that
 /// one. Where memory runs out, the nodes are given up.
-fn join_text(list: &mut Vec<RefTree>, node: NodeRef, more: Line) -> Result<(), Memory>
+fn join_text(
+    alloc: Global,
+    list: &mut Vec<RefTree>,
+    node: NodeRef,
+    more: SharedText,
+) -> Result<(), Memory>
     ensures { OnOk result (are_joined (plain_children (ref_nodes (map ref_node list.old.items))) ≡ true
         → ref_nodes (map ref_node list.new.items) ≡ joined (append (ref_nodes (map ref_node list.old.items)) (only (text_at node more)))) }
 {
@@ -62,7 +67,7 @@ fn join_text(list: &mut Vec<RefTree>, node: NodeRef, more: Line) -> Result<(), M
         return Ok(());
     }
     match list.pop() {
-        Some(last) => join_behind(list, last, node, more),
+        Some(last) => join_behind(alloc, list, last, node, more),
         None => {
             push_text(list, node, more)?;
             Ok(())
@@ -72,10 +77,11 @@ fn join_text(list: &mut Vec<RefTree>, node: NodeRef, more: Line) -> Result<(), M
 
 /// Puts a node and a text behind it to the end, as one text where the node is one.
 fn join_behind(
+    alloc: Global,
     list: &mut Vec<RefTree>,
     last: RefTree,
     node: NodeRef,
-    more: Line,
+    more: SharedText,
 ) -> Result<(), Memory>
     requires { 0 < length more }
     ensures { OnOk result (are_joined (plain_children (ref_nodes (map ref_node (list.old.items ++ last ∷ [])))) ≡ true
@@ -83,7 +89,7 @@ fn join_behind(
 {
     match last {
         RefTree::Text { node: first, text } => {
-            push_text(list, first, one_text(text, more.as_str())?)?;
+            push_text(list, first, one_text(alloc, &text, &more)?)?;
             Ok(())
         }
         RefTree::Element {
@@ -105,16 +111,16 @@ fn join_behind(
 }
 
 /// The text with more behind it.
-fn one_text(text: Line, more: &str) -> Result<Line, Memory>
-    ensures { IfOk result (λ line. line ≡ text ++ more.now) }
+fn one_text(alloc: Global, text: &SharedText, more: &SharedText) -> Result<SharedText, Memory>
+    ensures { IfOk result (λ one. one ≡ text.now ++ more.now) }
 {
-    let mut bytes = text.into_string();
-    bytes.push_str(more)?;
-    Ok(Line::from_string(bytes))
+    let mut bytes = String::from_str(alloc, text.as_str())?;
+    bytes.push_str(more.as_str())?;
+    SharedText::new(alloc, Line::from_string(bytes))
 }
 
 /// Puts a text to the end as it is.
-fn push_text(list: &mut Vec<RefTree>, node: NodeRef, text: Line) -> Result<(), Memory>
+fn push_text(list: &mut Vec<RefTree>, node: NodeRef, text: SharedText) -> Result<(), Memory>
     ensures { OnOk result (list.new.items ≡ list.old.items ++ Text node text ∷ []) }
 {
     list.push(RefTree::Text { node, text })?;

@@ -7,8 +7,7 @@ ghost use Rattle.ordered_tree.specs.Numbered.{plain, plain_children};
 ghost use Rattle.ordered_tree.specs.RefView.{ref_node, ref_nodes};
 ghost use Rattle.tokenizer.specs.Words.{words};
 
-use ordered_tree::RefTree;
-use tokenizer::count_words;
+use ordered_tree::{RefTree, SharedText};
 
 /// How many nodes there are, and how many elements stand in one another, at most.
 #[derive(Clone, Copy)]
@@ -65,7 +64,7 @@ pub(crate) fn take_words(tree: &RefTree, left: &mut usize) -> bool
     ensures too_few { result ≡ false → left.old < word_count (plain (ref_node tree.now)) }
 {
     match tree {
-        RefTree::Text { text, .. } => take_text(text.as_str(), left),
+        RefTree::Text { text, .. } => take_text(text, left),
         RefTree::Element { kids, .. } => take_all_words(kids.as_slice(), left),
     }
 }
@@ -85,13 +84,11 @@ fn take_all_words(trees: &[RefTree], left: &mut usize) -> bool
 }
 
 /// The same of a text.
-fn take_text(text: &str, left: &mut usize) -> bool
+fn take_text(text: &SharedText, left: &mut usize) -> bool
     ensures enough { result ≡ true → left.old ≡ left.new + length (words text.now) }
     ensures too_few { result ≡ false → left.old < length (words text.now) }
 {
-    let Ok(words) = count_words(text) else {
-        unreachable!()
-    };
+    let words = text.word_count();
     if words > *left {
         return false;
     }

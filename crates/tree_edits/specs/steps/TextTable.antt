@@ -1,10 +1,8 @@
 -- Texts of a document in a table by the numbers of their references.
 use Rattle.std.specs.Prelude.{Bool, false, List, Option, Some, None, slice_index_or}
+use Rattle.ordered_tree.specs.Leaves.{text_of}
 use Rattle.tree_edits.specs.Changed.{Text, is_text}
-use Rattle.tree_edits.specs.declared.changing.TextAt.{TextAt}
-
-abbrev pub text_of : TextAt → Text
-text_of t = (t.node, t.text.now)
+use Rattle.ordered_tree.specs.declared.texts.TextAt.{TextAt}
 
 abbrev pub is_entry : Option TextAt → Text → Bool
 is_entry None t = false

@@ -23,4 +23,4 @@ returns-clause-gathers c =
     let new = c.pass_text.new.self in
     let here = c.len-here.result in
     Gathers-text old new c.args.content (length c.args.slots.now.items) here (omega arith)
-    (subst (λ (b : List ℕ). Gathers old ((record { 0 = here }, b) ∷ []) (map part_of_segment (word_bounds b)) new) c.as_str.ensures c.in_ok-words.ensures.gathers)
+    c.in_ok-text.ensures.gathers

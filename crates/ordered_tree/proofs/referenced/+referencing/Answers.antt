@@ -65,13 +65,13 @@ referenced-all_referenced-requires t c =
     let s = c.index-slot.result.now in
     (omega (arith, c.decreases, smaller-here slots c.args.here c.requires s c.index-slot.ensures c.in-Element.name c.in-Element.attrs c.in-Element.is), inner-here slots c.args.here c.requires s c.index-slot.ensures)
 
-pub referenced-returns-in_ok-read-in-Text : goal.referenced-returns-in_ok-read-in-Text
-referenced-returns-in_ok-read-in-Text t c =
+pub referenced-returns-in_ok-share-in-Text : goal.referenced-returns-in_ok-share-in-Text
+referenced-returns-in_ok-share-in-Text t c =
     let slots = c.args.slots.now.items in
     let s = c.index-slot.result.now in
     let st : Step slots c.args.here = step slots c.args.here c.requires in
     let is : held st.n ≡ Text c.in-Text.text = held-here slots c.args.here c.requires s c.index-slot.ensures (Text c.in-Text.text) c.in-Text.is in
-    ref_node_text c.args.here c.in_ok-read-in-Text.field-0 ∙ ap (text_at c.args.here) (c.in_ok-read-in-Text.ensures ∙ c.as_str.ensures)
+    ref_node_text c.args.here c.in_ok-share-in-Text.field-0 ∙ ap (text_at c.args.here) c.in_ok-share-in-Text.ensures
     ∙ ap (λ r. text_at r c.in-Text.text) (sym st.refers) ∙ sym (node-text st.n c.in-Text.text is) ∙ sym (node_at-is slots c.args.here st)
 
 pub referenced-returns-in_ok-all_referenced-in-Element : goal.referenced-returns-in_ok-all_referenced-in-Element
@@ -82,7 +82,7 @@ referenced-returns-in_ok-all_referenced-in-Element t c =
     let is : held st.n ≡ Element c.in-Element.name c.in-Element.attrs = held-here slots c.args.here c.requires s c.index-slot.ensures (Element c.in-Element.name c.in-Element.attrs) c.in-Element.is in
     let kids : ref_nodes (map ref_node c.in_ok-all_referenced-in-Element.field-0) ≡ children st.n = c.in_ok-all_referenced-in-Element.ensures ∙ row-here slots c.args.here c.requires s c.index-slot.ensures in
     ref_node_element _ _ _ _
-    ∙ ap (λ n. element_at c.args.here n c.in_ok-copy_attrs-in-Element.field-0 (ref_nodes (map ref_node c.in_ok-all_referenced-in-Element.field-0))) (c.in_ok-read-in-Element.ensures ∙ c.as_str-in-Element.ensures)
+    ∙ ap (λ n. element_at c.args.here n c.in_ok-copy_attrs-in-Element.field-0 (ref_nodes (map ref_node c.in_ok-all_referenced-in-Element.field-0))) (c.in_ok-read-in-Element.ensures ∙ c.as_str.ensures)
     ∙ ap (λ a. element_at c.args.here c.in-Element.name a (ref_nodes (map ref_node c.in_ok-all_referenced-in-Element.field-0))) c.in_ok-copy_attrs-in-Element.ensures
     ∙ ap (element_at c.args.here c.in-Element.name c.in-Element.attrs) kids
     ∙ ap (λ r. element_at r c.in-Element.name c.in-Element.attrs (children st.n)) (sym st.refers)

@@ -1,10 +1,9 @@
 -- A text is put to the end.
 use Rattle.std.proofs.Common.{◌++◌, ◌∷◌, [], map, sym, ap, ◌∙◌}
 use Rattle.std.proofs.lemmas.List.{map-append}
-use Rattle.ordered_tree.specs.Leaves.{texts}
+use Rattle.ordered_tree.specs.Leaves.{text_of, texts}
 use Rattle.ordered_tree.specs.RefView.{ref_node}
 use Rattle.ordered_tree.proofs.RefViews.{ref_node_text}
-use Rattle.tree_edits.specs.steps.TextTable.{text_of}
 use Rattle.tree_edits.proofs.changing.+listing.Goals as goal
 
 pub add_texts-returns-in_ok-push-in-Text : goal.add_texts-returns-in_ok-push-in-Text

@@ -1,7 +1,6 @@
 -- The texts so far and those that are left are all.
 use Rattle.std.proofs.Common.{◌≡◌, ◌++◌, drop, map}
-use Rattle.ordered_tree.specs.Leaves.{texts_of}
-use Rattle.tree_edits.specs.steps.TextTable.{text_of}
+use Rattle.ordered_tree.specs.Leaves.{text_of, texts_of}
 use Rattle.tree_edits.proofs.RowsJoined.{row}
 use Rattle.tree_edits.proofs.changing.+listing.Given as goal
 

@@ -2,17 +2,17 @@
 use Rattle.std.proofs.Common.{◌≡◌, not, None, filter, map, ap, ◌∙◌}
 use Rattle.std.proofs.lemmas.List.Elements.{filter_agree}
 use Rattle.std.proofs.lemmas.Result.{IfOk-weaker}
-use Rattle.ordered_tree.specs.Leaves.{leaf_of, texts}
+use Rattle.ordered_tree.specs.Leaves.{leaf_of, text_of, texts}
 use Rattle.ordered_tree.specs.RefView.{ref_node}
 use Rattle.tree_edits.specs.Changed.{Made, Text, put, put_by, stays, taken}
 use Rattle.tree_edits.specs.declared.change.Change.{Change}
-use Rattle.tree_edits.specs.steps.TextTable.{is_held, text_of}
+use Rattle.tree_edits.specs.steps.TextTable.{is_held}
 use Rattle.tree_edits.proofs.TableLemmas.{put_by_agree}
 use Rattle.tree_edits.proofs.changing.change_from.Goals as goal
 
 pub returns : goal.returns
 returns c =
-    let old = ref_node c.args.old.now in
+    let old = c.args.old.now.root in
     let new = ref_node c.args.new.now in
     let olds = c.in_ok-old.old in
     let news = c.in_ok-new.new in

@@ -1,7 +1,7 @@
 -- Each text is put where its reference is, and no other one has that.
 use Rattle.std.proofs.Common.{◌<◌, [], Some, length, get_or, sym, ap, ◌∙◌, subst}
 use Rattle.std.proofs.lemmas.List.{get_or_default, length-set}
-use Rattle.tree_edits.specs.declared.changing.TextAt.{TextAt}
+use Rattle.ordered_tree.specs.declared.texts.TextAt.{TextAt}
 use Rattle.tree_edits.proofs.References.{distinct_from}
 use Rattle.tree_edits.proofs.TableLemmas.{one_more, place_below}
 use Rattle.tree_edits.proofs.changing.table_of.Goals as goal

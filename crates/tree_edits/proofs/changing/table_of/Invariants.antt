@@ -1,7 +1,8 @@
 -- The table has the texts so far.
 use Rattle.std.proofs.Common.{◌≡◌, length, map, take}
+use Rattle.ordered_tree.specs.Leaves.{text_of}
 use Rattle.tree_edits.specs.Changed.{Text, stays}
-use Rattle.tree_edits.specs.steps.TextTable.{is_held, text_of}
+use Rattle.tree_edits.specs.steps.TextTable.{is_held}
 use Rattle.tree_edits.proofs.changing.table_of.Given as goal
 
 abbrev pub invariant-loop-text : goal.invariant-loop-text

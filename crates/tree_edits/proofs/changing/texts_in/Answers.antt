@@ -2,10 +2,9 @@
 use Rattle.std.proofs.Common.{◌≡◌, ◌≢◌, ◌<◌, ◌++◌, map, sym, ap, ◌∙◌, subst}
 use Rattle.std.specs.List.{All, AllPairs}
 use Rattle.ft_base.specs.declared.ids.NodeRef.{NodeRef}
-use Rattle.ordered_tree.specs.Leaves.{texts}
+use Rattle.ordered_tree.specs.Leaves.{text_of, texts}
 use Rattle.ordered_tree.specs.RefView.{ref_node}
-use Rattle.tree_edits.specs.declared.changing.TextAt.{TextAt}
-use Rattle.tree_edits.specs.steps.TextTable.{text_of}
+use Rattle.ordered_tree.specs.declared.texts.TextAt.{TextAt}
 use Rattle.tree_edits.proofs.EditLemmas.{texts_apart}
 use Rattle.tree_edits.proofs.References.{distinct_pairs}
 use Rattle.tree_edits.proofs.TableLemmas.{refs-text_of, texts_below}

@@ -54,17 +54,17 @@ fresh_tree-fresh_all-requires t c =
     let same = ap (λ l. nodes_count (nodes (map node l))) c.as_slice.ensures in
     (omega (arith, c.decreases), omega (arith, c.requires))
 
-pub fresh_tree-returns-in_ok-read-in-Text-clause-tree : goal.fresh_tree-returns-in_ok-read-in-Text-clause-tree
-fresh_tree-returns-in_ok-read-in-Text-clause-tree t c =
+pub fresh_tree-returns-in_ok-copy_text-in-Text-clause-tree : goal.fresh_tree-returns-in_ok-copy_text-in-Text-clause-tree
+fresh_tree-returns-in_ok-copy_text-in-Text-clause-tree t c =
     let refs = c.args.refs.now in
     let next = c.args.next.now in
     let is : node c.args.tree.now ≡ text c.in-Text.text = ap node c.in-Text.is ∙ node_text _ in
     ref_node_text _ _
-    ∙ ap₂ text_at (sym (first_left refs next)) (c.in_ok-read-in-Text.ensures ∙ c.as_str.ensures)
+    ∙ ap₂ text_at (sym (first_left refs next)) (c.in_ok-copy_text-in-Text.ensures ∙ c.as_str.ensures)
     ∙ ap (fresh (drop next refs)) (sym is)
 
-pub fresh_tree-returns-in_ok-read-in-Text-clause-next : goal.fresh_tree-returns-in_ok-read-in-Text-clause-next
-fresh_tree-returns-in_ok-read-in-Text-clause-next t c =
+pub fresh_tree-returns-in_ok-copy_text-in-Text-clause-next : goal.fresh_tree-returns-in_ok-copy_text-in-Text-clause-next
+fresh_tree-returns-in_ok-copy_text-in-Text-clause-next t c =
     let is : node c.args.tree.now ≡ text c.in-Text.text = ap node c.in-Text.is ∙ node_text _ in
     omega (arith, ap node_count is)
 

@@ -10,7 +10,7 @@ returns-in_ok-push_text-in-Text c =
     let front = c.args.list.now.items in
     λ h.
     ap row c.in_ok-push_text-in-Text.ensures
-    ∙ ap (λ z. row (front ++ Text c.in-Text.first z ∷ [])) (c.in_ok-one_text-in-Text.ensures ∙ ap (λ z. c.in-Text.text ++ z) c.as_str.ensures)
+    ∙ ap (λ z. row (front ++ Text c.in-Text.first z ∷ [])) c.in_ok-one_text-in-Text.ensures
     ∙ text_after_text (front ++ c.args.last ∷ []) front c.in-Text.first c.args.node c.in-Text.text c.args.more h (ap (λ t. front ++ t ∷ []) c.in-Text.is) some
 
 pub returns-in_ok-push_text-in-Element : goal.returns-in_ok-push_text-in-Element

@@ -1,5 +1,9 @@
 -- The text gives one leaf more, behind the last one, and the starts in it are those that its words bring.
-use Rattle.std.proofs.Common.{[], ◌∷◌, ◌++◌, refl, ap, ◌∙◌}
+use Rattle.std.proofs.Common.{◌≡◌, ℕ, List, [], ◌∷◌, ◌++◌, map, refl, ap, ◌∙◌, subst}
+use Rattle.unicode_segmentation.specs.Word.{word_bounds}
+use Rattle.tokenizer.specs.Parts.{Part, part_of_segment}
+use Rattle.tokenizer.specs.Words.{words}
+use Rattle.tokenizer.specs.steps.StartsLeft.{sentences_in, paragraphs_in}
 use Rattle.ordered_tree.specs.Leaves.{leaf_of, leaves_behind, last_leaf}
 use Rattle.ordered_tree.proofs.texts_read.TextsRead.pass_text.Goals as goal
 
@@ -7,10 +11,14 @@ pub returns-clause-gathers : goal.returns-clause-gathers
 unfolding leaves_behind last_leaf
 returns-clause-gathers c =
     let old = c.args.self.now in
+    let starts = c.pass_text.new.self in
+    let parts = λ (b : List ℕ). map part_of_segment (word_bounds b) in
     record {
-      leaves = c.in_ok-push.ensures.ok ∙ ap (λ ws. old.leaves ++ record { leaf = leaf_of c.args.node; after = old.last; words = ws } ∷ []) c.in_ok-words.ensures.words;
+      leaves = c.in_ok-push.ensures.ok
+          ∙ ap (λ ws. old.leaves ++ record { leaf = leaf_of c.args.node; after = old.last; words = ws } ∷ []) c.in_ok-words.ensures.words
+          ∙ ap (λ b. old.leaves ++ record { leaf = leaf_of c.args.node; after = old.last; words = words b } ∷ []) c.as_str.ensures;
       last = refl;
-      sentences = c.in_ok-words.ensures.sentences;
-      paragraphs = c.in_ok-words.ensures.paragraphs;
+      sentences = subst (λ (b : List ℕ). (rest : List Part) → sentences_in old.starts (parts b ++ rest) ≡ sentences_in starts rest) c.as_str.ensures c.in_ok-words.ensures.sentences;
+      paragraphs = subst (λ (b : List ℕ). (rest : List Part) → paragraphs_in old.starts (parts b ++ rest) ≡ paragraphs_in starts rest) c.as_str.ensures c.in_ok-words.ensures.paragraphs;
       most = refl;
     }
