@@ -1,11 +1,11 @@
 -- Replies that are written one after the other.
 use Rattle.std.proofs.Common.{◌≡◌, ◌∙◌, sym, ap, refl, ℕ, ◌+◌, ◌<◌, List, [], ◌∷◌, ◌++◌, length, drop, get_or, append_assoc}
-use Rattle.std.specs.Prelude.{Option, Some, None}
+use Rattle.std.specs.Prelude.{Option, Some, None, Result, Ok, Err, OnErr}
 use Rattle.std.proofs.lemmas.List.{append-nil, at_drop_more}
-use Rattle.plan_compiler.specs.Judgement.{Judgement}
+use Rattle.plan_runs.specs.Judgement.{Judgement}
 use Rattle.session_text.specs.declared.command.Command.{Command}
-use Rattle.ft_session.specs.State.{State}
-use Rattle.ft_session.specs.Step.{replies, state_after, step}
+use Rattle.session_state.specs.State.{State}
+use Rattle.session_state.specs.Step.{replies, state_after, step}
 use Rattle.ft_session.specs.Run.{TookPrefix, with_text}
 use Rattle.ft_session.proofs.WrittenLemmas.{with_text_twice}
 
@@ -40,6 +40,10 @@ prefix_more before now next text rest all so_far took = record {
 -- nothing or all of a text is written
 pub prefix_nothing : (before : Option (List ℕ)) (text : List ℕ) → TookPrefix before before text
 prefix_nothing before text = record { prefix = []; rest = text; whole = refl; took = with_nothing before }
+
+pub nothing_taken : {T E : Type 0} (r : Result T E) (before : Option (List ℕ)) (text : List ℕ) → OnErr r (TookPrefix before before text)
+nothing_taken (Ok x) before text = tt
+nothing_taken (Err e) before text = prefix_nothing before text
 
 pub prefix_all : (before after : Option (List ℕ)) (text : List ℕ) → after ≡ with_text before text → TookPrefix before after text
 prefix_all before after text wrote = record { prefix = text; rest = []; whole = append-nil text; took = wrote }

@@ -5,7 +5,7 @@ use Rattle.std.specs.Result.{IsErrAnd}
 use Rattle.std.proofs.lemmas.Result.{err_from_is_err_and}
 use Rattle.ft_base.specs.Limits.{max_session_bytes}
 use Rattle.ft_io.specs.Shelf.{Files, bytes_of, known_bytes}
-use Rattle.plan_compiler.specs.Judgement.{Judgement}
+use Rattle.plan_runs.specs.Judgement.{Judgement}
 use Rattle.ft_session.specs.declared.answering.AnswerError.{AnswerError}
 use Rattle.ft_session.specs.declared.answering.AnswerError.TheVariants as unanswered
 use Rattle.ft_session.specs.declared.pieces.Stopped.{Stopped}

@@ -1,16 +1,7 @@
 pub mod AnswerLemmas
-pub mod ChosenLemmas
-pub mod EditLemmas
 pub mod FileLemmas
-pub mod MarkLemmas
-pub mod NamedLemmas
-pub mod PathLemmas
 pub mod QueryLemmas
 pub mod ProgressLemmas
 pub mod ReadLemmas
-pub mod SelectionNumbers
-pub mod SelectionTestLemmas
-pub mod StateLemmas
 pub mod StoppedLemmas
-pub mod TextLemmas
 pub mod WrittenLemmas

@@ -5,18 +5,18 @@ use Rattle.std.specs.List.{list_any}
 use Rattle.std.proofs.lemmas.List.{drop_all, take-append-drop, length-take-le}
 use Rattle.std.proofs.lemmas.List.Folds.{list_any-append}
 use Rattle.ft_io.specs.Shelf.{Reads}
-use Rattle.plan_compiler.specs.Judgement.{Judgement}
+use Rattle.plan_runs.specs.Judgement.{Judgement}
 use Rattle.session_text.specs.declared.command.Command.{Command}
 use Rattle.session_text.specs.declared.reply.Reply.{Reply}
 use Rattle.session_text.specs.Commands.{commands, whole}
 use Rattle.session_text.specs.steps.Reading.{Reading, new_reading, commands_left, whole_left}
 use Rattle.session_text.specs.Replies.{is_refusal, reply_text}
+use Rattle.session_state.specs.State.{State, opening}
+use Rattle.session_state.specs.Step.{replies, state_after, step}
 use Rattle.ft_session.specs.declared.answering.AnswerError.{AnswerError}
 use Rattle.ft_session.specs.Output.{texts_of, replies_to, replies_to_whole, output, output_of_whole, has_refusal}
 use Rattle.ft_session.specs.steps.Pieces.{Answered}
 use Rattle.ft_session.specs.Run.{BeginsWith, TookPrefix, with_text}
-use Rattle.ft_session.specs.State.{State, opening}
-use Rattle.ft_session.specs.Step.{replies, state_after, step}
 use Rattle.ft_session.proofs.AnswerLemmas.{prefix_nothing, with_nothing}
 use Rattle.ft_session.proofs.ReadLemmas.{known_prefix_grows}
 use Rattle.ft_session.proofs.WrittenLemmas.{with_text_twice}

@@ -3,7 +3,7 @@ use Rattle.std.specs.Prelude.{◌≡◌, ◌⊎◌, ℕ, Bool, ◌&&◌, not, na
 use Rattle.std.specs.Prelude.{◌++◌, length, take, codes, Option, Some, None, IfSome, option_map}
 use Rattle.std.specs.List.{starts_with}
 use Rattle.ft_base.specs.Lists.{is_empty}
-use Rattle.plan_compiler.specs.Judgement.{Judgement}
+use Rattle.plan_runs.specs.Judgement.{Judgement}
 use Rattle.ft_session.specs.declared.status.Status.{Status}
 use Rattle.ft_session.specs.declared.status.Status.TheVariants.{Done, SomeRefused}
 use Rattle.ft_session.specs.Output.{output, short_output, has_refusal}

@@ -1,21 +1,18 @@
 //! What a session answers to a query, said aloud, whatever its judge says.
 
-ghost use Rattle.std.specs.Prelude.{◌≡◌, ℕ, Bool, List, map, filter, flat_map, Some, Ok, AllPairs};
+ghost use Rattle.std.specs.Prelude.{◌≡◌, ℕ, List, map, flat_map, Some, Ok};
 ghost use Rattle.std.specs.List.{slice_get};
 ghost use Rattle.element_lines.specs.Lines.{element_line};
 ghost use Rattle.path_meaning.specs.Collection.{Named, documents};
-ghost use Rattle.path_meaning.specs.Elements.{Element, elements};
-ghost use Rattle.path_meaning.specs.Order.{Before};
 ghost use Rattle.path_subset.specs.Answer.{path_read};
 ghost use Rattle.path_subset.specs.Paths.{PathForm};
-ghost use Rattle.plan_compiler.specs.Judgement.{Judgement};
+ghost use Rattle.plan_runs.specs.Judgement.{Judgement};
 ghost use Rattle.session_text.specs.Commands.{commands};
 ghost use Rattle.session_text.specs.declared.command.Command.TheVariants.{Query};
 ghost use Rattle.session_text.specs.declared.reply.Reply.TheVariants.{Nodes};
+ghost use Rattle.session_state.specs.Paths.{selected_in, IsAnswered};
 ghost use Rattle.ft_session.specs.Output.{replies_to};
-ghost use Rattle.ft_session.specs.Paths.{selected_in};
-ghost use Rattle.ft_session.specs.Queries.{IsAnswered, state_before};
-ghost use Rattle.ft_session.specs.State.{State};
+ghost use Rattle.ft_session.specs.Queries.{state_before};
 
 /// Where a session's command of some number is a query whose path can be read, and all that it names is there, the reply of that number names, document by
 /// document in the order of loading, the elements that the path selects.
@@ -25,11 +22,4 @@ pub fn query_law()
         → slice_get (replies_to says session) number ≡ Some (Nodes (flat_map
         (λ (d : Named). map (element_line d.name d.root) (selected_in says (state_before says session number).lists p d.root))
         (documents p.path.root (state_before says session number).documents))) }
-{}
-
-/// Those elements of a document are the ones that pass a test, in document order, each once.
-pub fn selected_law()
-    ensures members { (says : Judgement) (state : State) (p : PathForm) (d : Named)
-        → (q : Element → Bool) × (selected_in says state.lists p d.root ≡ filter q (elements d.root)) }
-    ensures order { (says : Judgement) (state : State) (p : PathForm) (d : Named) → AllPairs Before (selected_in says state.lists p d.root) }
 {}

@@ -2,19 +2,19 @@ ghost use Rattle.std.specs.Prelude.{◌≡◌, ◌++◌, ◌+◌, ◌^◌, ◌<�
 ghost use Rattle.std.specs.List.{list_any};
 ghost use Rattle.session_text.specs.steps.Reading.{commands_left, new_reading};
 ghost use Rattle.session_text.specs.Replies.{is_refusal};
+ghost use Rattle.session_state.specs.State.{opening};
+ghost use Rattle.session_state.specs.Step.{replies};
 ghost use Rattle.ft_session.specs.Output.{texts_of};
 ghost use Rattle.ft_session.specs.steps.Pieces.{Answered, FileAnswered};
 ghost use Rattle.ft_session.specs.Run.{TookPrefix, with_text};
-ghost use Rattle.ft_session.specs.State.{opening};
-ghost use Rattle.ft_session.specs.Step.{replies};
 
 use crate::answering::{AnswerError, answer, answer_all};
 use crate::portion::Portion;
 use crate::reading::{MOST, buffer, read_piece};
-use crate::session::Session;
 use ft_base::{MAX_PIECE_BYTES, Memory, Steps};
 use ft_io::{Shelf, Sink};
-use plan_compiler::Judge;
+use plan_runs::Judge;
+use session_state::Session;
 use session_text::Lines_;
 use std::alloc::{AllocError, Global};
 use std::sync::ledger::{Blank, Ledger};

@@ -13,7 +13,7 @@ use crate::pieces::{Stopped, answer_file};
 use crate::status::Status;
 use ft_io::{Shelf, Sink};
 use made_sessions::asked_count;
-use plan_compiler::Judge;
+use plan_runs::Judge;
 use std::alloc::Global;
 use std::marker::Brand;
 use std::sync::ledger::Blank;

@@ -4,7 +4,7 @@
 use ft_base::Memory;
 use ft_io::{FileShelf, StdSink};
 use ft_session::{Status, exit_of, line_of, run};
-use plan_compiler::Direct;
+use plan_runs::Direct;
 use std::alloc::Global;
 use std::env;
 use std::io::ErrorKind;

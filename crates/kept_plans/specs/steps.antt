@@ -1,2 +1,3 @@
 pub mod Codes
-pub mod Inside
+pub mod Next
+pub mod Recent

@@ -102,13 +102,6 @@ impl KeptPlan {
         self.shared.text.as_slice()
     }
 
-    /// Whether its selection has that text.
-    pub(crate) fn has_text(&self, text: &[u8]) -> bool
-        ensures { result ≡ bytes_eq text.now self.now.text }
-    {
-        text == self.text()
-    }
-
     /// Whether its selection has these numbers. The lists that it names are there.
     pub(crate) fn has_numbers(&self, numbers: &[u32]) -> bool
         ensures numbers { result ≡ bytes_eq numbers.now (form_numbers self.now.form) }

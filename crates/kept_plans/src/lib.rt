@@ -7,9 +7,12 @@
 pub mod examples;
 mod kept_plan;
 mod limits;
-mod order;
+mod next_plans;
 mod prepared;
+mod recent_plans;
 
 pub use kept_plan::KeptPlan;
 pub use limits::MAX_PLANS;
+pub use next_plans::NextPlans;
 pub use prepared::Prepared;
+pub use recent_plans::RecentPlans;

@@ -1,17 +1,19 @@
 //! Lists, and the plans that are kept under them.
 
-ghost use Rattle.std.specs.Prelude.{◌≡◌, ◌+◌, ◌<◌, ◌^◌, ◌↔◌, if◌then◌else◌, IfErr, IfOk, IsTrue, None, OnErr, OnOk, length, map};
+ghost use Rattle.std.specs.Prelude.{◌≡◌, ℕ, ◌+◌, ◌<◌, ◌^◌, ◌↔◌, IfErr, IfOk, IsTrue, List, None, OnErr, OnOk, length, true};
 ghost use Rattle.all_matches.specs.Allowed.{is_allowed};
 ghost use Rattle.ft_syntax.specs.View.{form};
 ghost use Rattle.plan_compiler.specs.Missing.{first_missing, IsMissing};
 ghost use Rattle.plan_compiler.specs.NamedLists.{with_stems, with_stop_list, with_thesaurus};
-ghost use Rattle.kept_plans.specs.Kept.{all_used, used};
+ghost use Rattle.kept_plans.specs.Kept.{all_used, is_kept, used};
 ghost use Rattle.kept_plans.specs.PlanOf.{plan_of};
-ghost use Rattle.kept_plans.specs.Preparation.{CanKeep, nothing_prepared, with_kept, with_new_lists};
+ghost use Rattle.kept_plans.specs.Preparation.{texts_of, CanKeep, nothing_prepared, with_kept, with_new_lists};
+ghost use Rattle.kept_plans.specs.steps.Next.{IsNext};
+ghost use Rattle.kept_plans.specs.steps.Recent.{AllKept};
 
 use crate::kept_plan::KeptPlan;
-use crate::limits::MAX_PLANS;
-use crate::order::{find, is_among, put_first};
+use crate::next_plans::NextPlans;
+use crate::recent_plans::RecentPlans;
 use ft_base::Memory;
 use ft_rewriter::numbers_of;
 use ft_syntax::Selection;
@@ -27,7 +29,7 @@ use word_lists::{Stems, StopList};
 pub struct Prepared {
     alloc: Global,
     lists: Lists,
-    plans: Vec<KeptPlan>,
+    plans: RecentPlans,
     /// How often a text was used again.
     hits: u64,
 }
@@ -40,12 +42,12 @@ impl Model for Prepared {
 
     ghost coded = { preparation_code };
 
+    ghost use Rattle.std.specs.Prelude.{◌≡◌, All};
     ghost use Rattle.kept_plans.specs.Preparation.{prepared};
-    ghost use Rattle.kept_plans.specs.steps.Inside.{IsPrepared};
 
-    ghost view = { λ inside. prepared inside.lists inside.plans.items inside.hits };
+    ghost view = { λ inside. prepared inside.lists inside.plans inside.hits };
 
-    ghost invariant = { λ inside. IsPrepared inside.lists inside.plans };
+    ghost invariant = { λ inside. All (λ plan. plan.lists ≡ inside.lists) inside.plans };
 }
 
 impl Prepared {
@@ -53,7 +55,7 @@ impl Prepared {
     pub fn new(alloc: Global) -> Result<Prepared, Memory>
         ensures { IfOk result (λ prepared. prepared ≡ nothing_prepared) }
     {
-        let plans = Vec::with_capacity(alloc, MAX_PLANS)?;
+        let plans = RecentPlans::new(alloc)?;
         Ok(Prepared {
             alloc,
             lists: Lists::new(alloc),
@@ -129,38 +131,64 @@ impl Prepared {
         ensures missing { IfErr result (λ fault. IsMissing fault (first_missing self.now.lists (form selection.now))) }
     {
         let numbers = numbers_of(self.alloc, selection)?;
-        match find(self.plans.as_slice(), text, numbers.as_slice()) {
+        match self.plans.find(text, numbers.as_slice()) {
             Some(plan) => Ok(plan.share()?),
             None => KeptPlan::compile(self.alloc, text, numbers, selection, &self.lists),
         }
     }
 
-    /// Uses the texts of plans, one after the other, and keeps the plans.
-    pub fn keep(&mut self, plans: Vec<KeptPlan>)
-        requires { CanKeep self.old plans.items }
-        ensures { self.new ≡ with_kept (all_used (map (λ plan. plan.text) plans.items) self.old.kept) self.old }
+    /// What will be put in place once the command is accepted that uses these plans.
+    pub fn next(&self, used: &[KeptPlan]) -> Result<NextPlans, Memory>
+        requires { CanKeep self.now used.now }
+        ensures { IfOk result (IsNext self.now used.now) }
     {
-        for plan in plans {
-            self.keep_one(plan);
+        if self.plans.have_all(used) {
+            return Ok(NextPlans::Same);
+        }
+        let mut plans = self.plans.copy(self.alloc)?;
+        match plans.put_all(self.alloc, used, self.hits) {
+            Ok(hits) => Ok(NextPlans::Others { plans, hits }),
+            Err(memory) => {
+                drop(plans);
+                Err(memory)
+            }
         }
     }
 
-    /// Uses the text of a plan, and keeps the plan.
-    fn keep_one(&mut self, plan: KeptPlan)
-        requires lists { plan.lists ≡ self.old.lists }
-        requires counted { self.old.kept.hits + 1 < 2 ^ 64 }
-        ensures { self.new ≡ with_kept (used plan.text self.old.kept) self.old }
+    /// Uses the texts of plans, one after the other, and keeps the plans: what was made ready for them is put in place, which takes no
+    /// memory.
+    pub fn keep(&mut self, used: &[KeptPlan], next: NextPlans)
+        requires { IsNext self.old used.now next }
+        ensures { self.new ≡ with_kept (all_used (texts_of used.now) self.old.kept) self.old }
     {
-        let is_hit = is_among(self.plans.as_slice(), plan.text());
-        self.hits = hits_after(self.hits, is_hit);
-        put_first(&mut self.plans, plan);
+        match next {
+            NextPlans::Same => self.use_again(used),
+            NextPlans::Others { plans, hits } => {
+                self.plans = plans;
+                self.hits = hits;
+            }
+        }
     }
-}
 
-/// The hits behind a use of a text.
-fn hits_after(hits: u64, is_hit: bool) -> u64
-    requires { hits + 1 < 2 ^ 64 }
-    ensures { result ≡ (if is_hit then hits + 1 else hits) }
-{
-    if is_hit { hits + 1 } else { hits }
+    /// Uses the texts of plans that are kept, one after the other.
+    fn use_again(&mut self, used: &[KeptPlan])
+        requires kept { AllKept (texts_of used.now) self.old.kept.texts }
+        requires counted { self.old.kept.hits + length used.now < 2 ^ 64 }
+        ensures { self.new ≡ with_kept (all_used (texts_of used.now) self.old.kept) self.old }
+    {
+        for plan in used {
+            self.use_text(plan.text());
+        }
+    }
+
+    /// Uses a text whose plan is kept.
+    fn use_text(&mut self, text: &[u8])
+        requires kept { is_kept text.now self.old.kept.texts ≡ true }
+        requires counted { self.old.kept.hits + 1 < 2 ^ 64 }
+        ensures used { self.new ≡ with_kept (used text.now self.old.kept) self.old }
+        ensures stay { (other : List ℕ) → is_kept other self.old.kept.texts ≡ true → is_kept other self.new.kept.texts ≡ true }
+    {
+        self.plans.promote(text);
+        self.hits += 1;
+    }
 }

@@ -2,7 +2,7 @@
 use crate::rows::{NEVER, is_answered};
 use ft_io::{MemoryShelf, MemorySink};
 use ft_session::{Status, exit_of, line_of, run};
-use plan_compiler::Direct;
+use plan_runs::Direct;
 use std::alloc::{AllocError, Global};
 use std::process::Abort;
 use std::test::Fail;

@@ -205,12 +205,13 @@ const SCOPES: [TruthRow; 15] = [
     ),
 ];
 
-const ANCHORS: [TruthRow; 18] = [
+const ANCHORS: [TruthRow; 19] = [
     ("a b", r#""a b" entire content"#, true),
     ("a b c", r#""a b" entire content"#, false),
     ("a b", r#""b" at end"#, true),
     ("a b c", r#""b" at end"#, false),
     ("a b", r#""a" ftor "b" at end"#, true),
+    ("b", r#""a" ftor "b" at end"#, true),
     ("a b c", r#""a" ftor "b" at end"#, false),
     ("a b", r#""a" at start"#, true),
     ("a b", r#""b" at start"#, false),

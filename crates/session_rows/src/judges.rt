@@ -1,12 +1,12 @@
 // Judges of the tests' own: what a path selects follows what its judge says.
 ghost use Rattle.std.specs.Prelude.{not, true};
-ghost use Rattle.plan_compiler.specs.Judgement.{by_definition};
+ghost use Rattle.plan_runs.specs.Judgement.{by_definition};
 
 use crate::rows::{NEVER, is_answered_by};
 use call_rows::texts::joined;
 use ft_base::{DocId, Span, Steps};
 use ft_session::Status;
-use plan_compiler::{Direct, Judge, Run};
+use plan_runs::{Direct, Judge, Run};
 use std::alloc::Global;
 use std::cell::Cell;
 use std::process::Abort;

@@ -4,7 +4,7 @@ ghost use Rattle.std.specs.Prelude.{◌<◌, ◌^◌};
 use call_rows::texts::joined;
 use ft_io::{MemoryShelf, MemorySink};
 use ft_session::{Status, run};
-use plan_compiler::{Direct, Judge};
+use plan_runs::{Direct, Judge};
 use std::alloc::{AllocError, Global};
 use std::fmt::Write;
 use std::process::Abort;

@@ -4,18 +4,18 @@ use Rattle.std.specs.List.{list_any}
 use Rattle.std.specs.Result.{IsErrOf}
 use Rattle.ft_base.specs.Limits.{max_session_bytes}
 use Rattle.ft_io.specs.Shelf.{Files, bytes_of, known_bytes}
-use Rattle.plan_compiler.specs.Judgement.{Judgement}
+use Rattle.plan_runs.specs.Judgement.{Judgement}
 use Rattle.session_text.specs.declared.command.Command.{Command}
 use Rattle.session_text.specs.steps.Reading.{Reading, commands_left, whole_left}
 use Rattle.session_text.specs.Replies.{is_refusal}
+use Rattle.session_state.specs.State.{State}
+use Rattle.session_state.specs.Step.{replies, state_after}
 use Rattle.ft_session.specs.declared.answering.AnswerError.{AnswerError}
 use Rattle.ft_session.specs.declared.answering.AnswerError.TheVariants as unanswered
 use Rattle.ft_session.specs.declared.pieces.Stopped.{Stopped}
 use Rattle.ft_session.specs.declared.pieces.Stopped.TheVariants as stops
 use Rattle.ft_session.specs.Output.{has_refusal, output, output_of_whole, texts_of}
 use Rattle.ft_session.specs.Run.{TookPrefix, with_text}
-use Rattle.ft_session.specs.State.{State}
-use Rattle.ft_session.specs.Step.{replies, state_after}
 
 -- A piece is answered: the commands that became whole with it were carried out and their replies written. What the reader
 -- leaves is what it had left, without these commands.

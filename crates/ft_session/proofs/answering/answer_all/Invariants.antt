@@ -2,8 +2,8 @@
 use Rattle.std.proofs.Common.{◌≡◌, ◌||◌, drop}
 use Rattle.std.specs.List.{list_any}
 use Rattle.session_text.specs.Replies.{is_refusal}
+use Rattle.session_state.specs.Step.{replies, state_after}
 use Rattle.ft_session.specs.Output.{portions_of}
-use Rattle.ft_session.specs.Step.{replies, state_after}
 use Rattle.ft_session.proofs.AnswerLemmas.{WrittenSoFar}
 use Rattle.ft_session.proofs.answering.answer_all.Given as goal
 

@@ -2,8 +2,8 @@
 use Rattle.std.specs.Prelude.{[]}
 use Rattle.std.proofs.lemmas.Result.{err_from_is_err_and}
 use Rattle.session_text.specs.steps.Reading.{commands_left}
+use Rattle.session_state.specs.Step.{replies}
 use Rattle.ft_session.specs.Output.{texts_of}
-use Rattle.ft_session.specs.Step.{replies}
 use Rattle.ft_session.proofs.AnswerLemmas.{prefix_nothing}
 use Rattle.ft_session.proofs.pieces.answer_end.Goals as goal
 

@@ -5,9 +5,9 @@ use Rattle.std.specs.Prelude.{Option, IfSome, IsSome, string_bytes}
 use Rattle.ft_base.specs.Limits.{max_session_bytes}
 use Rattle.ft_io.specs.Shelf.{Files, Reads, bytes_of, known_bytes}
 use Rattle.session_text.specs.steps.Reading.{commands_left}
+use Rattle.session_state.specs.Step.{replies}
 use Rattle.ft_session.specs.Output.{output_of_whole, texts_of}
 use Rattle.ft_session.specs.Run.{TookPrefix, with_text}
-use Rattle.ft_session.specs.Step.{replies}
 use Rattle.ft_session.proofs.AnswerLemmas.{prefix_all}
 use Rattle.ft_session.proofs.FileLemmas.{all_answered, answer_stopped, long_stopped, memory_stopped, nothing_written, read_stopped}
 use Rattle.ft_session.proofs.ProgressLemmas.{progress_all, progress_end, progress_prefix, progress_length, progress_more, progress_refuses, progress_start, progress_stays, progress_whole, progress_within, rest_piece}

@@ -1,5 +1,0 @@
--- What is lent to the test.
-use Rattle.ft_session.proofs.selected.select.Given as goal
-
-abbrev pub ghosts-select_with : goal.ghosts-select_with
-ghosts-select_with g a = record { runs = a.runs.now.items; moves = a.moves.now }

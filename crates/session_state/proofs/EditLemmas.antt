@@ -1,0 +1,83 @@
+-- What a command that edits does, once its path is read and all that it names is there, or is refused.
+use Rattle.std.proofs.Common.{◌≡◌, ◌∙◌, sym, ap, refl, ℕ, true, false, cond, List, map}
+use Rattle.std.specs.Prelude.{Some, None, Result, Ok, Err, IfOk}
+use Rattle.collections.specs.Documents.{Edit}
+use Rattle.ft_base.specs.declared.fault.QueryFault.{QueryFault}
+use Rattle.ft_base.specs.declared.memory.Memory.{Memory}
+use Rattle.kept_plans.specs.Kept.{Kept, all_used}
+use Rattle.kept_plans.specs.Preparation.{Preparation, with_kept}
+use Rattle.path_meaning.specs.Collection.{Named}
+use Rattle.path_subset.specs.Answer.{path_read}
+use Rattle.path_subset.specs.Paths.{PathForm}
+use Rattle.plan_runs.specs.Judgement.{Judgement}
+use Rattle.session_text.specs.Replies.{is_refusal}
+use Rattle.session_text.specs.declared.reply.Refusal.{Refusal}
+use Rattle.session_text.specs.declared.reply.Refusal.TheVariants as refusal
+use Rattle.session_text.specs.declared.reply.Reply.{Reply}
+use Rattle.session_text.specs.declared.reply.Reply.TheVariants.{Refused}
+use Rattle.session_state.specs.declared.edit.Targets.{Targets}
+use Rattle.session_state.specs.declared.planned.PlannedPath.{PlannedPath}
+use Rattle.session_state.specs.Edits.{edit_path, edit_placed, edit_read, edit_selected, stays_if_refused, target_refusal, touched_path, touched_placed, touched_read}
+use Rattle.session_state.specs.KeptTexts.{keep_plans, kept_behind, kept_by, selection_texts}
+use Rattle.session_state.specs.Paths.{missing_document, missing_list, selections_of}
+use Rattle.session_state.specs.PlannedPaths.{IsPlanOf}
+use Rattle.session_state.specs.ReadyPaths.{path_refusal}
+use Rattle.session_state.specs.State.{State, with_documents}
+use Rattle.session_state.specs.StateView.{prepared_of}
+use Rattle.session_state.specs.steps.Chosen.{planned_places}
+use Rattle.session_state.proofs.ChosenLemmas.{planned-places}
+use Rattle.session_state.proofs.PathLemmas.{all-found}
+
+-- the state with what is prepared behind a command
+abbrev pub with_prepared_in : State → Preparation → State
+with_prepared_in state q = record { documents = state.documents; lists = q.lists; marks = state.marks; kept = q.kept }
+
+abbrev pub replied : State → Reply → State × Reply
+replied state reply = (state, reply)
+
+-- what is kept behind a reply is what the state behind it keeps
+pub kept-state : (state : State) (q : Preparation) (text : List ℕ) (texts : List (List ℕ)) (reply : Reply) → kept_behind text (path_read text) state.kept ≡ all_used texts state.kept
+    → q ≡ kept_by texts reply (prepared_of state) → replied (with_prepared_in state q) reply ≡ keep_plans text (state, reply)
+kept-state state q text texts reply used is =
+    ap (λ (x : Preparation). replied (with_prepared_in state x) reply) is
+    ∙ (elim (is_refusal reply) as (λ b. replied (with_prepared_in state (cond b (prepared_of state) (with_kept (all_used texts state.kept) (prepared_of state)))) reply
+    ≡ replied (cond b state (record state { kept = all_used texts state.kept })) reply) [ true ↦ refl | false ↦ refl ]
+    ∙ ap (λ (k : Kept). replied (cond (is_refusal reply) state (record state { kept = k })) reply) (sym used))
+
+module _ (says : Judgement) (state : State) (targets : Targets) (edit : Edit) (text : List ℕ) (p : PathForm) (read : path_read text ≡ Ok p) where
+  pub edit-ready : missing_document p.path.root state.documents ≡ None → missing_list state.lists (selections_of p) ≡ None
+      → edit_path says state targets edit text ≡ edit_selected says state targets edit p
+  edit-ready document lists =
+      ap (edit_read says state targets edit) read
+      ∙ ap (λ o. stays_if_refused state o (edit_selected says state targets edit p)) (all-found state p document lists)
+
+  pub touched-ready : (planned : PlannedPath) → IsPlanOf state.lists p planned
+      → touched_placed state.documents edit (map (planned_places says planned) state.documents) (target_refusal targets edit (map (planned_places says planned) state.documents))
+      ≡ touched_path says state targets edit text
+  touched-ready planned plan =
+      ap (λ places. touched_placed state.documents edit places (target_refusal targets edit places)) (planned-places says state p planned plan)
+      ∙ sym (ap (touched_read says state targets edit) read)
+
+  pub used-texts : kept_behind text (path_read text) state.kept ≡ all_used (selection_texts text p) state.kept
+  used-texts = ap (λ r. kept_behind text r state.kept) read
+
+  -- the documents were edited, and the plans are kept
+  pub edit-kept : (planned : PlannedPath) → IsPlanOf state.lists p planned
+      → missing_document p.path.root state.documents ≡ None → missing_list state.lists (selections_of p) ≡ None
+      → (answered : Result Reply Memory) (documents : List Named) (q : Preparation) (texts : List (List ℕ)) → texts ≡ selection_texts text p
+      → IfOk answered (λ reply. (documents, reply)
+      ≡ edit_placed state.documents edit (map (planned_places says planned) state.documents) (target_refusal targets edit (map (planned_places says planned) state.documents)))
+      → IfOk answered (λ reply. q ≡ kept_by texts reply (prepared_of state))
+      → IfOk answered (λ reply. replied (with_prepared_in (record state { documents = documents }) q) reply ≡ keep_plans text (edit_path says state targets edit text))
+  edit-kept planned plan document lists (Ok reply) documents q texts same edited kept =
+      kept-state (record state { documents = documents }) q text texts reply (used-texts ∙ ap (λ ts. all_used ts state.kept) (sym same)) kept
+      ∙ (ap (λ (x : List Named × Reply). keep_plans text (with_documents state x)) edited
+      ∙ (ap (λ places. keep_plans text (with_documents state (edit_placed state.documents edit places (target_refusal targets edit places)))) (planned-places says state p planned plan)
+      ∙ sym (ap (keep_plans text) (edit-ready document lists))))
+  edit-kept planned plan document lists (Err e) documents q texts same edited kept = tt
+
+-- a path that is refused is answered by its refusal
+module _ (says : Judgement) (state : State) (targets : Targets) (edit : Edit) (why : Refusal) where
+  pub edit-refused : (read : Result PathForm QueryFault) → path_refusal state.documents state.lists read ≡ Some why → edit_read says state targets edit read ≡ replied state (Refused why)
+  edit-refused (Err fault) is = let same : refusal.Query fault ≡ why = cc in ap (λ w. replied state (Refused w)) same
+  edit-refused (Ok p) is = ap (λ o. stays_if_refused state o (edit_selected says state targets edit p)) is

@@ -1,0 +1,10 @@
+pub mod ChosenLemmas
+pub mod EditLemmas
+pub mod MarkLemmas
+pub mod NamedLemmas
+pub mod PathLemmas
+pub mod QueryLemmas
+pub mod SelectionNumbers
+pub mod SelectionTestLemmas
+pub mod StateLemmas
+pub mod TextLemmas

@@ -1,0 +1,205 @@
+-- The node that a test is asked for, and the run by which it answers.
+use Rattle.std.proofs.Common.{◌≡◌, ◌∙◌, sym, ap, refl, subst, ℕ, zero, suc, ◌+◌, ◌-◌, ◌<◌, ◌≤◌, ◌==◌, Bool, true, false, ◌&&◌, ◌||◌, cond, List, [], ◌∷◌, length, map, take, drop, get_or, arith, IsTrue}
+use Rattle.std.specs.Prelude.{nat_lt}
+use Rattle.std.specs.List.{list_any, slice_range, Contains}
+use Rattle.std.proofs.lemmas.List.{drop-map, length-map, take-map}
+use Rattle.std.proofs.lemmas.Bool.Decides.{nat_tests}
+use Rattle.std.proofs.lemmas.List.Elements.{All-contains}
+use Rattle.std.proofs.lemmas.Bool.{and_parts, ltb-true}
+use Rattle.ft_base.specs.declared.span.Span.{Span}
+use Rattle.ft_base.specs.declared.token.Token.{Token}
+use Rattle.index_meaning.specs.Documents as indexed
+use Rattle.index_meaning.specs.Documents.{document_at, token_count, words_of}
+use Rattle.index_phrases.specs.Phrases.{words_at}
+use Rattle.index_phrases.specs.Tokens.{IsSpan, span_tokens}
+use Rattle.index_updates.specs.Follows.{Follows}
+use Rattle.index_updates.proofs.WordsLemmas.{count-tree, words-tree}
+use Rattle.ordered_tree.specs.Counts.{word_count}
+use Rattle.ordered_tree.specs.Numbered.{Numbered, plain}
+use Rattle.ordered_tree.specs.Part.{counted_from, part, renumbered}
+use Rattle.ordered_tree.specs.Stands.{Stand, references, span, stands_in}
+use Rattle.ft_base.specs.declared.ids.NodeRef.{NodeRef}
+use Rattle.ordered_tree.proofs.ShiftLemmas.{length-tokens, shift, stands-few}
+use Rattle.path_meaning.specs.Elements.{Element, placed}
+use Rattle.path_nodes.specs.References.{Spot, spots_in, spot_element, spot_reference, found_in, element_of, IsElement}
+use Rattle.path_nodes.specs.Says.{Meaning}
+use Rattle.path_nodes.proofs.SpotLemmas.{spot-stand, spot-there}
+use Rattle.plan_runs.specs.Judgement.{Judgement}
+use Rattle.plan_runs.specs.RunMeaning.{RunMeaning}
+use Rattle.kept_plans.specs.PlanOf.{PlanOf}
+use Rattle.tokenizer.specs.Tokens.{tokens}
+use Rattle.session_state.specs.PathPrices.{element_price, words_of as element_words}
+use Rattle.session_state.specs.PlannedPaths.{is_meant, meant, run_meant, run_over, run_price}
+use Rattle.session_state.specs.SelectionTests.{asked_of, is_there, may_ask, AreOver, AreOverEach}
+use Rattle.collections.specs.Indexed.{FollowsEach}
+use Rattle.session_state.proofs.TextLemmas.{tokens-at-span}
+
+-- the node that a reference names
+pub record Node (root : Numbered) (r : NodeRef) : Type 0 where
+  pub spot : Spot
+  pub among : Contains (spots_in root) spot
+  pub refers : spot_reference spot ≡ r
+  pub is : element_of root r ≡ spot_element spot
+
+same-number : (s : Spot) (r : NodeRef) → ((spot_reference s).0 == r.0) ≡ true → spot_reference s ≡ r
+same-number s r h = let numbers : (spot_reference s).0 ≡ r.0 = grind (arith, nat_tests, h) in ap (λ (n : ℕ). let named : NodeRef = record { 0 = n } in named) numbers
+
+record Among (r : NodeRef) (other : Element) (xs : List Spot) : Type 0 where
+  spot : Spot
+  among : Contains xs spot
+  refers : spot_reference spot ≡ r
+  is : found_in r other xs ≡ spot_element spot
+
+further : (x : Spot) (xs : List Spot) (s : Spot) → Contains xs s → Contains (x ∷ xs) s
+further x xs s (k, more, is) = (suc k, (omega (arith, more)), is)
+
+found : (xs : List Spot) (r : NodeRef) (other : Element) → list_any (λ s. (spot_reference s).0 == r.0) xs ≡ true → Among r other xs
+found [] r other h = let no : ⊥ = cc in absurd no
+found (x ∷ xs) r other h = by (found xs r other) ((spot_reference x).0 == r.0) refl
+  where
+    by : (list_any (λ s. (spot_reference s).0 == r.0) xs ≡ true → Among r other xs) → (test : Bool) → ((spot_reference x).0 == r.0) ≡ test → Among r other (x ∷ xs)
+    by later true e = record {
+      spot = x;
+      among = (zero, (omega arith), refl);
+      refers = same-number x r e;
+      is = ap (λ t. cond t (spot_element x) (found_in r other xs)) e;
+    }
+    by later false e =
+        let rest = later (sym (ap (λ t. t || list_any (λ s. (spot_reference s).0 == r.0) xs) e) ∙ h) in
+        record {
+          spot = rest.spot;
+          among = further x xs rest.spot rest.among;
+          refers = rest.refers;
+          is = ap (λ t. cond t (spot_element x) (found_in r other xs)) e ∙ rest.is;
+        }
+
+node-there : (root : Numbered) (r : NodeRef) → is_there root r ≡ true → Node root r
+unfolding element_of
+node-there root r h =
+    let n = found (spots_in root) r (placed [] (plain root)) h in
+    record { spot = n.spot; among = n.among; refers = n.refers; is = n.is }
+
+-- what runs may be asked for is a node
+pub asked-node : (runs : List RunMeaning) (root : Numbered) (k : ℕ) (r : NodeRef) → IsTrue (may_ask runs root k r) → Node root r
+asked-node runs root k r h = node-there root r (and_parts (nat_lt k (length runs)) (is_there root r) h).1
+
+pub asked-run : (runs : List RunMeaning) (root : Numbered) (k : ℕ) (r : NodeRef) → IsTrue (may_ask runs root k r) → k < length runs
+asked-run runs root k r h = ltb-true k (length runs) (and_parts (nat_lt k (length runs)) (is_there root r) h).0
+
+pub reference-there : (root : Numbered) (r : NodeRef) → Node root r → Contains (references root) r
+reference-there root r n = subst (Contains (references root)) n.refers (spot-there root n.spot n.among)
+
+-- each element of a document may be asked for
+there : (xs : List Spot) (r : NodeRef) (k : ℕ) (s : Spot) → k < length xs → get_or xs k s ≡ s → spot_reference s ≡ r → list_any (λ s. (spot_reference s).0 == r.0) xs ≡ true
+there [] r k s more is refers = absurd (omega (arith, more))
+there (x ∷ xs) r zero s more is refers =
+    let numbers : (spot_reference x).0 ≡ r.0 = ap (λ y. (spot_reference y).0) is ∙ ap (λ (q : NodeRef). q.0) refers in
+    let test : ((spot_reference x).0 == r.0) ≡ true = grind (arith, nat_tests, numbers) in
+    ap (λ t. t || list_any (λ s. (spot_reference s).0 == r.0) xs) test
+there (x ∷ xs) r (suc k) s more is refers =
+    let rest = there xs r k s (omega (arith, more)) is refers in
+    elim ((spot_reference x).0 == r.0) as (λ t. (t || list_any (λ s. (spot_reference s).0 == r.0) xs) ≡ true) [ true ↦ refl | false ↦ rest ]
+
+pub element-there : (root : Numbered) (r : NodeRef) → IsElement root r → is_there root r ≡ true
+element-there root r e = there (spots_in root) r e.among.0 e.spot e.among.1 e.among.2 e.refers
+
+pub may-asked : (runs : List RunMeaning) (root : Numbered) (k : ℕ) → k < length runs → (r : NodeRef) → IsElement root r → IsTrue (may_ask runs root k r)
+may-asked runs root k less r e =
+    let named : nat_lt k (length runs) ≡ true = grind (arith, nat_tests, less) in
+    ap (λ b. b && is_there root r) named ∙ element-there root r e
+
+-- there are as many runs as plans
+pub as-many : (plans : List PlanOf) (runs : List RunMeaning) → map run_meant runs ≡ map meant plans → length plans ≡ length runs
+as-many plans runs same = sym (length-map plans meant) ∙ (ap length (sym same) ∙ length-map runs run_meant)
+
+-- ---- the run of a number
+
+pub met-at : (says : Judgement) (runs : List RunMeaning) (k : ℕ) (run : RunMeaning) (e : Element) → k < length runs → get_or runs k run ≡ run
+    → is_meant says (map run_meant runs) k e ≡ says run.form run.lists (tokens e.node)
+unfolding is_meant
+met-at says [] k run e more is = absurd (omega (arith, more))
+met-at says (r ∷ runs) zero run e more is = ap (λ q. says q.form q.lists (tokens e.node)) is
+met-at says (r ∷ runs) (suc k) run e more is = met-at says runs k run e (omega (arith, more)) is
+
+pub priced-at : (runs : List RunMeaning) (k : ℕ) (run : RunMeaning) (e : Element) → k < length runs → get_or runs k run ≡ run
+    → element_price (map run_price runs) k e ≡ run_price run (element_words e)
+unfolding element_price
+priced-at [] k run e more is = absurd (omega (arith, more))
+priced-at (r ∷ runs) zero run e more is = ap (λ q. run_price q (element_words e)) is
+priced-at (r ∷ runs) (suc k) run e more is = priced-at runs k run e (omega (arith, more)) is
+
+pub over-at : (runs : List RunMeaning) (k : ℕ) (run : RunMeaning) (t : ℕ × Numbered) → k < length runs → get_or runs k run ≡ run → AreOver runs t → Follows run.version t.0 t.1
+over-at runs k run t more is over = subst (λ (q : RunMeaning). Follows q.version t.0 t.1) is (over k run more)
+
+-- ---- the loans of a test
+
+pub runs-loan : (says : Judgement) (runs : List RunMeaning) (root root₂ : Numbered) (x y x₂ y₂ : ℕ) → asked_of says runs root x y ≡ asked_of says runs root₂ x₂ y₂ → x ≡ x₂
+runs-loan says runs root root₂ x y x₂ y₂ same = ap (λ (m : Meaning). get_or m.lent 0 x) same
+
+pub moves-loan : (says : Judgement) (runs : List RunMeaning) (root root₂ : Numbered) (x y x₂ y₂ : ℕ) → asked_of says runs root x y ≡ asked_of says runs root₂ x₂ y₂ → y ≡ y₂
+moves-loan says runs root root₂ x y x₂ y₂ same = ap (λ (m : Meaning). get_or m.lent 1 y) same
+
+-- ---- the words at the span of a node
+
+words-counted : (first : Token) (ts : List Token) → map (λ token. token.word) (map (counted_from first) ts) ≡ map (λ token. token.word) ts
+words-counted first [] = refl
+words-counted first (t ∷ ts) = ap (λ ws. t.word ∷ ws) (words-counted first ts)
+
+words-renumbered : (ts : List Token) → map (λ token. token.word) (renumbered ts) ≡ map (λ token. token.word) ts
+words-renumbered [] = refl
+words-renumbered (first ∷ rest) = words-counted first (first ∷ rest)
+
+words-range : (ts : List Token) (a b : ℕ) → map (λ token. token.word) (slice_range ts a b) ≡ slice_range (map (λ token. token.word) ts) a b
+words-range ts a b = sym (take-map (λ (token : Token). token.word) (b - a) (drop a ts)) ∙ ap (take (b - a)) (sym (drop-map (λ (token : Token). token.word) a ts))
+
+module _ (version : List indexed.Numbered) (doc : ℕ) (root : Numbered) (follows : Follows version doc root) where
+  -- the words of the document are those of the tree's tokens
+  words-there : words_of (document_at doc version) ≡ map (λ token. token.word) (tokens (plain root))
+  words-there = ap words_of follows.document ∙ words-tree root
+
+  pub words-at-span : (at : Span) (ts : List Token) → part (tokens (plain root)) at ≡ ts → map (λ token. token.word) ts ≡ words_at at (document_at doc version)
+  words-at-span at ts is =
+      ap (map (λ token. token.word)) (sym is)
+      ∙ (words-renumbered (slice_range (tokens (plain root)) (at.from - 1) (at.to - 1))
+      ∙ (words-range (tokens (plain root)) (at.from - 1) (at.to - 1)
+      ∙ ap (λ ws. slice_range ws (at.from - 1) (at.to - 1)) (sym words-there)))
+
+  -- and the span is inside it
+  pub span-inside : (s : Stand) → Contains (stands_in root) s → (span s).to ≤ token_count (document_at doc version) + 1
+  span-inside s among =
+      let below = All-contains (λ s. s.around.before + word_count (plain s.node) ≤ word_count (plain root)) (stands_in root) s (stands-few root) among in
+      let count : token_count (document_at doc version) ≡ length (tokens (plain root)) = ap token_count follows.document ∙ count-tree root in
+      omega (arith, below, count, length-tokens (plain root))
+
+  pub span-there : (s : Stand) → Contains (stands_in root) s → IsSpan (span s) (document_at doc version)
+  span-there s among = record { first = omega arith; order = omega arith; last = span-inside s among }
+
+-- ---- what is said of the tokens at each span is said of each node
+
+pub ruled-out : (says : Judgement) (runs : List RunMeaning) (root : Numbered) (k : ℕ) (run : RunMeaning) (doc : ℕ) → get_or runs k run ≡ run → AreOver runs (doc, root)
+    → ((at : Span) → (1 ≤ at.from) × (at.from ≤ at.to) × (at.to ≤ token_count (document_at doc run.version) + 1)
+    → says run.form run.lists (span_tokens at (document_at doc run.version)) ≡ false)
+    → (r : NodeRef) → IsTrue (may_ask runs root k r) → is_meant says (map run_meant runs) k (element_of root r) ≡ false
+ruled-out says runs root k run doc is over none r asked =
+    let n = asked-node runs root k r asked in
+    let among = spot-stand root n.spot n.among in
+    let less = asked-run runs root k r asked in
+    let follows = over-at runs k run (doc, root) less is over in
+    let ts = tokens (plain n.spot.stand.node) in
+    let here = All-contains (λ t. part (tokens (plain root)) (span t) ≡ tokens (plain t.node)) (stands_in root) n.spot.stand (shift root) among in
+    let below = span-inside run.version doc root follows n.spot.stand among in
+    let same = tokens-at-span run.version doc root (span n.spot.stand) ts follows (span-there run.version doc root follows n.spot.stand among) here in
+    met-at says runs k run (element_of root r) less is
+    ∙ (ap (λ (e : Element). says run.form run.lists (tokens e.node)) n.is
+    ∙ (ap (says run.form run.lists) (sym same) ∙ none (span n.spot.stand) (omega arith, omega arith, below)))
+
+-- ---- runs of plans over one version
+
+over-all : (version : List indexed.Numbered) (plans : List PlanOf) (t : ℕ × Numbered) → Follows version t.0 t.1 → AreOver (map (run_over version) plans) t
+over-all version [] t follows k d less = absurd (omega (arith, less))
+over-all version (plan ∷ plans) t follows zero d less = follows
+over-all version (plan ∷ plans) t follows (suc k) d less = over-all version plans t follows k d (omega (arith, less))
+
+pub over-each : (version : List indexed.Numbered) (plans : List PlanOf) (trees : List (ℕ × Numbered)) → FollowsEach version trees → AreOverEach (map (run_over version) plans) trees
+over-each version plans [] follow = tt
+over-each version plans (t ∷ trees) follow = (over-all version plans t follow.0, over-each version plans trees follow.1)

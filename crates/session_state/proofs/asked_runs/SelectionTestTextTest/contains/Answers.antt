@@ -1,0 +1,86 @@
+-- The node is there, its span is that of its words in the document, and the judge is asked with its run.
+use Rattle.std.proofs.Common.{◌≡◌, ◌∙◌, sym, ap, subst, ◌≤◌, ◌+◌, get_or, map, arith}
+use Rattle.ft_base.specs.declared.span.Span.{Span}
+use Rattle.index_meaning.specs.Documents.{document_at, token_count}
+use Rattle.index_phrases.specs.Tokens.{IsSpan}
+use Rattle.ordered_tree.specs.Numbered.{plain}
+use Rattle.path_meaning.specs.Elements.{Element}
+use Rattle.path_nodes.specs.References.{element_of}
+use Rattle.path_nodes.proofs.SpotLemmas.{spot-stand}
+use Rattle.plan_runs.specs.RunPrice.{price_at}
+use Rattle.tokenizer.specs.Tokens.{tokens}
+use Rattle.session_state.specs.PathPrices.{element_price, words_of}
+use Rattle.session_state.specs.PlannedPaths.{run_price}
+use Rattle.session_state.proofs.SelectionTestLemmas.{asked-node, asked-run, met-at, over-at, priced-at, reference-there, span-inside, span-there, words-at-span}
+use Rattle.session_state.proofs.TextLemmas.{tokens-at-span}
+use Rattle.session_state.proofs.asked_runs.SelectionTestTextTest.contains.Goals as goal
+
+pub span_of-span-requires : goal.span_of-span-requires
+span_of-span-requires g c =
+    let root = c.args.self.now.tree.now.root in
+    reference-there root c.args.node (asked-node g.B.Loan.runs root c.args.selection c.args.node c.requires)
+
+pub judge-requires-clause-there : goal.judge-requires-clause-there
+judge-requires-clause-there g c =
+    let root = c.args.self.now.tree.now.root in
+    let runs = g.B.Loan.runs in
+    let k = c.args.selection in
+    let run = c.index_mut-run.result.now in
+    let is : get_or runs k run ≡ run = ap (λ rs. get_or rs k run) (sym c.args.self.now.same) ∙ sym c.index_mut-run.ensures.value in
+    let follows = over-at runs k run (c.args.self.now.doc.0, root) (asked-run runs root k c.args.node c.requires) is c.args.self.now.over in
+    follows.there
+
+pub judge-requires-clause-inside : goal.judge-requires-clause-inside
+judge-requires-clause-inside g c =
+    let root = c.args.self.now.tree.now.root in
+    let runs = g.B.Loan.runs in
+    let k = c.args.selection in
+    let run = c.index_mut-run.result.now in
+    let doc = c.args.self.now.doc.0 in
+    let n = asked-node runs root k c.args.node c.requires in
+    let among = spot-stand root n.spot n.among in
+    let is : get_or runs k run ≡ run = ap (λ rs. get_or rs k run) (sym c.args.self.now.same) ∙ sym c.index_mut-run.ensures.value in
+    let follows = over-at runs k run (doc, root) (asked-run runs root k c.args.node c.requires) is c.args.self.now.over in
+    let below = span-inside run.version doc root follows n.spot.stand among in
+    subst (λ (s : Span). (1 ≤ s.from) × (s.from ≤ s.to) × (s.to ≤ token_count (document_at doc run.version) + 1))
+    (sym (c.span_of-span.ensures.positions n.spot.stand among n.refers)) (omega arith, omega arith, below)
+
+pub returns-clause-says : goal.returns-clause-says
+returns-clause-says g c =
+    let root = c.args.self.now.tree.now.root in
+    let runs = g.B.Loan.runs in
+    let k = c.args.selection in
+    let run = c.index_mut-run.result.now in
+    let doc = c.args.self.now.doc.0 in
+    let n = asked-node runs root k c.args.node c.requires in
+    let among = spot-stand root n.spot n.among in
+    let less = asked-run runs root k c.args.node c.requires in
+    let is : get_or runs k run ≡ run = ap (λ rs. get_or rs k run) (sym c.args.self.now.same) ∙ sym c.index_mut-run.ensures.value in
+    let follows = over-at runs k run (doc, root) less is c.args.self.now.over in
+    let inside = subst (λ (s : Span). IsSpan s (document_at doc run.version)) (sym (c.span_of-span.ensures.positions n.spot.stand among n.refers))
+    (span-there run.version doc root follows n.spot.stand among) in
+    let same = tokens-at-span run.version doc root c.span_of-span.result (tokens (plain n.spot.stand.node)) follows inside
+    (c.span_of-span.ensures.tokens n.spot.stand among n.refers) in
+    c.judge.ensures.says
+    ∙ (ap (g.J.Judge.says run.form run.lists) same
+    ∙ (ap (λ (e : Element). g.J.Judge.says run.form run.lists (tokens e.node)) (sym n.is)
+    ∙ sym (met-at g.J.Judge.says runs k run (element_of root c.args.node) less is)))
+
+pub returns-clause-cost : goal.returns-clause-cost
+returns-clause-cost g c =
+    let root = c.args.self.now.tree.now.root in
+    let runs = g.B.Loan.runs in
+    let k = c.args.selection in
+    let run = c.index_mut-run.result.now in
+    let doc = c.args.self.now.doc.0 in
+    let n = asked-node runs root k c.args.node c.requires in
+    let among = spot-stand root n.spot n.among in
+    let less = asked-run runs root k c.args.node c.requires in
+    let is : get_or runs k run ≡ run = ap (λ rs. get_or rs k run) (sym c.args.self.now.same) ∙ sym c.index_mut-run.ensures.value in
+    let follows = over-at runs k run (doc, root) less is c.args.self.now.over in
+    let ts = tokens (plain n.spot.stand.node) in
+    let words = words-at-span run.version doc root follows c.span_of-span.result ts (c.span_of-span.ensures.tokens n.spot.stand among n.refers) in
+    let price : price_at run doc c.span_of-span.result ≡ element_price (map run_price runs) k (element_of root c.args.node) =
+    ap (run_price run) (sym words)
+    ∙ (ap (λ (e : Element). run_price run (words_of e)) (sym n.is) ∙ sym (priced-at runs k run (element_of root c.args.node) less is)) in
+    subst (λ n. c.judge.new.moves ≤ c.args.self.now.moves.now + n) price c.judge.ensures.price

@@ -1,0 +1,18 @@
+-- The lines of the documents so far, and those of the others, are all, and so are the prices; the runs are as they were, over the others too.
+use Rattle.std.proofs.Common.{◌≡◌, ◌≤◌, ◌+◌, ◌++◌, map}
+use Rattle.std.specs.List.{flat_map}
+use Rattle.session_state.specs.PlannedPaths.{planned_lines, prices_in}
+use Rattle.session_state.specs.SelectionTests.{AreOverEach}
+use Rattle.collections.specs.Loaded.{to_document, trees_of}
+use Rattle.session_state.proofs.selected.collect_all.Given as goal
+
+abbrev pub invariant-loop-name : goal.invariant-loop-name
+invariant-loop-name g l = record {
+  lines : l.lines ++ flat_map (planned_lines g.J.Judge.says l.shown l.path) (map to_document l.name-iterator)
+      ≡ flat_map (planned_lines g.J.Judge.says l.shown l.path) (map to_document l.documents.entries);
+  runs : l.runs.items ≡ l.fn.runs.items;
+  over : AreOverEach l.fn.runs.items (trees_of l.name-iterator);
+  moves : l.fn.moves ≤ l.moves;
+  price : l.moves + prices_in g.J.Judge.says l.path l.fn.runs.items (map to_document l.name-iterator)
+      ≤ l.fn.moves + prices_in g.J.Judge.says l.path l.fn.runs.items (map to_document l.documents.entries);
+}

@@ -1,0 +1,5 @@
+-- What is lent to the test.
+use Rattle.session_state.proofs.selected.select.Given as goal
+
+abbrev pub ghosts-select_with : goal.ghosts-select_with
+ghosts-select_with g a = record { runs = a.runs.now.items; moves = a.moves.now }

@@ -1,0 +1,45 @@
+-- The test may be asked for each selection that the steps name, and what it was lent comes back.
+use Rattle.std.proofs.Common.{rules, ◌≡◌, ◌<◌, ap, sym, refl, ◌∙◌, length, map, arith, IsTrue}
+use Rattle.ft_base.specs.declared.ids.NodeRef.{NodeRef}
+use Rattle.path_grammar.specs.Form.{steps}
+use Rattle.path_grammar.specs.View.{step}
+use Rattle.ordered_tree.specs.Numbered.{plain}
+use Rattle.path_nodes.specs.References.{IsElement, element_of}
+use Rattle.session_state.specs.PathPrices.{element_price}
+use Rattle.session_state.specs.PlannedPaths.{is_meant, meant, planned_price, run_meant, run_price}
+use Rattle.session_state.specs.SelectionTests.{may_ask}
+use Rattle.session_state.proofs.PathLemmas.{asked-weaker}
+use Rattle.session_state.proofs.SelectionTestLemmas.{as-many, may-asked, moves-loan, runs-loan}
+use Rattle.session_state.proofs.selected.select_with.Goals as goal
+
+pub nodes-requires-clause-asked : goal.nodes-requires-clause-asked
+nodes-requires-clause-asked g c =
+    let root = c.tree-tree.result.now.root in
+    let runs = g.B.Loan.runs in
+    let count = as-many c.args.path.now.plans.now c.args.runs.now.items c.requires.runs ∙ ap length c.requires.lent_runs in
+    asked-weaker (λ k. k < length c.args.path.now.plans.now) (λ k. (r : NodeRef) → IsElement root r → IsTrue (may_ask runs root k r))
+    (λ k less r e. may-asked runs root k (omega (arith, less, count)) r e) (steps (map step c.args.path.now.steps.now)) c.requires.plans
+
+pub returns-clause-runs : goal.returns-clause-runs
+returns-clause-runs g c =
+    let same = runs-loan g.J.Judge.says g.B.Loan.runs _ _ _ _ _ _ c.nodes.ensures.meaning in
+    search rules
+
+pub returns-clause-moves : goal.returns-clause-moves
+returns-clause-moves g c =
+    let same = moves-loan g.J.Judge.says g.B.Loan.runs _ _ _ _ _ _ c.nodes.ensures.meaning in
+    search rules
+
+pub returns-clause-price : goal.returns-clause-price
+returns-clause-price g c =
+    let says = g.J.Judge.says in
+    let path = c.args.path.now in
+    let runs = g.B.Loan.runs in
+    let root = c.tree-tree.result.now.root in
+    let plans = map meant path.plans.now in
+    let meant_same : map run_meant runs ≡ plans = ap (map run_meant) (sym c.requires.lent_runs) ∙ c.requires.runs in
+    let bound = c.nodes.ensures.costs (is_meant says plans) (element_price (map run_price runs)) (λ k r e. ap (λ ms. is_meant says ms k (element_of root r)) meant_same) (λ k r e. refl) in
+    let there = ap (λ t. planned_price says path runs (plain t.root)) c.tree-tree.ensures.tree in
+    let lent = ap (λ rs. planned_price says path rs (plain c.args.document.now.tree.root)) c.requires.lent_runs in
+    let same = moves-loan says runs _ _ _ _ _ _ c.nodes.ensures.meaning in
+    search rules

@@ -1,0 +1,74 @@
+-- The elements that the path selects are edited, and its plans are kept.
+use Rattle.std.proofs.Common.{◌≡◌, ◌∙◌, ◌≤◌, ◌+◌, sym, ap, subst, ℕ}
+use Rattle.std.specs.Prelude.{IfOk, Result}
+use Rattle.ft_base.specs.declared.memory.Memory.{Memory}
+use Rattle.kept_plans.specs.Preparation.{texts_of}
+use Rattle.path_subset.specs.Answer.{path_read}
+use Rattle.path_subset.specs.Paths.{read_form}
+use Rattle.session_text.specs.declared.reply.Reply.{Reply}
+use Rattle.session_state.specs.Edits.{edit_path, touched_path}
+use Rattle.session_state.specs.Held.{Held}
+use Rattle.session_state.specs.KeptTexts.{keep_plans}
+use Rattle.session_state.specs.PathPrices.{read_price}
+use Rattle.session_state.specs.ReadyPaths.{IsReadyPath}
+use Rattle.session_state.specs.StateView.{prepared_of}
+use Rattle.session_state.specs.steps.Chosen.{edit_of}
+use Rattle.session_state.proofs.EditLemmas.{edit-kept, replied, touched-ready, with_prepared_in}
+use Rattle.session_state.proofs.PathLemmas.{planned-prices, ready-plan, texts-under}
+use Rattle.session_state.proofs.StateLemmas.{held_as}
+use Rattle.session_state.proofs.session.Session.edit_ready.Goals as goal
+
+pub keep_accepted-requires : goal.keep_accepted-requires
+keep_accepted-requires g c =
+    (subst (λ (h : Held). IsReadyPath h.state.documents (prepared_of h.state) c.args.path.now c.args.ready) (sym c.self.view_is) c.requires).next
+
+pub returns-clause-answer : goal.returns-clause-answer
+returns-clause-answer g c =
+    let inside = c.self.inside in
+    let was = held_as inside.collection inside.prepared inside.marks in
+    let text = c.args.path.now in
+    let p = read_form c.args.ready.path in
+    let edit = c.args.edit.now in
+    let ready : IsReadyPath was.state.documents (prepared_of was.state) text c.args.ready =
+    subst (λ (h : Held). IsReadyPath h.state.documents (prepared_of h.state) text c.args.ready) (sym c.self.view_is) c.requires in
+    let plan = ready-plan was.state.documents (prepared_of was.state) text c.args.ready ready c.planned-planned.result c.planned-planned.ensures.root
+    c.planned-planned.ensures.steps c.planned-planned.ensures.plans in
+    let q = c.keep_accepted.new.prepared in
+    let documents = c.edit_along-edited.new.collection.documents in
+    let texts = ap texts_of ready.plans ∙ texts-under inside.prepared.lists text p in
+    let done = edit-kept g.J.Judge.says was.state edit.targets (edit_of edit) text p ready.read c.planned-planned.result plan ready.document ready.lists
+    c.edit_along-edited.result documents q (texts_of c.args.ready.plans.items) texts c.edit_along-edited.ensures.answer c.keep_accepted.ensures.kept in
+    subst (λ (h : Held). IfOk c.keep_accepted.result (λ reply. replied (with_prepared_in (record was.state { documents = documents }) q) reply
+    ≡ keep_plans text (edit_path g.J.Judge.says h.state edit.targets (edit_of edit) text))) c.self.view_is
+    (subst (λ (r : Result Reply Memory). IfOk r (λ reply. replied (with_prepared_in (record was.state { documents = documents }) q) reply
+    ≡ keep_plans text (edit_path g.J.Judge.says was.state edit.targets (edit_of edit) text))) (sym c.keep_accepted.ensures.same) done)
+
+pub returns-clause-price : goal.returns-clause-price
+returns-clause-price g c =
+    let says = g.J.Judge.says in
+    let inside = c.self.inside in
+    let was = held_as inside.collection inside.prepared inside.marks in
+    let text = c.args.path.now in
+    let p = read_form c.args.ready.path in
+    let ready : IsReadyPath was.state.documents (prepared_of was.state) text c.args.ready =
+    subst (λ (h : Held). IsReadyPath h.state.documents (prepared_of h.state) text c.args.ready) (sym c.self.view_is) c.requires in
+    let plan = ready-plan was.state.documents (prepared_of was.state) text c.args.ready ready c.planned-planned.result c.planned-planned.ensures.root
+    c.planned-planned.ensures.steps c.planned-planned.ensures.plans in
+    subst (λ (h : Held). c.edit_along-edited.new.moves ≤ c.args.moves.now + read_price says h (path_read text)) c.self.view_is
+    (subst (λ (n : ℕ). c.edit_along-edited.new.moves ≤ c.args.moves.now + n)
+    (planned-prices says was p c.planned-planned.result plan ∙ ap (read_price says was) (sym ready.read)) c.edit_along-edited.ensures.price)
+
+pub returns-clause-rows : goal.returns-clause-rows
+returns-clause-rows g c =
+    let inside = c.self.inside in
+    let was = held_as inside.collection inside.prepared inside.marks in
+    let text = c.args.path.now in
+    let p = read_form c.args.ready.path in
+    let edit = c.args.edit.now in
+    let ready : IsReadyPath was.state.documents (prepared_of was.state) text c.args.ready =
+    subst (λ (h : Held). IsReadyPath h.state.documents (prepared_of h.state) text c.args.ready) (sym c.self.view_is) c.requires in
+    let plan = ready-plan was.state.documents (prepared_of was.state) text c.args.ready ready c.planned-planned.result c.planned-planned.ensures.root
+    c.planned-planned.ensures.steps c.planned-planned.ensures.plans in
+    subst (λ (h : Held). c.edit_along-edited.new.rows ≤ c.args.rows.now + touched_path g.J.Judge.says h.state edit.targets (edit_of edit) text) c.self.view_is
+    (subst (λ (n : ℕ). c.edit_along-edited.new.rows ≤ c.args.rows.now + n)
+    (touched-ready g.J.Judge.says was.state edit.targets (edit_of edit) text p ready.read c.planned-planned.result plan) c.edit_along-edited.ensures.rows)

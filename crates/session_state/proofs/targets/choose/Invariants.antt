@@ -1,0 +1,22 @@
+-- The elements of the documents so far, and those of the others, are all, and so are the prices; the runs are as they were, over the others too.
+use Rattle.std.proofs.Common.{◌≡◌, ◌≤◌, ◌+◌, ◌||◌, ◌++◌, List, map}
+use Rattle.collections.specs.Loaded.{to_document, trees_of}
+use Rattle.ft_base.specs.declared.ids.NodeRef.{NodeRef}
+use Rattle.session_state.specs.Edits.{has_root, target_count}
+use Rattle.session_state.specs.SelectionTests.{AreOverEach}
+use Rattle.session_state.specs.steps.Chosen.{planned_places, prices_through, AreLedToEach}
+use Rattle.session_state.proofs.targets.choose.Given as goal
+
+abbrev pub invariant-loop-name : goal.invariant-loop-name
+invariant-loop-name g l = record {
+  refs : (rest : List (List NodeRef)) → AreLedToEach g.J.Judge.says l.path l.name-iterator rest → AreLedToEach g.J.Judge.says l.path l.documents.entries (l.chosen.refs ++ rest);
+  count : l.chosen.count + target_count (map (planned_places g.J.Judge.says l.path) (map to_document l.name-iterator))
+      ≡ target_count (map (planned_places g.J.Judge.says l.path) (map to_document l.documents.entries));
+  rooted : (has_root (map (planned_places g.J.Judge.says l.path) (map to_document l.name-iterator)) || l.chosen.has_root)
+      ≡ has_root (map (planned_places g.J.Judge.says l.path) (map to_document l.documents.entries));
+  runs : l.runs.items ≡ l.fn.runs.items;
+  over : AreOverEach l.fn.runs.items (trees_of l.name-iterator);
+  moves : l.fn.moves ≤ l.moves;
+  price : l.moves + prices_through g.J.Judge.says l.path l.fn.runs.items (map to_document l.name-iterator)
+      ≤ l.fn.moves + prices_through g.J.Judge.says l.path l.fn.runs.items (map to_document l.documents.entries);
+}

@@ -1,0 +1,71 @@
+-- How far cursors may move by which a path is answered: the prices of the tests for which it asks, over the version of the index.
+use Rattle.std.specs.Prelude.{ℕ, zero, suc, List, [], ◌∷◌, map, Option, Some, None, Result, Ok, Err}
+use Rattle.std.specs.List.{sum_by}
+use Rattle.ft_base.specs.declared.fault.QueryFault.{QueryFault}
+use Rattle.index_meaning.specs.Documents.{Numbered}
+use Rattle.path_meaning.specs.Collection.{documents}
+use Rattle.path_meaning.specs.Elements.{Element}
+use Rattle.path_meaning.specs.Tests.{selected_tests}
+use Rattle.path_nodes.specs.Prices.{total_price}
+use Rattle.path_subset.specs.Answer.{path_read}
+use Rattle.path_subset.specs.Paths.{PathForm}
+use Rattle.plain_tree.specs.Document.{Node}
+use Rattle.plan_runs.specs.Judgement.{Judgement}
+use Rattle.plan_compiler.specs.Lexicon.{lexicon}
+use Rattle.plan_compiler.specs.NamedLists.{NamedLists}
+use Rattle.plan_runs.specs.RunPrice.{price}
+use Rattle.session_text.specs.declared.command.Command.{Command}
+use Rattle.session_text.specs.declared.command.Command.TheVariants as command
+use Rattle.tokenizer.specs.Tokens.{tokens}
+use Rattle.session_state.specs.Held.{Held}
+use Rattle.session_state.specs.Marks.{at_mark, mark_named, version_of_mark}
+use Rattle.session_state.specs.Paths.{satisfies, selections_of}
+use Rattle.session_state.specs.State.{Mark}
+
+-- the words of an element, in order
+abbrev pub words_of : Element → List (List ℕ)
+words_of e = map (λ token. token.word) (tokens e.node)
+
+-- the price of the selection of that number at an element, by what each selection costs at words; none for one that isn't there
+unfoldable pub element_price : List (List (List ℕ) → ℕ) → ℕ → Element → ℕ
+element_price [] k e = 0
+element_price (first ∷ rest) zero e = first (words_of e)
+element_price (first ∷ rest) (suc k) e = element_price rest k e
+
+-- what each selection of a path costs at words, under lists and over a version
+abbrev pub selection_prices : NamedLists → List Numbered → PathForm → List (List (List ℕ) → ℕ)
+selection_prices lists version p = map (λ form text. price (lexicon lists) form version text) (selections_of p)
+
+-- the prices of the tests for which a path asks in a document
+abbrev pub price_in : Judgement → NamedLists → List Numbered → PathForm → Node → ℕ
+price_in says lists version p root =
+    total_price (element_price (selection_prices lists version p)) (selected_tests (satisfies says lists (selections_of p)) p.path.steps root)
+
+-- and in all documents of its root
+abbrev pub path_price : Judgement → Held → PathForm → ℕ
+path_price says held p = sum_by (λ d. price_in says held.state.lists held.version p d.root) (documents p.path.root held.state.documents)
+
+-- a text that is no path asks for nothing
+abbrev pub read_price : Judgement → Held → Result PathForm QueryFault → ℕ
+read_price says held (Err fault) = 0
+read_price says held (Ok p) = path_price says held p
+
+-- what a session holds, with the documents and the version of a mark in the place of those of now
+abbrev pub held_at : Held → List ℕ → Mark → Held
+held_at held name mark =
+    record held { state = at_mark held.state mark; version = version_of_mark name held.state.marks held.mark_versions }
+
+-- a path costs nothing at a mark that isn't there
+abbrev pub price_at : Judgement → Held → List ℕ → List ℕ → Option Mark → ℕ
+price_at says held name path None = 0
+price_at says held name path (Some mark) = read_price says (held_at held name mark) (path_read path)
+
+-- how far a command may move cursors: as far as the tests of its path cost
+unfoldable pub moves_for : Judgement → Held → Command → ℕ
+moves_for says held (command.Insert how path block) = read_price says held (path_read path)
+moves_for says held (command.Replace path block) = read_price says held (path_read path)
+moves_for says held (command.Delete path) = read_price says held (path_read path)
+moves_for says held (command.Query path) = read_price says held (path_read path)
+moves_for says held (command.QueryAt name path) = price_at says held name path (mark_named name held.state.marks)
+moves_for says held (command.Print path) = read_price says held (path_read path)
+moves_for says held _ = 0

@@ -1,0 +1,37 @@
+-- What is said of the nodes of a document, by runs and the judge that is asked with them.
+use Rattle.std.specs.Prelude.{ℕ, ◌==◌, Bool, ◌&&◌, nat_lt, List, [], ◌∷◌, length, map, All}
+use Rattle.std.specs.List.{list_any, AllByRecursion}
+use Rattle.index_updates.specs.Follows.{Follows}
+use Rattle.ordered_tree.specs.Numbered.{Numbered}
+use Rattle.ft_base.specs.declared.ids.NodeRef.{NodeRef}
+use Rattle.path_nodes.specs.References.{element_of, spot_reference, spots_in}
+use Rattle.path_nodes.specs.Says.{Meaning}
+use Rattle.plan_runs.specs.Judgement.{Judgement}
+use Rattle.plan_runs.specs.RunMeaning.{RunMeaning}
+use Rattle.session_state.specs.PathPrices.{element_price}
+use Rattle.session_state.specs.PlannedPaths.{is_meant, run_meant, run_price}
+
+-- whether a reference names a node of a document
+abbrev pub is_there : Numbered → NodeRef → Bool
+is_there root r = list_any (λ s. (spot_reference s).0 == r.0) (spots_in root)
+
+-- Runs may be asked, each by its number, of each node of a document.
+abbrev pub may_ask : List RunMeaning → Numbered → ℕ → NodeRef → Bool
+may_ask runs root k r = nat_lt k (length runs) && is_there root r
+
+-- It is said whether the element that the reference names satisfies the selection, for the price of the run at its words. The runs and a count
+-- of steps are lent, under these names.
+abbrev pub asked_of : Judgement → List RunMeaning → Numbered → ℕ → ℕ → Meaning
+asked_of says runs root runs_loan moves_loan = record {
+  may_ask = may_ask runs root;
+  says = λ k r. is_meant says (map run_meant runs) k (element_of root r);
+  price = λ k r. element_price (map run_price runs) k (element_of root r);
+  lent = runs_loan ∷ moves_loan ∷ [];
+}
+
+-- Each run is over a version that follows a tree under its number, or each of some trees.
+abbrev pub AreOver : List RunMeaning → ℕ × Numbered → Type 0
+AreOver runs t = All (λ run. Follows run.version t.0 t.1) runs
+
+abbrev pub AreOverEach : List RunMeaning → List (ℕ × Numbered) → Type 0
+AreOverEach runs trees = AllByRecursion (AreOver runs) trees

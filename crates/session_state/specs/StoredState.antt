@@ -1,0 +1,30 @@
+-- How states and versions are stored, by which proofs tell them apart.
+use Rattle.std.specs.Prelude.{ℕ, List, refl}
+use Rattle.std.specs.Coded.{Coded, code_by, coded×, coded_list}
+use Rattle.collections.specs.StoredIndexed.{document_code}
+use Rattle.index_meaning.specs.Documents.{Numbered}
+use Rattle.kept_plans.specs.Kept.{Kept}
+use Rattle.kept_plans.specs.steps.Codes.{kept_code}
+use Rattle.path_meaning.specs.Collection.{Named}
+use Rattle.plan_compiler.specs.NamedLists.{NamedLists}
+use Rattle.plan_compiler.specs.steps.FormCode.{bytes_code, lists_code}
+use Rattle.plan_runs.specs.steps.RunCode.{numbered_code}
+use Rattle.session_state.specs.Held.{Held}
+use Rattle.session_state.specs.State.{Mark, State}
+
+abbrev mark_code : Coded Mark
+mark_code =
+    code_by (List ℕ × List Named) (coded× bytes_code (coded_list document_code))
+    (λ m. (m.name, m.documents)) (λ p. record { name = p.0; documents = p.1 }) (λ _. refl)
+
+abbrev state_code : Coded State
+state_code =
+    code_by (List Named × (NamedLists × (List Mark × Kept)))
+    (coded× (coded_list document_code) (coded× lists_code (coded× (coded_list mark_code) kept_code)))
+    (λ s. (s.documents, (s.lists, (s.marks, s.kept))))
+    (λ p. record { documents = p.0; lists = p.1.0; marks = p.1.1.0; kept = p.1.1.1 }) (λ _. refl)
+
+abbrev pub held_code : Coded Held
+held_code =
+    code_by (State × (List Numbered × List (List Numbered))) (coded× state_code (coded× (coded_list numbered_code) (coded_list (coded_list numbered_code))))
+    (λ h. (h.state, (h.version, h.mark_versions))) (λ p. record { state = p.0; version = p.1.0; mark_versions = p.1.1 }) (λ _. refl)

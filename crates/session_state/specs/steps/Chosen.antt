@@ -1,0 +1,45 @@
+-- The elements that a path selects in documents, by their references.
+use Rattle.std.specs.Prelude.{◌≡◌, ℕ, if◌then◌else◌, List, [], ◌∷◌, map, All, ⊤}
+use Rattle.std.specs.List.{sum_by}
+use Rattle.collections.specs.Documents.{Edit}
+use Rattle.collections.specs.Loaded.{LoadedTree, to_document}
+use Rattle.document_edits.specs.Targets.{places_of}
+use Rattle.ft_base.specs.declared.ids.NodeRef.{NodeRef}
+use Rattle.path_meaning.specs.Collection.{Named}
+use Rattle.path_nodes.specs.References.{IsElement}
+use Rattle.plain_tree.specs.Document.{nodes}
+use Rattle.plain_tree.specs.View.{node}
+use Rattle.plan_runs.specs.Judgement.{Judgement}
+use Rattle.plan_runs.specs.RunMeaning.{RunMeaning}
+use Rattle.session_state.specs.declared.edit.Edit as code
+use Rattle.session_state.specs.declared.planned.PlannedPath.{PlannedPath}
+use Rattle.session_state.specs.Edits.{leads_through}
+use Rattle.session_state.specs.PlannedPaths.{planned_in, planned_price}
+
+-- what the code's edit is
+abbrev pub edit_of : code.Edit → Edit
+edit_of edit = record { how = edit.how; content = nodes (map node edit.content.now) }
+
+-- the places of the elements of a document to which a path leads; none where it doesn't go through the document
+abbrev pub planned_places : Judgement → PlannedPath → Named → List (List ℕ)
+planned_places says path d =
+    if leads_through path.root.now d.name then map (λ e. e.place) (planned_in says path d.root) else []
+
+-- what the tests cost for which a path asks in a document
+abbrev pub price_through : Judgement → PlannedPath → List RunMeaning → Named → ℕ
+price_through says path runs d = if leads_through path.root.now d.name then planned_price says path runs d.root else 0
+
+abbrev pub prices_through : Judgement → PlannedPath → List RunMeaning → List Named → ℕ
+prices_through says path runs documents = sum_by (price_through says path runs) documents
+
+-- References name the elements of a document to which a path leads.
+pub record AreLedTo (says : Judgement) (path : PlannedPath) (e : List ℕ × LoadedTree) (refs : List NodeRef) : Type 0 where
+  pub there : All (IsElement e.1.tree.root) refs
+  pub places : places_of e.1.tree.root refs ≡ planned_places says path (to_document e)
+
+-- Lists of references do, one for each document.
+abbrev pub AreLedToEach : Judgement → PlannedPath → List (List ℕ × LoadedTree) → List (List NodeRef) → Type 0
+AreLedToEach says path [] [] = ⊤
+AreLedToEach says path [] (refs ∷ rest) = ⊥
+AreLedToEach says path (e ∷ es) [] = ⊥
+AreLedToEach says path (e ∷ es) (refs ∷ rest) = AreLedTo says path e refs × AreLedToEach says path es rest

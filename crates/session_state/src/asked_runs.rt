@@ -1,0 +1,65 @@
+//! What `contains text` says of the elements of a document.
+
+ghost use Rattle.std.specs.Prelude.{◌≡◌, ◌≤◌, ℕ, List};
+ghost use Rattle.plan_runs.specs.RunMeaning.{RunMeaning};
+ghost use Rattle.session_state.specs.SelectionTests.{AreOver};
+
+use ft_base::{DocId, Memory, Steps};
+use ordered_tree::{DocTree, NodeRef};
+use path_nodes::TextTest;
+use plan_runs::{Judge, Run};
+use std::marker::{Brand, PhantomData};
+use std::sync::ledger::Ledger;
+
+/// What a test is lent: the runs, as they stay, and where the count of steps stands at first. Proofs alone see it.
+pub(crate) trait Loan {
+    ghost runs: { List RunMeaning };
+
+    ghost moves: { ℕ };
+}
+
+impl Loan for Brand {
+    ghost use Rattle.std.specs.Prelude.{[]};
+
+    ghost runs = { [] };
+
+    ghost moves = { 0 };
+}
+
+/// Asks a judge, with the runs of a path's selections, each by its number, of the nodes of a document.
+#[derive(Drop)]
+pub(crate) struct SelectionTest<'j, 't, 'r, 'v, 'm, J: Judge, B: Loan, M: Ledger> {
+    pub(crate) judge: &'j J,
+    /// The document's number in the version of the runs
+    pub(crate) doc: DocId,
+    pub(crate) tree: &'t DocTree,
+    pub(crate) runs: &'r mut Vec<Run<'v>>,
+    pub(crate) moves: &'m mut Steps<M>,
+    pub(crate) loan: PhantomData<B>,
+    ghost over: { AreOver B.runs (doc.0, tree.now.root) },
+    ghost same: { runs.now.items ≡ B.runs },
+    ghost raised: { B.moves ≤ moves.now },
+}
+
+impl<'j, 't, 'r, 'v, 'm, J: Judge, B: Loan, M: Ledger> TextTest
+    for SelectionTest<'j, 't, 'r, 'v, 'm, J, B, M> {
+    ghost use Rattle.session_state.specs.SelectionTests.{asked_of};
+
+    ghost meaning = { λ test. asked_of J.says B.runs test.tree.now.root test.runs.ghost_name test.moves.ghost_name };
+
+    ghost cost = { λ test. test.moves.now };
+
+    fn contains(&mut self, selection: usize, node: NodeRef) -> Result<bool, Memory> {
+        let span = self.tree.span_of(node);
+        let run = &mut self.runs[selection];
+        Ok(self.judge.judge(run, self.doc, span, self.moves))
+    }
+
+    fn rules_out(&self, selection: usize) -> bool {
+        if selection >= self.runs.len() {
+            return false;
+        }
+        let run = &self.runs[selection];
+        self.judge.rules_out(run, self.doc)
+    }
+}

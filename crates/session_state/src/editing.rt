@@ -1,0 +1,159 @@
+//! Edits of the elements that a path selects.
+
+ghost use Rattle.std.specs.Prelude.{◌≡◌, ◌≤◌, ◌+◌, IfOk, None, OnErr, map};
+ghost use Rattle.collections.specs.Documents.{edited_within, touched_in};
+ghost use Rattle.collections.specs.Targets.{places_of_targets, AreTargets};
+ghost use Rattle.path_meaning.specs.Collection.{documents as documents_of};
+ghost use Rattle.session_state.specs.Edits.{edit_placed, has_root, if_within, is_one, target_count, target_refusal, targets_refused, touched_placed};
+ghost use Rattle.session_state.specs.PlannedPaths.{prices_in, run_over, HasItsPlans};
+ghost use Rattle.session_state.specs.steps.Chosen.{edit_of, planned_places};
+ghost use Rattle.tree_edits.specs.steps.Acts.{stays as does_stay};
+
+use crate::edit::{Edit, Targets};
+use crate::planned::{PlannedPath, open_runs};
+use crate::targets::{Chosen, choose};
+use collections::Collection;
+use ft_base::{Memory, Steps};
+use plain_tree::How;
+use plan_runs::Judge;
+use session_text::{Refusal, Reply};
+use std::sync::ledger::Ledger;
+
+/// Edits the elements to which a path leads, unless they are none or too many, or it can't be of a root that is among them, or a document
+/// would exceed a limit.
+pub(crate) fn edit_along<J: Judge, L: Ledger, M: Ledger>(
+    judge: &J,
+    collection: &mut Collection,
+    edit: &Edit<'_>,
+    path: &PlannedPath<'_>,
+    moves: &mut Steps<M>,
+    rows: &mut Steps<L>,
+) -> Result<Reply, Memory>
+    requires { HasItsPlans path.now }
+    ensures answer { IfOk result (λ reply. (collection.new.documents, reply)
+        ≡ edit_placed collection.old.documents (edit_of edit.now) (map (planned_places J.says path.now) collection.old.documents)
+        (target_refusal edit.now.targets (edit_of edit.now) (map (planned_places J.says path.now) collection.old.documents))) }
+    ensures err { OnErr result (collection.new ≡ collection.old) }
+    ensures moves { moves.old ≤ moves.new }
+    ensures price { moves.new
+        ≤ moves.old
+        + prices_in J.says path.now (map (run_over collection.old.version) path.now.plans.now) (documents_of path.now.root.now collection.old.documents) }
+    ensures rows { rows.new
+        ≤ rows.old
+        + touched_placed collection.old.documents (edit_of edit.now) (map (planned_places J.says path.now) collection.old.documents)
+        (target_refusal edit.now.targets (edit_of edit.now) (map (planned_places J.says path.now) collection.old.documents)) }
+{
+    match choose_along(judge, collection, path, moves) {
+        Ok(chosen) => {
+            let edited = edit_chosen(collection, edit, &chosen, rows);
+            drop(chosen);
+            edited
+        }
+        Err(memory) => Err(memory),
+    }
+}
+
+/// The elements to which a path leads. A run of each of its plans is opened once, over the version of the index.
+fn choose_along<J: Judge, M: Ledger>(
+    judge: &J,
+    collection: &Collection,
+    path: &PlannedPath<'_>,
+    moves: &mut Steps<M>,
+) -> Result<Chosen, Memory>
+    requires { HasItsPlans path.now }
+    ensures there { IfOk result (λ chosen. AreTargets collection.now.trees chosen.refs) }
+    ensures places { IfOk result (λ chosen. places_of_targets collection.now.trees chosen.refs
+        ≡ map (planned_places J.says path.now) collection.now.documents) }
+    ensures count { IfOk result (λ chosen. chosen.count ≡ target_count (map (planned_places J.says path.now) collection.now.documents)) }
+    ensures rooted { IfOk result (λ chosen. chosen.has_root ≡ has_root (map (planned_places J.says path.now) collection.now.documents)) }
+    ensures moves { moves.old ≤ moves.new }
+    ensures price { moves.new
+        ≤ moves.old
+        + prices_in J.says path.now (map (run_over collection.now.version) path.now.plans.now) (documents_of path.now.root.now collection.now.documents) }
+{
+    let documents = collection.documents();
+    let mut runs = open_runs(path.alloc, path.plans, collection.version())?;
+    let chosen = choose(judge, documents, path, &mut runs, moves);
+    drop(runs);
+    chosen
+}
+
+/// Edits the elements that were chosen, unless they can't be edited or a document would exceed a limit.
+fn edit_chosen<L: Ledger>(
+    collection: &mut Collection,
+    edit: &Edit<'_>,
+    chosen: &Chosen,
+    rows: &mut Steps<L>,
+) -> Result<Reply, Memory>
+    requires there { AreTargets collection.old.trees chosen.now.refs }
+    requires count { chosen.now.count ≡ target_count (places_of_targets collection.old.trees chosen.now.refs) }
+    requires rooted { chosen.now.has_root ≡ has_root (places_of_targets collection.old.trees chosen.now.refs) }
+    ensures answer { IfOk result (λ reply. (collection.new.documents, reply)
+        ≡ edit_placed collection.old.documents (edit_of edit.now) (places_of_targets collection.old.trees chosen.now.refs)
+        (target_refusal edit.now.targets (edit_of edit.now) (places_of_targets collection.old.trees chosen.now.refs))) }
+    ensures err { OnErr result (collection.new ≡ collection.old) }
+    ensures rows { rows.new
+        ≤ rows.old
+        + touched_placed collection.old.documents (edit_of edit.now) (places_of_targets collection.old.trees chosen.now.refs)
+        (target_refusal edit.now.targets (edit_of edit.now) (places_of_targets collection.old.trees chosen.now.refs)) }
+{
+    match refusal_of(edit, chosen) {
+        Some(why) => Ok(Reply::Refused(why)),
+        None => edit_within(collection, edit, chosen, rows),
+    }
+}
+
+/// Edits elements that can be edited, unless a document would exceed a limit.
+fn edit_within<L: Ledger>(
+    collection: &mut Collection,
+    edit: &Edit<'_>,
+    chosen: &Chosen,
+    rows: &mut Steps<L>,
+) -> Result<Reply, Memory>
+    requires there { AreTargets collection.old.trees chosen.now.refs }
+    requires count { chosen.now.count ≡ target_count (places_of_targets collection.old.trees chosen.now.refs) }
+    requires rooted { chosen.now.has_root ≡ has_root (places_of_targets collection.old.trees chosen.now.refs) }
+    requires accepted { targets_refused edit.now.targets edit.now.how chosen.now.count chosen.now.has_root ≡ None }
+    ensures answer { IfOk result (λ reply. (collection.new.documents, reply)
+        ≡ if_within (edited_within (edit_of edit.now) (places_of_targets collection.old.trees chosen.now.refs) collection.old.documents)) }
+    ensures err { OnErr result (collection.new ≡ collection.old) }
+    ensures rows { rows.new
+        ≤ rows.old + touched_in (edit_of edit.now) (places_of_targets collection.old.trees chosen.now.refs) collection.old.documents }
+{
+    match collection.edit(chosen.refs.as_slice(), edit.how, edit.content, rows) {
+        Ok(None) => Ok(Reply::Done),
+        Ok(Some(what)) => Ok(Reply::Refused(Refusal::Limit { what })),
+        Err(memory) => Err(memory),
+    }
+}
+
+/// Why the elements that were chosen can't be edited, if they can't.
+fn refusal_of(edit: &Edit<'_>, chosen: &Chosen) -> Option<Refusal>
+    ensures { result ≡ targets_refused edit.now.targets edit.now.how chosen.now.count chosen.now.has_root }
+{
+    let count = chosen.count;
+    if count == 0 {
+        return Some(Refusal::NoTarget);
+    }
+    if is_for_one(edit.targets) && count > 1 {
+        return Some(Refusal::ManyTargets { count });
+    }
+    if !stays(edit.how) && chosen.has_root {
+        return Some(Refusal::RootTarget);
+    }
+    None
+}
+
+/// Whether an edit may be of one element alone.
+fn is_for_one(targets: Targets) -> bool
+    ensures { result ≡ is_one targets }
+{
+    matches!(targets, Targets::One)
+}
+
+/// Whether an element stays where it stands, where content comes in this way.
+fn stays(how: Option<How>) -> bool
+    ensures { result ≡ does_stay how }
+{
+    matches!(how, Some(How::First) | Some(How::Last))
+}

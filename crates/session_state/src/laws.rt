@@ -1,0 +1,31 @@
+//! What a query selects, said aloud, whatever the judge of a session says.
+
+ghost use Rattle.std.specs.Prelude.{◌≡◌, ℕ, Bool, List, map, filter, flat_map, Ok, AllPairs};
+ghost use Rattle.element_lines.specs.Lines.{element_line};
+ghost use Rattle.path_meaning.specs.Collection.{Named, documents};
+ghost use Rattle.path_meaning.specs.Elements.{Element, elements};
+ghost use Rattle.path_meaning.specs.Order.{Before};
+ghost use Rattle.path_subset.specs.Answer.{path_read};
+ghost use Rattle.path_subset.specs.Paths.{PathForm};
+ghost use Rattle.plan_runs.specs.Judgement.{Judgement};
+ghost use Rattle.session_text.specs.declared.command.Command.TheVariants.{Query};
+ghost use Rattle.session_text.specs.declared.reply.Reply.TheVariants.{Nodes};
+ghost use Rattle.session_state.specs.Paths.{selected_in, IsAnswered};
+ghost use Rattle.session_state.specs.State.{State};
+ghost use Rattle.session_state.specs.Step.{step};
+
+/// Where the path of a query can be read, and all that it names is there, the reply names, document by document in the order of
+/// loading, the elements that the path selects.
+pub fn query_law()
+    ensures { (says : Judgement) (state : State) (text : List ℕ) (p : PathForm) → Ok p ≡ path_read text → IsAnswered state p
+        → (step says state (Query text)).1 ≡ Nodes (flat_map
+        (λ (d : Named). map (element_line d.name d.root) (selected_in says state.lists p d.root))
+        (documents p.path.root state.documents)) }
+{}
+
+/// Those elements of a document are the ones that pass a test, in document order, each once.
+pub fn selected_law()
+    ensures members { (says : Judgement) (state : State) (p : PathForm) (d : Named)
+        → (q : Element → Bool) × (selected_in says state.lists p d.root ≡ filter q (elements d.root)) }
+    ensures order { (says : Judgement) (state : State) (p : PathForm) (d : Named) → AllPairs Before (selected_in says state.lists p d.root) }
+{}

@@ -1,0 +1,23 @@
+//! What a session of the search engine holds, and what each command does to it.
+#![tactic(auto)]
+
+mod asked_runs;
+pub mod command_examples;
+mod edit;
+mod editing;
+pub mod examples;
+mod explaining;
+mod keeping;
+pub mod laws;
+mod lists;
+mod marks;
+mod paths;
+mod planned;
+mod refusing;
+mod selected;
+mod session;
+mod shown;
+mod stats;
+mod targets;
+
+pub use session::Session;

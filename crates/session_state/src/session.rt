@@ -1,0 +1,400 @@
+ghost use Rattle.std.specs.Prelude.{◌≡◌, ◌≤◌, ◌+◌, false, None, Some, IfOk, OnErr};
+ghost use Rattle.collections.specs.Documents.{dropped, loadable, loaded, tokens_loaded, tokens_named};
+ghost use Rattle.collections.specs.Indexed.{IsIndexOf};
+ghost use Rattle.doc_profile.specs.Readings.{fragment_of};
+ghost use Rattle.session_state.specs.Edits as edits;
+ghost use Rattle.session_state.specs.Edits.{edit_path, touched_path, touched_with};
+ghost use Rattle.session_state.specs.Held.{nothing_held};
+ghost use Rattle.session_state.specs.KeptTexts.{keep_plans};
+ghost use Rattle.session_state.specs.Marks.{mark_named, marked, unmarked, AreIndexesOf};
+ghost use Rattle.session_state.specs.PathPrices.{moves_for, price_at, read_price};
+ghost use Rattle.path_subset.specs.Answer.{path_read};
+ghost use Rattle.session_state.specs.ReadyPaths.{IsReadyPath};
+ghost use Rattle.session_state.specs.State.{with_documents};
+ghost use Rattle.session_state.specs.StateView.{prepared_of};
+ghost use Rattle.session_state.specs.Stats as held;
+ghost use Rattle.session_state.specs.Step.{changes_documents, has_path, rows_for, shown as shown_by, shown_at, step, with_lists};
+ghost use Rattle.session_state.specs.Lists.{stems_put, stop_list_put, thesaurus_put};
+ghost use Rattle.session_state.specs.steps.Chosen.{edit_of};
+ghost use Rattle.thesaurus_file.specs.Lines.{thesaurus_of};
+ghost use Rattle.word_lists.specs.Stems.{stems_of};
+ghost use Rattle.word_lists.specs.StopLists.{stop_list_of};
+
+use crate::edit::{Edit, Targets};
+use crate::editing::edit_along;
+use crate::explaining::explain;
+use crate::keeping::keep_accepted;
+use crate::lists::{put_stems, put_stop_list, put_thesaurus};
+use crate::marks::{Marks, no_such_name};
+use crate::paths::{Ready, ReadyPath, answer_path, ready_path};
+use crate::refusing::refuse_block;
+use crate::shown::Shown;
+use crate::stats::counts;
+use collections::Collection;
+use doc_profile::read_fragment;
+use ft_base::{Line, Memory, Steps};
+use kept_plans::Prepared;
+use plain_tree::{How, Kids};
+use plan_runs::Judge;
+use session_text::{Command, Refusal, Reply};
+use std::alloc::Global;
+use std::marker::Model;
+use std::sync::ledger::Ledger;
+
+/// The documents of a session by their names, in the order in which they were loaded, with their index; the lists that
+/// selections name, and the plans that are kept under them; the marks; and the judge that says whether the words of an element
+/// satisfy a selection.
+#[derive(Drop)]
+pub struct Session<J: Judge + Drop> {
+    alloc: Global,
+    collection: Collection,
+    prepared: Prepared,
+    marks: Marks,
+    judge: J,
+}
+
+impl<J: Judge + Drop> Model for Session<J> {
+    ghost use Rattle.session_state.specs.Held.{Held};
+    ghost use Rattle.session_state.specs.KeptMarks.{marks_of, versions_of};
+    ghost use Rattle.session_state.specs.StoredState.{held_code};
+
+    ghost Value = { Held };
+
+    ghost coded = { held_code };
+
+    ghost view = { λ session. record {
+      state = record {
+        documents = session.collection.documents;
+        lists = session.prepared.lists;
+        marks = marks_of session.marks;
+        kept = session.prepared.kept;
+      };
+      version = session.collection.version;
+      mark_versions = versions_of session.marks;
+    } };
+}
+
+impl<J: Judge + Drop> Session<J> {
+    /// A session that holds nothing, and asks this judge.
+    pub fn new(alloc: Global, judge: J) -> Result<Session<J>, Memory>
+        ensures { IfOk result (λ session. session ≡ nothing_held) }
+    {
+        match Prepared::new(alloc) {
+            Ok(prepared) => Ok(Session {
+                alloc,
+                collection: Collection::new(alloc),
+                prepared,
+                marks: Marks::new(alloc),
+                judge,
+            }),
+            Err(memory) => {
+                drop(judge);
+                Err(memory)
+            }
+        }
+    }
+
+    /// Does what the command says, and answers it; of each `contains text` of a path the judge is asked. A refused command
+    /// changes nothing, nor does one for which memory runs out. Whatever the answer, the version that the session holds is
+    /// then the index of its documents, and that of each mark the index of the mark's.
+    ///
+    /// `moves` counts the steps of the cursors by which commands with a path answer `contains text`: no more than what the tests
+    /// for which the path asks cost. `rows` counts the rows of the index that are put and taken.
+    pub fn step<L: Ledger, M: Ledger>(
+        &mut self,
+        command: &Command,
+        moves: &mut Steps<M>,
+        rows: &mut Steps<L>,
+    ) -> Result<Reply, Memory>
+        ensures answer { IfOk result (λ reply. (self.new.state, reply) ≡ step J.says self.old.state command.now) }
+        ensures err { OnErr result (self.new ≡ self.old) }
+        ensures indexed { IsIndexOf self.new.state.documents self.new.version }
+        ensures marked { AreIndexesOf self.new.state.marks self.new.mark_versions }
+        ensures moves { moves.old ≤ moves.new }
+        ensures moves_most { moves.new ≤ moves.old + moves_for J.says self.old command.now }
+        ensures moves_kept { has_path command.now ≡ false → moves.new ≡ moves.old }
+        ensures rows { rows.new ≤ rows.old + rows_for J.says self.old.state command.now }
+        ensures rows_kept { changes_documents command.now ≡ false → rows.new ≡ rows.old }
+    {
+        let reply = self.carry_out(command, moves, rows);
+        // The versions are the indexes of the documents, as the clauses of these two say.
+        let _documents = self.collection.documents();
+        let _marks = self.marks.len();
+        reply
+    }
+
+    /// Does what the command says, and answers it.
+    #[tactic(auto, unfolding(crate::specs::Step::step, crate::specs::Step::rows_for, crate::specs::PathPrices::moves_for))]
+    fn carry_out<L: Ledger, M: Ledger>(
+        &mut self,
+        command: &Command,
+        moves: &mut Steps<M>,
+        rows: &mut Steps<L>,
+    ) -> Result<Reply, Memory>
+        ensures answer { IfOk result (λ reply. (self.new.state, reply) ≡ step J.says self.old.state command.now) }
+        ensures err { OnErr result (self.new ≡ self.old) }
+        ensures moves { moves.old ≤ moves.new }
+        ensures moves_most { moves.new ≤ moves.old + moves_for J.says self.old command.now }
+        ensures moves_kept { has_path command.now ≡ false → moves.new ≡ moves.old }
+        ensures rows { rows.new ≤ rows.old + rows_for J.says self.old.state command.now }
+        ensures rows_kept { changes_documents command.now ≡ false → rows.new ≡ rows.old }
+    {
+        match command {
+            Command::Load { name, block } => self.load(name, block.as_slice(), rows),
+            Command::Drop { name } => self.remove(name, rows),
+            Command::Insert { how, path, block } => {
+                self.edit_with(Some(*how), path.as_str(), block.as_slice(), moves, rows)
+            }
+            Command::Replace { path, block } => {
+                self.edit_with(None, path.as_str(), block.as_slice(), moves, rows)
+            }
+            Command::Delete { path } => self.delete(path.as_str(), moves, rows),
+            Command::Stop { name, block } => self.put_stops(name.as_str(), block.as_slice()),
+            Command::Stems { block } => self.put_stems(block.as_slice()),
+            Command::Thesaurus { name, block } => {
+                self.put_thesaurus(name.as_str(), block.as_slice())
+            }
+            Command::Query { path } => self.show(Shown::Names, path.as_str(), moves),
+            Command::QueryAt { name, path } => self.show_at(name, path.as_str(), moves),
+            Command::Print { path } => self.show(Shown::Texts, path.as_str(), moves),
+            Command::Mark { name } => self.mark(name),
+            Command::Unmark { name } => self.unmark(name),
+            Command::Explain { text } => explain(self.alloc, text.as_str()),
+            Command::Stats => Ok(self.stats()),
+            Command::BadCommand { line } => {
+                Ok(Reply::Refused(Refusal::BadCommand { line: *line }))
+            }
+            Command::BadName { line } => Ok(Reply::Refused(Refusal::BadName { line: *line })),
+        }
+    }
+
+    /// Loads the block as a document under the name.
+    fn load<L: Ledger>(
+        &mut self,
+        name: &Line,
+        block: &[u8],
+        rows: &mut Steps<L>,
+    ) -> Result<Reply, Memory>
+        ensures answer { IfOk result (λ reply. (self.new.state, reply)
+            ≡ with_documents self.old.state (loaded self.old.state.documents name.now (loadable block.now))) }
+        ensures err { OnErr result (self.new ≡ self.old) }
+        ensures rows { rows.new ≤ rows.old + tokens_loaded self.old.state.documents name.now (loadable block.now) }
+    {
+        self.collection.load(name, block, rows)
+    }
+
+    /// Takes the document of the name out.
+    fn remove<L: Ledger>(&mut self, name: &Line, rows: &mut Steps<L>) -> Result<Reply, Memory>
+        ensures answer { IfOk result (λ reply. (self.new.state, reply) ≡ with_documents self.old.state (dropped self.old.state.documents name.now)) }
+        ensures err { OnErr result (self.new ≡ self.old) }
+        ensures rows { rows.new ≤ rows.old + tokens_named self.old.state.documents name.now }
+    {
+        self.collection.remove(name, rows)
+    }
+
+    /// Edits the element that the path selects with the fragment in the block.
+    fn edit_with<L: Ledger, M: Ledger>(
+        &mut self,
+        how: Option<How>,
+        path: &str,
+        block: &[u8],
+        moves: &mut Steps<M>,
+        rows: &mut Steps<L>,
+    ) -> Result<Reply, Memory>
+        ensures answer { IfOk result (λ reply. (self.new.state, reply)
+            ≡ keep_plans path.now (edits.edit_with J.says self.old.state how path.now (fragment_of block.now))) }
+        ensures err { OnErr result (self.new ≡ self.old) }
+        ensures moves { moves.old ≤ moves.new }
+        ensures price { moves.new ≤ moves.old + read_price J.says self.old (path_read path.now) }
+        ensures rows { rows.new ≤ rows.old + touched_with J.says self.old.state how path.now (fragment_of block.now) }
+    {
+        match read_fragment(self.alloc, block) {
+            Ok(content) => {
+                let edit = Edit {
+                    targets: Targets::One,
+                    how,
+                    content: &content,
+                };
+                let edited = self.edit(&edit, path, moves, rows);
+                drop(content);
+                edited
+            }
+            Err(fault) => refuse_block(fault),
+        }
+    }
+
+    /// Takes the elements out that the path selects.
+    fn delete<L: Ledger, M: Ledger>(
+        &mut self,
+        path: &str,
+        moves: &mut Steps<M>,
+        rows: &mut Steps<L>,
+    ) -> Result<Reply, Memory>
+        ensures answer { IfOk result (λ reply. (self.new.state, reply) ≡ keep_plans path.now (edits.deleted J.says self.old.state path.now)) }
+        ensures err { OnErr result (self.new ≡ self.old) }
+        ensures moves { moves.old ≤ moves.new }
+        ensures price { moves.new ≤ moves.old + read_price J.says self.old (path_read path.now) }
+        ensures rows { rows.new ≤ rows.old + touched_path J.says self.old.state Targets.Any edits.deletion path.now }
+    {
+        let content = Kids::new(self.alloc);
+        let edit = Edit {
+            targets: Targets::Any,
+            how: None,
+            content: &content,
+        };
+        let edited = self.edit(&edit, path, moves, rows);
+        drop(content);
+        edited
+    }
+
+    /// Edits the elements that the path selects.
+    fn edit<L: Ledger, M: Ledger>(
+        &mut self,
+        edit: &Edit<'_>,
+        path: &str,
+        moves: &mut Steps<M>,
+        rows: &mut Steps<L>,
+    ) -> Result<Reply, Memory>
+        ensures answer { IfOk result (λ reply. (self.new.state, reply)
+            ≡ keep_plans path.now (edit_path J.says self.old.state edit.now.targets (edit_of edit.now) path.now)) }
+        ensures err { OnErr result (self.new ≡ self.old) }
+        ensures moves { moves.old ≤ moves.new }
+        ensures price { moves.new ≤ moves.old + read_price J.says self.old (path_read path.now) }
+        ensures rows { rows.new ≤ rows.old + touched_path J.says self.old.state edit.now.targets (edit_of edit.now) path.now }
+    {
+        match ready_path(self.alloc, &self.collection, &self.prepared, path) {
+            Ok(Ready::Path(ready)) => self.edit_ready(edit, path, ready, moves, rows),
+            Ok(Ready::Refused(why)) => Ok(Reply::Refused(why)),
+            Err(memory) => Err(memory),
+        }
+    }
+
+    /// The same where all that the path names is there.
+    fn edit_ready<L: Ledger, M: Ledger>(
+        &mut self,
+        edit: &Edit<'_>,
+        path: &str,
+        ready: ReadyPath,
+        moves: &mut Steps<M>,
+        rows: &mut Steps<L>,
+    ) -> Result<Reply, Memory>
+        requires { IsReadyPath self.old.state.documents (prepared_of self.old.state) path.now ready }
+        ensures answer { IfOk result (λ reply. (self.new.state, reply)
+            ≡ keep_plans path.now (edit_path J.says self.old.state edit.now.targets (edit_of edit.now) path.now)) }
+        ensures err { OnErr result (self.new ≡ self.old) }
+        ensures moves { moves.old ≤ moves.new }
+        ensures price { moves.new ≤ moves.old + read_price J.says self.old (path_read path.now) }
+        ensures rows { rows.new ≤ rows.old + touched_path J.says self.old.state edit.now.targets (edit_of edit.now) path.now }
+    {
+        let planned = ready.planned();
+        let edited = edit_along(
+            &self.judge,
+            &mut self.collection,
+            edit,
+            &planned,
+            moves,
+            rows,
+        );
+        keep_accepted(&mut self.prepared, ready, edited)
+    }
+
+    /// Puts the stop list that the block is under the name.
+    fn put_stops(&mut self, name: &str, block: &[u8]) -> Result<Reply, Memory>
+        ensures answer { IfOk result (λ reply. (self.new.state, reply)
+            ≡ with_lists self.old.state (stop_list_put self.old.state.lists name.now (stop_list_of block.now))) }
+        ensures err { OnErr result (self.new ≡ self.old) }
+    {
+        put_stop_list(self.alloc, &mut self.prepared, name, block)
+    }
+
+    /// Puts the dictionary of stems that the block is in the place of the one that is there.
+    fn put_stems(&mut self, block: &[u8]) -> Result<Reply, Memory>
+        ensures answer { IfOk result (λ reply. (self.new.state, reply)
+            ≡ with_lists self.old.state (stems_put self.old.state.lists (stems_of block.now))) }
+        ensures err { OnErr result (self.new ≡ self.old) }
+    {
+        put_stems(self.alloc, &mut self.prepared, block)
+    }
+
+    /// Puts the thesaurus that the block is under the name.
+    fn put_thesaurus(&mut self, name: &str, block: &[u8]) -> Result<Reply, Memory>
+        ensures answer { IfOk result (λ reply. (self.new.state, reply)
+            ≡ with_lists self.old.state (thesaurus_put self.old.state.lists name.now (thesaurus_of block.now))) }
+        ensures err { OnErr result (self.new ≡ self.old) }
+    {
+        put_thesaurus(self.alloc, &mut self.prepared, name, block)
+    }
+
+    /// The reply to a path, of whose elements this is shown.
+    fn show<M: Ledger>(
+        &mut self,
+        shown: Shown,
+        path: &str,
+        moves: &mut Steps<M>,
+    ) -> Result<Reply, Memory>
+        ensures answer { IfOk result (λ reply. (self.new.state, reply) ≡ shown_by J.says shown self.old.state path.now) }
+        ensures err { OnErr result (self.new ≡ self.old) }
+        ensures moves { moves.old ≤ moves.new }
+        ensures price { moves.new ≤ moves.old + read_price J.says self.old (path_read path.now) }
+    {
+        answer_path(
+            self.alloc,
+            &self.judge,
+            &self.collection,
+            &mut self.prepared,
+            shown,
+            path,
+            moves,
+        )
+    }
+
+    /// The reply to a path that goes along the collection of the mark.
+    fn show_at<M: Ledger>(
+        &mut self,
+        name: &Line,
+        path: &str,
+        moves: &mut Steps<M>,
+    ) -> Result<Reply, Memory>
+        ensures answer { IfOk result (λ reply. (self.new.state, reply)
+            ≡ shown_at J.says self.old.state name.now path.now (mark_named name.now self.old.state.marks)) }
+        ensures err { OnErr result (self.new ≡ self.old) }
+        ensures moves { moves.old ≤ moves.new }
+        ensures price { moves.new ≤ moves.old + price_at J.says self.old name.now path.now (mark_named name.now self.old.state.marks) }
+    {
+        match self.marks.get(name) {
+            Some(collection) => answer_path(
+                self.alloc,
+                &self.judge,
+                collection,
+                &mut self.prepared,
+                Shown::Names,
+                path,
+                moves,
+            ),
+            None => no_such_name(self.alloc, name),
+        }
+    }
+
+    /// Keeps the collection as it is under the name.
+    fn mark(&mut self, name: &Line) -> Result<Reply, Memory>
+        ensures answer { IfOk result (λ reply. (self.new.state, reply) ≡ marked self.old.state name.now) }
+        ensures err { OnErr result (self.new ≡ self.old) }
+    {
+        self.marks.put(name, &self.collection)
+    }
+
+    /// Gives the mark of the name up.
+    fn unmark(&mut self, name: &Line) -> Result<Reply, Memory>
+        ensures answer { IfOk result (λ reply. (self.new.state, reply) ≡ unmarked self.old.state name.now) }
+        ensures err { OnErr result (self.new ≡ self.old) }
+    {
+        self.marks.remove(name)
+    }
+
+    /// How much the session holds.
+    fn stats(&self) -> Reply
+        ensures { result ≡ held.counts self.now.state }
+    {
+        Reply::Counts(counts(&self.collection, &self.marks, &self.prepared))
+    }
+}
