@@ -1,10 +1,10 @@
 -- Single words that are joined under a window, `ordered`, `same sentence` or `same paragraph` satisfy it exactly where a merge of their hits says so.
 use Rattle.std.proofs.Common.{◌≡◌, refl, sym, ap, subst, ◌∙◌, ℕ, zero, suc, ◌+◌, ◌-◌, ◌==◌, eqb, ◌≤◌, Bool, true, false, ◌&&◌, not, cond, true≢false, List, [], ◌∷◌, ◌++◌, map, fold, filter, flat_map, length, get_or, Option, Some, None, append-nil, arith}
-use Rattle.std.specs.Prelude.{nat_le}
+use Rattle.std.specs.Prelude.{nat_le, nat_lt}
 use Rattle.std.specs.List.{list_all, list_any, range_with_len}
 use Rattle.std.proofs.lemmas.Bool.{and_from, and_parts, eqb-true, eq-eqb, le-leb, leb-true}
 use Rattle.std.proofs.lemmas.Bool.Decides.{nat_tests}
-use Rattle.std.proofs.lemmas.List.{length-append, map_push}
+use Rattle.std.proofs.lemmas.List.{length-append, length-map, map_push}
 use Rattle.std.proofs.lemmas.List.Folds.{flat_map-map}
 use Rattle.std.proofs.lemmas.Option.{cond_some}
 use Rattle.std.proofs.lemmas.List.Sums.{fold-append}
@@ -13,6 +13,9 @@ use Rattle.ft_base.specs.declared.filter.Filter.TheVariants as F
 use Rattle.ft_base.specs.declared.hit.Hit.{Hit}
 use Rattle.ft_base.specs.declared.places.Breaks.{Breaks}
 use Rattle.ft_base.specs.declared.span.Span.{Span}
+use Rattle.ft_base.specs.declared.range.Range.{Range}
+use Rattle.ft_base.specs.declared.range.Range.TheVariants as R
+use Rattle.ft_base.specs.declared.unit.TextUnit.{TextUnit}
 use Rattle.ft_base.specs.declared.unit.TextUnit.TheVariants as Unit
 use Rattle.all_matches.specs.Boolean.{satisfied}
 use Rattle.all_matches.specs.Operators.{together_of}
@@ -34,6 +37,7 @@ use Rattle.window_merges.proofs.ChoiceLemmas.{same_places}
 use Rattle.window_merges.proofs.FilterLemmas.{ordered_choices, window_choices}
 use Rattle.window_merges.proofs.ShiftLemmas.{close_counted, order_counted}
 use Rattle.window_merges.proofs.SingleSpots.{single_spots}
+use Rattle.window_merges.proofs.DistanceFilter.{distance_choices}
 use Rattle.window_merges.proofs.UnitFilter.{counted_units, same_paragraph, same_sentence}
 use Rattle.window_merges.proofs.WantedLemmas.{wanted_places}
 use Rattle.word_lists.specs.Stems.{Stem}
@@ -41,7 +45,7 @@ use Rattle.plan_compiler.specs.Operators.{LookedText, hits_by_tests, looked_text
 use Rattle.plan_runs.specs.steps.AskedKeys.{asks_nothing}
 use Rattle.plan_runs.specs.steps.AskedSpans.{AskedSpan, IsAsked, tokens_in}
 use Rattle.plan_runs.specs.steps.ChosenTerms.{terms_for}
-use Rattle.plan_runs.specs.steps.Merges.{filter_kind, is_single, joined_phrases, last_word, one_behind, own_word, phrase_terms, stand_as, terms_places, test_terms, word_number}
+use Rattle.plan_runs.specs.steps.Merges.{distance_kind, filter_kind, is_pair, is_phrase, is_single, joined_phrases, last_word, one_behind, own_word, phrase_terms, stand_as, terms_places, test_terms, word_number}
 use Rattle.plan_runs.specs.steps.OpenedItems.{opened_item, opened_variant, word_test}
 use Rattle.plan_runs.specs.steps.RisingUnits.{started_rises}
 use Rattle.plan_compiler.specs.declared.item_matching.ItemTest.{ItemTest}
@@ -317,25 +321,69 @@ record AreWords (breaks : Breaks) (from number : ℕ) (words : List (List Hit)) 
   sentences : are_told Unit.Sentences (own_unit breaks.sentences from) words ≡ true
   paragraphs : are_told Unit.Paragraphs (own_unit breaks.paragraphs from) words ≡ true
 
-kind_law : (breaks : Breaks) (from : ℕ) (filter : Filter) (kind : MergeKind) → filter_kind filter ≡ Some kind → (number : ℕ) (item : Span) (hits : List Hit) (words : List (List Hit))
+-- two phrases that are joined are two
+pair_count : (plan : OperatorPlan) → is_pair plan ≡ true → length (joined_phrases plan) ≡ 2
+unfolding joined_phrases
+pair_count (Phrase found) h = absurd (true≢false (sym h))
+pair_count (Choice' p left right) h = absurd (true≢false (sym h))
+pair_count (Both' p left right) h =
+    let parts = and_parts (is_phrase left) (is_phrase right) h in
+    let one = phrase_count left parts.0 in
+    let other = phrase_count right parts.1 in
+    let both = length-append (joined_phrases left) (joined_phrases right) in
+    omega (arith, one, other, both)
+  where
+    phrase_count : (plan : OperatorPlan) → is_phrase plan ≡ true → length (joined_phrases plan) ≡ 1
+    phrase_count (Phrase found) h = refl
+    phrase_count (Choice' q a b) h = absurd (true≢false (sym h))
+    phrase_count (Both' q a b) h = absurd (true≢false (sym h))
+    phrase_count (MildNot' q a b) h = absurd (true≢false (sym h))
+    phrase_count (Negated' q a) h = absurd (true≢false (sym h))
+    phrase_count (Filtered' q a kind) h = absurd (true≢false (sym h))
+pair_count (MildNot' p left right) h = absurd (true≢false (sym h))
+pair_count (Negated' p operand) h = absurd (true≢false (sym h))
+pair_count (Filtered' p operand kind) h = absurd (true≢false (sym h))
+
+-- a distance of two words
+two_words : (size : ℕ) (item : Span) (hits : List Hit) (words : List (List Hit)) → length words ≡ 1 → are_single (hits ∷ words) ≡ true
+    → satisfied (matches_of item (filtered_words (F.Distance (R.AtMost size) Unit.Words) (hits ∷ words))) ≡ some_choice (are_close (size + 2)) (first_words (hits ∷ words))
+two_words size item hits [] two single = absurd (omega (arith, two))
+two_words size item hits (others ∷ []) two single = distance_choices size item hits others single
+two_words size item hits (others ∷ more ∷ rest) two single = absurd (omega (arith, two))
+
+distance_law : (breaks : Breaks) (from : ℕ) (operand : OperatorPlan) (range : Range) (unit : TextUnit) (kind : MergeKind) → distance_kind range unit operand ≡ Some kind
+    → (item : Span) (hits : List Hit) (words : List (List Hit)) → (is_pair operand ≡ true → length words ≡ 1) → are_single (hits ∷ words) ≡ true
+    → satisfied (matches_of item (filtered_words (F.Distance range unit) (hits ∷ words))) ≡ stand_in_span breaks from kind (first_words (hits ∷ words))
+distance_law breaks from operand (R.Exactly size) unit kind h item hits words two single = absurd (none_not_some kind h)
+distance_law breaks from operand (R.AtLeast size) unit kind h item hits words two single = absurd (none_not_some kind h)
+distance_law breaks from operand (R.AtMost size) Unit.Words kind h item hits words two single =
+    let made = cond_some (is_pair operand && nat_lt size 4294967294) (Close (size + 2)) kind h in
+    let pair = and_parts (is_pair operand) (nat_lt size 4294967294) made.0 in
+    two_words size item hits words (two pair.0) single ∙ ap (λ k. stand_in_span breaks from k (first_words (hits ∷ words))) made.1
+distance_law breaks from operand (R.AtMost size) Unit.Sentences kind h item hits words two single = absurd (none_not_some kind h)
+distance_law breaks from operand (R.AtMost size) Unit.Paragraphs kind h item hits words two single = absurd (none_not_some kind h)
+distance_law breaks from operand (R.FromTo low high) unit kind h item hits words two single = absurd (none_not_some kind h)
+
+kind_law : (breaks : Breaks) (from : ℕ) (operand : OperatorPlan) (filter : Filter) (kind : MergeKind) → filter_kind filter operand ≡ Some kind
+    → (number : ℕ) (item : Span) (hits : List Hit) (words : List (List Hit)) → (is_pair operand ≡ true → length words ≡ 1)
     → AreWords breaks from number (hits ∷ words)
     → satisfied (matches_of item (filtered_words filter (hits ∷ words))) ≡ stand_in_span breaks from kind (first_words (hits ∷ words))
-kind_law breaks from F.Ordered kind h number item hits words are =
+kind_law breaks from operand F.Ordered kind h number item hits words two are =
     ordered_choices number item hits words are.numbered ∙ ap (λ k. stand_in_span breaks from k (first_words (hits ∷ words))) (some_same InOrder kind h)
-kind_law breaks from (F.Window size Unit.Words) kind h number item hits words are =
+kind_law breaks from operand (F.Window size Unit.Words) kind h number item hits words two are =
     window_choices size item hits words are.single ∙ ap (λ k. stand_in_span breaks from k (first_words (hits ∷ words))) (some_same (Close size) kind h)
-kind_law breaks from (F.Window size Unit.Sentences) kind h number item hits words are = absurd (none_not_some kind h)
-kind_law breaks from (F.Window size Unit.Paragraphs) kind h number item hits words are = absurd (none_not_some kind h)
-kind_law breaks from (F.Distance range unit) kind h number item hits words are = absurd (none_not_some kind h)
-kind_law breaks from F.SameSentence kind h number item hits words are =
+kind_law breaks from operand (F.Window size Unit.Sentences) kind h number item hits words two are = absurd (none_not_some kind h)
+kind_law breaks from operand (F.Window size Unit.Paragraphs) kind h number item hits words two are = absurd (none_not_some kind h)
+kind_law breaks from operand (F.Distance range unit) kind h number item hits words two are = distance_law breaks from operand range unit kind h item hits words two are.single
+kind_law breaks from operand F.SameSentence kind h number item hits words two are =
     same_sentence (own_unit breaks.sentences from) item hits words are.sentences ∙ ap (λ k. stand_in_span breaks from k (first_words (hits ∷ words))) (some_same InSentence kind h)
-kind_law breaks from F.SameParagraph kind h number item hits words are =
+kind_law breaks from operand F.SameParagraph kind h number item hits words two are =
     same_paragraph (own_unit breaks.paragraphs from) item hits words are.paragraphs ∙ ap (λ k. stand_in_span breaks from k (first_words (hits ∷ words))) (some_same InParagraph kind h)
-kind_law breaks from F.DifferentSentence kind h number item hits words are = absurd (none_not_some kind h)
-kind_law breaks from F.DifferentParagraph kind h number item hits words are = absurd (none_not_some kind h)
-kind_law breaks from F.AtStart kind h number item hits words are = absurd (none_not_some kind h)
-kind_law breaks from F.AtEnd kind h number item hits words are = absurd (none_not_some kind h)
-kind_law breaks from F.EntireContent kind h number item hits words are = absurd (none_not_some kind h)
+kind_law breaks from operand F.DifferentSentence kind h number item hits words two are = absurd (none_not_some kind h)
+kind_law breaks from operand F.DifferentParagraph kind h number item hits words two are = absurd (none_not_some kind h)
+kind_law breaks from operand F.AtStart kind h number item hits words two are = absurd (none_not_some kind h)
+kind_law breaks from operand F.AtEnd kind h number item hits words two are = absurd (none_not_some kind h)
+kind_law breaks from operand F.EntireContent kind h number item hits words two are = absurd (none_not_some kind h)
 
 module _ (looks : Looks) (stems : List Stem) (version : List Numbered) (asked : AskedSpan) where
   abbrev span : Span
@@ -455,14 +503,20 @@ module _ (looks : Looks) (stems : List Stem) (version : List Numbered) (asked : 
         λ i. (sym (phrase_law looks stems version asked there found.number found.variants) ∙ phrase_on found parts.0) i ∷ hits_are phrases parts.1 i
 
     -- words that are joined under a filter satisfy it exactly where the merge says so
-    pub merge_law : (operand : OperatorPlan) (last : ℕ) (filter : Filter) (kind : MergeKind) (item : Span) → last_word operand ≡ Some last → filter_kind filter ≡ Some kind
+    pub merge_law : (operand : OperatorPlan) (last : ℕ) (filter : Filter) (kind : MergeKind) (item : Span) → last_word operand ≡ Some last → filter_kind filter operand ≡ Some kind
         → satisfied (matches_of item (through_filter (operator_at text operand) filter)) ≡ stand_as breaks kind (map (terms_places asked) (map terms_of (joined_phrases operand)))
     merge_law operand last filter kind item words is =
         let chain = chain_of operand last words in
         let phrases = chain.first ∷ chain.rest in
+        let one_more : is_pair operand ≡ true → length (map word_hits chain.rest) ≡ 1 =
+        λ pair.
+        let count = pair_count operand pair in
+        let long = ap length chain.phrases in
+        let mapped = length-map chain.rest word_hits in
+        omega (arith, count, long, mapped) in
         ap (λ operator. satisfied (matches_of item (through_filter operator filter))) (chain.same text)
         ∙ ap (λ hits. satisfied (matches_of item (filtered_words filter hits))) (hits_are phrases chain.single)
-        ∙ kind_law breaks span.from filter kind is chain.first.number item (word_hits chain.first) (map word_hits chain.rest) (record {
+        ∙ kind_law breaks span.from operand filter kind is chain.first.number item (word_hits chain.first) (map word_hits chain.rest) one_more (record {
           single = all_hits_single phrases;
           numbered = all_numbered chain.first.number phrases chain.numbered;
           sentences = all_in_sentences phrases;

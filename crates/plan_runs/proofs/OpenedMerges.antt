@@ -40,12 +40,12 @@ record IsFiltered (plan : OperatorPlan) (kind : MergeKind) (operand : OperatorPl
   filter : Filter
   last : ℕ
   words : last_word operand ≡ Some last
-  kinds : filter_kind filter ≡ Some kind
+  kinds : filter_kind filter operand ≡ Some kind
   same : (text : LookedText) → operator_at text plan ≡ through_filter (operator_at text operand) filter
   cost : (test_cost : ItemTest → ℕ) → operator_cost test_cost plan ≡ operator_cost test_cost operand
 
 by_parts : (p : _) (own : OperatorPlan) (filter : Filter) (kind : MergeKind) (operand : OperatorPlan) (last : Option ℕ) (other : Option MergeKind)
-    → last_word own ≡ last → filter_kind filter ≡ other → merge_over last other own ≡ Some (kind, operand) → IsFiltered (Filtered' p own filter) kind operand
+    → last_word own ≡ last → filter_kind filter own ≡ other → merge_over last other own ≡ Some (kind, operand) → IsFiltered (Filtered' p own filter) kind operand
 unfolding operator_at operator_cost
 by_parts p own filter kind operand None other words kinds h = absurd (none_not_some (kind, operand) h)
 by_parts p own filter kind operand (Some last) None words kinds h = absurd (none_not_some (kind, operand) h)
@@ -57,7 +57,7 @@ by_parts p own filter kind operand (Some last) (Some other) words kinds h =
       filter = filter;
       last = last;
       words = ap last_word (sym operand_is) ∙ words;
-      kinds = kinds ∙ ap Some kind_is;
+      kinds = ap (filter_kind filter) (sym operand_is) ∙ kinds ∙ ap Some kind_is;
       same = λ text. ap (λ (o : OperatorPlan). through_filter (operator_at text o) filter) operand_is;
       cost = λ test_cost. ap (operator_cost test_cost) operand_is;
     }
@@ -69,7 +69,7 @@ filtered_of (Choice' p left right) kind operand h = absurd (none_not_some (kind,
 filtered_of (Both' p left right) kind operand h = absurd (none_not_some (kind, operand) h)
 filtered_of (MildNot' p left right) kind operand h = absurd (none_not_some (kind, operand) h)
 filtered_of (Negated' p own) kind operand h = absurd (none_not_some (kind, operand) h)
-filtered_of (Filtered' p own filter) kind operand h = by_parts p own filter kind operand (last_word own) (filter_kind filter) refl refl h
+filtered_of (Filtered' p own filter) kind operand h = by_parts p own filter kind operand (last_word own) (filter_kind filter own) refl refl h
 
 all_flat : {X : Type 0} (P : VersionTerm → Type 0) (f : X → List VersionTerm) → ((x : X) → All P (f x)) → (xs : List X) → All P (flat_map f xs)
 all_flat P f each [] = All-nil P

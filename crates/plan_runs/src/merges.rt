@@ -1,17 +1,17 @@
 //! Which selections with filters are decided by going through the hits of their words.
 
-ghost use Rattle.std.specs.Prelude.{◌≡◌, not, option_map};
+ghost use Rattle.std.specs.Prelude.{◌≡◌, ◌&&◌, not, option_map};
 ghost use Rattle.std.specs.List.{list_all};
 ghost use Rattle.plan_runs.specs.steps.AskedKeys as keys;
 ghost use Rattle.plan_runs.specs.steps.Merges as spec;
 
 use crate::merge_kind::MergeKind;
 use crate::opening::asks_nothing;
-use ft_base::{Filter, Items, Unit};
+use ft_base::{Filter, Items, Range, Unit};
 use plan_compiler::{FilteredPlan, ItemTest, OperatorPlan, OperatorSides, PhraseTests};
 
 /// How the words have to stand, and the operand that joins them, where a merge decides the selection: a window in words, `ordered`, `same
-/// sentence` or `same paragraph` over single words that are joined by `ftand`.
+/// sentence` or `same paragraph` over single words that are joined by `ftand`, or a distance of at most so many words over two of them.
 pub(crate) fn merge_of(plan: &OperatorPlan) -> Option<(MergeKind, &OperatorPlan)>
     ensures { option_map (λ merge. (merge.0, merge.1.now)) result ≡ spec.merge_of plan.now }
 {
@@ -27,27 +27,87 @@ pub(crate) fn merge_of(plan: &OperatorPlan) -> Option<(MergeKind, &OperatorPlan)
 
 fn filtered_merge(plan: &FilteredPlan) -> Option<(MergeKind, &OperatorPlan)>
     ensures { option_map (λ merge. (merge.0, merge.1.now)) result
-        ≡ spec.merge_over (spec.last_word plan.now.operand) (spec.filter_kind plan.now.kind) plan.now.operand }
+        ≡ spec.merge_over (spec.last_word plan.now.operand) (spec.filter_kind plan.now.kind plan.now.operand) plan.now.operand }
 {
     let operand = &plan.operand;
     match last_word(operand) {
         None => None,
-        Some(_last) => match filter_kind(plan.kind) {
+        Some(_last) => match filter_kind(plan.kind, operand) {
             None => None,
             Some(kind) => Some((kind, operand)),
         },
     }
 }
 
-fn filter_kind(kind: Filter) -> Option<MergeKind>
-    ensures { result ≡ spec.filter_kind kind }
+fn filter_kind(kind: Filter, operand: &OperatorPlan) -> Option<MergeKind>
+    ensures { result ≡ spec.filter_kind kind operand.now }
 {
     match kind {
         Filter::Ordered => Some(MergeKind::InOrder),
         Filter::Window(size, Unit::Words) => Some(MergeKind::Close(size)),
+        Filter::Distance(range, unit) => distance_kind(range, unit, operand),
         Filter::SameSentence => Some(MergeKind::InSentence),
         Filter::SameParagraph => Some(MergeKind::InParagraph),
         _ => None,
+    }
+}
+
+fn distance_kind(range: Range, unit: Unit, operand: &OperatorPlan) -> Option<MergeKind>
+    ensures { result ≡ spec.distance_kind range unit operand.now }
+{
+    match range {
+        Range::Exactly(_size) => None,
+        Range::AtLeast(_size) => None,
+        Range::AtMost(size) => match unit {
+            Unit::Words => pair_kind(size, operand),
+            Unit::Sentences => None,
+            Unit::Paragraphs => None,
+        },
+        Range::FromTo(_low, _high) => None,
+    }
+}
+
+/// Two words at most so far apart stand among two words more.
+fn pair_kind(size: u32, operand: &OperatorPlan) -> Option<MergeKind>
+    ensures { result ≡ spec.pair_kind size operand.now }
+{
+    if is_pair(operand) && size < u32::MAX - 1 {
+        Some(MergeKind::Close(size + 2))
+    } else {
+        None
+    }
+}
+
+/// Whether two phrases are joined by `ftand`.
+fn is_pair(plan: &OperatorPlan) -> bool
+    ensures { result ≡ spec.is_pair plan.now }
+{
+    match plan {
+        OperatorPlan::Phrase(_phrase) => false,
+        OperatorPlan::Choice(_sides) => false,
+        OperatorPlan::Both(sides) => are_phrases(sides),
+        OperatorPlan::MildNot(_sides) => false,
+        OperatorPlan::Negated(_plan) => false,
+        OperatorPlan::Filtered(_plan) => false,
+    }
+}
+
+fn are_phrases(sides: &OperatorSides) -> bool
+    ensures { result ≡ (spec.is_phrase sides.now.left && spec.is_phrase sides.now.right) }
+{
+    is_phrase(&sides.left) && is_phrase(&sides.right)
+}
+
+fn is_phrase(plan: &OperatorPlan) -> bool
+    ensures { result ≡ spec.is_phrase plan.now }
+{
+    match plan {
+        OperatorPlan::Phrase(_phrase) => true,
+        OperatorPlan::Choice(_sides) => false,
+        OperatorPlan::Both(_sides) => false,
+        OperatorPlan::MildNot(_sides) => false,
+        OperatorPlan::Negated(_plan) => false,
+        OperatorPlan::Filtered(_plan) => false,
     }
 }
 

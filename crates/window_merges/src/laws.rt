@@ -42,7 +42,8 @@ pub fn window_law()
 /// Two words at a distance of at most `size` words, each hit of which is one word, fit into a window of two words more.
 pub fn distance_law()
     ensures { (size : ℕ) (item : Span) (first second : List Hit) → are_single (first ∷ second ∷ []) ≡ true
-        → satisfied (matches_of item (filtered_words (F.Distance (AtMost size) Words) (first ∷ second ∷ []))) ≡ some_choice (are_close (size + 2)) (first_words (first ∷ second ∷ [])) }
+        → satisfied (matches_of item (filtered_words (F.Distance (AtMost size) Words) (first ∷ second ∷ [])))
+        ≡ some_choice (are_close (size + 2)) (first_words (first ∷ second ∷ [])) }
 {}
 
 /// Under `same sentence` and `same paragraph`, where each hit lies in the unit of its first word, some choice of their first

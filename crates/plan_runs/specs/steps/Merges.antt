@@ -1,9 +1,12 @@
 -- Filters that are decided by going through the hits of words: `window` in words, `ordered`, `same sentence` and `same paragraph`, over
--- single words that are joined by `ftand`.
-use Rattle.std.specs.Prelude.{◌≡◌, ℕ, ◌-◌, ◌==◌, Bool, not, ◌&&◌, cond, List, [], ◌∷◌, ◌++◌, map, flat_map, length, Option, Some, None}
+-- single words that are joined by `ftand`, and over two of them a distance of at most so many words.
+use Rattle.std.specs.Prelude.{◌≡◌, ℕ, ◌+◌, ◌-◌, ◌==◌, Bool, true, false, not, ◌&&◌, nat_lt, cond, List, [], ◌∷◌, ◌++◌, map, flat_map, length, Option, Some, None}
 use Rattle.std.specs.List.{All, list_all, sum_by}
 use Rattle.ft_base.specs.declared.filter.Filter.{Filter}
 use Rattle.ft_base.specs.declared.filter.Filter.TheVariants as F
+use Rattle.ft_base.specs.declared.range.Range.{Range}
+use Rattle.ft_base.specs.declared.range.Range.TheVariants as R
+use Rattle.ft_base.specs.declared.unit.TextUnit.{TextUnit}
 use Rattle.ft_base.specs.declared.unit.TextUnit.TheVariants as Unit
 use Rattle.ft_base.specs.declared.places.Breaks.{Breaks}
 use Rattle.index_cursors.specs.SpanHits.{started}
@@ -57,20 +60,49 @@ pub record IsMerge (version : List Numbered) (merge : MergeShape) : Type 0 where
 
 -- ---- which they are
 
--- how words have to stand by a filter, where it asks for nothing but this
-abbrev pub filter_kind : Filter → Option MergeKind
-filter_kind F.Ordered = Some InOrder
-filter_kind (F.Window size Unit.Words) = Some (Close size)
-filter_kind (F.Window size Unit.Sentences) = None
-filter_kind (F.Window size Unit.Paragraphs) = None
-filter_kind (F.Distance range unit) = None
-filter_kind F.SameSentence = Some InSentence
-filter_kind F.SameParagraph = Some InParagraph
-filter_kind F.DifferentSentence = None
-filter_kind F.DifferentParagraph = None
-filter_kind F.AtStart = None
-filter_kind F.AtEnd = None
-filter_kind F.EntireContent = None
+abbrev pub is_phrase : OperatorPlan → Bool
+is_phrase (Phrase found) = true
+is_phrase (Choice' p left right) = false
+is_phrase (Both' p left right) = false
+is_phrase (MildNot' p left right) = false
+is_phrase (Negated' p operand) = false
+is_phrase (Filtered' p operand kind) = false
+
+-- whether two phrases are joined by `ftand`
+abbrev pub is_pair : OperatorPlan → Bool
+is_pair (Phrase found) = false
+is_pair (Choice' p left right) = false
+is_pair (Both' p left right) = is_phrase left && is_phrase right
+is_pair (MildNot' p left right) = false
+is_pair (Negated' p operand) = false
+is_pair (Filtered' p operand kind) = false
+
+-- two words at most so far apart stand among two words more, which is a number of 32 bits
+abbrev pub pair_kind : ℕ → OperatorPlan → Option MergeKind
+pair_kind size operand = cond (is_pair operand && nat_lt size 4294967294) (Some (Close (size + 2))) None
+
+abbrev pub distance_kind : Range → TextUnit → OperatorPlan → Option MergeKind
+distance_kind (R.Exactly size) unit operand = None
+distance_kind (R.AtLeast size) unit operand = None
+distance_kind (R.AtMost size) Unit.Words operand = pair_kind size operand
+distance_kind (R.AtMost size) Unit.Sentences operand = None
+distance_kind (R.AtMost size) Unit.Paragraphs operand = None
+distance_kind (R.FromTo low high) unit operand = None
+
+-- how the words of an operand have to stand by a filter, where it asks for nothing but this
+abbrev pub filter_kind : Filter → OperatorPlan → Option MergeKind
+filter_kind F.Ordered operand = Some InOrder
+filter_kind (F.Window size Unit.Words) operand = Some (Close size)
+filter_kind (F.Window size Unit.Sentences) operand = None
+filter_kind (F.Window size Unit.Paragraphs) operand = None
+filter_kind (F.Distance range unit) operand = distance_kind range unit operand
+filter_kind F.SameSentence operand = Some InSentence
+filter_kind F.SameParagraph operand = Some InParagraph
+filter_kind F.DifferentSentence operand = None
+filter_kind F.DifferentParagraph operand = None
+filter_kind F.AtStart operand = None
+filter_kind F.AtEnd operand = None
+filter_kind F.EntireContent operand = None
 
 -- whether a variant is one word, and not any word
 abbrev pub is_single : List ItemTest → Bool
@@ -115,7 +147,7 @@ merge_of (Choice' p left right) = None
 merge_of (Both' p left right) = None
 merge_of (MildNot' p left right) = None
 merge_of (Negated' p operand) = None
-merge_of (Filtered' p operand kind) = merge_over (last_word operand) (filter_kind kind) operand
+merge_of (Filtered' p operand kind) = merge_over (last_word operand) (filter_kind kind operand) operand
 
 -- the phrases that are joined by `ftand`
 unfoldable pub joined_phrases : OperatorPlan → List PhraseTests

@@ -13,6 +13,8 @@ started_rises [] first second h = omega arith
 started_rises (start ∷ starts) first second h =
     let rest = started_rises starts first second h in
     let one = one_rises start first second h in
-    let a : started (start ∷ starts) first ≡ cond (nat_le start first) 1 0 + started starts first = sum_by-cons (λ other. cond (nat_le other first) 1 0) start starts in
-    let b : started (start ∷ starts) second ≡ cond (nat_le start second) 1 0 + started starts second = sum_by-cons (λ other. cond (nat_le other second) 1 0) start starts in
+    let a : started (start ∷ starts) first ≡ cond (nat_le start first) 1 0 + started starts first =
+    sum_by-cons (λ other. cond (nat_le other first) 1 0) start starts in
+    let b : started (start ∷ starts) second ≡ cond (nat_le start second) 1 0 + started starts second =
+    sum_by-cons (λ other. cond (nat_le other second) 1 0) start starts in
     omega (arith, a, b, one, rest)

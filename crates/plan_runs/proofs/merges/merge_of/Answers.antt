@@ -28,5 +28,5 @@ pub returns-in-Filtered : goal.returns-in-Filtered
 unfolding merge_of
 returns-in-Filtered c =
     c.filtered_merge.ensures
-    ∙ ap (λ (own : FilteredPlan). merge_over (last_word own.operand) (filter_kind own.kind) own.operand) c.deref.ensures
+    ∙ ap (λ (own : FilteredPlan). merge_over (last_word own.operand) (filter_kind own.kind own.operand) own.operand) c.deref.ensures
     ∙ sym (ap merge_of c.in-Filtered.is)
