@@ -10,6 +10,7 @@ mod OpenedViews
 mod LackingLaw
 mod LackingViews
 mod OpenedWays
+mod MergeKinds
 mod MergeLaw
 mod MergeCosts
 mod OpenedMerges

@@ -2,6 +2,7 @@
 use Rattle.std.proofs.Common.{◌≡◌, refl, sym, ap, subst, ◌∙◌, true, List, [], ◌∷◌, flat_map, ℕ, Option, Some, None, arith}
 use Rattle.std.specs.List.{All}
 use Rattle.std.proofs.lemmas.List.Elements.{All-append, All-map, All-nil}
+use Rattle.std.proofs.lemmas.Option.{none-some, same_Some}
 use Rattle.ft_base.specs.declared.filter.Filter.{Filter}
 use Rattle.all_matches.specs.Boolean.{satisfied}
 use Rattle.all_matches.specs.Ways.{matches_of, through_filter}
@@ -29,7 +30,7 @@ use Rattle.plan_compiler.specs.declared.operator_plan.WaysPlan.{WaysPlan}
 use Rattle.plan_runs.specs.declared.run_merge.RunMerge.{RunMerge}
 use Rattle.plan_runs.specs.declared.run_node.RunNode as R
 use Rattle.plan_runs.proofs.MergeCosts.{joined_cheap, phrases_cheap}
-use Rattle.plan_runs.proofs.MergeLaw.{all_single, chain_of, merge_law, none_not_some, some_same}
+use Rattle.plan_runs.proofs.MergeLaw.{all_single, chain_of, merge_law}
 use Rattle.plan_compiler.proofs.NodeViews.{cost-Ways, truth-Ways}
 use Rattle.plan_runs.proofs.OpenedLemmas.{every}
 use Rattle.plan_runs.proofs.OpenedWays.{own_text}
@@ -47,10 +48,10 @@ record IsFiltered (plan : OperatorPlan) (kind : MergeKind) (operand : OperatorPl
 by_parts : (p : _) (own : OperatorPlan) (filter : Filter) (kind : MergeKind) (operand : OperatorPlan) (last : Option ℕ) (other : Option MergeKind)
     → last_word own ≡ last → filter_kind filter own ≡ other → merge_over last other own ≡ Some (kind, operand) → IsFiltered (Filtered' p own filter) kind operand
 unfolding operator_at operator_cost
-by_parts p own filter kind operand None other words kinds h = absurd (none_not_some (kind, operand) h)
-by_parts p own filter kind operand (Some last) None words kinds h = absurd (none_not_some (kind, operand) h)
+by_parts p own filter kind operand None other words kinds h = absurd (none-some (kind, operand) h)
+by_parts p own filter kind operand (Some last) None words kinds h = absurd (none-some (kind, operand) h)
 by_parts p own filter kind operand (Some last) (Some other) words kinds h =
-    let pair = some_same (other, own) (kind, operand) h in
+    let pair = same_Some (other, own) (kind, operand) h in
     let kind_is = ap (λ q. q.0) pair in
     let operand_is = ap (λ q. q.1) pair in
     record {
@@ -64,11 +65,11 @@ by_parts p own filter kind operand (Some last) (Some other) words kinds h =
 
 filtered_of : (plan : OperatorPlan) (kind : MergeKind) (operand : OperatorPlan) → merge_of plan ≡ Some (kind, operand) → IsFiltered plan kind operand
 unfolding merge_of
-filtered_of (Phrase found) kind operand h = absurd (none_not_some (kind, operand) h)
-filtered_of (Choice' p left right) kind operand h = absurd (none_not_some (kind, operand) h)
-filtered_of (Both' p left right) kind operand h = absurd (none_not_some (kind, operand) h)
-filtered_of (MildNot' p left right) kind operand h = absurd (none_not_some (kind, operand) h)
-filtered_of (Negated' p own) kind operand h = absurd (none_not_some (kind, operand) h)
+filtered_of (Phrase found) kind operand h = absurd (none-some (kind, operand) h)
+filtered_of (Choice' p left right) kind operand h = absurd (none-some (kind, operand) h)
+filtered_of (Both' p left right) kind operand h = absurd (none-some (kind, operand) h)
+filtered_of (MildNot' p left right) kind operand h = absurd (none-some (kind, operand) h)
+filtered_of (Negated' p own) kind operand h = absurd (none-some (kind, operand) h)
 filtered_of (Filtered' p own filter) kind operand h = by_parts p own filter kind operand (last_word own) (filter_kind filter own) refl refl h
 
 all_flat : {X : Type 0} (P : VersionTerm → Type 0) (f : X → List VersionTerm) → ((x : X) → All P (f x)) → (xs : List X) → All P (flat_map f xs)

@@ -1,6 +1,7 @@
 -- Filters that are decided by going through the hits of words: `window` in words, `ordered`, `same sentence` and `same paragraph`, over
 -- single words that are joined by `ftand`, and over two of them a distance of at most so many words.
-use Rattle.std.specs.Prelude.{◌≡◌, ℕ, ◌+◌, ◌-◌, ◌==◌, Bool, true, false, not, ◌&&◌, nat_lt, cond, List, [], ◌∷◌, ◌++◌, map, flat_map, length, Option, Some, None}
+use Rattle.std.specs.Prelude.{◌≡◌, ℕ, ◌+◌, ◌-◌, ◌==◌, Bool, true, false, not, ◌&&◌, nat_lt, cond, List, [], ◌∷◌, ◌++◌, map, flat_map, length}
+use Rattle.std.specs.Prelude.{Option, Some, None}
 use Rattle.std.specs.List.{All, list_all, sum_by}
 use Rattle.ft_base.specs.declared.filter.Filter.{Filter}
 use Rattle.ft_base.specs.declared.filter.Filter.TheVariants as F
