@@ -2,7 +2,7 @@
 use Rattle.std.proofs.Common.{◌≡◌, refl, sym, ap, ◌∙◌, ℕ, ◌+◌, ◌-◌, eqb, ◌≤◌, Bool, true, ◌&&◌, true≢false, List, [], ◌∷◌, map, length, get_or, Some, arith}
 use Rattle.std.specs.Prelude.{nat_le, nat_lt}
 use Rattle.std.specs.List.{list_all}
-use Rattle.std.proofs.lemmas.Bool.{and_from, and_parts, le-leb, leb-true}
+use Rattle.std.proofs.lemmas.Bool.{and_from, and_parts}
 use Rattle.std.proofs.lemmas.Bool.Decides.{nat_tests}
 use Rattle.std.proofs.lemmas.List.{length-append}
 use Rattle.std.proofs.lemmas.Option.{cond_some, none-some, same_Some}
@@ -23,6 +23,7 @@ use Rattle.place_merges.specs.steps.Searching.{has}
 use Rattle.window_merges.specs.Choices.{are_close, are_in_one, are_in_order, some_choice}
 use Rattle.window_merges.specs.Words.{are_numbered, are_single, are_told, filtered_words, first_words}
 use Rattle.window_merges.proofs.ChoiceLemmas.{same_places}
+use Rattle.window_merges.proofs.OrderLemmas.{later_all}
 use Rattle.window_merges.proofs.FilterLemmas.{ordered_choices, window_choices}
 use Rattle.window_merges.proofs.ShiftLemmas.{close_counted, order_counted}
 use Rattle.window_merges.proofs.DistanceFilter.{distance_choices}
@@ -59,18 +60,11 @@ stand_in_span breaks from InOrder places = some_choice are_in_order places
 stand_in_span breaks from InSentence places = some_choice (are_in_one (own_unit breaks.sentences from)) places
 stand_in_span breaks from InParagraph places = some_choice (are_in_one (own_unit breaks.paragraphs from)) places
 
-less_behind : (low high : ℕ) (xs : List ℕ) → low ≤ high → list_all (nat_le high) xs ≡ true → list_all (nat_le low) xs ≡ true
-less_behind low high [] h all = refl
-less_behind low high (x ∷ xs) h all =
-    let parts = and_parts (nat_le high x) (list_all (nat_le high) xs) all in
-    let from = leb-true high x parts.0 in
-    and_from (nat_le low x) (list_all (nat_le low) xs) (le-leb low x (omega (arith, h, from))) (less_behind low high xs h parts.1)
-
 all_less_behind : (low high : ℕ) (lists : List (List ℕ)) → low ≤ high → list_all (list_all (nat_le high)) lists ≡ true → list_all (list_all (nat_le low)) lists ≡ true
 all_less_behind low high [] h all = refl
 all_less_behind low high (xs ∷ lists) h all =
     let parts = and_parts (list_all (nat_le high) xs) (list_all (list_all (nat_le high)) lists) all in
-    and_from (list_all (nat_le low) xs) (list_all (list_all (nat_le low)) lists) (less_behind low high xs h parts.0) (all_less_behind low high lists h parts.1)
+    and_from (list_all (nat_le low) xs) (list_all (list_all (nat_le low)) lists) (later_all low high xs h parts.0) (all_less_behind low high lists h parts.1)
 
 pub stand_counted : (breaks : Breaks) (from : ℕ) (kind : MergeKind) (lists : List (List ℕ)) → list_all (list_all (nat_le from)) lists ≡ true
     → stand_in_span breaks from kind (map (map (λ place. place - (from - 1))) lists) ≡ stand_as breaks kind lists

@@ -1,9 +1,9 @@
 //! Runs: plans opened over a version of an index, and tested at spans of its documents.
 //!
 //! A run has terms of the version and cursors in the place of tests of words (`opening`). It counts words by merging their cursors
-//! (`words_holding`), decides windows in words and `ordered` over single words by merges of their own (`merge_holding`), and each other
-//! filter and `not in` by a walk through its ways (`ways_holding`). A document without the words that a selection needs is ruled out at
-//! once (`ruling_out`). A session asks a `Judge` with it.
+//! (`words_holding`), decides filters over single words by merges of their own where one pass through their places tells (`merges`,
+//! `merge_holding`), and each other filter and `not in` by a walk through its ways (`ways_holding`). A document without the words that a
+//! selection needs is ruled out at once (`ruling_out`). A session asks a `Judge` with it.
 #![tactic(auto)]
 
 mod aiming;

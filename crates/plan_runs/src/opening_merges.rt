@@ -13,7 +13,6 @@ use crate::run_merge::RunMerge;
 use ft_base::{Items, Memory};
 use index_versions::{TermCursor, TermSources};
 use plan_compiler::{ItemTest, OperatorPlan, OperatorSides, PhraseTests};
-use std::mem::drop;
 
 /// The words that the operand joins, opened to stand like this.
 pub(crate) fn open_merge<'v>(

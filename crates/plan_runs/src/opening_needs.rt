@@ -11,7 +11,6 @@ use crate::opening::open_item;
 use ft_base::{Items, Memory};
 use index_phrases::WordTerms;
 use plan_compiler::{ItemTest, OperatorPlan, OperatorSides};
-use std::mem::drop;
 
 /// What the compiled selection needs: of `not in` the left side, and nothing of a negated selection, which may match where no word
 /// stands.

@@ -71,7 +71,7 @@ impl<'v> Run<'v> {
 
     /// Whether the tokens of the span of the document satisfy the plan's selection. It moves cursors forward, and takes no memory. The
     /// moves that are counted are at most the selection's price at the span. Those of a walk through the ways of a filter or `not in`
-    /// aren't counted; each other one is. Windows in words and `ordered` over single words need no such walk.
+    /// aren't counted; each other one is. What a merge decides needs no such walk.
     pub fn test<L: Ledger>(&mut self, doc: DocId, span: Span, moves: &mut Steps<L>) -> bool
         requires there { has_document doc.0 self.old.version ≡ true }
         requires inside { (1 ≤ span.from) × (span.from ≤ span.to) × (span.to ≤ token_count (document_at doc.0 self.old.version) + 1) }

@@ -23,6 +23,14 @@ choice_of_and b test (xs ∷ lists) =
     (λ x. choice_of_and b (λ chosen. test (x ∷ chosen)) lists)
     ∙ list_any-and_first b (λ x. some_choice (λ chosen. test (x ∷ chosen)) lists) xs
 
+-- places behind one are behind each in front of it
+pub later_all : (place first : ℕ) (chosen : List ℕ) → place ≤ first → list_all (nat_le first) chosen ≡ true → list_all (nat_le place) chosen ≡ true
+later_all place first [] h e = refl
+later_all place first (p ∷ chosen) h e =
+    let parts = and_parts (nat_le first p) (list_all (nat_le first) chosen) e in
+    let from = leb-true first p parts.0 in
+    and_from (nat_le place p) (list_all (nat_le place) chosen) (le-leb place p (omega (arith, h, from))) (later_all place first chosen h parts.1)
+
 module _ {A : Type 0} (places : A → List ℕ) where
   -- whether places that rise from one on can be chosen
   abbrev pub rising : ℕ → List A → Bool
@@ -73,13 +81,6 @@ module _ {A : Type 0} (places : A → List ℕ) where
 
   abbrev from_on : ℕ → List ℕ → Bool
   from_on place chosen = list_all (nat_le place) chosen && are_in_order chosen
-
-  later_all : (place first : ℕ) (chosen : List ℕ) → place ≤ first → list_all (nat_le first) chosen ≡ true → list_all (nat_le place) chosen ≡ true
-  later_all place first [] h e = refl
-  later_all place first (p ∷ chosen) h e =
-      let parts = and_parts (nat_le first p) (list_all (nat_le first) chosen) e in
-      let from = leb-true first p parts.0 in
-      and_from (nat_le place p) (list_all (nat_le place) chosen) (le-leb place p (omega (arith, h, from))) (later_all place first chosen h parts.1)
 
   one_more : (place first : ℕ) (chosen : List ℕ) → from_on place (first ∷ chosen) ≡ (nat_le place first && from_on first chosen)
   one_more place first chosen = elim (cases_Bool (nat_le place first)) [
