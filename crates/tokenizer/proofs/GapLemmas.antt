@@ -1,6 +1,6 @@
 -- What is known of a gap, one byte or one tag further, says the same of the whole gap.
 use Rattle.std.proofs.lemmas.List.{drop_all}
-use Rattle.std.proofs.Common.{◌≡◌, ℕ, Bool, true, false, ◌&&◌, ◌||◌, List, [], ◌∷◌, ◌++◌, refl, sym, ap, ap₂, ◌∙◌, arith, inl, inr, length, drop, get_or, ◌<◌, ◌≤◌, ◌+◌, add-one, drop-cons, zero, suc, suc-le-suc, zero-le, append-nil, encode_utf8, encode_utf8_all, IsUtf8}
+use Rattle.std.proofs.Common.{if◌then◌else◌, ◌≡◌, ℕ, Bool, true, false, ◌&&◌, ◌||◌, List, [], ◌∷◌, ◌++◌, refl, sym, ap, ap₂, ◌∙◌, arith, inl, inr, length, drop, get_or, ◌<◌, ◌≤◌, ◌+◌, add-one, drop-cons, zero, suc, suc-le-suc, zero-le, append-nil, encode_utf8, encode_utf8_all, IsUtf8}
 use Rattle.std.proofs.lemmas.Bool.{cases_Bool, cases_lt}
 use Rattle.std.proofs.lemmas.Str.{encode_ascii, length-encode, len_utf8_bounds, inside_one, encodes-chars}
 use Rattle.std.specs.Str.{chars}
@@ -9,9 +9,10 @@ use Rattle.std.proofs.lemmas.Bool.Decides.{nat_tests}
 use Rattle.std.specs.List.{list_any}
 use Rattle.ft_base.specs.Characters.{is_blank, is_line_feed}
 use Rattle.tokenizer.specs.Gaps.{is_sentence_end, begins_with_line_end, has_blank_line, is_block_element, characters_of, tags_of, ends_paragraph}
-use Rattle.tokenizer.specs.steps.GapSteps.{after_character, after_characters, after_tag, paragraph_ends_in, sentence_ends_in}
+use Rattle.tokenizer.specs.steps.GapSteps.{after_character, after_characters, after_part, after_tag, both_seen, paragraph_ends_in, sentence_ends_in}
 use Rattle.tokenizer.specs.Parts.{Part, gap_characters, gap_tag}
 use Rattle.tokenizer.specs.declared.gap.Gap.{Gap}
+use Rattle.tokenizer.specs.declared.gap_part.GapPart.{GapPart}
 
 -- ---- Booleans
 
@@ -194,3 +195,39 @@ after_characters-encodes known (c ∷ cs) =
 
 pub after_characters-chars : (known : Gap) (text : List ℕ) → IsUtf8 text → after_characters known text ≡ after_characters known (chars text)
 after_characters-chars known text u = ap (after_characters known) (sym (encodes-chars text u)) ∙ after_characters-encodes known (chars text)
+
+-- ---- what was seen in front
+
+swap_last : (a b c : Bool) → ((a || b) || c) ≡ ((a || c) || b)
+swap_last true b c = refl
+swap_last false true true = refl
+swap_last false true false = refl
+swap_last false false true = refl
+swap_last false false false = refl
+
+both_seen-character : (front known : Gap) (c : ℕ) → after_character (both_seen front known) c ≡ both_seen front (after_character known c)
+both_seen-character front known c =
+    elim (cases_Bool (is_line_feed c)) [
+      | inl feed ↦ rw feed (ap (λ p. record { sentence_ends = known.sentence_ends || front.sentence_ends; paragraph_ends = p; after_line_feed = true })
+          (swap_last known.paragraph_ends front.paragraph_ends known.after_line_feed))
+      | inr other ↦ elim (cases_Bool (is_blank c)) [
+        | inl blank ↦ rw (other, blank) refl
+        | inr mark ↦ rw (other, mark) (ap (λ s. record { sentence_ends = s; paragraph_ends = known.paragraph_ends || front.paragraph_ends; after_line_feed = false })
+            (swap_last known.sentence_ends front.sentence_ends (is_sentence_end c)))
+      ]
+    ]
+
+both_seen-characters : (front known : Gap) (cs : List ℕ) → after_characters (both_seen front known) cs ≡ both_seen front (after_characters known cs)
+unfolding after_characters
+both_seen-characters front known [] = refl
+both_seen-characters front known (c ∷ cs) =
+    ap (λ g. after_characters g cs) (both_seen-character front known c) ∙ both_seen-characters front (after_character known c) cs
+
+-- more characters of a part: behind them is what is behind them in both of its gaps
+pub after_part-characters : (part : GapPart) (front : Gap) (cs : List ℕ) → after_characters (after_part part front) cs
+    ≡ both_seen front (if front.after_line_feed then after_characters part.after_line_feed cs else after_characters part.alone cs)
+after_part-characters part front cs =
+    elim (cases_Bool front.after_line_feed) [
+      | inl fed ↦ rw fed (both_seen-characters front part.after_line_feed cs)
+      | inr bare ↦ rw bare (both_seen-characters front part.alone cs)
+    ]

@@ -4,7 +4,7 @@ use Rattle.std.proofs.Math.Bool.{or-false}
 use Rattle.std.specs.Str.{chars}
 use Rattle.tokenizer.specs.Gaps.{gap, begins_with_line_end, has_blank_line, ends_paragraph, ends_sentence}
 use Rattle.tokenizer.specs.steps.GapSteps.{after_characters, after_tag, paragraph_ends_in, sentence_ends_in}
-use Rattle.tokenizer.specs.steps.Numbering.{tokens_left}
+use Rattle.tokenizer.specs.steps.Numbering.{next_paragraph, next_sentence, after_word, tokens_left}
 use Rattle.tokenizer.specs.Parts.{Part, word, gap_characters, gap_tag}
 use Rattle.tokenizer.specs.Tokens.{raised, tokens_from}
 use Rattle.tokenizer.specs.declared.gap.Gap.{Gap}
@@ -28,13 +28,6 @@ pub tokens_left-new : (rest : List Part) → tokens_left (record { sentence = 0;
 unfolding tokens_left
 tokens_left-new rest = refl
 
--- the numbers of the token behind a gap of which this is known
-abbrev pub next_sentence : Numbering → ℕ
-next_sentence last = raised (last.gap.sentence_ends || last.gap.paragraph_ends) last.sentence
-
-abbrev pub next_paragraph : Numbering → ℕ
-next_paragraph last = raised last.gap.paragraph_ends last.paragraph
-
 paragraph_here : (p l : Bool) → (p || (l && false) || (false || false)) ≡ p
 paragraph_here true l = refl
 paragraph_here false true = refl
@@ -47,7 +40,7 @@ paragraph_ends_in-nil known = paragraph_here known.paragraph_ends known.after_li
 sentence_ends_in-nil : (known : Gap) → sentence_ends_in known [] ≡ (known.sentence_ends || known.paragraph_ends)
 sentence_ends_in-nil known = or-false _ ∙ ap (λ p. known.sentence_ends || p) (paragraph_ends_in-nil known)
 
-pub tokens_left-word : (last : Numbering) (bytes : List ℕ) (rest : List Part) → tokens_left last (word bytes ∷ rest) ≡ record { word = bytes; sentence = next_sentence last; paragraph = next_paragraph last } ∷ tokens_left (record { sentence = next_sentence last; paragraph = next_paragraph last; gap = record { sentence_ends = false; paragraph_ends = false; after_line_feed = false } }) rest
+pub tokens_left-word : (last : Numbering) (bytes : List ℕ) (rest : List Part) → tokens_left last (word bytes ∷ rest) ≡ record { word = bytes; sentence = next_sentence last; paragraph = next_paragraph last } ∷ tokens_left (after_word last) rest
 unfolding tokens_left tokens_from ends_sentence
 tokens_left-word last bytes rest =
     ap₂ (λ s p. record { word = bytes; sentence = raised s last.sentence; paragraph = raised p last.paragraph }

@@ -59,9 +59,16 @@ fn is_among(names: &[&str], name: &str) -> bool
     ensures { result ≡ list_any (λ known. bytes_eq known.now name.now) names.now }
 {
     for known in names {
-        if *known == name {
+        if is_same(known, name) {
             return true;
         }
     }
     false
+}
+
+/// Whether the names are the same. Most differ in their lengths, and then no byte is looked at.
+fn is_same(known: &str, name: &str) -> bool
+    ensures { result ≡ bytes_eq known.now name.now }
+{
+    known.len() == name.len() && known == name
 }

@@ -51,7 +51,7 @@ impl Gap {
     pub(crate) fn pass_tag(&mut self, name: &str)
         ensures { self.new ≡ after_tag self.old name.now }
     {
-        if is_block_element(name) {
+        if !self.paragraph_ends && is_block_element(name) {
             self.paragraph_ends = true;
         }
     }

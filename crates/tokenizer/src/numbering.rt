@@ -1,5 +1,7 @@
 ghost use Rattle.std.specs.Prelude.{◌≡◌, ◌+◌, ◌≤◌, ◌<◌, ◌^◌, ℕ, List, ◌∷◌};
-ghost use Rattle.tokenizer.specs.steps.Numbering.{tokens_left};
+ghost use Rattle.std.specs.Str.{chars};
+ghost use Rattle.tokenizer.specs.steps.GapSteps.{after_characters};
+ghost use Rattle.tokenizer.specs.steps.Numbering.{after_word, both_passed, nothing_passed, tokens_left};
 ghost use Rattle.tokenizer.specs.Parts.{Part, word, gap_characters, gap_tag};
 ghost use Rattle.tokenizer.specs.Tokens.{raised, tokens_from};
 
@@ -27,12 +29,35 @@ impl Numbering {
         }
     }
 
+    /// In front of a word, where nothing was seen.
+    pub(crate) fn inside() -> Numbering
+        ensures { result ≡ nothing_passed }
+    {
+        Numbering {
+            sentence: 0,
+            paragraph: 0,
+            gap: Gap::new(),
+        }
+    }
+
+    /// Goes past what this was counted in, which begins with the last token.
+    pub(crate) fn pass_numbering(&mut self, inside: &Numbering)
+        requires sentence_fits { self.old.sentence + inside.now.sentence < 2 ^ 32 }
+        requires paragraph_fits { self.old.paragraph + inside.now.paragraph < 2 ^ 32 }
+        ensures { self.new ≡ both_passed self.old inside.now }
+    {
+        self.sentence += inside.sentence;
+        self.paragraph += inside.paragraph;
+        self.gap = inside.gap;
+    }
+
     /// Goes past characters that are in no word.
     pub(crate) fn pass_characters(&mut self, text: &str)
         ensures tokens { (rest : List Part) →
             tokens_left self.old (gap_characters text.now ∷ rest) ≡ tokens_left self.new rest }
         ensures sentence { self.new.sentence ≡ self.old.sentence }
         ensures paragraph { self.new.paragraph ≡ self.old.paragraph }
+        ensures passed { self.new ≡ record self.old { gap = after_characters self.old.gap (chars text.now) } }
     {
         self.gap.pass_characters(text);
     }
@@ -56,6 +81,7 @@ impl Numbering {
             ∷ tokens_left self.new rest }
         ensures sentence { self.new.sentence ≤ self.old.sentence + 1 }
         ensures paragraph { self.new.paragraph ≤ self.old.paragraph + 1 }
+        ensures passed { self.new ≡ after_word self.old }
     {
         let paragraph_ends = self.gap.paragraph_ends;
         let sentence_ends = self.gap.sentence_ends | paragraph_ends;

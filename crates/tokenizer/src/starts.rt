@@ -1,4 +1,4 @@
-ghost use Rattle.std.specs.Prelude.{◌≡◌, ◌==◌, ◌+◌, ◌≤◌, ◌<◌, ◌^◌, ◌∷◌, ◌++◌, ℕ, List, [], map, length, Err, IfOk, OnOk, if◌then◌else◌};
+ghost use Rattle.std.specs.Prelude.{◌≡◌, ◌==◌, ◌+◌, ◌≤◌, ◌<◌, ◌^◌, ◌∷◌, ◌++◌, ℕ, List, [], map, length, Err, IfOk, OnErr, OnOk, if◌then◌else◌};
 ghost use Rattle.std.specs.Option.{ForSome};
 ghost use Rattle.ft_base.specs.Places.{last_place};
 ghost use Rattle.unicode_segmentation.specs.Word.{word_bounds};
@@ -7,20 +7,18 @@ ghost use Rattle.tokenizer.specs.Tokens.{tokens_from, sentence_starts, paragraph
 ghost use Rattle.tokenizer.specs.Words.{words};
 
 use crate::numbering::Numbering;
+use crate::text_starts::TextRead;
 use crate::tokens::TokenFault;
-use crate::words::is_word;
 use ft_base::{Breaks, Memory, Places};
 use std::alloc::Global;
-use text_list::TextList;
-use unicode::segmentation::UnicodeSegmentation;
 
 /// The places at which sentences and paragraphs start, as far as a document was seen, and how many words were. Whoever walks
 /// over a document hands it the tags and the texts, in the order in which they are written.
 #[derive(Drop)]
 pub struct Starts {
-    breaks: Breaks,
-    last: Numbering,
-    words: u32,
+    pub(crate) breaks: Breaks,
+    pub(crate) last: Numbering,
+    pub(crate) words: u32,
     ghost sentences_behind: { ForSome (last_place breaks.sentences) (λ place. place ≤ words) },
     ghost paragraphs_behind: { ForSome (last_place breaks.paragraphs) (λ place. place ≤ words) },
     ghost sentences_few: { last.sentence ≤ words },
@@ -28,7 +26,12 @@ pub struct Starts {
 }
 
 impl Starts {
+    ghost use Rattle.std.specs.Str.{chars};
+    ghost use Rattle.tokenizer.specs.steps.Begun.{Begun};
+    ghost use Rattle.tokenizer.specs.steps.GapSteps.{after_characters};
+    ghost use Rattle.tokenizer.specs.steps.Numbering.{after_word, nothing_passed};
     ghost use Rattle.tokenizer.specs.steps.StartsLeft.{words_seen, sentences_in, paragraphs_in};
+    ghost use Rattle.tokenizer.specs.steps.TextsKnown.{Tells};
 
     /// Before the document.
     pub fn new(alloc: Global) -> Starts
@@ -48,6 +51,23 @@ impl Starts {
         }
     }
 
+    /// In front of the first word of a text, where no sentence ends.
+    pub(crate) fn inside(alloc: Global) -> Starts
+        ensures last { result.last ≡ nothing_passed }
+        ensures sentences { result.breaks.sentences ≡ [] }
+        ensures paragraphs { result.breaks.paragraphs ≡ [] }
+        ensures words { result.words ≡ 0 }
+    {
+        Starts {
+            breaks: Breaks {
+                sentences: Places::new(alloc),
+                paragraphs: Places::new(alloc),
+            },
+            last: Numbering::inside(),
+            words: 0,
+        }
+    }
+
     /// Goes past characters that are in no word.
     pub(crate) fn pass_characters(&mut self, text: &str)
         ensures sentences { (rest : List Part) →
@@ -55,6 +75,8 @@ impl Starts {
         ensures paragraphs { (rest : List Part) →
             paragraphs_in self.old (gap_characters text.now ∷ rest) ≡ paragraphs_in self.new rest }
         ensures words { self.new.words ≡ self.old.words }
+        ensures last { self.new.last ≡ record self.old.last { gap = after_characters self.old.last.gap (chars text.now) } }
+        ensures breaks { self.new.breaks ≡ self.old.breaks }
     {
         self.last.pass_characters(text);
     }
@@ -70,17 +92,18 @@ impl Starts {
         self.last.pass_tag(name);
     }
 
-    /// Goes past a text, and gives its words in order. `Tokens` comes where more than `most` words stand in what was seen
-    /// with this text; no more than that many are made.
+    /// Reads a text, and goes past it. `Tokens` comes where more than `most` words stand in what was seen with this text; no
+    /// more than that many are made.
     pub fn pass_text(
         &mut self,
         alloc: Global,
         text: &str,
         most: u32,
-    ) -> Result<TextList, TokenFault>
+    ) -> Result<TextRead, TokenFault>
         requires few { words_seen self.old ≤ most }
         requires countable { most < 2 ^ 31 }
-        ensures words { IfOk result (λ list. list ≡ words text.now) }
+        ensures words { IfOk result (λ read. read.words ≡ words text.now) }
+        ensures tells { IfOk result (λ read. Tells read.starts text.now) }
         ensures counted { OnOk result (words_seen self.new ≡ words_seen self.old + length (words text.now)) }
         ensures few { words_seen self.new ≤ most }
         ensures full { result ≡ Err TokenFault.Tokens → most < words_seen self.old + length (words text.now) }
@@ -89,36 +112,14 @@ impl Starts {
         ensures paragraphs { OnOk result ((rest : List Part) →
             paragraphs_in self.old (map part_of_segment (word_bounds text.now) ++ rest) ≡ paragraphs_in self.new rest) }
     {
-        let mut list = TextList::with_capacity(alloc, text.len())?;
-        for segment in text.split_word_bounds() {
-            if is_word(segment) {
-                self.take_word(segment, most, &mut list)?;
-            } else {
-                self.pass_characters(segment);
+        let read = TextRead::read(alloc, text, most - self.words)?;
+        match self.pass_known(&read.starts, most) {
+            Ok(()) => Ok(read),
+            Err(fault) => {
+                drop(read);
+                Err(fault)
             }
         }
-        Ok(list)
-    }
-
-    /// Goes past a word, and puts it to the end.
-    fn take_word(&mut self, segment: &str, most: u32, list: &mut TextList) -> Result<(), TokenFault>
-        requires few { self.old.words ≤ most }
-        requires countable { most < 2 ^ 31 }
-        ensures sentences { OnOk result ((rest : List Part) →
-            sentences_in self.old (word segment.now ∷ rest) ≡ sentences_in self.new rest) }
-        ensures paragraphs { OnOk result ((rest : List Part) →
-            paragraphs_in self.old (word segment.now ∷ rest) ≡ paragraphs_in self.new rest) }
-        ensures counted { OnOk result (self.new.words ≡ self.old.words + 1) }
-        ensures few { self.new.words ≤ most }
-        ensures full { result ≡ Err TokenFault.Tokens → most ≤ self.old.words }
-        ensures list { OnOk result (list.new ≡ list.old ++ segment.now ∷ []) }
-    {
-        if self.words >= most {
-            return Err(TokenFault::Tokens);
-        }
-        list.push(segment)?;
-        self.pass_word()?;
-        Ok(())
     }
 
     /// Goes past a word.
@@ -129,6 +130,12 @@ impl Starts {
         ensures paragraphs { OnOk result ((bytes : List ℕ) (rest : List Part) →
             paragraphs_in self.old (word bytes ∷ rest) ≡ paragraphs_in self.new rest) }
         ensures words { self.new.words ≡ self.old.words + 1 }
+        ensures last { self.new.last ≡ after_word self.old.last }
+        ensures begun { Begun self.old → Begun self.new }
+        ensures sentence_places { OnOk result (self.new.breaks.sentences ≡ self.old.breaks.sentences
+            ++ (if self.new.last.sentence == self.old.last.sentence then [] else self.new.words ∷ [])) }
+        ensures paragraph_places { OnOk result (self.new.breaks.paragraphs ≡ self.old.breaks.paragraphs
+            ++ (if self.new.last.paragraph == self.old.last.paragraph then [] else self.new.words ∷ [])) }
     {
         let before = self.last;
         self.words += 1;
@@ -162,6 +169,7 @@ impl Starts {
 fn push_start(places: &mut Places, place: u32, before: u32, number: u32) -> Result<(), Memory>
     requires { ForSome (last_place places.old) (λ last. last < place) }
     ensures ok { OnOk result (places.new ≡ places.old ++ (if number == before then [] else place ∷ [])) }
+    ensures err { OnErr result (places.new ≡ places.old) }
     ensures behind { ForSome (last_place places.new) (λ last. last ≤ place) }
 {
     if number == before {

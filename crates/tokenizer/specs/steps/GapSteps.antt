@@ -5,6 +5,7 @@ use Rattle.ft_base.specs.Characters.{is_blank, is_line_feed}
 use Rattle.tokenizer.specs.Gaps.{is_sentence_end, begins_with_line_end, is_block_element, characters_of, ends_paragraph}
 use Rattle.tokenizer.specs.Parts.{Part}
 use Rattle.tokenizer.specs.declared.gap.Gap.{Gap}
+use Rattle.tokenizer.specs.declared.gap_part.GapPart.{GapPart}
 
 abbrev pub after_character : Gap → ℕ → Gap
 after_character known c =
@@ -17,6 +18,18 @@ after_characters known (c ∷ cs) = after_characters (after_character known c) c
 
 abbrev pub after_tag : Gap → List ℕ → Gap
 after_tag known name = record known { paragraph_ends = known.paragraph_ends || is_block_element name }
+
+-- what is known of a gap of which one thing was seen in front and another behind it
+abbrev pub both_seen : Gap → Gap → Gap
+both_seen front known = record {
+  sentence_ends = known.sentence_ends || front.sentence_ends;
+  paragraph_ends = known.paragraph_ends || front.paragraph_ends;
+  after_line_feed = known.after_line_feed;
+}
+
+-- what is known of a gap behind characters of which this is known
+abbrev pub after_part : GapPart → Gap → Gap
+after_part part front = both_seen front (if front.after_line_feed then part.after_line_feed else part.alone)
 
 -- a paragraph ends in a gap of which `rest` is still to come
 abbrev pub paragraph_ends_in : Gap → List Part → Bool
