@@ -1,6 +1,6 @@
 -- What heads tell of nodes: a short name is all in its mark, and no element has the mark of a text.
-use Rattle.std.proofs.Common.{◌≡◌, ◌≢◌, ◌≤◌, ◌<◌, ℕ, zero, suc, Bool, true, false, List, [], ◌∷◌, length, get_or, refl, sym, ap, ap₂, ◌∙◌, arith}
-use Rattle.std.specs.Prelude.{nat_eq, not, bytes_eq}
+use Rattle.std.proofs.Common.{◌≡◌, ◌≤◌, ◌<◌, ℕ, zero, suc, true, List, [], ◌∷◌, length, get_or, refl, sym, ap, ap₂, ◌∙◌, arith}
+use Rattle.std.specs.Prelude.{nat_eq, not}
 use Rattle.std.proofs.lemmas.Bool.Decides.{nat_tests}
 use Rattle.std.proofs.lemmas.Slice.Eq.{bytes_eq-Decides}
 use Rattle.ordered_tree.specs.Numbered.{Numbered, element_at, text_at, is_element, has_name}
@@ -45,11 +45,3 @@ pub name-marked : (n : Numbered) (name : List ℕ) → length name ≤ 7 → mar
 unfolding mark_of
 name-marked (element_at r own attrs kids) name short same = (bytes_eq-Decides name own).1 (sym (short-is own name short same))
 name-marked (text_at r bytes) name short same = absurd (omega (arith, ap (λ m. get_or m 7 0) same))
-
-pub other-mark : (n : Numbered) (name : List ℕ) → (mark_of_held (held n) ≢ mark_of name) → has_name name n ≡ false
-other-mark (element_at r own attrs kids) name other = by_test (bytes_eq name own) (λ same. other (ap mark_of (sym ((bytes_eq-Decides name own).0 same))))
-  where
-    by_test : (b : Bool) → (b ≡ true → ⊥) → b ≡ false
-    by_test true wrong = absurd (wrong refl)
-    by_test false wrong = refl
-other-mark (text_at r bytes) name other = refl

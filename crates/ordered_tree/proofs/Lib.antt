@@ -6,6 +6,8 @@ pub mod HeadLemmas
 pub mod LawsLemmas
 pub mod LeavesLemmas
 pub mod LinksLemmas
+pub mod PartsLemmas
+pub mod PassingLemmas
 pub mod PlacesLemmas
 pub mod PlacingLemmas
 pub mod ReadingLemmas

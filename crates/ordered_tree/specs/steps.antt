@@ -2,4 +2,6 @@ pub mod Climbing
 pub mod FreeSlots
 pub mod Gathering
 pub mod Heads
+pub mod Parts
+pub mod Passing
 pub mod Placing

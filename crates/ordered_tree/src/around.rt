@@ -4,7 +4,7 @@ use crate::NodeRef;
 
 /// What stands round a node.
 #[derive(Clone, Copy)]
-pub(crate) struct Around {
+pub struct Around {
     pub(crate) parent: Option<NodeRef>,
     /// The siblings beside it.
     pub(crate) previous: Option<NodeRef>,

@@ -1,10 +1,10 @@
 ghost use Rattle.std.specs.Prelude.{◌≡◌, option_map};
 ghost use Rattle.ordered_tree.specs.Numbered.{attribute};
 
-use plain_tree::Attrs;
+use crate::shared_attrs::SharedAttrs;
 
 /// The value of the first attribute of this name.
-pub(crate) fn find_attr<'a>(attrs: &'a Attrs, name: &str) -> Option<&'a str>
+pub(crate) fn find_attr<'a>(attrs: &'a SharedAttrs, name: &str) -> Option<&'a str>
     ensures { option_map (λ value. value.now) result ≡ attribute name.now attrs.now }
 {
     for attr in attrs.as_slice() {

@@ -15,6 +15,7 @@ ghost use Rattle.ordered_tree.specs.steps.Gathering.{Gathers, parts_of};
 
 use crate::NodeRef;
 use crate::around::Around;
+use crate::shared_attrs::SharedAttrs;
 use crate::shared_text::SharedText;
 use crate::slot::{Held, Slot};
 use crate::texts_read::TextsRead;
@@ -94,9 +95,10 @@ fn add_element(
 {
     let here = slots.len();
     open_element(slots, around)?;
-    read.pass_tag(name.as_str());
+    let name = read.pass_first_tag(name)?;
     let row = add_children(slots, read, kids, NodeRef(here as u32), around.before)?;
     read.pass_tag(name.as_str());
+    let attrs = SharedAttrs::new(*slots.allocator(), attrs)?;
     finish(slots, here, Held::Element { name, attrs }, row, is_last);
     Ok(Added {
         words: row.words,

@@ -1,16 +1,15 @@
-ghost use Rattle.std.specs.Prelude.{◌≡◌, map};
 ghost use Rattle.ordered_tree.specs.steps.Heads.{head_of};
+ghost use Rattle.ordered_tree.specs.steps.Parts.{slot_of};
 
 use crate::around::Around;
 use crate::building::add_tree;
 use crate::climbing::add_place;
-use crate::copying::copy_slots;
 use crate::counting::count_nodes;
-use crate::head::{Head, heads_of};
+use crate::head::Head;
 use crate::leaves::add_leaves;
 use crate::plain::tree_of;
 use crate::read::Read;
-use crate::slot::Slot;
+use crate::slots::{SlotAt, Slots};
 use crate::texts_read::TextsRead;
 use crate::{Leaves, NodeRef, Place};
 use ft_base::Memory;
@@ -19,17 +18,14 @@ use std::alloc::Global;
 use std::marker::Model;
 use tokenizer::TokenFault;
 
-/// A document in one vector of slots: each node has a reference, which is the number of its slot.
+/// A document in slots, which its copies share: each node has a reference, which is the number of its slot.
 #[derive(Drop)]
 pub struct DocTree {
     pub(crate) alloc: Global,
-    pub(crate) slots: Vec<Slot>,
-    /// The heads of the slots
-    pub(crate) heads: Vec<Head>,
+    pub(crate) slots: Slots,
     pub(crate) free: Option<NodeRef>,
     pub(crate) nodes: usize,
     pub(crate) depth: usize,
-    ghost headed: { heads.items ≡ map head_of slots.items },
 }
 
 impl Model for DocTree {
@@ -42,9 +38,9 @@ impl Model for DocTree {
 
     ghost use Rattle.ordered_tree.specs.Slots.{IsCounted, root_of};
 
-    ghost view = { λ tree. record { root = root_of tree.slots.items; slots = length tree.slots.items } };
+    ghost view = { λ tree. record { root = root_of tree.slots; slots = length tree.slots } };
 
-    ghost invariant = { λ tree. IsCounted tree.slots.items tree.free tree.nodes tree.depth };
+    ghost invariant = { λ tree. IsCounted tree.slots tree.free tree.nodes tree.depth };
 }
 
 impl DocTree {
@@ -101,16 +97,12 @@ impl DocTree {
         };
         let mut texts = TextsRead::new(alloc, most);
         let added = add_tree(&mut slots, &mut texts, root, Around::root(), true)?;
+        let slots = Slots::from_vec(alloc, slots)?;
         let nodes = slots.len();
         let (leaves, breaks) = texts.into_parts();
-        let Ok(heads) = heads_of(alloc, &slots) else {
-            drop((slots, leaves, breaks));
-            return Err(TokenFault::Memory);
-        };
         let tree = DocTree {
             alloc,
             slots,
-            heads,
             free: None,
             nodes,
             depth: added.levels,
@@ -139,23 +131,26 @@ impl DocTree {
         Ok(tree)
     }
 
-    /// A tree of the same document, with the same references.
+    /// A tree of the same document, with the same references. It shares the memory of this one.
     pub fn copy(&self) -> Result<DocTree, Memory>
         ensures { IfOk result (λ copy. copy ≡ self.now) }
     {
-        let slots = copy_slots(self.alloc, &self.slots)?;
-        let Ok(heads) = heads_of(self.alloc, &slots) else {
-            drop(slots);
-            return Err(Memory);
-        };
+        let slots = self.slots.share()?;
         Ok(DocTree {
             alloc: self.alloc,
             slots,
-            heads,
             free: self.free,
             nodes: self.nodes,
             depth: self.depth,
         })
+    }
+
+    /// Takes the slots that the other tree has alike from it, a block at a time, so that the two share their memory. The document
+    /// stays as it is.
+    pub fn share_slots_of(&mut self, other: &DocTree)
+        ensures { self.new ≡ self.old }
+    {
+        self.slots.share_blocks_of(&other.slots);
     }
 
     /// The leaves: one for each text, in document order, with the text's words.
@@ -190,15 +185,15 @@ impl DocTree {
     }
 
     /// The slot of a node.
-    pub(crate) fn slot(&self, node: NodeRef) -> &Slot
+    pub(crate) fn slot(&self, node: NodeRef) -> SlotAt<'_>
         requires { Contains (references self.now.root) node }
-        ensures stands { OnNode self.now.root node (λ s. result.now ≡ slot s) }
-        ensures few { result.now.around.before + result.now.words < 2 ^ 31 }
-        ensures parent { IfSome result.now.around.parent (Contains (references self.now.root)) }
-        ensures next { IfSome result.now.around.next (Contains (references self.now.root)) }
-        ensures first { IfSome result.now.first_child (Contains (references self.now.root)) }
+        ensures stands { OnNode self.now.root node (λ s. slot_of result ≡ slot s) }
+        ensures few { result.around.before + result.words < 2 ^ 31 }
+        ensures parent { IfSome result.around.parent (Contains (references self.now.root)) }
+        ensures next { IfSome result.around.next (Contains (references self.now.root)) }
+        ensures first { IfSome result.first_child (Contains (references self.now.root)) }
     {
-        &self.slots[node.0 as usize]
+        self.slots.get(node.0 as usize)
     }
 
     /// The head of a node.
@@ -209,9 +204,7 @@ impl DocTree {
         ensures next { IfSome result.next (Contains (references self.now.root)) }
         ensures first { IfSome result.first_child (Contains (references self.now.root)) }
     {
-        // The node's slot is there, as the clauses of `slot` say.
-        let _slot = self.slot(node);
-        self.heads[node.0 as usize]
+        self.slots.head(node.0 as usize)
     }
 
     /// How many nodes there are.

@@ -1,6 +1,6 @@
 //! Names of elements that are looked for, and the marks by which most of the others are told from them.
 
-ghost use Rattle.std.specs.Prelude.{◌≡◌, slice_index_or};
+ghost use Rattle.std.specs.Prelude.{◌≡◌, ◌≢◌, slice_index_or, IsFalse, IsTrue};
 ghost use Rattle.ordered_tree.specs.steps.Heads.{mark_of};
 
 /// The longest name whose mark says all of it.
@@ -49,4 +49,12 @@ fn byte_at(bytes: &[u8], at: usize) -> u8
     ensures { result ≡ slice_index_or bytes.now at 0 }
 {
     if at < bytes.len() { bytes[at] } else { 0 }
+}
+
+/// Whether two marks are the same. They are compared as one number, since walks ask it of each node.
+pub(crate) fn same_mark(mark: &[u8; 8], other: &[u8; 8]) -> bool
+    ensures same { IsTrue result → mark.now ≡ other.now }
+    ensures other { IsFalse result → mark.now ≢ other.now }
+{
+    u64::from_le_bytes(*mark) == u64::from_le_bytes(*other)
 }

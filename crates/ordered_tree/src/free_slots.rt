@@ -8,6 +8,7 @@ ghost use Rattle.ordered_tree.specs.steps.FreeSlots.{Leads, free_numbers, is_fre
 
 use crate::around::Around;
 use crate::slot::{Held, Slot};
+use crate::slots::Slots;
 use crate::{NodeRef, NodeRefs};
 use ft_base::Memory;
 use std::alloc::Global;
@@ -62,13 +63,13 @@ fn is_free(slot: &Slot) -> bool
 /// References that no node has: those of the free slots, where a link names the first, and then the numbers from `slots.len()` on.
 pub(crate) fn spare_refs(
     alloc: Global,
-    slots: &Vec<Slot>,
+    slots: &Slots,
     free: Option<NodeRef>,
     count: usize,
 ) -> Result<NodeRefs, Memory>
-    requires leads { Leads slots.now.items free }
-    requires few { length slots.now.items + count < 2 ^ 32 }
-    ensures { IfOk result (λ refs. refs ≡ spare count slots.now.items free (length slots.now.items)) }
+    requires leads { Leads slots.now free }
+    requires few { length slots.now + count < 2 ^ 32 }
+    ensures { IfOk result (λ refs. refs ≡ spare count slots.now free (length slots.now)) }
 {
     let mut refs = NodeRefs::new(alloc);
     let mut link = free;
@@ -77,7 +78,7 @@ pub(crate) fn spare_refs(
         match link {
             Some(here) => {
                 refs.push(here)?;
-                link = slots[here.0 as usize].around.next;
+                link = slots.get(here.0 as usize).around.next;
             }
             None => {
                 refs.push(NodeRef(number as u32))?;

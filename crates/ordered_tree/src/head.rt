@@ -4,13 +4,16 @@ ghost use Rattle.std.specs.Prelude.{◌≡◌, IfOk, map};
 ghost use Rattle.ordered_tree.specs.steps.Heads as spec;
 
 use crate::NodeRef;
-use crate::element_name::mark_of;
+use crate::element_name::{mark_of, same_mark};
 use crate::slot::{Held, Slot};
+use crate::slot_core::same_link;
 use ft_base::Memory;
+use shared_list::Share;
+use shared_vector::Same;
 use std::alloc::Global;
 
-/// The links of a node that lead on, the mark of its name, and where its words stand. A slot is several times as long, so that a walk
-/// which looks at heads alone goes through less memory.
+/// The links of a node that lead on, the mark of its name, and where its words stand. What else a slot has is kept
+/// apart, so that a walk which looks at heads alone goes through less memory.
 #[derive(Clone, Copy)]
 pub(crate) struct Head {
     pub(crate) first_child: Option<NodeRef>,
@@ -21,6 +24,22 @@ pub(crate) struct Head {
     pub(crate) before: u32,
     /// How many words it has.
     pub(crate) words: u32,
+}
+
+impl Share for Head {
+    fn copies(alloc: Global, items: &[Head]) -> Result<Vec<Head>, Memory> {
+        Ok(Vec::from_slice(alloc, items)?)
+    }
+}
+
+impl Same for Head {
+    fn is_same(&self, other: &Head) -> bool {
+        self.before == other.before
+            && self.words == other.words
+            && same_mark(&self.mark, &other.mark)
+            && same_link(self.first_child, other.first_child)
+            && same_link(self.next, other.next)
+    }
 }
 
 /// The heads of slots, in their order.

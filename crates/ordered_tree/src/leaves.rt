@@ -4,7 +4,8 @@ ghost use Rattle.ordered_tree.specs.Leaves.{texts, texts_of, leaf_of, leaves_beh
 ghost use Rattle.ordered_tree.specs.Slots.{IsRow, row, node_at};
 
 use crate::leaf::LeafWords;
-use crate::slot::{Held, Slot};
+use crate::slot::Held;
+use crate::slots::Slots;
 use crate::{Leaves, NodeRef};
 use ft_base::{LeafId, Memory};
 use std::alloc::Global;
@@ -15,17 +16,17 @@ use tokenizer::words_of;
 #[cycle(leaves)]
 pub(crate) fn add_leaves(
     alloc: Global,
-    slots: &Vec<Slot>,
+    slots: &Slots,
     here: NodeRef,
     last: Option<LeafId>,
     leaves: &mut Leaves,
 ) -> Result<Option<LeafId>, Memory>
-    requires { IsRow slots.now.items (Some here) }
-    ensures leaves { OnOk result (leaves.new ≡ leaves.old ++ leaves_behind last (texts (node_at slots.now.items here))) }
-    ensures last { IfOk result (λ new. new ≡ last_leaf last (texts (node_at slots.now.items here))) }
+    requires { IsRow slots.now (Some here) }
+    ensures leaves { OnOk result (leaves.new ≡ leaves.old ++ leaves_behind last (texts (node_at slots.now here))) }
+    ensures last { IfOk result (λ new. new ≡ last_leaf last (texts (node_at slots.now here))) }
 {
-    let slot = &slots[here.0 as usize];
-    match &slot.held {
+    let slot = slots.get(here.0 as usize);
+    match slot.held {
         Held::Text { text } => {
             let leaf = LeafId(here.0);
             push_leaf(alloc, leaf, last, text.as_str(), leaves)?;
@@ -41,20 +42,20 @@ pub(crate) fn add_leaves(
 #[cycle(leaves)]
 fn add_all_leaves(
     alloc: Global,
-    slots: &Vec<Slot>,
+    slots: &Slots,
     first: Option<NodeRef>,
     last: Option<LeafId>,
     leaves: &mut Leaves,
 ) -> Result<Option<LeafId>, Memory>
-    requires { IsRow slots.now.items first }
-    ensures leaves { OnOk result (leaves.new ≡ leaves.old ++ leaves_behind last (texts_of (row slots.now.items first))) }
-    ensures last { IfOk result (λ new. new ≡ last_leaf last (texts_of (row slots.now.items first))) }
+    requires { IsRow slots.now first }
+    ensures leaves { OnOk result (leaves.new ≡ leaves.old ++ leaves_behind last (texts_of (row slots.now first))) }
+    ensures last { IfOk result (λ new. new ≡ last_leaf last (texts_of (row slots.now first))) }
 {
     let mut before = last;
     let mut link = first;
     while let Some(here) = link {
         before = add_leaves(alloc, slots, here, before, leaves)?;
-        link = slots[here.0 as usize].around.next;
+        link = slots.get(here.0 as usize).around.next;
     }
     Ok(before)
 }

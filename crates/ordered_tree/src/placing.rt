@@ -13,10 +13,11 @@ use crate::NodeRef;
 use crate::around::Around;
 use crate::building::greater;
 use crate::ref_tree::{RefKids, RefTree, last_reference};
+use crate::shared_attrs::SharedAttrs;
+use crate::shared_name::SharedName;
 use crate::shared_text::SharedText;
 use crate::slot::{Held, Slot};
-use ft_base::{Line, Memory};
-use plain_tree::Attrs;
+use ft_base::Memory;
 
 /// What is known of a node that has its slot.
 #[derive(Clone, Copy)]
@@ -70,8 +71,8 @@ pub(crate) fn place_tree(
 fn place_element(
     slots: &mut Vec<Slot>,
     node: NodeRef,
-    name: Line,
-    attrs: Attrs,
+    name: SharedName,
+    attrs: SharedAttrs,
     kids: RefKids,
     around: Around,
 ) -> Result<Placed, Memory>

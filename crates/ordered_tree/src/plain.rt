@@ -5,25 +5,26 @@ ghost use Rattle.ordered_tree.specs.Numbered.{plain, plain_children};
 ghost use Rattle.ordered_tree.specs.Slots.{IsRow, row, node_at};
 
 use crate::NodeRef;
-use crate::slot::{Held, Slot};
+use crate::slot::Held;
+use crate::slots::Slots;
 use ft_base::{Line, Memory};
-use plain_tree::{Kids, Tree, copy_attrs};
+use plain_tree::{Kids, Tree};
 use std::alloc::Global;
 
 /// The node of this reference as a plain tree, with all that is below it.
 #[cycle(plain)]
-pub(crate) fn tree_of(alloc: Global, slots: &Vec<Slot>, here: NodeRef) -> Result<Tree, Memory>
-    requires { IsRow slots.now.items (Some here) }
-    ensures { IfOk result (λ tree. node tree ≡ plain (node_at slots.now.items here)) }
+pub(crate) fn tree_of(alloc: Global, slots: &Slots, here: NodeRef) -> Result<Tree, Memory>
+    requires { IsRow slots.now (Some here) }
+    ensures { IfOk result (λ tree. node tree ≡ plain (node_at slots.now here)) }
 {
-    let slot = &slots[here.0 as usize];
-    match &slot.held {
+    let slot = slots.get(here.0 as usize);
+    match slot.held {
         Held::Text { text } => Ok(Tree::Text {
             text: Line::read(alloc, text.as_str())?,
         }),
         Held::Element { name, attrs } => Ok(Tree::Elem {
             name: Line::read(alloc, name.as_str())?,
-            attrs: copy_attrs(alloc, attrs)?,
+            attrs: attrs.to_attrs(alloc)?,
             kids: kids_of(alloc, slots, slot.first_child)?,
         }),
         // No node's slot is free.
@@ -33,15 +34,15 @@ pub(crate) fn tree_of(alloc: Global, slots: &Vec<Slot>, here: NodeRef) -> Result
 
 /// The nodes from a link on as plain trees.
 #[cycle(plain)]
-fn kids_of(alloc: Global, slots: &Vec<Slot>, first: Option<NodeRef>) -> Result<Kids, Memory>
-    requires { IsRow slots.now.items first }
-    ensures { IfOk result (λ kids. nodes (map node kids) ≡ plain_children (row slots.now.items first)) }
+fn kids_of(alloc: Global, slots: &Slots, first: Option<NodeRef>) -> Result<Kids, Memory>
+    requires { IsRow slots.now first }
+    ensures { IfOk result (λ kids. nodes (map node kids) ≡ plain_children (row slots.now first)) }
 {
     let mut kids = Kids::new(alloc);
     let mut link = first;
     while let Some(here) = link {
         kids.push(tree_of(alloc, slots, here)?)?;
-        link = slots[here.0 as usize].around.next;
+        link = slots.get(here.0 as usize).around.next;
     }
     Ok(kids)
 }

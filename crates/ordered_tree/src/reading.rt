@@ -5,7 +5,7 @@ ghost use Rattle.ordered_tree.specs.Stands.{OnNode, references, span};
 ghost use Rattle.tokenizer.specs.Tokens.{tokens};
 
 use crate::attrs::find_attr;
-use crate::element_name::{ElementName, LONGEST_MARKED};
+use crate::element_name::{ElementName, LONGEST_MARKED, same_mark};
 use crate::slot::Held;
 use crate::{DocTree, NodeRef};
 use ft_base::Span;
@@ -24,7 +24,7 @@ impl DocTree {
         requires { Contains (references self.now.root) node }
         ensures { OnNode self.now.root node (λ s. result ≡ has_name wanted.now.name.now s.node) }
     {
-        if self.head(node).mark != wanted.mark {
+        if !same_mark(&self.head(node).mark, &wanted.mark) {
             return false;
         }
         wanted.name.len() <= LONGEST_MARKED || self.holds_name(node, wanted.name)
@@ -35,7 +35,7 @@ impl DocTree {
         requires { Contains (references self.now.root) node }
         ensures { OnNode self.now.root node (λ s. result ≡ has_name wanted.now s.node) }
     {
-        match &self.slot(node).held {
+        match self.slot(node).held {
             Held::Element { name, .. } => name.as_str() == wanted,
             Held::Text { .. } | Held::Free => false,
         }
@@ -47,7 +47,7 @@ impl DocTree {
         requires element { OnNode self.now.root node (λ s. IsTrue (is_element s.node)) }
         ensures { OnNode self.now.root node (λ s. name_of s.node ≡ Some result.now) }
     {
-        match &self.slot(node).held {
+        match self.slot(node).held {
             Held::Element { name, .. } => name.as_str(),
             Held::Text { .. } | Held::Free => "",
         }
@@ -58,7 +58,7 @@ impl DocTree {
         requires { Contains (references self.now.root) node }
         ensures { OnNode self.now.root node (λ s. option_map (λ value. value.now) result ≡ attribute name.now (attrs_of s.node)) }
     {
-        match &self.slot(node).held {
+        match self.slot(node).held {
             Held::Element { attrs, .. } => find_attr(attrs, name),
             Held::Text { .. } | Held::Free => None,
         }

@@ -5,9 +5,10 @@ ghost use Rattle.ordered_tree.specs.Numbered.{first_of, reference};
 ghost use Rattle.ordered_tree.specs.RefView.{ref_node, ref_nodes};
 
 use crate::NodeRef;
+use crate::shared_attrs::SharedAttrs;
+use crate::shared_name::SharedName;
 use crate::shared_text::SharedText;
-use ft_base::{Items, Line};
-use plain_tree::Attrs;
+use ft_base::Items;
 
 /// A list of children with their references, in the order of the document.
 pub type RefKids = Items<RefTree>;
@@ -18,8 +19,8 @@ pub enum RefTree {
     /// An element with its name, its attributes and its children.
     Element {
         node: NodeRef,
-        name: Line,
-        attrs: Attrs,
+        name: SharedName,
+        attrs: SharedAttrs,
         kids: RefKids,
     },
     /// A text.

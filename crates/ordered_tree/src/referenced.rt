@@ -1,23 +1,24 @@
 //! Documents out of the slots and back, with their references, and references that no node has.
 
-ghost use Rattle.std.specs.Prelude.{◌≡◌, ◌≢◌, ◌+◌, ◌<◌, ◌^◌, ◌++◌, length, map, max, All, AllPairs, IfOk, IsTrue, Some};
+ghost use Rattle.std.specs.Prelude.{◌≡◌, ◌≢◌, ◌+◌, ◌<◌, ◌^◌, ◌++◌, length, map, max, slice_index_or, All, AllPairs, IfOk, IsTrue, Some};
 ghost use Rattle.doc_grammar.specs.Limits.{node_count};
 ghost use Rattle.plain_tree.specs.Document.{is_document};
 ghost use Rattle.ordered_tree.specs.Numbered.{plain, reference};
 ghost use Rattle.ordered_tree.specs.RefView.{ref_node, ref_nodes};
 ghost use Rattle.ordered_tree.specs.Slots.{IsRow, node_at, root_ref, row};
 ghost use Rattle.ordered_tree.specs.Stands.{references};
+ghost use Rattle.ordered_tree.specs.steps.Parts.{slot_of};
 ghost use Rattle.tokenizer.specs.Tokens.{tokens};
 
 use crate::around::Around;
 use crate::free_slots::{free_slots, link_free, spare_refs};
-use crate::head::heads_of;
 use crate::placing::place_tree;
 use crate::ref_tree::{RefKids, RefTree};
-use crate::slot::{Held, Slot};
+use crate::slot::Held;
+use crate::slot_core::same_link;
+use crate::slots::{SlotAt, Slots};
 use crate::{DocTree, NodeRef, NodeRefs};
-use ft_base::{Line, Memory};
-use plain_tree::copy_attrs;
+use ft_base::Memory;
 use std::alloc::Global;
 
 impl DocTree {
@@ -25,7 +26,7 @@ impl DocTree {
     pub fn to_referenced(&self) -> Result<RefTree, Memory>
         ensures { IfOk result (λ tree. ref_node tree ≡ self.now.root) }
     {
-        let tree = referenced(self.alloc, &self.slots, NodeRef(0))?;
+        let tree = referenced(self.alloc, &self.slots, NodeRef(0), self.slots.get(0))?;
         Ok(tree)
     }
 
@@ -45,14 +46,10 @@ impl DocTree {
         };
         let done = place_tree(&mut filled, tree, Around::root())?;
         let free = link_free(&mut filled);
-        let Ok(heads) = heads_of(alloc, &filled) else {
-            drop(filled);
-            return Err(Memory);
-        };
+        let slots = Slots::from_vec(alloc, filled)?;
         Ok(DocTree {
             alloc,
-            slots: filled,
-            heads,
+            slots,
             free,
             nodes: done.nodes,
             depth: done.levels,
@@ -71,44 +68,61 @@ impl DocTree {
     }
 }
 
-/// The node of this reference with all that is below it.
+/// The node of this reference, whose slot was read, with all that is below it.
 #[cycle(referencing)]
-fn referenced(alloc: Global, slots: &Vec<Slot>, here: NodeRef) -> Result<RefTree, Memory>
-    requires { IsRow slots.now.items (Some here) }
-    ensures { IfOk result (λ tree. ref_node tree ≡ node_at slots.now.items here) }
+fn referenced(
+    alloc: Global,
+    slots: &Slots,
+    here: NodeRef,
+    slot: SlotAt<'_>,
+) -> Result<RefTree, Memory>
+    requires row { IsRow slots.now (Some here) }
+    requires slot { slot_of slot ≡ slice_index_or slots.now here.0 (slot_of slot) }
+    ensures { IfOk result (λ tree. ref_node tree ≡ node_at slots.now here) }
 {
-    let slot = &slots[here.0 as usize];
-    match &slot.held {
+    match slot.held {
         Held::Text { text } => Ok(RefTree::Text {
             node: here,
             text: text.share()?,
         }),
         Held::Element { name, attrs } => Ok(RefTree::Element {
             node: here,
-            name: Line::read(alloc, name.as_str())?,
-            attrs: copy_attrs(alloc, attrs)?,
-            kids: all_referenced(alloc, slots, slot.first_child)?,
+            name: name.share()?,
+            attrs: attrs.share()?,
+            kids: all_referenced(alloc, slots, slot.first_child, children_expected(&slot))?,
         }),
         // No node's slot is free.
         Held::Free => Err(Memory),
     }
 }
 
-/// The nodes from a link on.
+/// The nodes from a link on, in a list that has room for as many as are expected.
 #[cycle(referencing)]
 fn all_referenced(
     alloc: Global,
-    slots: &Vec<Slot>,
+    slots: &Slots,
     first: Option<NodeRef>,
+    expected: usize,
 ) -> Result<RefKids, Memory>
-    requires { IsRow slots.now.items first }
-    ensures { IfOk result (λ kids. ref_nodes (map ref_node kids) ≡ row slots.now.items first) }
+    requires { IsRow slots.now first }
+    ensures { IfOk result (λ kids. ref_nodes (map ref_node kids) ≡ row slots.now first) }
 {
-    let mut kids = RefKids::new(alloc);
+    let mut kids = RefKids::from_vec(Vec::with_capacity(alloc, expected)?);
     let mut link = first;
     while let Some(here) = link {
-        kids.push(referenced(alloc, slots, here)?)?;
-        link = slots[here.0 as usize].around.next;
+        let slot = slots.get(here.0 as usize);
+        kids.push(referenced(alloc, slots, here, slot)?)?;
+        link = slot.around.next;
     }
     Ok(kids)
+}
+
+/// How many children a node is expected to have: one where its first child is its last, whose list then takes no more memory
+/// than it needs.
+fn children_expected(slot: &SlotAt<'_>) -> usize {
+    match slot.first_child {
+        Some(_) if same_link(slot.first_child, slot.last_child) => 1,
+        Some(_) => 4,
+        None => 0,
+    }
 }

@@ -2,25 +2,27 @@
 
 ghost use Rattle.std.specs.Prelude.{◌≡◌, length, IfOk};
 ghost use Rattle.tokenizer.specs.Words.{words};
+ghost use Rattle.tokenizer.specs.steps.TextsKnown.{Tells};
 
 use ft_base::{Line, Memory};
 use std::alloc::Global;
 use std::marker::Model;
 use std::rc::Rc;
-use tokenizer::count_words;
+use tokenizer::TextStarts;
 
-/// A text and how many words it has.
+/// A text, how many words it has, and where sentences and paragraphs start in it.
 #[derive(Drop)]
-struct CountedText {
+struct KnownText {
     text: Line,
-    count: usize,
-    ghost counted: { count ≡ length (words text) },
+    starts: TextStarts,
+    ghost tells: { Tells starts text },
 }
 
-/// A text of a document, whose words were counted once. Copies share both, and contracts see the list of its UTF-8 bytes.
+/// A text of a document, whose words were found once. Copies share the text and what is known of it, and contracts see the
+/// list of its UTF-8 bytes.
 #[derive(Drop)]
 pub struct SharedText {
-    counted: Rc<CountedText>,
+    known: Rc<KnownText>,
 }
 
 impl Model for SharedText {
@@ -28,46 +30,57 @@ impl Model for SharedText {
 
     ghost Value = { List ℕ };
 
-    ghost view = { λ inside. inside.counted.value.text };
+    ghost view = { λ inside. inside.known.value.text };
 }
 
 impl SharedText {
-    /// The text in its memory, once its words are counted.
+    /// The text in its memory, once its words are found.
     pub fn new(alloc: Global, text: Line) -> Result<SharedText, Memory>
         ensures { IfOk result (λ shared. shared ≡ text) }
     {
-        let count = count_words(text.as_str())?;
-        SharedText::counted(alloc, text, count)
+        let starts = TextStarts::read(alloc, text.as_str())?;
+        SharedText::with_starts(alloc, text, starts)
     }
 
-    /// The text in its memory, of which it is known how many words it has.
-    pub(crate) fn counted(alloc: Global, text: Line, count: usize) -> Result<SharedText, Memory>
-        requires { count ≡ length (words text) }
+    /// The text in its memory, where its words were found.
+    pub(crate) fn with_starts(
+        alloc: Global,
+        text: Line,
+        starts: TextStarts,
+    ) -> Result<SharedText, Memory>
+        requires { Tells starts text }
         ensures { IfOk result (λ shared. shared ≡ text) }
     {
-        let counted = Rc::new(alloc, CountedText { text, count })?;
-        Ok(SharedText { counted })
+        let known = Rc::new(alloc, KnownText { text, starts })?;
+        Ok(SharedText { known })
     }
 
     /// The same text once more; nothing of it is copied.
     pub fn share(&self) -> Result<SharedText, Memory>
         ensures { IfOk result (λ copy. copy ≡ self.now) }
     {
-        let counted = self.counted.clone()?;
-        Ok(SharedText { counted })
+        let known = self.known.clone()?;
+        Ok(SharedText { known })
     }
 
     /// The text.
     pub fn as_str(&self) -> &str
         ensures { result.now ≡ self.now }
     {
-        self.counted.text.as_str()
+        self.known.text.as_str()
     }
 
     /// How many words it has.
     pub fn word_count(&self) -> usize
         ensures { result ≡ length (words self.now) }
     {
-        self.counted.count
+        self.known.starts.word_count() as usize
+    }
+
+    /// What is known of its words.
+    pub(crate) fn starts(&self) -> &TextStarts
+        ensures { Tells result.now self.now }
+    {
+        &self.known.starts
     }
 }

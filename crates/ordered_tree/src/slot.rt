@@ -1,14 +1,19 @@
 use crate::NodeRef;
 use crate::around::Around;
+use crate::shared_attrs::SharedAttrs;
+use crate::shared_name::SharedName;
 use crate::shared_text::SharedText;
-use ft_base::Line;
-use plain_tree::Attrs;
 
 /// What a slot holds.
 #[derive(Drop)]
 pub(crate) enum Held {
-    Element { name: Line, attrs: Attrs },
-    Text { text: SharedText },
+    Element {
+        name: SharedName,
+        attrs: SharedAttrs,
+    },
+    Text {
+        text: SharedText,
+    },
     /// Nothing: the slot is on the list of free ones.
     Free,
 }

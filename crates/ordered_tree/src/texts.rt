@@ -1,10 +1,12 @@
 //! The texts of a document, with their references.
 
-ghost use Rattle.std.specs.Prelude.{◌≡◌, ◌++◌, map, Some, IfOk, OnOk};
+ghost use Rattle.std.specs.Prelude.{◌≡◌, ◌++◌, map, slice_index_or, Some, IfOk, OnOk};
 ghost use Rattle.ordered_tree.specs.Leaves.{text_of, texts, texts_of};
 ghost use Rattle.ordered_tree.specs.Slots.{IsRow, node_at, row};
+ghost use Rattle.ordered_tree.specs.steps.Parts.{slot_of};
 
-use crate::slot::{Held, Slot};
+use crate::slot::Held;
+use crate::slots::{SlotAt, Slots};
 use crate::{DocTree, NodeRef};
 use ft_base::Memory;
 
@@ -21,23 +23,24 @@ impl DocTree {
         ensures { IfOk result (λ all. map text_of all.items ≡ texts self.now.root) }
     {
         let mut list = Vec::new(self.alloc);
-        add_texts(&self.slots, NodeRef(0), &mut list)?;
+        add_texts(&self.slots, NodeRef(0), self.slots.get(0), &mut list)?;
         Ok(list)
     }
 }
 
-/// Puts the texts of a node to the end.
+/// Puts the texts of a node, whose slot was read, to the end.
 #[cycle(texts)]
 fn add_texts<'a>(
-    slots: &'a Vec<Slot>,
+    slots: &'a Slots,
     here: NodeRef,
+    slot: SlotAt<'a>,
     list: &mut Vec<TextAt<'a>>,
 ) -> Result<(), Memory>
-    requires { IsRow slots.now.items (Some here) }
-    ensures { OnOk result (map text_of list.new.items ≡ map text_of list.old.items ++ texts (node_at slots.now.items here)) }
+    requires row { IsRow slots.now (Some here) }
+    requires slot { slot_of slot ≡ slice_index_or slots.now here.0 (slot_of slot) }
+    ensures { OnOk result (map text_of list.new.items ≡ map text_of list.old.items ++ texts (node_at slots.now here)) }
 {
-    let slot = &slots[here.0 as usize];
-    match &slot.held {
+    match slot.held {
         Held::Text { text } => {
             list.push(TextAt {
                 node: here,
@@ -54,17 +57,18 @@ fn add_texts<'a>(
 /// Puts the texts of the nodes from a link on to the end.
 #[cycle(texts)]
 fn add_all_texts<'a>(
-    slots: &'a Vec<Slot>,
+    slots: &'a Slots,
     first: Option<NodeRef>,
     list: &mut Vec<TextAt<'a>>,
 ) -> Result<(), Memory>
-    requires { IsRow slots.now.items first }
-    ensures { OnOk result (map text_of list.new.items ≡ map text_of list.old.items ++ texts_of (row slots.now.items first)) }
+    requires { IsRow slots.now first }
+    ensures { OnOk result (map text_of list.new.items ≡ map text_of list.old.items ++ texts_of (row slots.now first)) }
 {
     let mut link = first;
     while let Some(here) = link {
-        add_texts(slots, here, list)?;
-        link = slots[here.0 as usize].around.next;
+        let slot = slots.get(here.0 as usize);
+        add_texts(slots, here, slot, list)?;
+        link = slot.around.next;
     }
     Ok(())
 }

@@ -6,11 +6,13 @@ ghost use Rattle.tokenizer.specs.Words.{words};
 ghost use Rattle.tokenizer.specs.steps.StartsLeft.{words_seen, sentences_in, paragraphs_in};
 
 use crate::leaf::LeafWords;
+use crate::names::Names;
+use crate::shared_name::SharedName;
 use crate::shared_text::SharedText;
 use crate::{Leaves, NodeRef};
-use ft_base::{Breaks, LeafId, Line};
+use ft_base::{Breaks, LeafId, Line, Memory};
 use std::alloc::Global;
-use tokenizer::{Starts, TokenFault};
+use tokenizer::{Starts, TextRead, TokenFault};
 
 /// What was read of a document's texts, as far as it was passed: the leaves, and where sentences and paragraphs start.
 #[derive(Drop)]
@@ -20,6 +22,7 @@ pub(crate) struct TextsRead {
     /// The last leaf.
     last: Option<LeafId>,
     starts: Starts,
+    names: Names,
     /// How many words the document may have.
     most: u32,
     ghost few: { words_seen starts ≤ most },
@@ -46,6 +49,7 @@ impl TextsRead {
             leaves: Leaves::new(alloc),
             last: None,
             starts: Starts::new(alloc),
+            names: Names::new(alloc),
             most,
         }
     }
@@ -58,15 +62,26 @@ impl TextsRead {
         self.starts.pass_tag(name);
     }
 
-    /// Goes past the text of a node, and gives it back with the number of its words.
+    /// Goes past the first tag of an element of this name, and gives the name back as the elements of the document share it.
+    pub(crate) fn pass_first_tag(&mut self, name: Line) -> Result<SharedName, Memory>
+        ensures gathers { Gathers self.old [] (gap_tag name ∷ []) self.new }
+        ensures words { words_seen self.new.starts ≡ words_seen self.old.starts }
+        ensures name { IfOk result (λ shared. shared ≡ name) }
+    {
+        self.starts.pass_tag(name.as_str());
+        self.names.share(self.alloc, name)
+    }
+
+    /// Goes past the text of a node, and gives it back with what is known of its words.
     pub(crate) fn pass_text(&mut self, node: NodeRef, text: Line) -> Result<SharedText, TokenFault>
         ensures gathers { OnOk result (Gathers self.old ((node, text) ∷ []) (map part_of_segment (word_bounds text)) self.new) }
         ensures text { IfOk result (λ shared. shared ≡ text) }
         ensures counted { OnOk result (words_seen self.new.starts ≡ words_seen self.old.starts + length (words text)) }
         ensures full { result ≡ Err TokenFault.Tokens → self.old.most < words_seen self.old.starts + length (words text) }
     {
-        let words = self.starts.pass_text(self.alloc, text.as_str(), self.most)?;
-        let shared = SharedText::counted(self.alloc, text, words.len())?;
+        let read = self.starts.pass_text(self.alloc, text.as_str(), self.most)?;
+        let TextRead { words, starts } = read;
+        let shared = SharedText::with_starts(self.alloc, text, starts)?;
         let leaf = LeafId(node.0);
         self.leaves.push(LeafWords {
             leaf,

@@ -11,9 +11,9 @@ use Rattle.tokenizer.specs.declared.tokens.TokenFault.TheVariants as Fault
 use Rattle.ordered_tree.specs.Counts.{word_counts, element_depths}
 use Rattle.ordered_tree.specs.Leaves.{texts_of}
 use Rattle.ordered_tree.specs.Numbered.{last_from}
-use Rattle.ordered_tree.specs.Numbering.{children_numbered}
+use Rattle.ordered_tree.specs.Numbering.{numbered, children_numbered, next_sibling}
 use Rattle.ordered_tree.specs.Slots.{slot}
-use Rattle.ordered_tree.specs.Stands.{child_stands}
+use Rattle.ordered_tree.specs.Stands.{stands, child_stands}
 use Rattle.ordered_tree.specs.steps.Gathering.{Gathers, parts_of}
 use Rattle.ordered_tree.specs.declared.slot.Slot.{Slot}
 use Rattle.ordered_tree.proofs.BuildingLemmas.{next_around, next_sibling-first_of, length-added, slots-next, last-next, kids-none, element_done, node_count-some, length-filled, element_depths-count}
@@ -158,19 +158,22 @@ pub add_element-returns-clause-slots : goal.add_element-returns-clause-slots
 add_element-returns-clause-slots t c =
     let before = c.args.slots.now.items in
     let here : c.len-here.result ≡ length before = omega arith in
-    element_done before c.open_element.new.slots.items c.add_children.new.slots.items c.finish.new.slots.items c.len-here.result c.args.name c.args.attrs
-    (nodes (map node c.args.kids)) c.args.around c.args.is_last c.in_ok-row.row.last c.in_ok-row.row.words
+    let kids = nodes (map node c.args.kids) in
+    element_done before c.open_element.new.slots.items c.add_children.new.slots.items c.finish.new.slots.items c.len-here.result c.in_ok-name.name c.in_ok-attrs.attrs
+    kids c.args.around c.args.is_last c.in_ok-row.row.last c.in_ok-row.row.words
     here c.in_ok-open_element.ensures c.in_ok-row.ensures.slots c.in_ok-row.ensures.last c.in_ok-row.ensures.words c.finish.ensures
+    ∙ ap₂ (λ n a. before ++ map slot (stands (record c.args.around { next = next_sibling c.args.is_last (length before + (1 + nodes_count kids)) }) (numbered (length before) (element n a kids))))
+    c.in_ok-name.ensures.name c.in_ok-attrs.ensures
 
 pub add_element-returns-clause-gathers : goal.add_element-returns-clause-gathers
 add_element-returns-clause-gathers t c =
     let before = c.args.slots.now.items in
     let opened : length c.open_element.new.slots.items ≡ length before + 1 = ap length c.in_ok-open_element.ensures ∙ length_push before _ in
-    Gathers-element c.args.read.now c.pass_tag.new.self c.add_children.new.read c.pass_tag-2.new.self c.args.name c.args.attrs
+    Gathers-element c.args.read.now c.pass_first_tag.new.self c.add_children.new.read c.pass_tag.new.self c.args.name c.args.attrs
     (nodes (map node c.args.kids)) (length before) (length c.open_element.new.slots.items) opened
-    (subst (λ (n : List ℕ). Gathers c.args.read.now [] (gap_tag n ∷ []) c.pass_tag.new.self) c.as_str.ensures c.pass_tag.ensures.gathers)
+    c.pass_first_tag.ensures.gathers
     c.in_ok-row.ensures.gathers
-    (subst (λ (n : List ℕ). Gathers c.add_children.new.read [] (gap_tag n ∷ []) c.pass_tag-2.new.self) c.as_str-2.ensures c.pass_tag-2.ensures.gathers)
+    (subst (λ (n : List ℕ). Gathers c.add_children.new.read [] (gap_tag n ∷ []) c.pass_tag.new.self) (c.as_str.ensures ∙ c.in_ok-name.ensures.name) c.pass_tag.ensures.gathers)
 
 pub add_tree-add_element-requires : goal.add_tree-add_element-requires
 add_tree-add_element-requires t c =

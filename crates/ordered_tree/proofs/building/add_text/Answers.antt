@@ -1,10 +1,7 @@
 -- The new slot is that of the text where it stands, and what was read has the text's leaf and words.
-use Rattle.std.proofs.Common.{◌≡◌, ℕ, List, sym, ap, ◌∙◌, ◌+◌, ◌++◌, ◌∷◌, [], None, map, length, rules, arith, subst}
-use Rattle.unicode_segmentation.specs.Word.{word_bounds}
-use Rattle.tokenizer.specs.Parts.{part_of_segment}
+use Rattle.std.proofs.Common.{◌≡◌, sym, ap, ◌∙◌, ◌+◌, ◌++◌, ◌∷◌, [], None, length, rules, arith}
 use Rattle.tokenizer.specs.Words.{words}
 use Rattle.ordered_tree.specs.Numbering.{next_sibling}
-use Rattle.ordered_tree.specs.steps.Gathering.{Gathers}
 use Rattle.ordered_tree.specs.declared.slot.Held.TheVariants.{Text}
 use Rattle.ordered_tree.proofs.BuildingLemmas.{stands-text}
 use Rattle.ordered_tree.proofs.GatheringLemmas.{Gathers-text}

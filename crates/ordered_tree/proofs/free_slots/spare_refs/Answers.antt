@@ -6,27 +6,28 @@ use Rattle.ordered_tree.specs.declared.slot.Slot.{Slot}
 use Rattle.ordered_tree.specs.Slots.{no_slot, slot_at}
 use Rattle.ordered_tree.specs.steps.FreeSlots.{Leads, spare}
 use Rattle.ordered_tree.proofs.FreeLemmas.{leads-next, spare-some, spare-number, spare-zero}
+use Rattle.ordered_tree.specs.steps.Parts.{slot_of}
 use Rattle.ordered_tree.proofs.free_slots.spare_refs.Goals as goal
 
-pub index-requires : goal.index-requires
-index-requires c =
-    omega (arith, (leads-next c.args.slots.now.items c.in-Some.here (subst (Leads c.args.slots.now.items) c.in-Some.is c.loop-link.invariant.leads)).0)
+pub get-requires : goal.get-requires
+get-requires c =
+    omega (arith, (leads-next c.args.slots.now c.in-Some.here (subst (Leads c.args.slots.now) c.in-Some.is c.loop-link.invariant.leads)).0)
 
 pub loop-link-preserved-in-Some : goal.loop-link-preserved-in-Some
 loop-link-preserved-in-Some c =
-    let slots = c.args.slots.now.items in
+    let slots = c.args.slots.now in
     let refs = c.loop-link.refs in
     let here = c.in-Some.here in
     let number = c.loop-link.number in
     let next = leads-next slots here (subst (Leads slots) c.in-Some.is c.loop-link.invariant.leads) in
-    let read : slot_at slots here ≡ c.index.result.now = get_or_default slots here.0 no_slot c.index.result.now next.0 ∙ sym c.index.ensures in
+    let read : slot_at slots here ≡ (slot_of c.get.result) = get_or_default slots here.0 no_slot (slot_of c.get.result) next.0 ∙ sym c.get.ensures in
     let pushed : c.push.new.self ≡ refs ++ here ∷ [] = c.in_ok-push-in-Some.ensures.ok in
     let longer : length c.push.new.self ≡ length refs + 1 = ap length pushed ∙ length_push refs here in
     let fewer : c.args.count - length c.push.new.self ≡ (c.args.count - length refs) - 1 = omega arith in
     let some : 0 < c.args.count - length refs = omega (arith, c.loop-link-test.true, c.len.ensures) in
     record {
-      done = ap₂ (λ l n. l ++ spare n slots c.index.result.now.around.next number) pushed fewer
-          ∙ append_assoc refs (here ∷ []) (spare ((c.args.count - length refs) - 1) slots c.index.result.now.around.next number)
+      done = ap₂ (λ l n. l ++ spare n slots (slot_of c.get.result).around.next number) pushed fewer
+          ∙ append_assoc refs (here ∷ []) (spare ((c.args.count - length refs) - 1) slots (slot_of c.get.result).around.next number)
           ∙ ap (λ (s : Slot). refs ++ here ∷ spare ((c.args.count - length refs) - 1) slots s.around.next number) (sym read)
           ∙ ap (λ l. refs ++ l) (sym (spare-some (c.args.count - length refs) slots here number some))
           ∙ ap (λ l. refs ++ spare (c.args.count - length refs) slots l number) (sym c.in-Some.is)
@@ -38,7 +39,7 @@ loop-link-preserved-in-Some c =
 
 pub loop-link-preserved : goal.loop-link-preserved
 loop-link-preserved c =
-    let slots = c.args.slots.now.items in
+    let slots = c.args.slots.now in
     let refs = c.loop-link.refs in
     let number = c.loop-link.number in
     let here : NodeRef = record { 0 = number } in
@@ -60,7 +61,7 @@ loop-link-preserved c =
 
 pub returns : goal.returns
 returns c =
-    let slots = c.args.slots.now.items in
+    let slots = c.args.slots.now in
     let none : c.args.count - length c.loop-link.refs ≡ 0 = omega (arith, c.loop-link-test.false, c.len.ensures) in
     sym (append-nil c.loop-link.refs) ∙ ap (λ l. c.loop-link.refs ++ l) (sym (spare-zero (c.args.count - length c.loop-link.refs) slots c.loop-link.link c.loop-link.number none))
     ∙ c.loop-link.invariant.done

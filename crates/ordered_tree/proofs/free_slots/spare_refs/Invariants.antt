@@ -8,8 +8,8 @@ decreases-loop-link l = l.count - length l.refs
 
 abbrev pub invariant-loop-link : goal.invariant-loop-link
 invariant-loop-link l = record {
-  done : l.refs ++ spare (l.count - length l.refs) l.slots.items l.link l.number ≡ spare l.count l.slots.items l.fn.free (length l.slots.items);
-  leads : Leads l.slots.items l.link;
+  done : l.refs ++ spare (l.count - length l.refs) l.slots l.link l.number ≡ spare l.count l.slots l.fn.free (length l.slots);
+  leads : Leads l.slots l.link;
   few : length l.refs ≤ l.count;
-  number : l.number ≤ length l.slots.items + length l.refs;
+  number : l.number ≤ length l.slots + length l.refs;
 }

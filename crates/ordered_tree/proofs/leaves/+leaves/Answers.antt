@@ -9,35 +9,36 @@ use Rattle.ordered_tree.specs.declared.slot.Held.TheVariants.{Element, Text}
 use Rattle.ordered_tree.proofs.LeavesLemmas.{leaves_behind-append, last_leaf-append, leaves_behind-nil, last_leaf-nil, texts-element, texts-text}
 use Rattle.ordered_tree.proofs.RowLemmas.{Step, step, step-link, row-link, row-next, left-next, smaller-next, held-here, row-here, inner-here, smaller-here, node_at-is}
 use Rattle.ordered_tree.proofs.SlotsLemmas.{from_link-none}
+use Rattle.ordered_tree.specs.steps.Parts.{slot_of}
 use Rattle.ordered_tree.proofs.leaves.+leaves.Goals as goal
 
 -- ---- add_all_leaves
 
-pub add_all_leaves-index-requires : goal.add_all_leaves-index-requires
-add_all_leaves-index-requires t c =
-    let slots = c.args.slots.now.items in
+pub add_all_leaves-get-requires : goal.add_all_leaves-get-requires
+add_all_leaves-get-requires t c =
+    let slots = c.args.slots.now in
     let st : Step slots c.in-Some.here = step slots c.in-Some.here (subst (IsRow slots) c.in-Some.is c.loop-link.invariant.left) in
     omega (arith, st.here)
 
 pub add_all_leaves-loop-link-smaller : goal.add_all_leaves-loop-link-smaller
 add_all_leaves-loop-link-smaller t c =
-    let slots = c.args.slots.now.items in
-    smaller-next slots c.loop-link.link c.in-Some.here c.loop-link.invariant.left c.in-Some.is c.index.result.now c.index.ensures
+    let slots = c.args.slots.now in
+    smaller-next slots c.loop-link.link c.in-Some.here c.loop-link.invariant.left c.in-Some.is (slot_of c.get.result) c.get.ensures
 
 pub add_all_leaves-loop-link-preserved : goal.add_all_leaves-loop-link-preserved
 add_all_leaves-loop-link-preserved t c =
-    let slots = c.args.slots.now.items in
+    let slots = c.args.slots.now in
     let link = c.loop-link.link in
     let left = c.loop-link.invariant.left in
-    let s = c.index.result.now in
-    let st = step-link slots link c.in-Some.here left c.in-Some.is s c.index.ensures in
-    let rest : row slots s.around.next ≡ st.ns = row-next slots link c.in-Some.here left c.in-Some.is s c.index.ensures in
-    let all : row slots link ≡ child_then st.n st.ns = row-link slots link c.in-Some.here left c.in-Some.is s c.index.ensures in
+    let s = (slot_of c.get.result) in
+    let st = step-link slots link c.in-Some.here left c.in-Some.is s c.get.ensures in
+    let rest : row slots s.around.next ≡ st.ns = row-next slots link c.in-Some.here left c.in-Some.is s c.get.ensures in
+    let all : row slots link ≡ child_then st.n st.ns = row-link slots link c.in-Some.here left c.in-Some.is s c.get.ensures in
     let before = c.loop-link.before in
     let one : texts (node_at slots c.in-Some.here) ≡ texts st.n = ap texts (node_at-is slots c.in-Some.here st) in
     let last : c.in_ok-before.before ≡ last_leaf before (texts st.n) = c.in_ok-before.ensures.last ∙ ap (last_leaf before) one in
     record {
-      left = left-next slots link c.in-Some.here left c.in-Some.is s c.index.ensures;
+      left = left-next slots link c.in-Some.here left c.in-Some.is s c.get.ensures;
       done = ap₂ (λ l ns. l ++ leaves_behind c.in_ok-before.before (texts_of ns)) (c.in_ok-before.ensures.leaves ∙ ap (λ ts. c.loop-link.leaves ++ leaves_behind before ts) one) rest
           ∙ ap (λ b. (c.loop-link.leaves ++ leaves_behind before (texts st.n)) ++ leaves_behind b (texts_of st.ns)) last
           ∙ append_assoc c.loop-link.leaves (leaves_behind before (texts st.n)) _
@@ -53,36 +54,36 @@ add_all_leaves-loop-link-preserved t c =
 
 pub add_all_leaves-returns-clause-leaves : goal.add_all_leaves-returns-clause-leaves
 add_all_leaves-returns-clause-leaves t c =
-    let slots = c.args.slots.now.items in
+    let slots = c.args.slots.now in
     let none : row slots c.loop-link.link ≡ no_children = ap (row slots) c.in_default.is ∙ from_link-none slots (length slots) in
     sym (append-nil c.loop-link.leaves) ∙ ap (λ l. c.loop-link.leaves ++ l) (sym (leaves_behind-nil c.loop-link.before))
     ∙ ap (λ ns. c.loop-link.leaves ++ leaves_behind c.loop-link.before (texts_of ns)) (sym none) ∙ c.loop-link.invariant.done
 
 pub add_all_leaves-returns-clause-last : goal.add_all_leaves-returns-clause-last
 add_all_leaves-returns-clause-last t c =
-    let slots = c.args.slots.now.items in
+    let slots = c.args.slots.now in
     let none : row slots c.loop-link.link ≡ no_children = ap (row slots) c.in_default.is ∙ from_link-none slots (length slots) in
     sym (last_leaf-nil c.loop-link.before) ∙ ap (λ ns. last_leaf c.loop-link.before (texts_of ns)) (sym none) ∙ c.loop-link.invariant.last
 
 -- ---- add_leaves
 
-pub add_leaves-index-slot-requires : goal.add_leaves-index-slot-requires
-add_leaves-index-slot-requires t c =
-    let st : Step c.args.slots.now.items c.args.here = step c.args.slots.now.items c.args.here c.requires in
+pub add_leaves-get-slot-requires : goal.add_leaves-get-slot-requires
+add_leaves-get-slot-requires t c =
+    let st : Step c.args.slots.now c.args.here = step c.args.slots.now c.args.here c.requires in
     omega (arith, st.here)
 
 pub add_leaves-add_all_leaves-requires : goal.add_leaves-add_all_leaves-requires
 add_leaves-add_all_leaves-requires t c =
-    let slots = c.args.slots.now.items in
-    let s = c.index-slot.result.now in
-    (omega (arith, c.decreases, smaller-here slots c.args.here c.requires s c.index-slot.ensures c.in-Element.name c.in-Element.attrs c.in-Element.is), inner-here slots c.args.here c.requires s c.index-slot.ensures)
+    let slots = c.args.slots.now in
+    let s = (slot_of c.get-slot.result) in
+    (omega (arith, c.decreases, smaller-here slots c.args.here c.requires s c.get-slot.ensures c.in-Element.name c.in-Element.attrs c.in-Element.is), inner-here slots c.args.here c.requires s c.get-slot.ensures)
 
-text-is : (t : ℕ) (c : goal.add_leaves-In_ok-push_leaf-in-Text t) → texts (node_at c.args.slots.now.items c.args.here) ≡ (c.args.here, c.in-Text.text) ∷ []
+text-is : (t : ℕ) (c : goal.add_leaves-In_ok-push_leaf-in-Text t) → texts (node_at c.args.slots.now c.args.here) ≡ (c.args.here, c.in-Text.text) ∷ []
 text-is t c =
-    let slots = c.args.slots.now.items in
-    let s = c.index-slot.result.now in
+    let slots = c.args.slots.now in
+    let s = (slot_of c.get-slot.result) in
     let st : Step slots c.args.here = step slots c.args.here c.requires in
-    let is : held st.n ≡ Text c.in-Text.text = held-here slots c.args.here c.requires s c.index-slot.ensures (Text c.in-Text.text) c.in-Text.is in
+    let is : held st.n ≡ Text c.in-Text.text = held-here slots c.args.here c.requires s c.get-slot.ensures (Text c.in-Text.text) c.in-Text.is in
     ap texts (node_at-is slots c.args.here st) ∙ texts-text st.n c.in-Text.text is ∙ ap (λ r. (r, c.in-Text.text) ∷ []) st.refers
 
 pub add_leaves-returns-in_ok-push_leaf-in-Text-clause-leaves : goal.add_leaves-returns-in_ok-push_leaf-in-Text-clause-leaves
@@ -96,13 +97,13 @@ pub add_leaves-returns-in_ok-push_leaf-in-Text-clause-last : goal.add_leaves-ret
 unfolding last_leaf
 add_leaves-returns-in_ok-push_leaf-in-Text-clause-last t c = ap (last_leaf c.args.last) (sym (text-is t c))
 
-element-is : (t : ℕ) (c : goal.add_leaves-After-add_all_leaves t) → texts_of (row c.args.slots.now.items c.index-slot.result.now.first_child) ≡ texts (node_at c.args.slots.now.items c.args.here)
+element-is : (t : ℕ) (c : goal.add_leaves-After-add_all_leaves t) → texts_of (row c.args.slots.now (slot_of c.get-slot.result).first_child) ≡ texts (node_at c.args.slots.now c.args.here)
 element-is t c =
-    let slots = c.args.slots.now.items in
-    let s = c.index-slot.result.now in
+    let slots = c.args.slots.now in
+    let s = (slot_of c.get-slot.result) in
     let st : Step slots c.args.here = step slots c.args.here c.requires in
-    let is : held st.n ≡ Element c.in-Element.name c.in-Element.attrs = held-here slots c.args.here c.requires s c.index-slot.ensures (Element c.in-Element.name c.in-Element.attrs) c.in-Element.is in
-    ap texts_of (row-here slots c.args.here c.requires s c.index-slot.ensures) ∙ sym (texts-element st.n c.in-Element.name c.in-Element.attrs is) ∙ sym (ap texts (node_at-is slots c.args.here st))
+    let is : held st.n ≡ Element c.in-Element.name c.in-Element.attrs = held-here slots c.args.here c.requires s c.get-slot.ensures (Element c.in-Element.name c.in-Element.attrs) c.in-Element.is in
+    ap texts_of (row-here slots c.args.here c.requires s c.get-slot.ensures) ∙ sym (texts-element st.n c.in-Element.name c.in-Element.attrs is) ∙ sym (ap texts (node_at-is slots c.args.here st))
 
 pub add_leaves-returns-in-Element-clause-leaves : goal.add_leaves-returns-in-Element-clause-leaves
 add_leaves-returns-in-Element-clause-leaves t c =

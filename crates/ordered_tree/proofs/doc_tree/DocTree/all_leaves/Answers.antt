@@ -7,12 +7,12 @@ use Rattle.ordered_tree.proofs.doc_tree.DocTree.all_leaves.Goals as goal
 
 pub add_leaves-requires : goal.add_leaves-requires
 add_leaves-requires c =
-    let slots = c.self.inside.slots.items in
+    let slots = c.self.inside.slots in
     root-row slots c.self.inside.free c.self.invariant.stored (fits slots c.self.inside.free (root_of slots) c.self.invariant.stored)
 
 pub returns : goal.returns
 unfolding root_of
 returns c =
     c.in_ok-add_leaves.ensures.leaves
-    ∙ ap (λ l. l ++ leaves_behind None (texts (node_at c.self.inside.slots.items root_ref))) c.new-leaves.ensures
+    ∙ ap (λ l. l ++ leaves_behind None (texts (node_at c.self.inside.slots root_ref))) c.new-leaves.ensures
     ∙ ap (λ v. leaves v.root) c.self.view_is

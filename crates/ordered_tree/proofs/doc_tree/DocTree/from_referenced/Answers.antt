@@ -4,14 +4,14 @@ use Rattle.doc_grammar.specs.Limits.{node_count}
 use Rattle.ordered_tree.specs.Counts.{element_depth}
 use Rattle.ordered_tree.specs.Numbered.{Numbered, plain}
 use Rattle.ordered_tree.specs.RefView.{ref_node}
-use Rattle.ordered_tree.specs.Slots.{root_of, free_from, IsDocument}
+use Rattle.ordered_tree.specs.Slots.{root_of, free_from, IsCounted, IsDocument}
 use Rattle.ordered_tree.specs.declared.slot.Held.TheVariants.{Free}
 use Rattle.ordered_tree.specs.declared.slot.Slot.{Slot}
 use Rattle.ordered_tree.specs.steps.FreeSlots.{free_numbers}
 use Rattle.ordered_tree.specs.steps.Placing.{Below, placed}
 use Rattle.ordered_tree.proofs.ReferencedLemmas.{empty, filled, low-empty, nodes-fit, length-filled, root-is, IsDocument-filled}
 use Rattle.ordered_tree.proofs.ShiftLemmas.{length-tokens}
-use Rattle.ordered_tree.proofs.doc_tree.DocTree.from_referenced.Goals.{After-result-1}
+use Rattle.ordered_tree.proofs.doc_tree.DocTree.from_referenced.Goals.{In_ok-slots}
 use Rattle.ordered_tree.proofs.doc_tree.DocTree.from_referenced.Goals as goal
 
 pub place_tree-requires-clause-below : goal.place_tree-requires-clause-below
@@ -28,7 +28,7 @@ place_tree-requires-clause-few_nodes c = omega (arith, nodes-fit (ref_node c.arg
 pub place_tree-requires-clause-few_words : goal.place_tree-requires-clause-few_words
 place_tree-requires-clause-few_words c = omega (arith, ap (λ a. a.before) c.root.ensures, length-tokens (plain (ref_node c.args.tree)), c.requires.few_words)
 
-filled-is : (c : After-result-1) → c.place_tree.new.slots.items ≡ filled c.args.slots (ref_node c.args.tree)
+filled-is : (c : In_ok-slots) → c.place_tree.new.slots.items ≡ filled c.args.slots (ref_node c.args.tree)
 filled-is c =
     c.in_ok-done.ensures.slots ∙ ap₂ (λ a l. placed a (ref_node c.args.tree) l) c.root.ensures c.in-Ok.ensures
 
@@ -38,7 +38,7 @@ link_free-free-requires c =
     let is : c.place_tree.new.slots.items ≡ filled c.args.slots root = c.in_ok-done.ensures.slots ∙ ap₂ (λ a l. placed a root l) c.root.ensures c.in-Ok.ensures in
     omega (arith, ap length is, length-filled root c.args.slots c.requires.apart c.requires.below, c.requires.few_slots)
 
-module _ (c : After-result-1) where
+module _ (c : In_ok-slots) where
   abbrev root : Numbered
   root = ref_node c.args.tree
 
@@ -62,14 +62,16 @@ module _ (c : After-result-1) where
       IsDocument-filled root c.args.slots c.requires.apart c.requires.below new c.link_free-free.result long kept links c.requires.rooted c.requires.document c.requires.few_slots
       (omega (arith, length-tokens (plain root), c.requires.few_words))
 
-pub invariant_of-result-2 : goal.invariant_of-result-2
-invariant_of-result-2 c =
-    record {
+pub invariant_of-result : goal.invariant_of-result
+invariant_of-result c =
+    subst (λ l. IsCounted l c.link_free-free.result c.in_ok-done.done.nodes c.in_ok-done.done.levels) (sym c.in_ok-slots.ensures)
+    (record {
       stored = subst (IsDocument (new c) c.link_free-free.result) (sym (same-root c)) (stored c);
       nodes_are = c.in_ok-done.ensures.nodes ∙ ap (λ n. node_count (plain n)) (sym (same-root c));
       levels_are = c.in_ok-done.ensures.levels ∙ ap (λ n. element_depth (plain n)) (sym (same-root c));
-    }
+    })
 
 pub returns : goal.returns
 returns c =
-    ap₂ (λ r s. record { root = r; slots = s }) (same-root c) (long c ∙ length-filled (root c) c.args.slots c.requires.apart c.requires.below)
+    ap (λ l. record { root = root_of l; slots = length l }) c.in_ok-slots.ensures
+    ∙ ap₂ (λ r s. record { root = r; slots = s }) (same-root c) (long c ∙ length-filled (root c) c.args.slots c.requires.apart c.requires.below)

@@ -14,7 +14,7 @@ use Rattle.ordered_tree.proofs.doc_tree.DocTree.place_of.Goals as goal
 
 pub add_place-requires : goal.add_place-requires
 add_place-requires c =
-    let slots = c.self.inside.slots.items in
+    let slots = c.self.inside.slots in
     let root = root_of slots in
     let there : Contains (references root) c.args.node = subst (λ v. Contains (references v.root) c.args.node) (sym c.self.view_is) c.requires in
     let f : Found root c.args.node = found root c.args.node there in
@@ -25,7 +25,7 @@ add_place-requires c =
 
 pub returns : goal.returns
 returns c s among refers =
-    let slots = c.self.inside.slots.items in
+    let slots = c.self.inside.slots in
     let root = root_of slots in
     let among' : Contains (stands_in root) s = subst (λ v. Contains (stands_in v.root) s) (sym c.self.view_is) among in
     let p : Placed slots root (element_depth (plain root)) s.node =

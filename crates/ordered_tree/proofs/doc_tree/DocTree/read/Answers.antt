@@ -15,38 +15,38 @@ use Rattle.ordered_tree.specs.Stands.{stands, stands_in}
 use Rattle.ordered_tree.proofs.BuildingLemmas.{plain-numbered, length-filled-root}
 use Rattle.ordered_tree.proofs.ShiftLemmas.{length-tokens}
 use Rattle.ordered_tree.proofs.SlotsLemmas.{IsDocument-numbered, root_of-numbered}
-use Rattle.ordered_tree.proofs.doc_tree.DocTree.read.Goals.{After-tree-1}
+use Rattle.ordered_tree.proofs.doc_tree.DocTree.read.Goals.{After-into_parts-leaves}
 use Rattle.ordered_tree.proofs.doc_tree.DocTree.read.Goals as goal
 
-filled : (c : After-tree-1) → c.add_tree.new.slots.items ≡ map slot (stands_in (numbered 0 c.args.doc))
+filled : (c : After-into_parts-leaves) → c.in_ok-slots.slots ≡ map slot (stands_in (numbered 0 c.args.doc))
 filled c =
     let root = node c.into_tree-root.result in
-    c.in_ok-added.ensures.slots
+    c.in_ok-slots.ensures ∙ c.in_ok-added.ensures.slots
     ∙ ap (λ l. l ++ map slot (stands (record c.root.result { next = next_sibling true (length l + node_count root) }) (numbered (length l) root))) c.in-Ok.ensures.items
     ∙ ap (λ a. map slot (stands (record a { next = None }) (numbered 0 root))) c.root.ensures
     ∙ ap (λ n. map slot (stands_in (numbered 0 n))) c.into_tree-root.ensures.tree
 
 -- all words that were seen are the document's
-counted : (c : After-tree-1) → words_seen c.add_tree.new.read.starts ≡ length (tokens c.args.doc)
+counted : (c : After-into_parts-leaves) → words_seen c.add_tree.new.read.starts ≡ length (tokens c.args.doc)
 counted c =
     omega (arith, c.in_ok-added.ensures.counted, c.new-texts.ensures.words, ap word_count c.into_tree-root.ensures.tree, length-tokens c.args.doc)
 
 pub invariant_of-tree : goal.invariant_of-tree
 invariant_of-tree c =
-    let slots = c.add_tree.new.slots.items in
+    let slots = c.in_ok-slots.slots in
     let doc = c.args.doc in
     let is : root_of slots ≡ numbered 0 doc = root_of-numbered slots doc (filled c) in
     let plain-is : plain (root_of slots) ≡ doc = ap plain is ∙ plain-numbered doc 0 in
     record {
       stored = subst (IsDocument slots None) (sym is) (IsDocument-numbered slots doc c.into_tree-root.ensures.document (filled c) c.requires.few_nodes
           (omega (arith, counted c, length-tokens doc, c.add_tree.new.read.few, c.add_tree.new.read.countable)));
-      nodes_are = omega (arith, length-filled-root slots doc (filled c), ap node_count plain-is);
+      nodes_are = omega (arith, c.len-nodes.ensures, length-filled-root slots doc (filled c), ap node_count plain-is);
       levels_are = c.in_ok-added.ensures.levels ∙ ap element_depth (c.into_tree-root.ensures.tree ∙ sym plain-is);
     }
 
 pub returns-clause-tree : goal.returns-clause-tree
 returns-clause-tree c =
-    let slots = c.add_tree.new.slots.items in
+    let slots = c.in_ok-slots.slots in
     let doc = c.args.doc in
     ap₂ (λ r s. record { root = r; slots = s }) (root_of-numbered slots doc (filled c)) (length-filled-root slots doc (filled c))
 

@@ -15,4 +15,4 @@ returns-clause-there c =
 
 pub returns-clause-element : goal.returns-clause-element
 returns-clause-element c =
-    subst (λ v. is_element v.root ≡ true) c.self.view_is (document-element (root_of c.self.inside.slots.items) c.self.invariant.stored.document)
+    subst (λ v. is_element v.root ≡ true) c.self.view_is (document-element (root_of c.self.inside.slots) c.self.invariant.stored.document)

@@ -9,7 +9,7 @@ use Rattle.ordered_tree.proofs.doc_tree.DocTree.slot_count.Goals as goal
 
 pub returns-clause-below : goal.returns-clause-below
 returns-clause-below c =
-    let slots = c.self.inside.slots.items in
+    let slots = c.self.inside.slots in
     let all : All (λ r. r.0 < length slots) (references (root_of slots)) = refs-below slots c.self.inside.free (root_of slots) c.self.invariant.stored in
     subst (λ v. All (λ r. r.0 < c.len.result) (references v.root)) c.self.view_is
     (All-weaker (λ r. r.0 < length slots) (λ r. r.0 < c.len.result) (λ r h. omega (arith, h, c.len.ensures)) (references (root_of slots)) all)

@@ -12,16 +12,16 @@ use Rattle.ordered_tree.proofs.ReferencedLemmas.{free-leads, apart-spare, below-
 use Rattle.ordered_tree.proofs.doc_tree.DocTree.spare_references.Goals as goal
 
 pub spare_refs-requires-clause-leads : goal.spare_refs-requires-clause-leads
-spare_refs-requires-clause-leads c = free-leads c.self.inside.slots.items c.self.inside.free (root_of c.self.inside.slots.items) c.self.invariant.stored
+spare_refs-requires-clause-leads c = free-leads c.self.inside.slots c.self.inside.free (root_of c.self.inside.slots) c.self.invariant.stored
 
 pub returns-clause-count : goal.returns-clause-count
 returns-clause-count c =
-    let slots = c.self.inside.slots.items in
+    let slots = c.self.inside.slots in
     IfOk-weaker c.spare_refs.result (λ refs. refs ≡ spare c.args.count slots c.self.inside.free (length slots)) (λ refs. length refs ≡ c.args.count) (λ refs is. ap length is ∙ length-spare c.args.count slots c.self.inside.free (length slots)) c.spare_refs.ensures
 
 pub returns-clause-apart : goal.returns-clause-apart
 returns-clause-apart c =
-    let slots = c.self.inside.slots.items in
+    let slots = c.self.inside.slots in
     IfOk-weaker c.spare_refs.result (λ refs. refs ≡ spare c.args.count slots c.self.inside.free (length slots))
     (λ refs. AllPairs (λ a b. a ≢ b) (references c.args.self.now.root ++ refs)) (λ refs is.
     subst (λ v. AllPairs (λ a b. a ≢ b) (references v.root ++ refs)) c.self.view_is
@@ -30,7 +30,7 @@ returns-clause-apart c =
 
 pub returns-clause-below : goal.returns-clause-below
 returns-clause-below c =
-    let slots = c.self.inside.slots.items in
+    let slots = c.self.inside.slots in
     IfOk-weaker c.spare_refs.result (λ refs. refs ≡ spare c.args.count slots c.self.inside.free (length slots))
     (λ refs. All (λ r. r.0 < max c.args.self.now.slots (node_count (plain c.args.self.now.root) + c.args.count)) refs) (λ refs is.
     subst (λ v. All (λ r. r.0 < max v.slots (node_count (plain v.root) + c.args.count)) refs) c.self.view_is

@@ -8,7 +8,7 @@ use Rattle.ordered_tree.proofs.doc_tree.DocTree.to_doc.Goals as goal
 
 pub tree_of-requires : goal.tree_of-requires
 tree_of-requires c =
-    let slots = c.self.inside.slots.items in
+    let slots = c.self.inside.slots in
     root-row slots c.self.inside.free c.self.invariant.stored (fits slots c.self.inside.free (root_of slots) c.self.invariant.stored)
 
 pub from_tree-requires : goal.from_tree-requires

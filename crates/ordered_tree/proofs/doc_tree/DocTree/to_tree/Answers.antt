@@ -11,7 +11,7 @@ use Rattle.ordered_tree.proofs.doc_tree.DocTree.to_tree.Goals as goal
 
 pub tree_of-requires : goal.tree_of-requires
 tree_of-requires c =
-    let slots = c.self.inside.slots.items in
+    let slots = c.self.inside.slots in
     let root = root_of slots in
     let there : Contains (references root) c.args.node = subst (λ v. Contains (references v.root) c.args.node) (sym c.self.view_is) c.requires in
     let f : Found root c.args.node = found root c.args.node there in
@@ -20,7 +20,7 @@ tree_of-requires c =
 
 pub returns : goal.returns
 returns c s among refers =
-    let slots = c.self.inside.slots.items in
+    let slots = c.self.inside.slots in
     let root = root_of slots in
     let there : Contains (stands_in root) s = subst (λ v. Contains (stands_in v.root) s) (sym c.self.view_is) among in
     let first = All-contains (λ s. IsFirst slots s.node) (stands_in root) s (document-first slots c.self.inside.free root c.self.invariant.stored) there in

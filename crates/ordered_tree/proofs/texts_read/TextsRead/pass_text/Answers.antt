@@ -15,10 +15,10 @@ returns-clause-gathers c =
     let parts = λ (b : List ℕ). map part_of_segment (word_bounds b) in
     record {
       leaves = c.in_ok-push.ensures.ok
-          ∙ ap (λ ws. old.leaves ++ record { leaf = leaf_of c.args.node; after = old.last; words = ws } ∷ []) c.in_ok-words.ensures.words
+          ∙ ap (λ ws. old.leaves ++ record { leaf = leaf_of c.args.node; after = old.last; words = ws } ∷ []) c.in_ok-read.ensures.words
           ∙ ap (λ b. old.leaves ++ record { leaf = leaf_of c.args.node; after = old.last; words = words b } ∷ []) c.as_str.ensures;
       last = refl;
-      sentences = subst (λ (b : List ℕ). (rest : List Part) → sentences_in old.starts (parts b ++ rest) ≡ sentences_in starts rest) c.as_str.ensures c.in_ok-words.ensures.sentences;
-      paragraphs = subst (λ (b : List ℕ). (rest : List Part) → paragraphs_in old.starts (parts b ++ rest) ≡ paragraphs_in starts rest) c.as_str.ensures c.in_ok-words.ensures.paragraphs;
+      sentences = subst (λ (b : List ℕ). (rest : List Part) → sentences_in old.starts (parts b ++ rest) ≡ sentences_in starts rest) c.as_str.ensures c.in_ok-read.ensures.sentences;
+      paragraphs = subst (λ (b : List ℕ). (rest : List Part) → paragraphs_in old.starts (parts b ++ rest) ≡ paragraphs_in starts rest) c.as_str.ensures c.in_ok-read.ensures.paragraphs;
       most = refl;
     }

@@ -1,6 +1,0 @@
--- The slots up to the next one are copied.
-use Rattle.std.proofs.Common.{◌≡◌, take}
-use Rattle.ordered_tree.proofs.copying.copy_slots.Given as goal
-
-abbrev pub invariant-loop-slot : goal.invariant-loop-slot
-invariant-loop-slot l = l.copies.items ≡ take l.slot-index l.slot-items

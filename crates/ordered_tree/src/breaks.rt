@@ -1,0 +1,88 @@
+//! Where the sentences and the paragraphs of a document start, by what is known of its texts.
+
+ghost use Rattle.std.specs.Prelude.{◌≡◌, ◌<◌, ◌^◌, slice_index_or, Some, IfOk, OnOk};
+ghost use Rattle.plain_tree.specs.Document.{text};
+ghost use Rattle.tokenizer.specs.Parts.{parts};
+ghost use Rattle.tokenizer.specs.Tokens.{tokens, sentence_starts, paragraph_starts};
+ghost use Rattle.tokenizer.specs.steps.StartsLeft.{words_seen};
+ghost use Rattle.ordered_tree.specs.Numbered.{plain, plain_children};
+ghost use Rattle.ordered_tree.specs.Slots.{IsRow, node_at, row};
+ghost use Rattle.ordered_tree.specs.steps.Gathering.{parts_of};
+ghost use Rattle.ordered_tree.specs.steps.Parts.{slot_of};
+ghost use Rattle.ordered_tree.specs.steps.Passing.{Passes};
+
+use crate::shared_text::SharedText;
+use crate::slot::Held;
+use crate::slots::{SlotAt, Slots};
+use crate::{DocTree, NodeRef};
+use ft_base::{Breaks, Memory};
+use tokenizer::Starts;
+
+impl DocTree {
+    /// The places, counted from 1, of the tokens at which sentences and paragraphs start. No text is read.
+    pub fn breaks(&self) -> Result<Breaks, Memory>
+        ensures sentences { IfOk result (λ breaks. breaks.sentences ≡ sentence_starts (tokens (plain self.now.root))) }
+        ensures paragraphs { IfOk result (λ breaks. breaks.paragraphs ≡ paragraph_starts (tokens (plain self.now.root))) }
+    {
+        let mut starts = Starts::new(self.alloc);
+        pass_node(&self.slots, NodeRef(0), self.slots.get(0), &mut starts)?;
+        Ok(starts.into_breaks())
+    }
+}
+
+/// Goes past a node, whose slot was read, and all below it.
+#[cycle(breaks)]
+fn pass_node(
+    slots: &Slots,
+    here: NodeRef,
+    slot: SlotAt<'_>,
+    starts: &mut Starts,
+) -> Result<(), Memory>
+    requires row { IsRow slots.now (Some here) }
+    requires slot { slot_of slot ≡ slice_index_or slots.now here.0 (slot_of slot) }
+    requires few { words_seen starts.old < 2 ^ 31 }
+    ensures passed { OnOk result (Passes starts.old (parts (plain (node_at slots.now here))) starts.new) }
+    ensures few { words_seen starts.new < 2 ^ 31 }
+{
+    match slot.held {
+        Held::Text { text } => pass_text(text, starts),
+        Held::Element { name, .. } => {
+            starts.pass_tag(name.as_str());
+            pass_nodes(slots, slot.first_child, starts)?;
+            starts.pass_tag(name.as_str());
+            Ok(())
+        }
+        // No node's slot is free.
+        Held::Free => Err(Memory),
+    }
+}
+
+/// Goes past the nodes from a link on, and all below them.
+#[cycle(breaks)]
+fn pass_nodes(slots: &Slots, first: Option<NodeRef>, starts: &mut Starts) -> Result<(), Memory>
+    requires row { IsRow slots.now first }
+    requires few { words_seen starts.old < 2 ^ 31 }
+    ensures passed { OnOk result (Passes starts.old (parts_of (plain_children (row slots.now first))) starts.new) }
+    ensures few { words_seen starts.new < 2 ^ 31 }
+{
+    let mut link = first;
+    while let Some(here) = link {
+        let slot = slots.get(here.0 as usize);
+        pass_node(slots, here, slot, starts)?;
+        link = slot.around.next;
+    }
+    Ok(())
+}
+
+/// Goes past a text.
+fn pass_text(content: &SharedText, starts: &mut Starts) -> Result<(), Memory>
+    requires { words_seen starts.old < 2 ^ 31 }
+    ensures passed { OnOk result (Passes starts.old (parts (text content.now)) starts.new) }
+    ensures few { words_seen starts.new < 2 ^ 31 }
+{
+    match starts.pass_known(content.starts(), 2_147_483_647) {
+        Ok(()) => Ok(()),
+        // No document has more words.
+        Err(_) => Err(Memory),
+    }
+}
