@@ -93,14 +93,14 @@ pub fn apply_draft<L: Ledger>(
             return Err(memory);
         }
     };
-    let tree = match draft.into_tree(alloc) {
+    let tree = match draft.into_tree(alloc, old) {
         Ok(tree) => tree,
         Err(memory) => {
             drop(change);
             return Err(memory);
         }
     };
-    let changed = apply_change(alloc, version, doc, &tree, &change, rows);
+    let changed = apply_change(version, doc, &tree, &change, rows);
     drop(change);
     match changed {
         Ok(version) => Ok(EditedDoc { tree, version }),

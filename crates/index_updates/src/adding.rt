@@ -7,7 +7,6 @@ ghost use Rattle.text_forms.specs.Forms.{key_of};
 ghost use Rattle.tokenizer.specs.Tokens.{tokens};
 ghost use Rattle.index_updates.specs.Follows.{AreOf, Follows, tree_document, word_leaf, word_leaves};
 
-use crate::breaks::breaks_in;
 use ft_base::{Breaks, DocId, Memory, Steps};
 use index_versions::{Version, WordHints, WordLeaf, WordLeaves};
 use ordered_tree::{DocTree, LeafWords, Leaves};
@@ -25,7 +24,6 @@ pub fn add_doc<L: Ledger>(
     rows: &mut Steps<L>,
 ) -> Result<Version, Memory>
     requires absent { has_document doc.0 version.now ≡ false }
-    requires few { length (tokens (plain tree.now.root)) < 2 ^ 31 }
     ensures documents { IfOk result (λ new. new ≡ with_document (numbered doc.0 (tree_document tree.now.root)) version.now) }
     ensures index { IfOk result (λ new. index key_of new ≡ index key_of (with_document (numbered doc.0 (tree_document tree.now.root)) version.now)) }
     ensures follows { IfOk result (λ new. Follows new doc.0 tree.now.root) }
@@ -34,7 +32,7 @@ pub fn add_doc<L: Ledger>(
     ensures at_most { rows.new ≤ rows.old + length (tokens (plain tree.now.root)) }
 {
     let leaves = tree.all_leaves()?;
-    match breaks_in(alloc, tree) {
+    match tree.breaks() {
         Ok(breaks) => {
             let found = Found { leaves, breaks };
             add_loaded(alloc, version, hints, doc, tree, found, rows)

@@ -1,25 +1,21 @@
 ghost use Rattle.std.specs.Prelude.{◌≡◌, ◌≢◌, ◌≤◌, ◌<◌, ◌+◌, ◌^◌, ℕ, length, IfOk, OnOk};
 ghost use Rattle.index_meaning.specs.Documents.{document_at, numbered, with_breaks, with_document};
 ghost use Rattle.index_meaning.specs.Index.{index};
-ghost use Rattle.ordered_tree.specs.Numbered.{Numbered, plain};
+ghost use Rattle.ordered_tree.specs.Numbered.{Numbered};
 ghost use Rattle.text_forms.specs.Forms.{key_of};
-ghost use Rattle.tokenizer.specs.Tokens.{tokens};
 ghost use Rattle.tree_edits.specs.Changed.{Made, touched};
 ghost use Rattle.index_updates.specs.Follows.{Follows, tree_document};
 ghost use Rattle.index_updates.specs.steps.Turns.{AreNew, AreThere, Turned, with_all, without_all, words_put, words_taken};
 
-use crate::breaks::breaks_in;
 use ft_base::{Breaks, DocId, LeafId, Memory, Steps};
 use index_versions::Version;
 use ordered_tree::{DocTree, LeafWords};
-use std::alloc::Global;
 use std::sync::ledger::Ledger;
 use tree_edits::Change;
 
 /// The version with a document as it is behind an edit, of which this is the tree and the change. The version follows the tree
 /// of before. Counts a row for each word of the texts that don't stay; where memory runs out, no more than that.
 pub fn apply_change<L: Ledger>(
-    alloc: Global,
     version: &Version,
     doc: DocId,
     tree: &DocTree,
@@ -27,7 +23,6 @@ pub fn apply_change<L: Ledger>(
     rows: &mut Steps<L>,
 ) -> Result<Version, Memory>
     requires edited { (old : Numbered) × Follows version.now doc.0 old × Made old change.now tree.now.root }
-    requires few { length (tokens (plain tree.now.root)) < 2 ^ 31 }
     ensures documents { IfOk result (λ new. new ≡ with_document (numbered doc.0 (tree_document tree.now.root)) version.now) }
     ensures index { IfOk result (λ new. index key_of new ≡ index key_of (with_document (numbered doc.0 (tree_document tree.now.root)) version.now)) }
     ensures follows { IfOk result (λ new. Follows new doc.0 tree.now.root) }
@@ -37,7 +32,7 @@ pub fn apply_change<L: Ledger>(
     ensures at_most { (old : Numbered) → Follows version.now doc.0 old → Made old change.now tree.now.root
         → rows.new ≤ rows.old + touched old tree.now.root }
 {
-    let breaks = breaks_in(alloc, tree)?;
+    let breaks = tree.breaks()?;
     let mut next = match version.clone_version() {
         Ok(next) => next,
         Err(memory) => {

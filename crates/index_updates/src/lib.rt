@@ -2,11 +2,10 @@
 //! it was lent as it is.
 //!
 //! `adding` puts the document of a tree in, `dropping` takes a document out, and `changing` follows an edit of one. A version
-//! follows a tree where it has the tree's leaves, with their words and breaks; `breaks` finds these.
+//! follows a tree where it has the tree's leaves, with their words and breaks.
 #![tactic(auto)]
 
 mod adding;
-mod breaks;
 mod changing;
 mod dropping;
 pub mod examples;

@@ -1,11 +1,9 @@
 // What no contract says: that memory suffices. `<a>Hello. Hello world</a>` is read, comes into an index and goes out of it, and so
 // does its text alone.
-ghost use Rattle.std.specs.Prelude.{◌≡◌, ◌<◌, ◌^◌, [], length, map, IfOk};
+ghost use Rattle.std.specs.Prelude.{◌≡◌, ◌<◌, ◌^◌, [], map, IfOk};
 ghost use Rattle.doc_grammar.specs.Limits.{node_count};
 ghost use Rattle.ordered_tree.specs.Leaves.{leaves, texts};
-ghost use Rattle.ordered_tree.specs.Numbered.{plain};
 ghost use Rattle.ordered_tree.specs.Numbering.{numbered};
-ghost use Rattle.tokenizer.specs.Tokens.{tokens};
 ghost use Rattle.index_updates.specs.Follows.{Follows};
 
 use crate::{add_doc, apply_change, drop_doc};
@@ -23,8 +21,7 @@ const DOC: DocId = DocId(3);
 // A document with its leaves and its breaks.
 fn read(alloc: Global, document: PlainDoc) -> Result<Read, Memory>
     requires { node_count document < 2 ^ 31 }
-    ensures tree { IfOk result (λ read. read.tree.root ≡ numbered 0 document) }
-    ensures few { IfOk result (λ read. length (tokens (plain read.tree.root)) < 2 ^ 31) }
+    ensures { IfOk result (λ read. read.tree.root ≡ numbered 0 document) }
 {
     match load_doc(alloc, document) {
         Ok(read) => Ok(read),
@@ -34,9 +31,7 @@ fn read(alloc: Global, document: PlainDoc) -> Result<Read, Memory>
 
 // An element with one text in it.
 #[tactic(auto, using(plain_tree::proofs::Views::views))]
-fn full(alloc: Global) -> Result<Read, Memory>
-    ensures { IfOk result (λ read. length (tokens (plain read.tree.root)) < 2 ^ 31) }
-{
+fn full(alloc: Global) -> Result<Read, Memory> {
     let name = Line::read(alloc, "a")?;
     let text = Line::read(alloc, "Hello. Hello world")?;
     let mut kids = Kids::new(alloc);
@@ -48,8 +43,7 @@ fn full(alloc: Global) -> Result<Read, Memory>
 // An element with nothing in it.
 #[tactic(auto, using(plain_tree::proofs::Views::views))]
 fn bare(alloc: Global) -> Result<Read, Memory>
-    ensures few { IfOk result (λ read. length (tokens (plain read.tree.root)) < 2 ^ 31) }
-    ensures none { IfOk result (λ read. texts read.tree.root ≡ []) }
+    ensures { IfOk result (λ read. texts read.tree.root ≡ []) }
 {
     let name = Line::read(alloc, "a")?;
     let kids = Kids::new(alloc);
@@ -110,9 +104,7 @@ fn comes_and_goes<L: Ledger>(
     alloc: Global,
     tree: &DocTree,
     rows: &mut Steps<L>,
-) -> Result<bool, Memory>
-    requires { length (tokens (plain tree.now.root)) < 2 ^ 31 }
-{
+) -> Result<bool, Memory> {
     let empty = Version::empty(alloc);
     let mut hints = WordHints::new(alloc);
     let added = add_doc(alloc, &empty, &mut hints, DOC, tree, rows);
@@ -138,7 +130,6 @@ fn texts_come<L: Ledger>(
 ) -> Result<Version, Memory>
     requires follows { Follows version.now 3 bare.now.root }
     requires none { texts bare.now.root ≡ [] }
-    requires few { length (tokens (plain full.now.root)) < 2 ^ 31 }
     ensures { IfOk result (λ new. Follows new 3 full.now.root) }
 {
     let (_bare, _full) = (bare.root(), full.root());
@@ -147,7 +138,7 @@ fn texts_come<L: Ledger>(
         taken: LeafIds::new(alloc),
         put,
     };
-    let made = apply_change(alloc, version, DOC, full, &change, rows);
+    let made = apply_change(version, DOC, full, &change, rows);
     drop(change);
     made
 }
@@ -162,7 +153,6 @@ fn texts_go<L: Ledger>(
 ) -> Result<Version, Memory>
     requires follows { Follows version.now 3 full.now.root }
     requires none { texts bare.now.root ≡ [] }
-    requires few { length (tokens (plain bare.now.root)) < 2 ^ 31 }
     ensures { IfOk result (λ new. Follows new 3 bare.now.root) }
 {
     let (_full, _bare) = (full.root(), bare.root());
@@ -171,7 +161,7 @@ fn texts_go<L: Ledger>(
         taken,
         put: Leaves::new(alloc),
     };
-    let made = apply_change(alloc, version, DOC, bare, &change, rows);
+    let made = apply_change(version, DOC, bare, &change, rows);
     drop(change);
     made
 }
@@ -205,7 +195,6 @@ fn stays_full<L: Ledger>(
 ) -> Result<bool, Memory>
     requires follows { Follows version.now 3 full.now.root }
     requires none { texts bare.now.root ≡ [] }
-    requires few { length (tokens (plain bare.now.root)) < 2 ^ 31 }
 {
     let left = texts_go(alloc, version, full, bare, rows)?;
     let gone = is_bare(&left);
@@ -223,8 +212,6 @@ fn changes<L: Ledger>(
 ) -> Result<bool, Memory>
     requires follows { Follows version.now 3 bare.now.root }
     requires none { texts bare.now.root ≡ [] }
-    requires few { length (tokens (plain bare.now.root)) < 2 ^ 31 }
-    requires few_texts { length (tokens (plain full.now.root)) < 2 ^ 31 }
 {
     let filled = texts_come(alloc, version, bare, full, rows)?;
     let done = stays_full(alloc, &filled, full, bare, rows);
@@ -240,8 +227,6 @@ fn texts_come_and_go<L: Ledger>(
     rows: &mut Steps<L>,
 ) -> Result<bool, Memory>
     requires none { texts bare.now.root ≡ [] }
-    requires few { length (tokens (plain bare.now.root)) < 2 ^ 31 }
-    requires few_texts { length (tokens (plain full.now.root)) < 2 ^ 31 }
 {
     let empty = Version::empty(alloc);
     let mut hints = WordHints::new(alloc);

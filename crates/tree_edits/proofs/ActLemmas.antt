@@ -26,7 +26,6 @@ use Rattle.tree_edits.proofs.ChangedLemmas.{same_choice}
 use Rattle.tree_edits.proofs.EditLemmas.{turned, insertion_order, removal_order, replacement_order}
 use Rattle.tree_edits.proofs.FreshLemmas.{all_fresh-refs}
 use Rattle.tree_edits.proofs.PlainLemmas.{append_none}
-use Rattle.tree_edits.proofs.References.{same_ref}
 
 one_among : (r q : NodeRef) → is_among (r ∷ []) q ≡ is_same r q
 one_among r q = or_false (is_same q r) false refl ∙ turned r q
@@ -49,9 +48,6 @@ replacement-edited r content old new e = record { refs = e.refs; apart = e.apart
 pub removal-edited : (rs : List NodeRef) (content : List Tree) (old new : Stored) → content ≡ [] → IsEdited (act_on rs None) (nodes (map node content)) old new → IsEdited (λ kids. removal rs) no_nodes old new
 removal-edited rs [] old new is e = record { refs = e.refs; apart = e.apart; count = e.count; document = e.document; slots = e.slots }
 removal-edited rs (t ∷ content) old new is e = cc
-
-pub among_one : (r q : NodeRef) → is_among (r ∷ []) q ≡ true → r ≡ q
-among_one r q h = same_ref r q (sym (one_among r q) ∙ h)
 
 -- ---- texts keep their order
 

@@ -1,6 +1,6 @@
 -- The document that an edit makes: one element, whose references are apart and below the slots that are needed.
-use Rattle.std.proofs.Common.{◌≡◌, ◌≢◌, ℕ, ◌<◌, Bool, true, false, not, ◌||◌, List, [], ◌∷◌, ◌++◌, Option, Some, None, length, refl, sym, ap, ◌∙◌, arith, inl, inr, subst}
-use Rattle.std.specs.List.{All, AllPairs}
+use Rattle.std.proofs.Common.{◌≡◌, ℕ, ◌<◌, Bool, true, false, not, ◌||◌, List, [], ◌∷◌, ◌++◌, Option, Some, None, length, refl, sym, ap, ◌∙◌, arith, inl, inr, subst}
+use Rattle.std.specs.List.{All}
 use Rattle.std.proofs.lemmas.Bool.{cases_Bool, cond-false, cond-true}
 use Rattle.std.proofs.lemmas.List.{append-nil, take_all}
 use Rattle.std.proofs.lemmas.List.Elements.{All-same}
@@ -92,9 +92,6 @@ module _ (chosen : List NodeRef) (how : Option How) (content : Nodes) (refs : Li
 
   new-references : references_of (act_on chosen how (all_fresh refs content) root) ≡ references new
   new-references = ap references_of (sym is) ∙ append-nil (references_in new) ∙ sym (references-are new)
-
-  pub new-apart : AllPairs (λ a b. a ≢ b) (references_of (act_on chosen how (all_fresh refs content) root)) → AllPairs (λ a b. a ≢ b) (references new)
-  new-apart h = subst (AllPairs (λ a b. a ≢ b)) new-references h
 
   pub new-below : (bound : ℕ) → length refs ≡ nodes_count content → All (λ r. r.0 < bound) (references root) → All (λ r. r.0 < bound) refs → All (λ r. r.0 < bound) (references new)
   new-below bound count old own =

@@ -11,6 +11,7 @@ pub mod Gathered
 pub mod JoiningLemmas
 pub mod MarkLemmas
 pub mod MeasureLemmas
+pub mod OneTextLemmas
 pub mod PlainLemmas
 pub mod RefSteps
 pub mod References

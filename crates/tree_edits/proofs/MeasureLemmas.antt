@@ -1,6 +1,5 @@
--- A document is no higher than it has nodes, and what is said of how deep it is; and whether there are more tokens than so many.
-use Rattle.std.proofs.Common.{◌≡◌, ℕ, ◌+◌, ◌<◌, ◌≤◌, Bool, true, false, not, nat_lt, refl, sym, arith}
-use Rattle.std.proofs.lemmas.Bool.{le-ltb, lt-ltb}
+-- A document is no higher than it has nodes, and what is said of how deep it is.
+use Rattle.std.proofs.Common.{◌≡◌, ◌≤◌, refl, arith}
 use Rattle.doc_grammar.specs.Limits.{height, heights, node_count, nodes_count}
 use Rattle.ordered_tree.specs.Counts.{element_depth, element_depths}
 use Rattle.plain_tree.specs.Document.{Node, element, text, Nodes, no_nodes, node_then}
@@ -28,8 +27,3 @@ mutual
       let here : height n ≡ element_depth n = height_depth n in
       let rest : heights ns ≡ element_depths ns = heights_depths ns in
       omega (arith, here, rest)
-
-pub more_than : (enough : Bool) (most left count tokens : ℕ) → tokens ≡ count → (enough ≡ true → most ≡ left + count) → (enough ≡ false → most < count)
-    → not enough ≡ nat_lt most tokens
-more_than true most left count tokens is fits lacks = sym (le-ltb most tokens (omega (arith, is, fits refl)))
-more_than false most left count tokens is fits lacks = sym (lt-ltb most tokens (omega (arith, is, lacks refl)))

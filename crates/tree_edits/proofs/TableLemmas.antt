@@ -1,9 +1,9 @@
 -- Texts in tables by the numbers of their references.
-use Rattle.std.proofs.Common.{◌≡◌, ◌≢◌, ℕ, zero, suc, ◌+◌, ◌<◌, ◌≤◌, Bool, false, ◌||◌, ◌&&◌, cond, List, [], ◌∷◌, ◌++◌, Option, Some, None, length, map, set, get_or, replicate, take, drop, refl, sym, ap, ◌∙◌, arith, inl, inr, subst}
+use Rattle.std.proofs.Common.{◌≡◌, ◌≢◌, ℕ, ◌+◌, ◌<◌, Bool, false, ◌||◌, ◌&&◌, cond, List, [], ◌∷◌, ◌++◌, Option, Some, None, length, map, set, get_or, take, drop, refl, sym, ap, ◌∙◌, arith, inl, inr, subst}
 use Rattle.std.specs.List.{All}
 use Rattle.std.specs.Str.{bytes_eq}
 use Rattle.std.proofs.lemmas.Bool.{cases_Bool, eq-eqb, true≢false}
-use Rattle.std.proofs.lemmas.List.{get_or-set_same, get_or-set_other, take_more, map-append, drop_all, take-append-drop}
+use Rattle.std.proofs.lemmas.List.{get_or-set_same, get_or-set_other, take_more, map-append, take-append-drop}
 use Rattle.std.proofs.lemmas.List.Elements.{All-head, All-tail, All-cons}
 use Rattle.std.proofs.lemmas.List.Folds.{list_any-append}
 use Rattle.ft_base.proofs.Truth.{or_false}
@@ -34,14 +34,6 @@ part_all P (keep {xs = xs} {ys = ys} r a) h = All-cons P r xs (All-head P r ys h
 part_all P (skip {ys = ys} r a) h = part_all P a (All-tail P r ys h)
 
 -- ---- a text more in a table
-
-no_entry : (count i : ℕ) → get_or {A = Option TextAt} (replicate count None) i None ≡ None
-no_entry zero i = refl
-no_entry (suc count) zero = refl
-no_entry (suc count) (suc i) = no_entry count i
-
-pub none_held : (size : ℕ) (t : Text) → is_held (replicate size None) t ≡ false
-none_held size t = ap (λ entry. is_entry entry t) (no_entry size t.0.0)
 
 -- a text more, with a reference that none of the others has
 pub one_held : (table : List (Option TextAt)) (u : TextAt) (ts : List Text) (t : Text) → u.node.0 < length table → is_held table t ≡ stays ts t → times u.node (refs_of ts) ≡ 0
@@ -98,6 +90,3 @@ put_by_agree p q h last (t ∷ ts) =
     let rest : put_by p (Some (leaf_of t.0)) ts ≡ put_by q (Some (leaf_of t.0)) ts = put_by_agree p q h (Some (leaf_of t.0)) ts in
     ap (λ b. cond b (put_by p (Some (leaf_of t.0)) ts) (record { leaf = leaf_of t.0; after = last; words = words t.1 } ∷ put_by p (Some (leaf_of t.0)) ts)) (h t)
     ∙ ap (λ ls. cond (q t) ls (record { leaf = leaf_of t.0; after = last; words = words t.1 } ∷ ls)) rest
-
-pub no_text_left : (ts : List TextAt) (i : ℕ) → length ts ≤ i → map text_of (drop i ts) ≡ []
-no_text_left ts i done = ap (map text_of) (drop_all i ts done)

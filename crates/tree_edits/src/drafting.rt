@@ -16,6 +16,7 @@ use crate::drafts::Draft;
 use crate::edit::Edit;
 use crate::editing::edit_root;
 use crate::marks::marks_of;
+use crate::measuring::size_of;
 use ft_base::Memory;
 use ordered_tree::{DocTree, NodeRefs, RefTree, count_nodes};
 use plain_tree::{How, Kids, Tree};
@@ -59,7 +60,8 @@ pub(crate) fn drafted(
     let count = count_all(content.as_slice());
     let slots = tree.slot_count().max(tree.node_count() + count);
     let root = edited_root(alloc, tree, old, chosen, how, content, count)?;
-    Ok(Draft { root, slots })
+    let size = size_of(&root);
+    Ok(Draft { root, slots, size })
 }
 
 /// The root of the document behind the edit, where the content has so many nodes.

@@ -8,10 +8,11 @@ ghost use Rattle.ordered_tree.specs.RefView.{ref_node};
 ghost use Rattle.tokenizer.specs.Tokens.{tokens};
 ghost use Rattle.tree_edits.specs.Changed.{KeepsOrder, Made};
 ghost use Rattle.tree_edits.specs.Fitting.{FitsSlots};
+ghost use Rattle.tree_edits.specs.steps.Drafting.{IsSizeOf};
 
 use crate::change::Change;
 use crate::changing::change_from;
-use crate::measuring::{size_of, take_words};
+use crate::measuring::Size;
 use ft_base::Memory;
 use ordered_tree::{DocTree, RefTree};
 use std::alloc::Global;
@@ -24,7 +25,9 @@ const MOST_WORDS: usize = 2_147_483_647;
 pub struct Draft {
     pub root: RefTree,
     pub(crate) slots: usize,
+    pub(crate) size: Size,
     ghost fits: { FitsSlots (ref_node root) slots },
+    ghost sized: { IsSizeOf size (ref_node root) },
 }
 
 impl Draft {
@@ -33,22 +36,21 @@ impl Draft {
         ensures depth { result ≡ element_depth (plain (ref_node self.now.root)) }
         ensures height { result ≡ height (plain (ref_node self.now.root)) }
     {
-        size_of(&self.root).levels
+        self.size.levels
     }
 
     /// How many nodes there are.
     pub fn node_count(&self) -> usize
         ensures { result ≡ node_count (plain (ref_node self.now.root)) }
     {
-        size_of(&self.root).nodes
+        self.size.nodes
     }
 
-    /// Whether the document has more tokens than so many; they are counted up to there.
+    /// Whether the document has more tokens than so many.
     pub fn has_more_tokens_than(&self, most: usize) -> bool
         ensures { result ≡ nat_lt most (length (tokens (plain (ref_node self.now.root)))) }
     {
-        let mut left = most;
-        !take_words(&self.root, &mut left)
+        self.size.words > most as u128
     }
 
     /// What the edit changed of the document in slots of which this is the draft.
@@ -59,14 +61,17 @@ impl Draft {
         change_from(alloc, old, &self.root, self.slots)
     }
 
-    /// The document in slots. Where it has 2^31 words or more, there is no memory for it.
-    pub fn into_tree(self, alloc: Global) -> Result<DocTree, Memory>
+    /// The document in slots, which shares with the tree of before what both have. Where it has 2^31 words or more, there is no
+    /// memory for it.
+    pub fn into_tree(self, alloc: Global, before: &DocTree) -> Result<DocTree, Memory>
         ensures { IfOk result (λ tree. tree ≡ record { root = ref_node self.root; slots = self.slots }) }
     {
         if self.has_more_tokens_than(MOST_WORDS) {
             drop(self);
             return Err(Memory);
         }
-        DocTree::from_referenced(alloc, self.root, self.slots)
+        let mut tree = DocTree::from_referenced(alloc, self.root, self.slots)?;
+        tree.share_slots_of(before);
+        Ok(tree)
     }
 }

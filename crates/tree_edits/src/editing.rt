@@ -10,7 +10,7 @@ ghost use Rattle.tree_edits.specs.steps.Editing.{all_edited, content_of, edited}
 
 use crate::edit::Edit;
 use crate::fresh::with_references;
-use crate::joining::{join_all, join_tree};
+use crate::joining::{are_one_text, join_all, join_tree};
 use crate::marks::is_marked;
 use ft_base::Memory;
 use ordered_tree::{RefKids, RefTree};
@@ -63,6 +63,15 @@ fn edit_tree(
                     },
                     list,
                 );
+            }
+            if are_one_text(kids.as_slice()) {
+                list.push(RefTree::Element {
+                    node,
+                    name,
+                    attrs,
+                    kids,
+                })?;
+                return Ok(());
             }
             let mut inner = Vec::new(alloc);
             edit_all(alloc, edit, kids, &mut inner)?;

@@ -8,8 +8,8 @@ ghost use Rattle.plain_tree.specs.View.{node};
 ghost use Rattle.tree_edits.specs.Fresh.{all_fresh, fresh};
 
 use ft_base::{Line, Memory};
-use ordered_tree::{NodeRef, RefKids, RefTree, SharedText};
-use plain_tree::{Tree, copy_attrs};
+use ordered_tree::{NodeRef, RefKids, RefTree, SharedAttrs, SharedName, SharedText};
+use plain_tree::{Attrs, Tree, copy_attrs};
 use std::alloc::Global;
 
 /// A copy of the content, whose nodes get these references in document order.
@@ -46,8 +46,8 @@ fn fresh_tree(
         }),
         Tree::Elem { name, attrs, kids } => Ok(RefTree::Element {
             node: own,
-            name: Line::read(alloc, name.as_str())?,
-            attrs: copy_attrs(alloc, attrs)?,
+            name: copy_name(alloc, name.as_str())?,
+            attrs: copy_attributes(alloc, attrs)?,
             kids: fresh_all(alloc, kids.as_slice(), refs, next)?,
         }),
     }
@@ -78,4 +78,20 @@ fn copy_text(alloc: Global, text: &str) -> Result<SharedText, Memory>
 {
     let copy = Line::read(alloc, text)?;
     SharedText::new(alloc, copy)
+}
+
+/// A copy of a name.
+fn copy_name(alloc: Global, name: &str) -> Result<SharedName, Memory>
+    ensures { IfOk result (λ made. made ≡ name.now) }
+{
+    let copy = Line::read(alloc, name)?;
+    SharedName::new(alloc, copy)
+}
+
+/// A copy of attributes.
+fn copy_attributes(alloc: Global, attrs: &Attrs) -> Result<SharedAttrs, Memory>
+    ensures { IfOk result (λ made. made ≡ attrs.now) }
+{
+    let copy = copy_attrs(alloc, attrs)?;
+    SharedAttrs::new(alloc, copy)
 }

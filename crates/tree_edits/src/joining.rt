@@ -1,11 +1,12 @@
 //! Texts that come beside each other are joined, and empty ones dropped.
 
-ghost use Rattle.std.specs.Prelude.{◌≡◌, ◌<◌, ◌∷◌, ◌++◌, [], length, map, true, IfOk, OnOk};
+ghost use Rattle.std.specs.Prelude.{◌≡◌, ◌<◌, ◌∷◌, ◌++◌, [], length, map, true, IfOk, IsTrue, OnOk};
 ghost use Rattle.ordered_tree.specs.Numbered.{plain_children, text_at};
 ghost use Rattle.ordered_tree.specs.RefView.{ref_node, ref_nodes};
 ghost use Rattle.ordered_tree.specs.declared.ref_tree.RefTree.TheVariants.{Text};
 ghost use Rattle.plain_tree.specs.Document.{are_joined};
 ghost use Rattle.tree_edits.specs.Edits.{append, joined, only};
+ghost use Rattle.tree_edits.specs.steps.Editing.{are_one_text};
 
 use ft_base::{Line, Memory, NodeRef};
 use ordered_tree::{RefKids, RefTree, SharedText};
@@ -39,6 +40,15 @@ pub(crate) fn join_tree(alloc: Global, list: &mut Vec<RefTree>, tree: RefTree) -
             attrs,
             kids,
         } => {
+            if are_one_text(kids.as_slice()) {
+                list.push(RefTree::Element {
+                    node,
+                    name,
+                    attrs,
+                    kids,
+                })?;
+                return Ok(());
+            }
             let mut joined = Vec::new(alloc);
             join_all(alloc, &mut joined, kids)?;
             list.push(RefTree::Element {
@@ -49,6 +59,24 @@ pub(crate) fn join_tree(alloc: Global, list: &mut Vec<RefTree>, tree: RefTree) -
             })?;
             Ok(())
         }
+    }
+}
+
+/// Whether the nodes are one text that isn't empty, as most are: no edit makes others of them, and they need no joining.
+pub(crate) fn are_one_text(trees: &[RefTree]) -> bool
+    ensures { IsTrue result → are_one_text (ref_nodes (map ref_node trees.now)) ≡ true }
+{
+    trees.len() == 1 && is_some_text(&trees[0])
+}
+
+/// Whether the node is a text that isn't empty.
+#[tactic(auto, using(crate::proofs::RowsJoined::ref_views))]
+fn is_some_text(tree: &RefTree) -> bool
+    ensures { IsTrue result → are_one_text (only (ref_node tree.now)) ≡ true }
+{
+    match tree {
+        RefTree::Text { text, .. } => !text.as_str().is_empty(),
+        RefTree::Element { .. } => false,
     }
 }
 

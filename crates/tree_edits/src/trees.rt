@@ -182,7 +182,7 @@ fn carried_out(alloc: Global, tree: &DocTree, draft: Draft) -> Result<Outcome, M
             return Err(memory);
         }
     };
-    match draft.into_tree(alloc) {
+    match draft.into_tree(alloc, tree) {
         Ok(tree) => Ok(Outcome { tree, change }),
         Err(memory) => {
             drop(change);

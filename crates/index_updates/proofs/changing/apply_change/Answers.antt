@@ -24,7 +24,7 @@ pub returns-in-Ok-change_document-clause-documents : goal.returns-in-Ok-change_d
 returns-in-Ok-change_document-clause-documents g c =
     let e = c.requires.edited in
     change-version c.args.version.now c.args.doc.0 e.0 c.args.tree.now.root c.args.change.now e.1 e.2 c.in-Ok.next c.change_document.new.version c.in_ok-breaks.breaks
-    c.in-Ok.ensures c.in_ok-breaks.ensures c.in-Ok-change_document.ensures.ok
+    c.in-Ok.ensures (λ i. record { sentences = c.in_ok-breaks.ensures.sentences i; paragraphs = c.in_ok-breaks.ensures.paragraphs i }) c.in-Ok-change_document.ensures.ok
 
 pub returns-in-Ok-change_document-clause-index : goal.returns-in-Ok-change_document-clause-index
 returns-in-Ok-change_document-clause-index g c = ap (index key_of) (returns-in-Ok-change_document-clause-documents g c)

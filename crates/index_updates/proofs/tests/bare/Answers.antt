@@ -9,10 +9,10 @@ use Rattle.plain_tree.proofs.Views.{node_elem}
 use Rattle.index_updates.proofs.BareLemmas.{bare-texts}
 use Rattle.index_updates.proofs.tests.bare.Goals as goal
 
-pub returns-clause-none : goal.returns-clause-none
-returns-clause-none c =
+pub returns : goal.returns
+returns c =
     let name = c.in_ok-name.name in
     let attrs = c.new-attrs.result in
     let is = c.from_tree.ensures ∙ node_elem name attrs c.new-kids.result ∙ ap (λ kids. element name attrs (nodes (map node kids))) c.new-kids.ensures in
     IfOk-weaker c.read-2.result (λ read. read.tree.root ≡ numbered 0 c.from_tree.result) (λ read. texts read.tree.root ≡ [])
-    (λ read made. ap texts made ∙ bare-texts c.from_tree.result name attrs is) c.read-2.ensures.tree
+    (λ read made. ap texts made ∙ bare-texts c.from_tree.result name attrs is) c.read-2.ensures

@@ -1,6 +1,7 @@
 -- Each node goes to the end as the edit leaves it.
 use Rattle.std.proofs.Common.{◌≡◌, ◌∷◌, ◌++◌, [], true, false, map, sym, ap, ◌∙◌}
 use Rattle.std.proofs.lemmas.Result.{on_ok_weaker}
+use Rattle.ordered_tree.specs.Numbered.{element_at}
 use Rattle.ordered_tree.specs.RefView.{ref_node}
 use Rattle.ordered_tree.specs.declared.ref_tree.RefTree.TheVariants.{Element}
 use Rattle.ordered_tree.proofs.RefViews.{ref_node_element, ref_node_text}
@@ -9,9 +10,11 @@ use Rattle.plain_tree.specs.View.{node}
 use Rattle.tree_edits.specs.Edits.{all_changed, append, changed, joined, only}
 use Rattle.tree_edits.specs.Fresh.{all_fresh}
 use Rattle.tree_edits.specs.steps.Acts.{act}
+use Rattle.tree_edits.specs.steps.Editing.{are_one_text}
 use Rattle.tree_edits.specs.steps.Marks.{is_marked}
 use Rattle.tree_edits.proofs.ChangedLemmas.{all_changed_append, all_changed_only, changed_chosen, changed_other}
 use Rattle.tree_edits.proofs.JoiningLemmas.{are_joined_at}
+use Rattle.tree_edits.proofs.OneTextLemmas.{changed_one, joined_one}
 use Rattle.tree_edits.proofs.RowsJoined.{row, row_append, none_more, one_more, still_joined, element_after}
 use Rattle.tree_edits.proofs.editing.+editing.Goals as goal
 
@@ -65,8 +68,28 @@ edit_tree-returns-then-is_marked t c =
     ∙ ap (λ ns. joined (append old ns)) (sym (changed_chosen chosen change r name attrs (row kids) holds))
     ∙ ap (λ n. joined (append old (changed chosen change n))) (sym (ap ref_node c.in-Element.is ∙ is))) c.apply.ensures
 
-pub edit_tree-returns-in_ok-push-in-Element : goal.edit_tree-returns-in_ok-push-in-Element
-edit_tree-returns-in_ok-push-in-Element t c =
+pub edit_tree-returns-then-are_one_text : goal.edit_tree-returns-then-are_one_text
+edit_tree-returns-then-are_one_text t c =
+    let edit = c.args.edit.now in
+    let chosen = is_marked edit.marks.now.items in
+    let change = act edit.how (all_fresh edit.refs.now (nodes (map node edit.content.now))) in
+    let old = c.args.list.now.items in
+    let r = c.in-Element.node in
+    let name = c.in-Element.name in
+    let attrs = c.in-Element.attrs in
+    let kids = c.in-Element.kids in
+    let is = ref_node_element r name attrs kids in
+    let fails : chosen r ≡ false = sym c.is_marked.ensures ∙ c.if-is_marked.false in
+    let one : are_one_text (row kids) ≡ true = ap (λ l. are_one_text (row l)) (sym c.as_slice.ensures) ∙ c.are_one_text.ensures c.if-are_one_text.true in
+    λ h.
+    ap row c.in_ok-push-in-Element.ensures.items
+    ∙ element_after old r name attrs (row kids) kids h (sym (joined_one (row kids) one))
+    ∙ ap (λ ns. joined (append (row old) (only (element_at r name attrs ns)))) (sym (changed_one chosen change (row kids) one))
+    ∙ ap (λ ns. joined (append (row old) ns)) (sym (changed_other chosen change r name attrs (row kids) fails))
+    ∙ ap (λ n. joined (append (row old) (changed chosen change n))) (sym (ap ref_node c.in-Element.is ∙ is))
+
+pub edit_tree-returns-in_ok-push-in-Element-2 : goal.edit_tree-returns-in_ok-push-in-Element-2
+edit_tree-returns-in_ok-push-in-Element-2 t c =
     let edit = c.args.edit.now in
     let chosen = is_marked edit.marks.now.items in
     let change = act edit.how (all_fresh edit.refs.now (nodes (map node edit.content.now))) in
@@ -78,7 +101,7 @@ edit_tree-returns-in_ok-push-in-Element t c =
     let is = ref_node_element r name attrs kids in
     let fails : chosen r ≡ false = sym c.is_marked.ensures ∙ c.if-is_marked.false in
     λ h.
-    ap row c.in_ok-push-in-Element.ensures.items
+    ap row c.in_ok-push-in-Element-2.ensures.items
     ∙ ap (λ made. row (old ++ Element r name attrs made ∷ [])) c.from_vec.ensures
     ∙ element_after old r name attrs (all_changed chosen change (row kids)) c.edit_all.new.list.items h
     (c.in_ok-edit_all-in-Element.ensures (ap (λ l. are_joined_at (row l)) c.new-inner.ensures.items)

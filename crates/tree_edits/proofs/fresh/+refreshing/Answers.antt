@@ -78,8 +78,8 @@ fresh_tree-returns-in_ok-fresh_all-in-Elem-clause-tree t c =
     let kids : row c.in_ok-fresh_all-in-Elem.field-0 ≡ all_fresh (drop 1 (drop next refs)) (nodes (map node c.in-Elem.kids)) =
     c.in_ok-fresh_all-in-Elem.ensures.kids ∙ ap₂ (λ d l. all_fresh d (nodes (map node l))) (sym (drop-drop 1 next refs)) c.as_slice.ensures in
     ref_node_element _ _ _ _
-    ∙ ap₂ (λ r n. element_at r n c.in_ok-copy_attrs-in-Elem.field-0 (row c.in_ok-fresh_all-in-Elem.field-0)) (sym (first_left refs next)) (c.in_ok-read-in-Elem.ensures ∙ c.as_str-in-Elem.ensures)
-    ∙ ap₂ (element_at (first_ref (drop next refs)) name) c.in_ok-copy_attrs-in-Elem.ensures kids
+    ∙ ap₂ (λ r n. element_at r n c.in_ok-copy_attributes-in-Elem.field-0 (row c.in_ok-fresh_all-in-Elem.field-0)) (sym (first_left refs next)) (c.in_ok-copy_name-in-Elem.ensures ∙ c.as_str-in-Elem.ensures)
+    ∙ ap₂ (element_at (first_ref (drop next refs)) name) c.in_ok-copy_attributes-in-Elem.ensures kids
     ∙ ap (fresh (drop next refs)) (sym is)
 
 pub fresh_tree-returns-in_ok-fresh_all-in-Elem-clause-next : goal.fresh_tree-returns-in_ok-fresh_all-in-Elem-clause-next
