@@ -1,32 +1,38 @@
 -- Documents with their version, one after the other of which is put as it is behind an edit.
-use Rattle.std.proofs.Common.{◌≡◌, ◌∙◌, subst, sym, ap, ap₂, refl, ℕ, ◌+◌, ◌≤◌, arith, true, false, Bool, cond, ◌||◌, ◌==◌, List, [], ◌∷◌, ◌++◌, length, map, append_assoc, flat_map, Option, Some, None}
+use Rattle.std.proofs.Common.{◌≡◌, ◌∙◌, subst, sym, ap, refl, ℕ, ◌+◌, ◌-◌, ◌<◌, ◌≤◌, arith, true, false, Bool, cond, ◌||◌, ◌==◌, List, [], ◌∷◌, ◌++◌, length, length-append, map, drop, append_assoc, Option, Some, None}
 use Rattle.std.specs.Prelude.{nat_lt}
-use Rattle.std.specs.List.{AllByRecursion, IsDistinct, list_any}
-use Rattle.std.specs.Map.{keys_of, lookup}
-use Rattle.std.specs.Str.{bytes_eq}
-use Rattle.std.proofs.lemmas.Bool.{cond-false, cond-true, eq-eqb, le-ltb, ltb-false, ne_eqb, or_parts}
-use Rattle.std.proofs.lemmas.List.{map-append}
+use Rattle.std.specs.List.{list_any}
+use Rattle.std.proofs.lemmas.Bool.{cond-false, cond-true, eq-eqb, le-ltb, ne_eqb, or_parts}
+use Rattle.std.proofs.lemmas.List.{drop_at, drop-drop, length-drop, map-append}
 use Rattle.std.proofs.lemmas.List.Folds.{list_any-append}
+use Rattle.std.proofs.lemmas.List.Sums.{sum_by-cons}
 use Rattle.doc_grammar.specs.Limits.{height, node_count}
+use Rattle.document_edits.specs.Targets.{places_of}
+use Rattle.tree_edits.specs.Changed.{touched, KeepsOrder}
 use Rattle.tree_edits.specs.declared.drafts.Draft.{Draft}
 use Rattle.ft_base.specs.Limits.{max_depth, max_nodes, max_tokens}
 use Rattle.ft_base.specs.declared.ids.DocId.{DocId}
+use Rattle.ft_base.specs.declared.ids.NodeRef.{NodeRef}
 use Rattle.index_meaning.specs.Documents.{Numbered, with_document}
 use Rattle.index_updates.specs.Follows.{Follows, under_tree}
+use Rattle.indexmap.specs.IndexMap.{set_value_at}
 use Rattle.ordered_tree.specs.Numbered.{plain}
+use Rattle.ordered_tree.specs.RefView.{ref_node}
 use Rattle.ordered_tree.specs.Stored.{Stored}
+use Rattle.path_meaning.specs.Collection.{Named}
 use Rattle.plain_tree.specs.Document.{Node}
 use Rattle.session_text.specs.declared.reply.LimitOf.{LimitOf}
 use Rattle.session_text.specs.declared.reply.LimitOf.TheVariants as limit
 use Rattle.tokenizer.specs.Tokens.{tokens}
-use Rattle.collections.specs.Documents.{limit_of, token_total}
+use Rattle.collections.specs.Documents.{Edit, changed_roots, edited_documents, edited_root, limit_of, token_total, touched_in}
 use Rattle.collections.specs.Indexed.{FollowsEach}
 use Rattle.collections.specs.Loaded.{LoadedTree, to_document, tree_of, trees_of}
+use Rattle.collections.specs.Targets.{places_of_targets}
 use Rattle.collections.specs.declared.planning.Planned.{Planned}
 use Rattle.collections.specs.steps.Numbering.{Ascend, IsNumbered}
-use Rattle.collections.specs.steps.Planning.{document_after, drafted_of, entry_of, tree_after, tree_behind, version_after, version_behind, IsPlan, IsPutBehind}
-use Rattle.collections.proofs.NameLemmas.{all-at, new-name}
-use Rattle.collections.proofs.NumberingLemmas.{follows-each, total-push}
+use Rattle.collections.specs.steps.Planning.{root_after, ArePlanned, IsDrafted, IsPutAt}
+use Rattle.collections.proofs.NameLemmas.{all-at}
+use Rattle.collections.proofs.NumberingLemmas.{follows-each}
 
 abbrev Entries : Type 0
 Entries = List (List ℕ × LoadedTree)
@@ -70,17 +76,9 @@ module _ (name : List ℕ) (doc : DocId) (before after : Stored) where
       ∙ (cond-false (doc.0 == first.doc.0) (new ∷ ds) (d ∷ with_document new ds) (ne_eqb doc.0 first.doc.0 (λ same. omega (arith, low, same)))
       ∙ ap (λ l. d ∷ l) (with-at (first.doc.0 + 1) es rest to up.1))
 
-  follows-same : (es rest : Entries) → after.root ≡ before.root → followed (es ++ was ∷ rest) ≡ followed (es ++ is ∷ rest)
-  follows-same [] rest same = ap (λ root. under_tree (doc.0, root) ∷ followed rest) (sym same)
-  follows-same (e ∷ es) rest same = ap (λ l. under_tree (tree_of e) ∷ l) (follows-same es rest same)
-
-  pub numbered-behind : (draft : Option Draft) (es rest : Entries) (version next_version : List Numbered) (next : ℕ) → after.root ≡ tree_behind before.root draft
-      → next_version ≡ version_behind doc.0 draft version → IsNumbered (es ++ was ∷ rest) version next → IsNumbered (es ++ is ∷ rest) next_version next
-  numbered-behind None es rest version next_version next root made held = record {
-    ascend = ascend-at 0 es rest next held.ascend;
-    follows = made ∙ (held.follows ∙ follows-same es rest root);
-  }
-  numbered-behind (Some draft) es rest version next_version next root made held = record {
+  pub numbered-behind : (draft : Draft) (es rest : Entries) (version next_version : List Numbered) (next : ℕ) → after.root ≡ ref_node draft.root
+      → next_version ≡ with_document (under_tree (doc.0, ref_node draft.root)) version → IsNumbered (es ++ was ∷ rest) version next → IsNumbered (es ++ is ∷ rest) next_version next
+  numbered-behind draft es rest version next_version next root made held = record {
     ascend = ascend-at 0 es rest next held.ascend;
     follows = made
         ∙ (ap (λ r. with_document (under_tree (doc.0, r)) version) (sym root)
@@ -128,107 +126,288 @@ limit-parts xs ys none =
     let l = split-any long xs ys tests.1.1 in
     (none-tests (list_any deep xs) (list_any many xs) (list_any long xs) d.0 m.0 l.0, none-tests (list_any deep ys) (list_any many ys) (list_any long ys) d.1 m.1 l.1)
 
-pub limit-one : (root : Node) → limit_of (root ∷ []) ≡ None → (node_count root ≤ max_nodes) × (length (tokens root) ≤ max_tokens)
-limit-one root none =
-    let tests = within-tests (list_any deep (root ∷ [])) (list_any many (root ∷ [])) (list_any long (root ∷ [])) none in
-    let m = or_parts (many root) false tests.1.0 in
-    let l = or_parts (long root) false tests.1.1 in
-    (few max_nodes (node_count root) m.0, few max_tokens (length (tokens root)) l.0)
-  where
-    few : (most count : ℕ) → nat_lt most count ≡ false → count ≤ most
-    few most count is = ltb-false most count is
-
 -- the tests of each document's root are those of all roots
-any-drafted : (test : Node → Bool) (ps : List Planned) → list_any test (flat_map drafted_of ps) ≡ list_any (λ p. list_any test (drafted_of p)) ps
-any-drafted test [] = refl
-any-drafted test (p ∷ ps) = list_any-append test (drafted_of p) (flat_map drafted_of ps) ∙ ap (λ b. list_any test (drafted_of p) || b) (any-drafted test ps)
-
-pub limit-by : (ps : List Planned)
-    → limit_of (flat_map drafted_of ps) ≡ by_tests (list_any (λ p. list_any deep (drafted_of p)) ps) (list_any (λ p. list_any many (drafted_of p)) ps) (list_any (λ p. list_any long (drafted_of p)) ps)
-limit-by ps =
-    ap (λ t. by_tests t (list_any many (flat_map drafted_of ps)) (list_any long (flat_map drafted_of ps))) (any-drafted deep ps)
-    ∙ (ap (λ t. by_tests (list_any (λ p. list_any deep (drafted_of p)) ps) t (list_any long (flat_map drafted_of ps))) (any-drafted many ps)
-    ∙ ap (by_tests (list_any (λ p. list_any deep (drafted_of p)) ps) (list_any (λ p. list_any many (drafted_of p)) ps)) (any-drafted long ps))
+any-after : (test : Node → Bool) (ps : List Planned) → list_any test (map root_after ps) ≡ list_any (λ p. test (root_after p)) ps
+any-after test [] = refl
+any-after test (p ∷ ps) = ap (λ b. test (root_after p) || b) (any-after test ps)
 
 module _ (ps : List Planned) where
   abbrev is_deep : Bool
-  is_deep = list_any (λ p. list_any deep (drafted_of p)) ps
+  is_deep = list_any (λ p. deep (root_after p)) ps
 
   abbrev has_many : Bool
-  has_many = list_any (λ p. list_any many (drafted_of p)) ps
+  has_many = list_any (λ p. many (root_after p)) ps
 
   abbrev is_long : Bool
-  is_long = list_any (λ p. list_any long (drafted_of p)) ps
+  is_long = list_any (λ p. long (root_after p)) ps
 
-  pub limit-deep : is_deep ≡ true → limit_of (flat_map drafted_of ps) ≡ Some limit.Depth
-  limit-deep d = limit-by ps ∙ ap (λ t. by_tests t has_many is_long) d
+  limit-by : limit_of (map root_after ps) ≡ by_tests is_deep has_many is_long
+  limit-by =
+      ap (λ t. by_tests t (list_any many (map root_after ps)) (list_any long (map root_after ps))) (any-after deep ps)
+      ∙ (ap (λ t. by_tests is_deep t (list_any long (map root_after ps))) (any-after many ps) ∙ ap (by_tests is_deep has_many) (any-after long ps))
 
-  pub limit-nodes : is_deep ≡ false → has_many ≡ true → limit_of (flat_map drafted_of ps) ≡ Some limit.Nodes
-  limit-nodes d m = limit-by ps ∙ (ap (λ t. by_tests t has_many is_long) d ∙ ap (λ t. by_tests false t is_long) m)
+  pub limit-deep : is_deep ≡ true → limit_of (map root_after ps) ≡ Some limit.Depth
+  limit-deep d = limit-by ∙ ap (λ t. by_tests t has_many is_long) d
 
-  pub limit-tokens : is_deep ≡ false → has_many ≡ false → is_long ≡ true → limit_of (flat_map drafted_of ps) ≡ Some limit.Tokens
-  limit-tokens d m l = limit-by ps ∙ (ap (λ t. by_tests t has_many is_long) d ∙ (ap (λ t. by_tests false t is_long) m ∙ ap (λ t. by_tests false false t) l))
+  pub limit-nodes : is_deep ≡ false → has_many ≡ true → limit_of (map root_after ps) ≡ Some limit.Nodes
+  limit-nodes d m = limit-by ∙ (ap (λ t. by_tests t has_many is_long) d ∙ ap (λ t. by_tests false t is_long) m)
 
-  pub limit-none : is_deep ≡ false → has_many ≡ false → is_long ≡ false → limit_of (flat_map drafted_of ps) ≡ None
-  limit-none d m l = limit-by ps ∙ (ap (λ t. by_tests t has_many is_long) d ∙ (ap (λ t. by_tests false t is_long) m ∙ ap (λ t. by_tests false false t) l))
+  pub limit-tokens : is_deep ≡ false → has_many ≡ false → is_long ≡ true → limit_of (map root_after ps) ≡ Some limit.Tokens
+  limit-tokens d m l = limit-by ∙ (ap (λ t. by_tests t has_many is_long) d ∙ (ap (λ t. by_tests false t is_long) m ∙ ap (λ t. by_tests false false t) l))
+
+  pub limit-none : is_deep ≡ false → has_many ≡ false → is_long ≡ false → limit_of (map root_after ps) ≡ None
+  limit-none d m l = limit-by ∙ (ap (λ t. by_tests t has_many is_long) d ∙ (ap (λ t. by_tests false t is_long) m ∙ ap (λ t. by_tests false false t) l))
+
+-- ---- the documents behind those that were looked at
+
+abbrev Lists : Type 0
+Lists = List (List NodeRef)
+
+abbrev places : Entries → Lists → List (List (List ℕ))
+places entries lists = places_of_targets (trees_of entries) lists
+
+abbrev edited : Edit → Entries → Lists → List Named
+edited edit es lists = edited_documents edit (places es lists) (map to_document es)
+
+abbrev words : Edit → Entries → Lists → ℕ
+words edit es lists = touched_in edit (places es lists) (map to_document es)
+
+-- The roots behind the edit are those of the drafts.
+pub roots-planned : (edit : Edit) (at : ℕ) (es : Entries) (lists : Lists) (ps : List Planned) → ArePlanned edit at es lists ps
+    → map root_after ps ≡ changed_roots edit (places es lists) (map to_document es)
+roots-planned edit at [] lists ps plans = ap (map root_after) plans
+roots-planned edit at (e ∷ es) [] ps plans = absurd plans
+roots-planned edit at (e ∷ es) ([] ∷ lists) ps plans = roots-planned edit (at + 1) es lists ps plans
+roots-planned edit at (e ∷ es) ((r ∷ refs) ∷ lists) [] plans = absurd plans
+roots-planned edit at (e ∷ es) ((r ∷ refs) ∷ lists) (p ∷ ps) plans =
+    ap (λ n. n ∷ map root_after ps) plans.1.0.behind
+    ∙ ap (λ ns. edited_root edit (places_of e.1.tree.root (r ∷ refs)) (plain e.1.tree.root) ∷ ns) (roots-planned edit (at + 1) es lists ps plans.1.1)
+
+-- Where no draft is left the documents stay.
+pub none-left : (edit : Edit) (at : ℕ) (es : Entries) (lists : Lists) → ArePlanned edit at es lists [] → edited edit es lists ≡ map to_document es
+none-left edit at [] lists plans = refl
+none-left edit at (e ∷ es) [] plans = absurd plans
+none-left edit at (e ∷ es) ([] ∷ lists) plans = ap (λ ds. to_document e ∷ ds) (none-left edit (at + 1) es lists plans)
+none-left edit at (e ∷ es) ((r ∷ refs) ∷ lists) plans = absurd plans
+
+-- The document of the next draft stands behind some that stay.
+pub record Reached (edit : Edit) (at : ℕ) (es : Entries) (lists : Lists) (p : Planned) (ps : List Planned) : Type 0 where
+  pub front : Entries
+  pub name : List ℕ
+  pub loaded : LoadedTree
+  pub back : Entries
+  pub refs : List NodeRef
+  pub left : Lists
+  pub split : es ≡ front ++ (name, loaded) ∷ back
+  pub place : p.at ≡ at + length front
+  pub drafted : IsDrafted edit loaded.tree.root refs p.draft
+  pub planned : ArePlanned edit (p.at + 1) back left ps
+  pub after : edited edit es lists ≡ map to_document front ++ record { name = name; root = root_after p } ∷ edited edit back left
+  pub costs : words edit es lists ≡ touched loaded.tree.root (ref_node p.draft.root) + words edit back left
+
+pub reached : (edit : Edit) (at : ℕ) (es : Entries) (lists : Lists) (p : Planned) (ps : List Planned) → ArePlanned edit at es lists (p ∷ ps) → Reached edit at es lists p ps
+reached edit at [] lists p ps plans = let no : ⊥ = cc in absurd no
+reached edit at (e ∷ es) [] p ps plans = absurd plans
+reached edit at (e ∷ es) ([] ∷ lists) p ps plans =
+    let later = reached edit (at + 1) es lists p ps plans in
+    let place = later.place in
+    let rest : words edit es lists ≡ touched later.loaded.tree.root (ref_node p.draft.root) + words edit later.back later.left = later.costs in
+    record {
+      front = e ∷ later.front;
+      name = later.name;
+      loaded = later.loaded;
+      back = later.back;
+      refs = later.refs;
+      left = later.left;
+      split = ap (λ fs. e ∷ fs) later.split;
+      place = omega (arith, place);
+      drafted = later.drafted;
+      planned = later.planned;
+      after = ap (λ ds. to_document e ∷ ds) later.after;
+      costs = omega (arith, rest);
+    }
+reached edit at (e ∷ es) ((r ∷ refs) ∷ lists) p ps plans = record {
+  front = [];
+  name = e.0;
+  loaded = e.1;
+  back = es;
+  refs = r ∷ refs;
+  left = lists;
+  split = refl;
+  place = let here = plans.0 in omega (arith, here);
+  drafted = plans.1.0;
+  planned = subst (λ k. ArePlanned edit (k + 1) es lists ps) (sym plans.0) plans.1.1;
+  after = ap (λ n. record { name = e.0; root = n } ∷ edited edit es lists) (sym plans.1.0.behind);
+  costs = ap (λ n. n + words edit es lists) (sym plans.1.0.words);
+}
 
 -- ---- one document after the other
 
--- The documents so far, which come behind those of the beginning, are as they are behind the edit, in the version too, and the others come.
-pub record Applied (from : Entries) (all : List Planned) (version : List Numbered) (total : ℕ) (entries : Entries) (made : List Numbered) (words : ℕ) (rest : List Planned) : Type 0 where
-  pub numbered : (next : ℕ) → IsNumbered (from ++ map entry_of all) version next → IsNumbered (entries ++ map entry_of rest) made next
-  pub after : map to_document entries ++ map document_after rest ≡ map to_document from ++ map document_after all
-  pub distinct : IsDistinct bytes_eq (keys_of entries ++ map (λ (p : Planned). p.name) rest)
-  pub counted : total ≡ token_total (map to_document from) → words ≡ token_total (map to_document entries)
-  pub plans : AllByRecursion IsPlan rest
-  pub limits : limit_of (flat_map drafted_of rest) ≡ None
+head-same : {X : Type 0} (x : X) (xs : List X) (y : X) (ys : List X) → x ∷ xs ≡ y ∷ ys → x ≡ y
+head-same x xs y ys both = let one : x ≡ y = cc in one
 
-pub applied-none : (from : Entries) (all : List Planned) (version : List Numbered) (total : ℕ) → IsDistinct bytes_eq (keys_of from ++ map (λ (p : Planned). p.name) all)
-    → AllByRecursion IsPlan all → limit_of (flat_map drafted_of all) ≡ None → Applied from all version total from version total all
-applied-none from all version total distinct plans limits = record {
-  numbered = λ next held. held;
-  after = refl;
-  distinct = distinct;
-  counted = λ counted. counted;
-  plans = plans;
-  limits = limits;
-}
+tail-same : {X : Type 0} (x : X) (xs : List X) (y : X) (ys : List X) → x ∷ xs ≡ y ∷ ys → xs ≡ ys
+tail-same x xs y ys both = let one : xs ≡ ys = cc in one
 
-module _ (from : Entries) (all : List Planned) (version : List Numbered) (total : ℕ) where
-  pub applied-more : (entries : Entries) (made : List Numbered) (words : ℕ) (p : Planned) (rest : List Planned)
-      (entries' : Entries) (made' : List Numbered) (words' : ℕ) → Applied from all version total entries made words (p ∷ rest) → IsPutBehind entries p entries'
-      → made' ≡ version_after p made → words' ≡ words + length (tokens (plain (tree_after p))) → Applied from all version total entries' made' words' rest
-  applied-more entries made words p rest entries' made' words' held put version' counted =
-      let e : List ℕ × LoadedTree = (p.name, loaded_as p.document.doc put.tree) in
-      let joined : entries' ++ map entry_of rest ≡ entries ++ e ∷ map entry_of rest = ap (λ es. es ++ map entry_of rest) put.entries ∙ append_assoc entries (e ∷ []) (map entry_of rest) in
-      record {
-        numbered = λ next before.
-            subst (λ es. IsNumbered es made' next) (sym joined)
-            (numbered-behind p.name p.document.doc p.document.tree put.tree p.draft entries (map entry_of rest) made made' next put.root version' (held.numbered next before));
-        after = ap (λ es. map to_document es ++ map document_after rest) put.entries
-            ∙ (ap (λ ds. ds ++ map document_after rest) (map-append to_document entries (e ∷ []))
-            ∙ (append_assoc (map to_document entries) (to_document e ∷ []) (map document_after rest)
-            ∙ (ap (λ root. map to_document entries ++ record { name = p.name; root = plain root } ∷ map document_after rest) put.root ∙ held.after)));
-        distinct = subst (IsDistinct bytes_eq)
-            (sym (ap (λ es. keys_of es ++ map (λ (q : Planned). q.name) rest) put.entries
-            ∙ (ap (λ ks. ks ++ map (λ (q : Planned). q.name) rest) (map-append (λ (f : List ℕ × LoadedTree). f.0) entries (e ∷ []))
-            ∙ append_assoc (keys_of entries) (p.name ∷ []) (map (λ (q : Planned). q.name) rest)))) held.distinct;
-        counted = λ before. counted
-            ∙ (ap₂ (λ n root. n + length (tokens (plain root))) (held.counted before) (sym put.root)
-            ∙ (sym (total-push entries p.name (loaded_as p.document.doc put.tree)) ∙ ap (λ es. token_total (map to_document es)) (sym put.entries)));
-        plans = held.plans.1;
-        limits = (limit-parts (drafted_of p) (flat_map drafted_of rest) held.limits).1;
-      }
+-- another document in the place behind some
+set-behind : (es : Entries) (name : List ℕ) (before after : LoadedTree) (rest : Entries) → set_value_at (es ++ (name, before) ∷ rest) (length es) after ≡ es ++ (name, after) ∷ rest
+set-behind [] name before after rest = refl
+set-behind (e ∷ es) name before after rest = ap (λ fs. e ∷ fs) (set-behind es name before after rest)
 
-  -- what is asked of the next one
-  pub applied-follows : (entries : Entries) (made : List Numbered) (words : ℕ) (p : Planned) (rest : List Planned) → Applied from all version total entries made words (p ∷ rest)
-      → (next : ℕ) → IsNumbered (from ++ map entry_of all) version next → Follows made p.document.doc.0 p.document.tree.root
-  applied-follows entries made words p rest held next before = follows-at entries p.name p.document (map entry_of rest) made next (held.numbered next before)
+-- its tokens in place of those of before
+total-behind : (es : Entries) (name : List ℕ) (loaded : LoadedTree) (rest : Entries)
+    → token_total (map to_document (es ++ (name, loaded) ∷ rest))
+    ≡ token_total (map to_document (es ++ rest)) + length (tokens (plain loaded.tree.root))
+total-behind [] name loaded rest =
+    let first = sum_by-cons (λ (d : Named). length (tokens d.root)) (to_document (name, loaded)) (map to_document rest) in omega (arith, first)
+total-behind (e ∷ es) name loaded rest =
+    let later = total-behind es name loaded rest in
+    let here = sum_by-cons (λ (d : Named). length (tokens d.root)) (to_document e) (map to_document (es ++ (name, loaded) ∷ rest)) in
+    let there = sum_by-cons (λ (d : Named). length (tokens d.root)) (to_document e) (map to_document (es ++ rest)) in
+    omega (arith, later, here, there)
 
-  pub applied-name : (entries : Entries) (made : List Numbered) (words : ℕ) (p : Planned) (rest : List Planned) → Applied from all version total entries made words (p ∷ rest)
-      → lookup (bytes_eq p.name) entries ≡ None
-  applied-name entries made words p rest held = new-name entries p.name (map (λ (q : Planned). q.name) rest) held.distinct
+module _ (edit : Edit) (all : Entries) (targets : Lists) (version : List Numbered) (rows : ℕ) where
+  -- The documents in front of a place are as they are behind the edit, in the version too; those from it on are as they were, and the drafts that are left are theirs.
+  pub record Applied (now : Entries) (made : List Numbered) (counted now_rows : ℕ) (rest : List Planned) : Type 0 where
+    pub done : Entries
+    pub left : Entries
+    pub lists : Lists
+    pub split : now ≡ done ++ left
+    pub suffix : drop (length done) all ≡ left
+    pub planned : ArePlanned edit (length done) left lists rest
+    pub numbered : (next : ℕ) → IsNumbered all version next → IsNumbered now made next
+    pub after : map to_document done ++ edited edit left lists ≡ edited edit all targets
+    pub total : counted ≡ token_total (map to_document now)
+    pub most : now_rows + words edit left lists ≤ rows + words edit all targets
+    pub limits : limit_of (map root_after rest) ≡ None
 
-  pub applied-limits : (entries : Entries) (made : List Numbered) (words : ℕ) (p : Planned) (rest : List Planned) → Applied from all version total entries made words (p ∷ rest)
-      → limit_of (drafted_of p) ≡ None
-  applied-limits entries made words p rest held = (limit-parts (drafted_of p) (flat_map drafted_of rest) held.limits).0
+  pub applied-first : (total : ℕ) (ps : List Planned) → ArePlanned edit 0 all targets ps → total ≡ token_total (map to_document all) → limit_of (map root_after ps) ≡ None
+      → Applied all version total rows ps
+  applied-first total ps plans counted limits = record {
+    done = [];
+    left = all;
+    lists = targets;
+    split = refl;
+    suffix = refl;
+    planned = plans;
+    numbered = λ next held. held;
+    after = refl;
+    total = counted;
+    most = omega arith;
+    limits = limits;
+  }
+
+  pub applied-last : (now : Entries) (made : List Numbered) (counted now_rows : ℕ) → Applied now made counted now_rows [] → map to_document now ≡ edited edit all targets
+  applied-last now made counted now_rows held =
+      ap (map to_document) held.split
+      ∙ (map-append to_document held.done held.left
+      ∙ (ap (λ ds. map to_document held.done ++ ds) (sym (none-left edit (length held.done) held.left held.lists held.planned)) ∙ held.after))
+
+  -- ---- the next one
+
+  module _ (now : Entries) (made : List Numbered) (counted now_rows : ℕ) (p : Planned) (ps : List Planned) (held : Applied now made counted now_rows (p ∷ ps)) where
+    next : Reached edit (length held.done) held.left held.lists p ps
+    next = reached edit (length held.done) held.left held.lists p ps held.planned
+
+    abbrev before : Entries
+    before = held.done ++ next.front
+
+    now-is : now ≡ before ++ (next.name, next.loaded) ∷ next.back
+    now-is = held.split ∙ (ap (λ es. held.done ++ es) next.split ∙ sym (append_assoc held.done next.front ((next.name, next.loaded) ∷ next.back)))
+
+    before-long : length before ≡ p.at
+    before-long = length-append held.done next.front ∙ sym next.place
+
+    from-place : drop p.at all ≡ (next.name, next.loaded) ∷ next.back
+    from-place =
+        ap (λ k. drop k all) next.place
+        ∙ (sym (drop-drop (length next.front) (length held.done) all)
+        ∙ (ap (drop (length next.front)) (held.suffix ∙ next.split) ∙ drop_at next.front ((next.name, next.loaded) ∷ next.back) (length next.front) refl))
+
+    pub place-there : (p.at < length all) × (p.at < length now)
+    place-there =
+        let some : length (drop p.at all) ≡ length ((next.name, next.loaded) ∷ next.back) = ap length from-place in
+        let long = length-drop p.at all in
+        let split : length now ≡ length (before ++ (next.name, next.loaded) ∷ next.back) = ap length now-is in
+        let parts = length-append before ((next.name, next.loaded) ∷ next.back) in
+        let front = before-long in
+        (omega (arith, some, long), omega (arith, split, parts, front))
+
+    module _ (name : List ℕ) (document : LoadedTree) (found : drop p.at all ≡ (name, document) ∷ drop (p.at + 1) all) where
+      same-entry : ◌≡◌ {A = List ℕ × LoadedTree} (name, document) (next.name, next.loaded)
+      same-entry = head-same (name, document) (drop (p.at + 1) all) (next.name, next.loaded) next.back (sym found ∙ from-place)
+
+      same-document : document ≡ next.loaded
+      same-document = ap (λ (e : List ℕ × LoadedTree). e.1) same-entry
+
+      behind : drop (p.at + 1) all ≡ next.back
+      behind = tail-same (name, document) (drop (p.at + 1) all) (next.name, next.loaded) next.back (sym found ∙ from-place)
+
+      pub next-follows : (number : ℕ) → IsNumbered all version number → Follows made document.doc.0 document.tree.root
+      next-follows number numbered =
+          subst (λ (l : LoadedTree). Follows made l.doc.0 l.tree.root) (sym same-document)
+          (follows-at before next.name next.loaded next.back made number
+          (subst (λ es. IsNumbered es made number) now-is (held.numbered number numbered)))
+
+      pub next-order : KeepsOrder document.tree.root (ref_node p.draft.root)
+      next-order = subst (λ (l : LoadedTree). KeepsOrder l.tree.root (ref_node p.draft.root)) (sym same-document) next.drafted.keeps_order
+
+      pub next-counted : length (tokens (plain document.tree.root)) ≤ counted
+      next-counted =
+          let total = held.total ∙ (ap (λ es. token_total (map to_document es)) now-is ∙ total-behind before next.name next.loaded next.back) in
+          let same = ap (λ (l : LoadedTree). length (tokens (plain l.tree.root))) same-document in
+          omega (arith, total, same)
+
+      pub next-touched : (more : ℕ) → more ≤ now_rows + touched document.tree.root (ref_node p.draft.root) → more ≤ rows + words edit all targets
+      next-touched more most =
+          let same = ap (λ (l : LoadedTree). touched l.tree.root (ref_node p.draft.root)) same-document in
+          let parts = next.costs in
+          let whole = held.most in
+          omega (arith, most, same, parts, whole)
+
+      pub applied-next : (now' : Entries) (made' : List Numbered) (counted' more : ℕ) → IsPutAt now document.doc p now'
+          → made' ≡ with_document (under_tree (document.doc.0, ref_node p.draft.root)) made
+          → counted' ≡ counted - length (tokens (plain document.tree.root)) + length (tokens (root_after p))
+          → more ≤ now_rows + touched document.tree.root (ref_node p.draft.root) → Applied now' made' counted' more ps
+      applied-next now' made' counted' more put version' words' most =
+          let old : LoadedTree = next.loaded in
+          let new : List ℕ × LoadedTree = (next.name, loaded_as old.doc put.tree) in
+          let doc_same : document.doc ≡ old.doc = ap (λ (l : LoadedTree). l.doc) same-document in
+          let root_same : document.tree.root ≡ old.tree.root = ap (λ (l : LoadedTree). l.tree.root) same-document in
+          let changed : now' ≡ before ++ new ∷ next.back =
+          put.entries
+          ∙ (ap (λ es. set_value_at es p.at (loaded_as document.doc put.tree)) now-is
+          ∙ (ap (λ k. set_value_at (before ++ (next.name, old) ∷ next.back) k (loaded_as document.doc put.tree)) (sym before-long)
+          ∙ (set-behind before next.name old (loaded_as document.doc put.tree) next.back ∙ ap (λ d. before ++ (next.name, loaded_as d put.tree) ∷ next.back) doc_same))) in
+          let joined : now' ≡ (before ++ new ∷ []) ++ next.back = changed ∙ sym (append_assoc before (new ∷ []) next.back) in
+          let longer : length (before ++ new ∷ []) ≡ p.at + 1 = length-append before (new ∷ []) ∙ ap (λ k. k + 1) before-long in
+          let place : made' ≡ with_document (under_tree (old.doc.0, ref_node p.draft.root)) made =
+          version' ∙ ap (λ (d : DocId). with_document (under_tree (d.0, ref_node p.draft.root)) made) doc_same in
+          let count : length (tokens (plain document.tree.root)) ≡ length (tokens (plain old.tree.root)) = ap (λ r. length (tokens (plain r))) root_same in
+          let before_total = held.total ∙ (ap (λ es. token_total (map to_document es)) now-is ∙ total-behind before next.name old next.back) in
+          let after_total = ap (λ es. token_total (map to_document es)) changed ∙ total-behind before next.name (loaded_as old.doc put.tree) next.back in
+          let new_count : length (tokens (plain put.tree.root)) ≡ length (tokens (root_after p)) = ap (λ r. length (tokens (plain r))) put.root in
+          let touch : touched document.tree.root (ref_node p.draft.root) ≡ touched old.tree.root (ref_node p.draft.root) = ap (λ r. touched r (ref_node p.draft.root)) root_same in
+          let parts = next.costs in
+          let whole = held.most in
+          record {
+            done = before ++ new ∷ [];
+            left = next.back;
+            lists = next.left;
+            split = joined;
+            suffix = ap (λ k. drop k all) longer ∙ behind;
+            planned = subst (λ k. ArePlanned edit k next.back next.left ps) (sym longer) next.planned;
+            numbered = λ number numbered.
+                subst (λ es. IsNumbered es made' number) (sym changed)
+                (numbered-behind next.name old.doc old.tree put.tree p.draft before next.back made made' number put.root place
+                (subst (λ es. IsNumbered es made number) now-is (held.numbered number numbered)));
+            after = ap (λ ds. ds ++ edited edit next.back next.left) (map-append to_document before (new ∷ []))
+                ∙ (append_assoc (map to_document before) (to_document new ∷ []) (edited edit next.back next.left)
+                ∙ (ap (λ ds. ds ++ to_document new ∷ edited edit next.back next.left) (map-append to_document held.done next.front)
+                ∙ (append_assoc (map to_document held.done) (map to_document next.front) (to_document new ∷ edited edit next.back next.left)
+                ∙ (ap (λ r. map to_document held.done ++ (map to_document next.front ++ record { name = next.name; root = plain r } ∷ edited edit next.back next.left)) put.root
+                ∙ (ap (λ ds. map to_document held.done ++ ds) (sym next.after) ∙ held.after)))));
+            total = omega (arith, words', count, before_total, after_total, new_count);
+            most = omega (arith, most, touch, parts, whole);
+            limits = (limit-parts (root_after p ∷ []) (map root_after ps) held.limits).1;
+          }

@@ -1,11 +1,8 @@
 -- What an edit answers: the limit that is exceeded, or the documents behind it.
-use Rattle.std.proofs.Common.{◌≡◌, ◌∙◌, sym, ap, refl, ℕ, List, [], ◌∷◌, map, Some, None}
-use Rattle.std.specs.Map.{keys_of}
+use Rattle.std.proofs.Common.{◌≡◌, ◌∙◌, sym, ap, ℕ, List, Some, None}
 use Rattle.path_meaning.specs.Collection.{Named}
 use Rattle.session_text.specs.declared.reply.LimitOf.{LimitOf}
 use Rattle.collections.specs.Documents.{Edit, changed_roots, edited_documents, edited_within, limit_of, or_limited}
-use Rattle.collections.specs.declared.planning.Planned.{Planned}
-use Rattle.collections.specs.steps.Planning.{entry_of}
 
 module _ (edit : Edit) (places : List (List (List ℕ))) (documents : List Named) where
   pub edited-limited : (what : LimitOf) → limit_of (changed_roots edit places documents) ≡ Some what → (documents, Some what) ≡ edited_within edit places documents
@@ -16,7 +13,3 @@ module _ (edit : Edit) (places : List (List (List ℕ))) (documents : List Named
       → (after, None) ≡ edited_within edit places documents
   unfolding edited_within
   edited-all after is made = ap (λ ds. or_limited documents None ds) made ∙ sym (ap (λ l. or_limited documents l (edited_documents edit places documents)) is)
-
-pub names-planned : (ps : List Planned) → map (λ (p : Planned). p.name) ps ≡ keys_of (map entry_of ps)
-names-planned [] = refl
-names-planned (p ∷ ps) = ap (λ ns. p.name ∷ ns) (names-planned ps)

@@ -26,9 +26,11 @@ use Rattle.path_meaning.specs.Collection.{Named}
 use Rattle.text_forms.specs.Forms.{key_of}
 use Rattle.tokenizer.specs.Tokens.{tokens}
 use Rattle.collections.specs.Documents.{key_total}
-use Rattle.collections.specs.Loaded.{to_document, trees_of}
+use Rattle.collections.specs.Loaded.{LoadedTree, to_document, trees_of}
 use Rattle.collections.specs.steps.Numbering.{IsKept}
-use Rattle.collections.proofs.NameLemmas.{Entries}
+
+abbrev Entries : Type 0
+Entries = List (List ℕ × LoadedTree)
 
 abbrev ends : Bool → List ℕ → List (List ℕ) → List (List ℕ)
 ends same key keys = cond same keys (key ∷ keys)

@@ -6,3 +6,4 @@ pub mod NameLemmas
 pub mod RootLemmas
 pub mod EditLemmas
 pub mod KeyLemmas
+pub mod DocumentsLemmas

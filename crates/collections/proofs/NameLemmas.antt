@@ -1,23 +1,19 @@
 -- No two documents have one name.
-use Rattle.std.proofs.Common.{◌≡◌, ◌∙◌, subst, sym, ap, refl, ℕ, true, false, true≢false, List, [], ◌∷◌, ◌++◌, append_assoc, inl, inr}
-use Rattle.std.specs.Prelude.{None, Some}
-use Rattle.std.specs.List.{AllByRecursion, IsDistinct}
-use Rattle.std.specs.Map.{keys_of, lookup}
+use Rattle.std.proofs.Common.{◌≡◌, ◌∙◌, subst, sym, ap, ℕ, ◌+◌, ◌<◌, true, false, true≢false, cond, List, [], ◌∷◌, ◌++◌, length, take, drop, get_or, refl, inl, inr}
+use Rattle.std.specs.List.{list_any, AllByRecursion, IsDistinct}
 use Rattle.std.specs.Str.{bytes_eq}
-use Rattle.std.proofs.lemmas.Bool.{cases_Bool, cond-false}
-use Rattle.std.proofs.lemmas.List.{map-append}
+use Rattle.std.proofs.lemmas.Bool.{cases_Bool, or_from}
+use Rattle.std.proofs.lemmas.List.{drop_more, take-append-drop, take_more}
 use Rattle.std.proofs.lemmas.Slice.Eq.{bytes_eq-Decides}
-use Rattle.collections.specs.Loaded.{LoadedTree}
-
-abbrev pub Entry : Type 0
-Entry = List ℕ × LoadedTree
-
-abbrev pub Entries : Type 0
-Entries = List (List ℕ × LoadedTree)
+use Rattle.indexmap.specs.IndexSet.{insert_key}
 
 pub all-at : {X : Type 0} (P : X → Type 0) (xs : List X) (y : X) (ys : List X) → AllByRecursion P (xs ++ y ∷ ys) → P y
 all-at P [] y ys all = all.0
 all-at P (x ∷ xs) y ys all = all-at P xs y ys all.1
+
+pub distinct-none : IsDistinct bytes_eq []
+unfolding IsDistinct
+distinct-none = tt
 
 differs-turned : (a b : List ℕ) → bytes_eq a b ≡ false → bytes_eq b a ≡ false
 differs-turned a b differs = elim (cases_Bool (bytes_eq b a)) [
@@ -26,20 +22,25 @@ differs-turned a b differs = elim (cases_Bool (bytes_eq b a)) [
 ]
 
 -- a name that stands behind others isn't one of them, where no name stands twice
-pub new-name : (es : Entries) (name : List ℕ) (rest : List (List ℕ)) → IsDistinct bytes_eq (keys_of es ++ name ∷ rest) → lookup (bytes_eq name) es ≡ None
+new-name : (names : List (List ℕ)) (name : List ℕ) (rest : List (List ℕ)) → IsDistinct bytes_eq (names ++ name ∷ rest) → list_any (bytes_eq name) names ≡ false
 unfolding IsDistinct
 new-name [] name rest apart = refl
-new-name ((other, first) ∷ es) name rest apart =
-    cond-false (bytes_eq name other) (Some first) (lookup (bytes_eq name) es) (differs-turned other name (all-at (λ n. bytes_eq other n ≡ false) (keys_of es) name rest apart.0))
-    ∙ new-name es name rest apart.1
+new-name (other ∷ names) name rest apart =
+    or_from (bytes_eq name other) (list_any (bytes_eq name) names) (differs-turned other name (all-at (λ n. bytes_eq other n ≡ false) names name rest apart.0))
+    (new-name names name rest apart.1)
 
--- the next document stands behind those that were put already
-pub put-next : (all done done' rest rest' : Entries) (name asked : List ℕ) (put found : LoadedTree) → IsDistinct bytes_eq (keys_of all) → done ++ rest ≡ all
-    → rest ≡ (asked, found) ∷ rest' → name ≡ asked → put ≡ found → (lookup (bytes_eq name) done ≡ None → done' ≡ done ++ (name, put) ∷ []) → done' ++ rest' ≡ all
-put-next all done done' rest rest' name asked put found apart whole next same shared made =
-    let parts = ap (λ es. done ++ es) (sym next) ∙ whole in
-    let names : IsDistinct bytes_eq (keys_of done ++ asked ∷ keys_of rest') =
-    subst (IsDistinct bytes_eq) (sym (ap keys_of parts) ∙ map-append (λ (e : Entry). e.0) done ((asked, found) ∷ rest')) apart in
-    let none : lookup (bytes_eq name) done ≡ None = ap (λ n. lookup (bytes_eq n) done) same ∙ new-name done asked (keys_of rest') names in
-    ap (λ es. es ++ rest') (made none)
-    ∙ (append_assoc done ((name, put) ∷ []) rest' ∙ (ap (λ n. done ++ (n, put) ∷ rest') same ∙ (ap (λ l. done ++ (asked, l) ∷ rest') shared ∙ parts)))
+-- the next name is put behind those that were put already
+pub put-next : (all done done' : List (List ℕ)) (at : ℕ) (next name : List ℕ) → IsDistinct bytes_eq all → done ≡ take at all → at < length all → next ≡ get_or all at next → name ≡ next
+    → done' ≡ insert_key bytes_eq done name → done' ≡ take (at + 1) all
+put-next all done done' at next name apart before there chosen same made =
+    let split : all ≡ take at all ++ next ∷ drop (at + 1) all =
+    sym (take-append-drop at all) ∙ ap (λ r. take at all ++ r) (drop_more all at next there ∙ ap (λ n. n ∷ drop (at + 1) all) (sym chosen)) in
+    let none : list_any (bytes_eq next) (take at all) ≡ false = new-name (take at all) next (drop (at + 1) all) (subst (IsDistinct bytes_eq) split apart) in
+    made ∙ (ap (λ ns. insert_key bytes_eq ns name) before
+    ∙ (ap (insert_key bytes_eq (take at all)) same
+    ∙ (ap (λ t. cond t (take at all) (take at all ++ next ∷ [])) none
+    ∙ sym (take_more all at next there ∙ ap (λ n. take at all ++ n ∷ []) (sym chosen)))))
+
+-- a new name is put behind the others
+pub put-new : (names done done' : List (List ℕ)) (name : List ℕ) → done ≡ names → list_any (bytes_eq name) names ≡ false → done' ≡ insert_key bytes_eq done name → done' ≡ names ++ name ∷ []
+put-new names done done' name same none made = made ∙ (ap (λ ns. insert_key bytes_eq ns name) same ∙ ap (λ t. cond t names (names ++ name ∷ [])) none)

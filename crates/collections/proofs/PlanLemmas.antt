@@ -1,20 +1,22 @@
 -- What is planned for documents, one after the other, is what an edit makes of all.
-use Rattle.std.proofs.Common.{◌≡◌, ◌∙◌, subst, sym, ap, refl, ℕ, ◌+◌, ◌-◌, ◌<◌, ◌≤◌, arith, true, false, true≢false, Bool, not, ◌||◌, All, List, [], ◌∷◌, ◌++◌, length, length-append, length-drop, drop, get_or, map, nat_le, append_assoc, append-nil, flat_map, sum_by}
-use Rattle.std.specs.List.{AllByRecursion, list_any}
+use Rattle.std.proofs.Common.{◌≡◌, ◌≢◌, ◌∙◌, subst, sym, ap, refl, ℕ, ◌+◌, ◌<◌, ◌≤◌, arith, true, false, true≢false, Bool, not, ◌||◌, All, List, [], ◌∷◌, ◌++◌, length, drop, get_or, nat_le, append_assoc, append-nil, sum_by, Option, Some, None}
+use Rattle.std.specs.List.{list_any}
 use Rattle.std.proofs.lemmas.Bool.{le-leb, leb-true, or_left}
-use Rattle.std.proofs.lemmas.Grind.{flat_map-append}
-use Rattle.std.proofs.lemmas.List.{drop_more, map_push}
-use Rattle.std.proofs.lemmas.List.Sums.{sum_by-cons, sum_by_push}
+use Rattle.std.proofs.lemmas.List.{drop_all, drop_more, length-drop}
+use Rattle.std.proofs.lemmas.List.Sums.{sum_by-cons}
+use Rattle.document_edits.specs.Targets.{places_of}
 use Rattle.ft_base.specs.Lists.{is_empty}
 use Rattle.ft_base.specs.declared.ids.NodeRef.{NodeRef}
-use Rattle.document_edits.specs.Targets.{places_of}
-use Rattle.ordered_tree.specs.Numbered.{plain}
 use Rattle.path_nodes.specs.References.{IsElement}
-use Rattle.collections.specs.Documents.{Edit, changed_roots, edited_documents, touched_in, touched_root}
-use Rattle.collections.specs.Loaded.{LoadedTree, to_document, trees_of}
+use Rattle.tree_edits.specs.declared.drafts.Draft.{Draft}
+use Rattle.collections.specs.Documents.{Edit}
+use Rattle.collections.specs.Loaded.{LoadedTree, trees_of}
 use Rattle.collections.specs.Targets.{AreTargets, places_of_targets}
 use Rattle.collections.specs.declared.planning.Planned.{Planned}
-use Rattle.collections.specs.steps.Planning.{document_after, drafted_of, entry_of, touched_of, IsDrafted, IsPlan}
+use Rattle.collections.specs.steps.Planning.{ArePlanned, IsDraftOf}
+
+abbrev Entry : Type 0
+Entry = List ℕ × LoadedTree
 
 abbrev Entries : Type 0
 Entries = List (List ℕ × LoadedTree)
@@ -24,10 +26,6 @@ Lists = List (List NodeRef)
 
 abbrev places : Entries → Lists → List (List (List ℕ))
 places entries lists = places_of_targets (trees_of entries) lists
-
-all-push : {X : Type 0} (P : X → Type 0) (xs : List X) (x : X) → AllByRecursion P xs → P x → AllByRecursion P (xs ++ x ∷ [])
-all-push P [] x all one = (one, tt)
-all-push P (y ∷ ys) x all one = (all.0, all-push P ys x all.1 one)
 
 -- ---- what is asked of all holds of each
 
@@ -49,77 +47,87 @@ stays-parts false true b is = absurd (true≢false (sym is))
 stays-parts false false true is = absurd (true≢false (sym is))
 stays-parts false false false is = (refl, refl)
 
+-- there are as many lists of references as documents
+pub as-many : (entries : Entries) (lists : Lists) → AreTargets (trees_of entries) lists → length lists ≡ length entries
+as-many [] [] there = refl
+as-many [] (refs ∷ lists) there = absurd there
+as-many (e ∷ es) [] there = absurd there
+as-many (e ∷ es) (refs ∷ lists) there = let later = as-many es lists there.1 in omega (arith, later)
+
+-- ---- the draft of one document
+
 -- ---- one document after the other
 
 module _ (edit : Edit) (all : Entries) (lists : Lists) (stays empty : Bool) where
-  pub record Planning (done : List Planned) (rest : Entries) (left : Lists) : Type 0 where
-    pub entries : map entry_of done ++ rest ≡ all
+  -- The drafts so far, and those of the documents that are left, are those of all.
+  pub record Planning (at : ℕ) (done : List Planned) (rest : Entries) (left : Lists) : Type 0 where
+    pub planned : (ps : List Planned) → ArePlanned edit at rest left ps → ArePlanned edit 0 all lists (done ++ ps)
     pub there : AreTargets (trees_of rest) left
-    pub after : map document_after done ++ edited_documents edit (places rest left) (map to_document rest) ≡ edited_documents edit (places all lists) (map to_document all)
-    pub drafted : flat_map drafted_of done ++ changed_roots edit (places rest left) (map to_document rest) ≡ changed_roots edit (places all lists) (map to_document all)
-    pub touched : sum_by touched_of done + touched_in edit (places rest left) (map to_document rest) ≡ touched_in edit (places all lists) (map to_document all)
-    pub plans : AllByRecursion IsPlan done
     pub once : (nat_le (sum_by length left) 1 || empty) ≡ true
     pub inner : (stays || not (list_any (list_any is_empty) (places rest left))) ≡ true
 
   -- what is asked of one document
-  pub record AskedOf (entry : List ℕ × LoadedTree) (refs : List NodeRef) : Type 0 where
+  pub record AskedOf (entry : Entry) (refs : List NodeRef) : Type 0 where
     pub there : All (IsElement entry.1.tree.root) refs
     pub once : (nat_le (length refs) 1 || empty) ≡ true
     pub inner : (stays || not (list_any is_empty (places_of entry.1.tree.root refs))) ≡ true
 
-  pub asked : (done : List Planned) (e : List ℕ × LoadedTree) (es : Entries) (refs : List NodeRef) (left : Lists) → Planning done (e ∷ es) (refs ∷ left) → AskedOf e refs
-  asked done e es refs left held = record {
+  pub planning-asked : (at : ℕ) (done : List Planned) (e : Entry) (es : Entries) (refs : List NodeRef) (left : Lists) → Planning at done (e ∷ es) (refs ∷ left) → AskedOf e refs
+  planning-asked at done e es refs left held = record {
     there = held.there.0;
     once = fewer (length refs) (sum_by length (refs ∷ left)) empty (let sum = sum_by-cons length refs left in omega (arith, sum)) held.once;
     inner = (stays-parts stays (list_any is_empty (places_of e.1.tree.root refs)) (list_any (list_any is_empty) (places es left)) held.inner).0;
   }
 
-  pub planning-more : (done : List Planned) (e : List ℕ × LoadedTree) (es : Entries) (refs : List NodeRef) (left : Lists) (p : Planned) → Planning done (e ∷ es) (refs ∷ left)
-      → entry_of p ≡ e → IsDrafted edit e.1.tree.root refs p.draft → Planning (done ++ p ∷ []) es left
-  planning-more done e es refs left p held same made =
-      subst (λ (f : List ℕ × LoadedTree). Planning done (f ∷ es) (refs ∷ left) → IsDrafted edit f.1.tree.root refs p.draft → Planning (done ++ p ∷ []) es left) same more held made
-    where
-      more : Planning done (entry_of p ∷ es) (refs ∷ left) → IsDrafted edit p.document.tree.root refs p.draft → Planning (done ++ p ∷ []) es left
-      more held made =
-          let root = plain p.document.tree.root in
-          let here = places_of p.document.tree.root refs in
-          record {
-            entries = ap (λ ps. ps ++ es) (map_push entry_of done p) ∙ (append_assoc (map entry_of done) (entry_of p ∷ []) es ∙ held.entries);
-            there = held.there.1;
-            after = ap (λ ds. ds ++ edited_documents edit (places es left) (map to_document es)) (map_push document_after done p)
-                ∙ (append_assoc (map document_after done) (document_after p ∷ []) (edited_documents edit (places es left) (map to_document es))
-                ∙ (ap (λ n. map document_after done ++ record { name = p.name; root = n } ∷ edited_documents edit (places es left) (map to_document es)) made.behind ∙ held.after));
-            drafted = ap (λ ns. ns ++ changed_roots edit (places es left) (map to_document es)) (flat_map-append drafted_of done (p ∷ []) ∙ ap (λ ns. flat_map drafted_of done ++ ns) (append-nil (drafted_of p)))
-                ∙ (append_assoc (flat_map drafted_of done) (drafted_of p) (changed_roots edit (places es left) (map to_document es))
-                ∙ (ap (λ ns. flat_map drafted_of done ++ (ns ++ changed_roots edit (places es left) (map to_document es))) made.drafted ∙ held.drafted));
-            touched =
-                let sum = sum_by_push touched_of done p in
-                let one : touched_of p ≡ touched_root edit here root = made.touched in
-                let whole : sum_by touched_of done + (touched_root edit here root + touched_in edit (places es left) (map to_document es)) ≡ touched_in edit (places all lists) (map to_document all) = held.touched in
-                omega (arith, sum, one, whole);
-            plans = all-push IsPlan done p held.plans made.keeps_order;
-            once = fewer (sum_by length left) (sum_by length (refs ∷ left)) empty (let sum = sum_by-cons length refs left in omega (arith, sum)) held.once;
-            inner = (stays-parts stays (list_any is_empty here) (list_any (list_any is_empty) (places es left)) held.inner).1;
-          }
+  planning-by : (at : ℕ) (done done' : List Planned) (e : Entry) (es : Entries) (refs : List NodeRef) (left : Lists) → Planning at done (e ∷ es) (refs ∷ left)
+      → ((ps : List Planned) → ArePlanned edit (at + 1) es left ps → ArePlanned edit 0 all lists (done' ++ ps)) → Planning (at + 1) done' es left
+  planning-by at done done' e es refs left held planned = record {
+    planned = planned;
+    there = held.there.1;
+    once = fewer (sum_by length left) (sum_by length (refs ∷ left)) empty (let sum = sum_by-cons length refs left in omega (arith, sum)) held.once;
+    inner = (stays-parts stays (list_any is_empty (places_of e.1.tree.root refs)) (list_any (list_any is_empty) (places es left)) held.inner).1;
+  }
 
-  -- where a document is left, a list of references is
-  pub left-list : (e : List ℕ × LoadedTree) (es : Entries) (left : Lists) → AreTargets (trees_of (e ∷ es)) left → 0 < length left
-  left-list e es [] there = absurd there
-  left-list e es (refs ∷ left) there = omega arith
+  -- nothing is planned for a document without references
+  planning-less : (at : ℕ) (done : List Planned) (e : Entry) (es : Entries) (refs : List NodeRef) (left : Lists) → Planning at done (e ∷ es) (refs ∷ left)
+      → IsDraftOf edit e.1.tree.root refs None → Planning (at + 1) done es left
+  planning-less at done e es [] left held none = planning-by at done done e es [] left held (λ ps later. held.planned ps later)
+  planning-less at done e es (r ∷ refs) left held none = absurd none
 
-  pub planning-next : (targets : Lists) (done done' : List Planned) (rest es : Entries) (e : List ℕ × LoadedTree) (refs : List NodeRef) (p : Planned) (at : ℕ) → at ≡ length done
-      → Planning done rest (drop (length done) targets) → rest ≡ e ∷ es → refs ≡ get_or targets at refs → entry_of p ≡ e → IsDrafted edit e.1.tree.root refs p.draft
-      → done' ≡ done ++ p ∷ [] → Planning done' es (drop (length done') targets)
-  planning-next targets done done' rest es e refs p at here held next chosen same made pushed =
-      let n = length done in
-      let some : 0 < length (drop n targets) = left-list e es (drop n targets) (subst (λ r. AreTargets (trees_of r) (drop n targets)) next held.there) in
-      let long : length (drop n targets) ≡ length targets - n = length-drop n targets in
-      let found : refs ≡ get_or targets n refs = chosen ∙ ap (λ k. get_or targets k refs) here in
-      let split : drop n targets ≡ refs ∷ drop (n + 1) targets =
-      drop_more targets n refs (omega (arith, some, long)) ∙ ap (λ r. r ∷ drop (n + 1) targets) (sym found) in
-      let held' : Planning done (e ∷ es) (refs ∷ drop (n + 1) targets) =
-      subst (λ l. Planning done (e ∷ es) l) split (subst (λ r. Planning done r (drop n targets)) next held) in
-      let more : Planning (done ++ p ∷ []) es (drop (n + 1) targets) = planning-more done e es refs (drop (n + 1) targets) p held' same made in
-      let count : length (done ++ p ∷ []) ≡ n + 1 = length-append done (p ∷ []) in
-      subst (λ ps. Planning ps es (drop (length ps) targets)) (sym pushed) (subst (λ k. Planning (done ++ p ∷ []) es (drop k targets)) (sym count) more)
+  planning-more : (at : ℕ) (done : List Planned) (e : Entry) (es : Entries) (refs : List NodeRef) (left : Lists) (p : Planned) → Planning at done (e ∷ es) (refs ∷ left)
+      → p.at ≡ at → IsDraftOf edit e.1.tree.root refs (Some p.draft) → Planning (at + 1) (done ++ p ∷ []) es left
+  planning-more at done e es [] left p held here made = let no : ⊥ = cc in absurd no
+  planning-more at done e es (r ∷ refs) left p held here made =
+      planning-by at done (done ++ p ∷ []) e es (r ∷ refs) left held
+      (λ ps later. subst (ArePlanned edit 0 all lists) (sym (append_assoc done (p ∷ []) ps)) (held.planned (p ∷ ps) (here, (made, later))))
+
+  -- ---- the same by places
+
+  module _ (at : ℕ) (done : List Planned) (e : Entry) (held : Planning at done (drop at all) (drop at lists)) (next : drop at all ≡ e ∷ drop (at + 1) all) where
+    pub list-there : at < length lists
+    list-there =
+        let some : length (drop at lists) ≡ length (e ∷ drop (at + 1) all) = as-many (drop at all) (drop at lists) held.there ∙ ap length next in
+        let long = length-drop at lists in
+        omega (arith, some, long)
+
+    module _ (refs : List NodeRef) (chosen : refs ≡ get_or lists at refs) where
+      here : Planning at done (e ∷ drop (at + 1) all) (refs ∷ drop (at + 1) lists)
+      here =
+          subst (λ l. Planning at done (e ∷ drop (at + 1) all) l) (drop_more lists at refs list-there ∙ ap (λ r. r ∷ drop (at + 1) lists) (sym chosen))
+          (subst (λ r. Planning at done r (drop at lists)) next held)
+
+      pub next-asked : AskedOf e refs
+      next-asked = planning-asked at done e (drop (at + 1) all) refs (drop (at + 1) lists) here
+
+      pub next-less : (draft : Option Draft) → draft ≡ None → IsDraftOf edit e.1.tree.root refs draft → Planning (at + 1) done (drop (at + 1) all) (drop (at + 1) lists)
+      next-less draft none made =
+          planning-less at done e (drop (at + 1) all) refs (drop (at + 1) lists) here (subst (IsDraftOf edit e.1.tree.root refs) none made)
+
+      pub next-more : (draft : Option Draft) (p : Planned) → p.at ≡ at → draft ≡ Some p.draft → IsDraftOf edit e.1.tree.root refs draft
+          → Planning (at + 1) (done ++ p ∷ []) (drop (at + 1) all) (drop (at + 1) lists)
+      next-more draft p place some made =
+          planning-more at done e (drop (at + 1) all) refs (drop (at + 1) lists) p here place (subst (IsDraftOf edit e.1.tree.root refs) some made)
+
+  pub planning-last : (at : ℕ) (done : List Planned) → Planning at done (drop at all) (drop at lists) → length all ≤ at → ArePlanned edit 0 all lists done
+  planning-last at done held end =
+      subst (ArePlanned edit 0 all lists) (append-nil done) (held.planned [] (subst (λ es. ArePlanned edit at es (drop at lists) []) (sym (drop_all at all end)) refl))

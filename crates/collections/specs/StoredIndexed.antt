@@ -15,6 +15,10 @@ abbrev pub loaded_code : Coded LoadedTree
 loaded_code =
     code_by (ℕ × Stored) (coded× coded_ℕ stored_code) (λ l. (l.doc.0, l.tree)) (λ p. record { doc = record { 0 = p.0 }; tree = p.1 }) (λ _. refl)
 
+-- documents with their names
+abbrev pub entries_code : Coded (List (List ℕ × LoadedTree))
+entries_code = coded_list (coded× (coded_list coded_ℕ) loaded_code)
+
 abbrev pub document_code : Coded Named
 document_code =
     code_by (List ℕ × Node) (coded× (coded_list coded_ℕ) node_code) (λ d. (d.name, d.root)) (λ p. record { name = p.0; root = p.1 }) (λ _. refl)

@@ -16,16 +16,16 @@ ghost use Rattle.collections.specs.Loaded.{to_document, trees_of};
 ghost use Rattle.collections.specs.Targets.{edit_of, places_of_targets, AreTargets};
 
 use crate::applying::{Edited, apply_all};
+use crate::documents::Documents;
 use crate::limits::exceeded;
-use crate::loaded::{Loadable, Loaded};
+use crate::loaded::Loadable;
 use crate::loading::{Outcome, read_document};
-use crate::making::{index_document, share_documents};
+use crate::making::index_document;
 use crate::planning::plan_all;
 use crate::tokens::token_count;
 use ft_base::{DocId, Line, MAX_DOCUMENTS, Memory, Steps};
 use index_updates::drop_doc;
 use index_versions::{Version, WordHints};
-use indexmap::IndexMap;
 use ordered_tree::NodeRefs;
 use plain_tree::{How, Kids};
 use session_text::{FullOf, LimitOf, Refusal, Reply};
@@ -38,7 +38,7 @@ use std::sync::ledger::Ledger;
 #[derive(Drop)]
 pub struct Collection {
     alloc: Global,
-    documents: IndexMap<Line, Loaded>,
+    documents: Documents,
     version: Version,
     /// Where the version's dictionary has words: what a document that comes looks at first.
     hints: WordHints,
@@ -61,12 +61,12 @@ impl Model for Collection {
     ghost use Rattle.collections.specs.steps.Numbering.{IsKept};
 
     ghost view = { λ inside. record {
-      documents = map to_document inside.documents.entries;
-      trees = trees_of inside.documents.entries;
+      documents = map to_document inside.documents;
+      trees = trees_of inside.documents;
       version = inside.version;
     } };
 
-    ghost invariant = { λ inside. IsKept inside.documents.entries inside.version inside.next inside.tokens };
+    ghost invariant = { λ inside. IsKept inside.documents inside.version inside.next inside.tokens };
 }
 
 impl Collection {
@@ -76,7 +76,7 @@ impl Collection {
     {
         Collection {
             alloc,
-            documents: IndexMap::new(alloc),
+            documents: Documents::new(alloc),
             version: Version::empty(alloc),
             hints: WordHints::new(alloc),
             next: 0,
@@ -84,12 +84,12 @@ impl Collection {
         }
     }
 
-    /// The same documents with their index once more. The two share trees and the index's memory, and neither sees a change
-    /// to the other.
+    /// The same documents with their index once more. The two share names, trees and the index's memory, and neither sees a
+    /// change to the other.
     pub fn copy(&self) -> Result<Collection, Memory>
         ensures { IfOk result (λ copy. copy ≡ self.now) }
     {
-        let documents = share_documents(self.alloc, &self.documents)?;
+        let documents = self.documents.share()?;
         match self.version.clone_version() {
             Ok(version) => Ok(Collection {
                 alloc: self.alloc,
@@ -107,9 +107,9 @@ impl Collection {
     }
 
     /// The documents. The version is their index, and it follows the tree of each under its number.
-    pub fn documents(&self) -> &IndexMap<Line, Loaded>
-        ensures documents { map to_document result.now.entries ≡ self.now.documents }
-        ensures trees { trees_of result.now.entries ≡ self.now.trees }
+    pub fn documents(&self) -> &Documents
+        ensures documents { map to_document result.now ≡ self.now.documents }
+        ensures trees { trees_of result.now ≡ self.now.trees }
         ensures indexed { IsIndexOf self.now.documents self.now.version }
         ensures followed { FollowsEach self.now.version self.now.trees }
     {
@@ -200,17 +200,16 @@ impl Collection {
             drop((name, loaded, version));
             return Err(Memory);
         };
-        match self.documents.insert(name, loaded) {
-            Ok(before) => {
-                drop(before);
+        match self.documents.push(self.alloc, name, loaded) {
+            Ok(()) => {
                 drop(std::mem::replace(&mut self.version, version));
                 self.next = next;
                 self.tokens = tokens;
                 Ok(())
             }
-            Err(_) => {
+            Err(memory) => {
                 drop(version);
-                Err(Memory)
+                Err(memory)
             }
         }
     }
@@ -231,11 +230,19 @@ impl Collection {
             drop(name);
             return Err(Memory);
         };
-        drop(self.documents.shift_remove(&name));
-        drop(std::mem::replace(&mut self.version, version));
-        self.tokens -= tokens;
+        let removed = self.documents.remove(self.alloc, &name);
         drop(name);
-        Ok(Reply::Done)
+        match removed {
+            Ok(()) => {
+                drop(std::mem::replace(&mut self.version, version));
+                self.tokens -= tokens;
+                Ok(Reply::Done)
+            }
+            Err(memory) => {
+                drop(version);
+                Err(memory)
+            }
+        }
     }
 
     /// Edits elements of the documents: of each document in order, those of these references. What comes into or beside an
@@ -257,8 +264,6 @@ impl Collection {
         ensures err { OnErr result (self.new ≡ self.old) }
         ensures rows { rows.new ≤ rows.old + touched_in (edit_of how content.now) (places_of_targets self.old.trees targets.now) self.old.documents }
     {
-        // No two documents have one name, as the clauses of `iter` say.
-        let _entries = self.documents.iter();
         let planned = plan_all(self.alloc, &self.documents, targets, how, content)?;
         if let Some(limit) = exceeded(planned.as_slice()) {
             drop(planned);
@@ -268,7 +273,14 @@ impl Collection {
             documents,
             version,
             tokens,
-        } = apply_all(self.alloc, &self.version, planned, rows)?;
+        } = apply_all(
+            self.alloc,
+            &self.documents,
+            &self.version,
+            self.tokens,
+            planned,
+            rows,
+        )?;
         drop(std::mem::replace(&mut self.documents, documents));
         drop(std::mem::replace(&mut self.version, version));
         self.tokens = tokens;

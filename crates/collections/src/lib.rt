@@ -3,13 +3,16 @@
 
 mod applying;
 mod collection;
+mod documents;
 pub mod examples;
 mod limits;
 mod loaded;
 mod loading;
 mod making;
+mod names;
 mod planning;
 mod tokens;
 
 pub use collection::Collection;
+pub use documents::{Documents, Iter};
 pub use loaded::Loaded;

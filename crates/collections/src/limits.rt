@@ -1,12 +1,12 @@
 //! Whether documents would exceed a limit behind an edit.
 
-ghost use Rattle.std.specs.Prelude.{◌≡◌, length, nat_lt};
-ghost use Rattle.std.specs.List.{flat_map, list_any};
+ghost use Rattle.std.specs.Prelude.{◌≡◌, length, map, nat_lt};
+ghost use Rattle.std.specs.List.{list_any};
 ghost use Rattle.doc_grammar.specs.Limits.{height, node_count};
 ghost use Rattle.ft_base.specs.Limits.{max_depth, max_nodes, max_tokens};
 ghost use Rattle.tokenizer.specs.Tokens.{tokens};
 ghost use Rattle.collections.specs.Documents.{limit_of};
-ghost use Rattle.collections.specs.steps.Planning.{drafted_of};
+ghost use Rattle.collections.specs.steps.Planning.{root_after};
 
 use crate::planning::Planned;
 use ft_base::{MAX_DEPTH, MAX_NODES, MAX_TOKENS};
@@ -14,7 +14,7 @@ use session_text::LimitOf;
 
 /// The limit that some of the documents exceed that an edit makes.
 pub(crate) fn exceeded(planned: &[Planned]) -> Option<LimitOf>
-    ensures { result ≡ limit_of (flat_map drafted_of planned.now) }
+    ensures { result ≡ limit_of (map root_after planned.now) }
 {
     if any_too_deep(planned) {
         Some(LimitOf::Depth)
@@ -29,51 +29,42 @@ pub(crate) fn exceeded(planned: &[Planned]) -> Option<LimitOf>
 
 /// Whether one of the documents has too many levels of elements behind the edit.
 fn any_too_deep(planned: &[Planned]) -> bool
-    ensures { result ≡ list_any (λ p. list_any (λ root. nat_lt max_depth (height root)) (drafted_of p)) planned.now }
+    ensures { result ≡ list_any (λ p. nat_lt max_depth (height (root_after p))) planned.now }
 {
     planned.iter().any(|one| is_too_deep(one))
 }
 
 /// Whether one of them has too many elements and texts.
 fn any_with_too_many_nodes(planned: &[Planned]) -> bool
-    ensures { result ≡ list_any (λ p. list_any (λ root. nat_lt max_nodes (node_count root)) (drafted_of p)) planned.now }
+    ensures { result ≡ list_any (λ p. nat_lt max_nodes (node_count (root_after p))) planned.now }
 {
     planned.iter().any(|one| has_too_many_nodes(one))
 }
 
 /// Whether one of them has too many tokens.
 fn any_with_too_many_tokens(planned: &[Planned]) -> bool
-    ensures { result ≡ list_any (λ p. list_any (λ root. nat_lt max_tokens (length (tokens root))) (drafted_of p)) planned.now }
+    ensures { result ≡ list_any (λ p. nat_lt max_tokens (length (tokens (root_after p)))) planned.now }
 {
     planned.iter().any(|one| has_too_many_tokens(one))
 }
 
 /// Whether the document has too many levels of elements behind the edit.
 fn is_too_deep(planned: &Planned) -> bool
-    ensures { result ≡ list_any (λ root. nat_lt max_depth (height root)) (drafted_of planned.now) }
+    ensures { result ≡ nat_lt max_depth (height (root_after planned.now)) }
 {
-    match &planned.draft {
-        Some(draft) => draft.depth() > MAX_DEPTH,
-        None => false,
-    }
+    planned.draft.depth() > MAX_DEPTH
 }
 
 /// Whether it has too many elements and texts.
 fn has_too_many_nodes(planned: &Planned) -> bool
-    ensures { result ≡ list_any (λ root. nat_lt max_nodes (node_count root)) (drafted_of planned.now) }
+    ensures { result ≡ nat_lt max_nodes (node_count (root_after planned.now)) }
 {
-    match &planned.draft {
-        Some(draft) => draft.node_count() > MAX_NODES,
-        None => false,
-    }
+    planned.draft.node_count() > MAX_NODES
 }
 
 /// Whether it has too many tokens.
 fn has_too_many_tokens(planned: &Planned) -> bool
-    ensures { result ≡ list_any (λ root. nat_lt max_tokens (length (tokens root))) (drafted_of planned.now) }
+    ensures { result ≡ nat_lt max_tokens (length (tokens (root_after planned.now))) }
 {
-    match &planned.draft {
-        Some(draft) => draft.has_more_tokens_than(MAX_TOKENS),
-        None => false,
-    }
+    planned.draft.has_more_tokens_than(MAX_TOKENS)
 }

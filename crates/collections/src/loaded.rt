@@ -6,6 +6,7 @@ ghost use Rattle.ordered_tree.specs.Numbered.{plain};
 
 use ft_base::{DocId, Memory};
 use ordered_tree::{DocTree, Read};
+use shared_list::Share;
 use std::alloc::Global;
 use std::marker::Model;
 use std::rc::Rc;
@@ -76,5 +77,15 @@ impl Loaded {
         ensures within { node_count (plain self.now.tree.root) ≤ max_nodes }
     {
         &*self.tree
+    }
+}
+
+impl Share for Loaded {
+    fn copies(alloc: Global, items: &[Loaded]) -> Result<Vec<Loaded>, Memory> {
+        let mut copies = Vec::with_capacity(alloc, items.len())?;
+        for item in items {
+            copies.push(item.share()?)?;
+        }
+        Ok(copies)
     }
 }

@@ -1,4 +1,4 @@
-//! How a document comes into a collection, and a collection's documents into another.
+//! How a document comes into the index of a collection.
 
 ghost use Rattle.std.specs.Prelude.{◌≡◌, ◌≤◌, ◌+◌, false, length, IfOk};
 ghost use Rattle.index_meaning.specs.Documents.{has_document, with_document};
@@ -7,10 +7,9 @@ ghost use Rattle.ordered_tree.specs.Numbered.{plain};
 ghost use Rattle.tokenizer.specs.Tokens.{tokens};
 
 use crate::loaded::{Loadable, Loaded};
-use ft_base::{DocId, Line, Memory, Steps};
+use ft_base::{DocId, Memory, Steps};
 use index_updates::{Found, add_loaded};
 use index_versions::{Version, WordHints};
-use indexmap::IndexMap;
 use ordered_tree::Read;
 use std::alloc::Global;
 use std::sync::ledger::Ledger;
@@ -46,20 +45,4 @@ pub(crate) fn index_document<L: Ledger>(
             Err(memory)
         }
     }
-}
-
-/// The same documents once more, with their trees shared.
-pub(crate) fn share_documents(
-    alloc: Global,
-    documents: &IndexMap<Line, Loaded>,
-) -> Result<IndexMap<Line, Loaded>, Memory>
-    ensures { IfOk result (λ copy. copy.entries ≡ documents.now.entries) }
-{
-    let mut copy = IndexMap::new(alloc);
-    for (name, document) in documents.iter() {
-        let name = Line::read(alloc, name.as_str())?;
-        let document = document.share()?;
-        copy.insert(name, document)?;
-    }
-    Ok(copy)
 }

@@ -1,50 +1,113 @@
 -- What is asked of the next document, and how it is put.
-use Rattle.std.proofs.Common.{◌∙◌, subst, ap, ◌∷◌, arith, sum_by}
+use Rattle.std.proofs.Common.{◌≡◌, ◌∙◌, ◌∷◌, [], ap, arith, length, rules, subst, sym}
 use Rattle.std.specs.Vec.Iter.{into_iter_items}
-use Rattle.std.proofs.lemmas.List.Sums.{sum_by-cons}
-use Rattle.collections.specs.steps.Planning.{touched_of}
-use Rattle.collections.proofs.ApplyLemmas.{Applied, applied-follows, applied-limits, applied-more, applied-name}
+use Rattle.std.proofs.lemmas.List.{nil_from_length}
+use Rattle.collections.proofs.ApplyLemmas.{Applied, applied-first, applied-last, applied-next, next-counted, next-follows, next-order, next-touched, place-there}
 use Rattle.collections.proofs.applying.put_all.Goals as goal
+
+pub loop-one-init : goal.loop-one-init
+loop-one-init g c =
+    let all = c.args.documents.now in
+    let made = c.args.made.now in
+    let given : into_iter_items c.into_iter-one-iterator.result ≡ c.args.planned.items = search rules in
+    record {
+      applied = λ edit targets plans.
+          subst (Applied edit all targets made.version c.args.rows.now made.documents made.version made.tokens c.args.rows.now) (sym given)
+          (subst (λ es. Applied edit all targets made.version c.args.rows.now es made.version made.tokens c.args.rows.now c.args.planned.items) (sym c.requires.same)
+          (applied-first edit all targets made.version c.args.rows.now made.tokens c.args.planned.items plans c.requires.counted c.requires.limits));
+      ends = search rules;
+    }
+
+pub entry-requires : goal.entry-requires
+entry-requires g c =
+    let all = c.args.documents.now in
+    let made = c.args.made.now in
+    let now = c.loop-one.made in
+    let rest = into_iter_items c.next.new.self in
+    let edit = c.requires.plans.0 in
+    let targets = c.requires.plans.1.0 in
+    let held : Applied edit all targets made.version c.args.rows.now now.documents now.version now.tokens c.loop-one.rows (c.in-Some.one ∷ rest) =
+    subst (Applied edit all targets made.version c.args.rows.now now.documents now.version now.tokens c.loop-one.rows) c.in-Some.ensures.steps.0
+    (c.loop-one.invariant.applied edit targets c.requires.plans.1.1) in
+    (place-there edit all targets made.version c.args.rows.now now.documents now.version now.tokens c.loop-one.rows c.in-Some.one rest held).0
 
 pub put-requires-clause-follows : goal.put-requires-clause-follows
 put-requires-clause-follows g c =
+    let all = c.args.documents.now in
     let made = c.args.made.now in
     let now = c.loop-one.made in
     let rest = into_iter_items c.next.new.self in
-    let held : Applied made.documents.entries c.args.planned.items made.version made.tokens now.documents.entries now.version now.tokens (c.in-Some.one ∷ rest) =
-    subst (Applied made.documents.entries c.args.planned.items made.version made.tokens now.documents.entries now.version now.tokens) c.in-Some.ensures.steps.0 c.loop-one.invariant.applied in
-    applied-follows made.documents.entries c.args.planned.items made.version made.tokens now.documents.entries now.version now.tokens c.in-Some.one rest held
-    c.requires.numbered.0 c.requires.numbered.1
+    let edit = c.requires.plans.0 in
+    let targets = c.requires.plans.1.0 in
+    let held : Applied edit all targets made.version c.args.rows.now now.documents now.version now.tokens c.loop-one.rows (c.in-Some.one ∷ rest) =
+    subst (Applied edit all targets made.version c.args.rows.now now.documents now.version now.tokens c.loop-one.rows) c.in-Some.ensures.steps.0
+    (c.loop-one.invariant.applied edit targets c.requires.plans.1.1) in
+    next-follows edit all targets made.version c.args.rows.now now.documents now.version now.tokens c.loop-one.rows c.in-Some.one rest held
+    c.entry.result.0.now c.entry.result.1.now c.entry.ensures c.requires.numbered.0 c.requires.numbered.1
 
-pub put-requires-clause-new : goal.put-requires-clause-new
-put-requires-clause-new g c =
+pub put-requires-clause-order : goal.put-requires-clause-order
+put-requires-clause-order g c =
+    let all = c.args.documents.now in
     let made = c.args.made.now in
     let now = c.loop-one.made in
     let rest = into_iter_items c.next.new.self in
-    let held : Applied made.documents.entries c.args.planned.items made.version made.tokens now.documents.entries now.version now.tokens (c.in-Some.one ∷ rest) =
-    subst (Applied made.documents.entries c.args.planned.items made.version made.tokens now.documents.entries now.version now.tokens) c.in-Some.ensures.steps.0 c.loop-one.invariant.applied in
-    applied-name made.documents.entries c.args.planned.items made.version made.tokens now.documents.entries now.version now.tokens c.in-Some.one rest held
+    let edit = c.requires.plans.0 in
+    let targets = c.requires.plans.1.0 in
+    let held : Applied edit all targets made.version c.args.rows.now now.documents now.version now.tokens c.loop-one.rows (c.in-Some.one ∷ rest) =
+    subst (Applied edit all targets made.version c.args.rows.now now.documents now.version now.tokens c.loop-one.rows) c.in-Some.ensures.steps.0
+    (c.loop-one.invariant.applied edit targets c.requires.plans.1.1) in
+    next-order edit all targets made.version c.args.rows.now now.documents now.version now.tokens c.loop-one.rows c.in-Some.one rest held
+    c.entry.result.0.now c.entry.result.1.now c.entry.ensures
 
-pub put-requires-clause-limits : goal.put-requires-clause-limits
-put-requires-clause-limits g c =
+pub put-requires-clause-counted : goal.put-requires-clause-counted
+put-requires-clause-counted g c =
+    let all = c.args.documents.now in
     let made = c.args.made.now in
     let now = c.loop-one.made in
     let rest = into_iter_items c.next.new.self in
-    let held : Applied made.documents.entries c.args.planned.items made.version made.tokens now.documents.entries now.version now.tokens (c.in-Some.one ∷ rest) =
-    subst (Applied made.documents.entries c.args.planned.items made.version made.tokens now.documents.entries now.version now.tokens) c.in-Some.ensures.steps.0 c.loop-one.invariant.applied in
-    applied-limits made.documents.entries c.args.planned.items made.version made.tokens now.documents.entries now.version now.tokens c.in-Some.one rest held
+    let edit = c.requires.plans.0 in
+    let targets = c.requires.plans.1.0 in
+    let held : Applied edit all targets made.version c.args.rows.now now.documents now.version now.tokens c.loop-one.rows (c.in-Some.one ∷ rest) =
+    subst (Applied edit all targets made.version c.args.rows.now now.documents now.version now.tokens c.loop-one.rows) c.in-Some.ensures.steps.0
+    (c.loop-one.invariant.applied edit targets c.requires.plans.1.1) in
+    next-counted edit all targets made.version c.args.rows.now now.documents now.version now.tokens c.loop-one.rows c.in-Some.one rest held
+    c.entry.result.0.now c.entry.result.1.now c.entry.ensures
 
 pub loop-one-preserved : goal.loop-one-preserved
 loop-one-preserved g c =
+    let all = c.args.documents.now in
     let made = c.args.made.now in
     let now = c.loop-one.made in
     let rest = into_iter_items c.next.new.self in
-    let held : Applied made.documents.entries c.args.planned.items made.version made.tokens now.documents.entries now.version now.tokens (c.in-Some.one ∷ rest) =
-    subst (Applied made.documents.entries c.args.planned.items made.version made.tokens now.documents.entries now.version now.tokens) c.in-Some.ensures.steps.0 c.loop-one.invariant.applied in
+    let next = c.in-Some.ensures.steps.0 in
     record {
-      applied = applied-more made.documents.entries c.args.planned.items made.version made.tokens now.documents.entries now.version now.tokens c.in-Some.one rest
-          c.put.new.made.documents.entries c.put.new.made.version c.put.new.made.tokens held c.in_ok-put.ensures.documents c.in_ok-put.ensures.version c.in_ok-put.ensures.tokens;
-      rows =
-          let all = ap (sum_by touched_of) c.in-Some.ensures.steps.0 ∙ sum_by-cons touched_of c.in-Some.one rest in
-          omega (arith, all, c.loop-one.invariant.rows, c.in_ok-put.ensures.rows);
+      applied = λ edit targets plans.
+          let held : Applied edit all targets made.version c.args.rows.now now.documents now.version now.tokens c.loop-one.rows (c.in-Some.one ∷ rest) =
+          subst (Applied edit all targets made.version c.args.rows.now now.documents now.version now.tokens c.loop-one.rows) next (c.loop-one.invariant.applied edit targets plans) in
+          applied-next edit all targets made.version c.args.rows.now now.documents now.version now.tokens c.loop-one.rows c.in-Some.one rest held
+          c.entry.result.0.now c.entry.result.1.now c.entry.ensures c.put.new.made.documents c.put.new.made.version c.put.new.made.tokens c.put.new.rows
+          c.in_ok-put.ensures.documents c.in_ok-put.ensures.version c.in_ok-put.ensures.tokens c.in_ok-put.ensures.rows;
+      ends = omega (arith, c.in-Some.ensures.steps.1, ap length next, c.loop-one.invariant.ends);
     }
+
+pub returns-in_err-put-clause-rows : goal.returns-in_err-put-clause-rows
+returns-in_err-put-clause-rows g c = λ edit targets plans.
+    let all = c.args.documents.now in
+    let made = c.args.made.now in
+    let now = c.loop-one.made in
+    let rest = into_iter_items c.next.new.self in
+    let held : Applied edit all targets made.version c.args.rows.now now.documents now.version now.tokens c.loop-one.rows (c.in-Some.one ∷ rest) =
+    subst (Applied edit all targets made.version c.args.rows.now now.documents now.version now.tokens c.loop-one.rows) c.in-Some.ensures.steps.0
+    (c.loop-one.invariant.applied edit targets plans) in
+    next-touched edit all targets made.version c.args.rows.now now.documents now.version now.tokens c.loop-one.rows c.in-Some.one rest held
+    c.entry.result.0.now c.entry.result.1.now c.entry.ensures c.put.new.rows c.in_err-put.ensures.rows
+
+pub returns-clause-documents : goal.returns-clause-documents
+returns-clause-documents g c = λ edit targets plans.
+    let all = c.args.documents.now in
+    let made = c.args.made.now in
+    let now = c.loop-one.made in
+    let none : into_iter_items c.loop-one.one-iterator ≡ [] =
+    nil_from_length (into_iter_items c.loop-one.one-iterator) (sym c.loop-one.invariant.ends ∙ c.in-None.ensures.steps.0) in
+    applied-last edit all targets made.version c.args.rows.now now.documents now.version now.tokens c.loop-one.rows
+    (subst (Applied edit all targets made.version c.args.rows.now now.documents now.version now.tokens c.loop-one.rows) none (c.loop-one.invariant.applied edit targets plans))

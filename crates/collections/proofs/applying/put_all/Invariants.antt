@@ -1,12 +1,15 @@
 -- The documents so far are as they are behind the edit, in the version too, and the others come; so do the words that the edit touches.
-use Rattle.std.proofs.Common.{◌≤◌, ◌+◌, sum_by}
-use Rattle.std.specs.Vec.Iter.{into_iter_items}
-use Rattle.collections.specs.steps.Planning.{touched_of}
+use Rattle.std.proofs.Common.{◌≡◌, List, length}
+use Rattle.std.specs.Vec.Iter.{into_iter_items, into_iter_len}
+use Rattle.ft_base.specs.declared.ids.NodeRef.{NodeRef}
+use Rattle.collections.specs.Documents.{Edit}
+use Rattle.collections.specs.steps.Planning.{ArePlanned}
 use Rattle.collections.proofs.ApplyLemmas.{Applied}
 use Rattle.collections.proofs.applying.put_all.Given as goal
 
 abbrev pub invariant-loop-one : goal.invariant-loop-one
 invariant-loop-one g l = record {
-  applied : Applied l.fn.made.documents.entries l.fn.planned.items l.fn.made.version l.fn.made.tokens l.made.documents.entries l.made.version l.made.tokens (into_iter_items l.one-iterator);
-  rows : l.rows + sum_by touched_of (into_iter_items l.one-iterator) ≤ l.fn.rows + sum_by touched_of l.fn.planned.items;
+  applied : (edit : Edit) → (targets : List (List NodeRef)) → ArePlanned edit 0 l.documents targets l.fn.planned.items
+      → Applied edit l.documents targets l.fn.made.version l.fn.rows l.made.documents l.made.version l.made.tokens l.rows (into_iter_items l.one-iterator);
+  ends : into_iter_len l.one-iterator ≡ length (into_iter_items l.one-iterator);
 }

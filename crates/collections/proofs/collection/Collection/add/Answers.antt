@@ -1,18 +1,15 @@
 -- The document is the last one, and the version follows it too.
-use Rattle.std.proofs.Common.{◌≡◌, ◌∙◌, sym, ap, rules, ◌∷◌, ◌++◌, [], ◌+◌, ℕ, map, subst, arith, length}
-use Rattle.std.specs.Prelude.{None}
+use Rattle.std.proofs.Common.{◌≡◌, ◌∙◌, sym, ap, rules, ◌∷◌, ◌++◌, [], ◌+◌, ℕ, subst, arith, length}
+use Rattle.std.specs.Map.{lookup}
 use Rattle.std.specs.Str.{bytes_eq}
-use Rattle.std.specs.HashMap.{get}
-use Rattle.std.proofs.lemmas.List.{map_push}
 use Rattle.ft_base.proofs.Truth.{none_from_test}
 use Rattle.index_meaning.specs.Documents.{has_document, with_document}
 use Rattle.index_updates.specs.Follows.{under_tree}
-use Rattle.indexmap.proofs.CallerLemmas.{insert_entry-new}
 use Rattle.ordered_tree.specs.Numbered.{plain}
 use Rattle.ordered_tree.specs.Stored.{Stored}
 use Rattle.tokenizer.specs.Tokens.{tokens}
 use Rattle.collections.specs.Indexed.{Indexed}
-use Rattle.collections.specs.Loaded.{LoadedTree, to_document}
+use Rattle.collections.specs.Loaded.{LoadedTree}
 use Rattle.collections.specs.Documents.{has_name}
 use Rattle.collections.specs.steps.Numbering.{IsKept}
 use Rattle.collections.proofs.NumberingLemmas.{absent, kept-more}
@@ -22,40 +19,30 @@ use Rattle.collections.proofs.collection.Collection.add.Goals as goal
 pub index_document-made-requires : goal.index_document-made-requires
 index_document-made-requires g c =
     let inside = c.self.inside in
-    ap (has_document inside.next) c.self.invariant.numbered.follows ∙ absent 0 inside.documents.entries inside.next inside.next c.self.invariant.numbered.ascend (omega arith)
+    ap (has_document inside.next) c.self.invariant.numbered.follows ∙ absent 0 inside.documents inside.next inside.next c.self.invariant.numbered.ascend (omega arith)
 
 pub invariant_of-self : goal.invariant_of-self
 invariant_of-self g c = c.self.invariant
 
-pub invariant_of-self-in-Ok-insert : goal.invariant_of-self-in-Ok-insert
-invariant_of-self-in-Ok-insert g c =
-    let m = c.self.inside.documents in
+pub push-requires : goal.push-requires
+push-requires g c =
+    let entries = c.self.inside.documents in
+    none_from_test (lookup (bytes_eq c.args.name) entries)
+    (sym (has_name-lookup c.args.name entries) ∙ (ap (λ (i : Indexed). has_name c.args.name i.documents) c.self.view_is ∙ c.requires))
+
+pub invariant_of-self-in-Ok-push : goal.invariant_of-self-in-Ok-push
+invariant_of-self-in-Ok-push g c =
+    let entries = c.self.inside.documents in
     let loaded = c.in-Ok.loaded in
     let is : loaded ≡ record { doc = record { 0 = c.self.inside.next }; tree = c.args.document.read.tree } = c.in-Ok.ensures.loaded in
-    let none : get bytes_eq m c.args.name ≡ None = none_from_test (get bytes_eq m c.args.name)
-    (sym (has_name-lookup c.args.name m.entries) ∙ (ap (λ (i : Indexed). has_name c.args.name i.documents) c.self.view_is ∙ c.requires)) in
-    let entries = c.in-Ok-insert.ensures.entries ∙ insert_entry-new bytes_eq m c.args.name loaded none in
     let kept : c.replace.new.dest ≡ c.in-Ok.version = c.replace.ensures.after in
     let next : c.in-Some.next ≡ c.self.inside.next + 1 = search rules in
     let more : c.in-Some-checked_add.tokens ≡ c.self.inside.tokens + c.token_count.result = search rules in
     let count : c.token_count.result ≡ length (tokens (plain loaded.tree.root)) =
     c.token_count.ensures ∙ ap (λ (t : Stored). length (tokens (plain t.root))) c.tree.ensures.tree in
-    subst (λ es. IsKept es c.replace.new.dest c.in-Some.next c.in-Some-checked_add.tokens) (sym entries)
-    (subst (λ (n : ℕ). IsKept (m.entries ++ (c.args.name, loaded) ∷ []) c.replace.new.dest n c.in-Some-checked_add.tokens) (sym next)
-    (kept-more m.entries c.self.inside.version c.replace.new.dest c.self.inside.next c.self.inside.tokens c.in-Some-checked_add.tokens c.args.name loaded c.self.invariant
+    subst (λ es. IsKept es c.replace.new.dest c.in-Some.next c.in-Some-checked_add.tokens) (sym c.in-Ok-push.ensures.ok)
+    (subst (λ (n : ℕ). IsKept (entries ++ (c.args.name, loaded) ∷ []) c.replace.new.dest n c.in-Some-checked_add.tokens) (sym next)
+    (kept-more entries c.self.inside.version c.replace.new.dest c.self.inside.next c.self.inside.tokens c.in-Some-checked_add.tokens c.args.name loaded c.self.invariant
     (ap (λ (l : LoadedTree). l.doc.0) is)
     (kept ∙ (c.in-Ok.ensures.version ∙ ap (λ (l : LoadedTree). with_document (under_tree (l.doc.0, l.tree.root)) c.self.inside.version) (sym is)))
     (more ∙ ap (λ n. c.self.inside.tokens + n) count)))
-
-pub returns-in-Ok-insert-clause-documents : goal.returns-in-Ok-insert-clause-documents
-returns-in-Ok-insert-clause-documents g c =
-    let m = c.self.inside.documents in
-    let loaded = c.in-Ok.loaded in
-    let is : loaded ≡ record { doc = record { 0 = c.self.inside.next }; tree = c.args.document.read.tree } = c.in-Ok.ensures.loaded in
-    let none : get bytes_eq m c.args.name ≡ None = none_from_test (get bytes_eq m c.args.name)
-    (sym (has_name-lookup c.args.name m.entries) ∙ (ap (λ (i : Indexed). has_name c.args.name i.documents) c.self.view_is ∙ c.requires)) in
-    let entries = c.in-Ok-insert.ensures.entries ∙ insert_entry-new bytes_eq m c.args.name loaded none in
-    ap (map to_document) entries
-    ∙ (map_push to_document m.entries (c.args.name, loaded)
-    ∙ (ap (λ (l : LoadedTree). map to_document m.entries ++ record { name = c.args.name; root = plain l.tree.root } ∷ []) is
-    ∙ ap (λ (i : Indexed). i.documents ++ record { name = c.args.name; root = plain c.args.document.read.tree.root } ∷ []) c.self.view_is))

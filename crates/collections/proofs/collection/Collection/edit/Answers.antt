@@ -1,38 +1,42 @@
 -- The limit that is exceeded, or the documents behind the edit.
 use Rattle.std.proofs.Common.{◌≡◌, ◌∙◌, subst, sym, ap, map, None, Some}
-use Rattle.std.specs.List.{IsDistinct, flat_map}
-use Rattle.std.specs.Map.{keys_of}
-use Rattle.std.specs.Str.{bytes_eq}
 use Rattle.collections.specs.Documents.{edited_within, limit_of}
 use Rattle.collections.specs.Indexed.{Indexed}
 use Rattle.collections.specs.Loaded.{to_document, trees_of}
 use Rattle.collections.specs.Targets.{edit_of, places_of_targets}
-use Rattle.collections.specs.steps.Planning.{drafted_of}
-use Rattle.collections.proofs.EditLemmas.{edited-all, edited-limited, names-planned}
+use Rattle.collections.specs.steps.Planning.{root_after}
+use Rattle.collections.proofs.ApplyLemmas.{roots-planned}
+use Rattle.collections.proofs.EditLemmas.{edited-all, edited-limited}
 use Rattle.collections.proofs.collection.Collection.edit.Goals as goal
 
 pub returns-in-Some-clause-edited : goal.returns-in-Some-clause-edited
 returns-in-Some-clause-edited g c =
-    let entries = c.self.inside.documents.entries in
+    let entries = c.self.inside.documents in
     let edit = edit_of c.args.how c.args.content.now in
     let places = places_of_targets (trees_of entries) c.args.targets.now in
-    let found : limit_of (flat_map drafted_of c.in_ok-planned.planned.items) ≡ Some c.in-Some.limit =
-    ap (λ ps. limit_of (flat_map drafted_of ps)) (sym c.as_slice.ensures.value) ∙ (sym c.exceeded.ensures ∙ c.in-Some.is) in
+    let ps = c.in_ok-planned.planned.items in
+    let roots = roots-planned edit 0 entries c.args.targets.now ps c.in_ok-planned.ensures in
+    let found : limit_of (map root_after ps) ≡ Some c.in-Some.limit =
+    ap (λ qs. limit_of (map root_after qs)) (sym c.as_slice.ensures.value) ∙ (sym c.exceeded.ensures ∙ c.in-Some.is) in
     subst (λ (i : Indexed). (i.documents, Some c.in-Some.limit) ≡ edited_within edit (places_of_targets i.trees c.args.targets.now) i.documents) c.self.view_is
-    (edited-limited edit places (map to_document entries) c.in-Some.limit (sym (ap limit_of c.in_ok-planned.ensures.drafted) ∙ found))
+    (edited-limited edit places (map to_document entries) c.in-Some.limit (sym (ap limit_of roots) ∙ found))
 
-pub apply_all-requires-clause-distinct : goal.apply_all-requires-clause-distinct
-apply_all-requires-clause-distinct g c =
-    subst (IsDistinct bytes_eq) (sym (names-planned c.in_ok-planned.planned.items ∙ ap keys_of c.in_ok-planned.ensures.entries)) c.iter-entries.ensures.unique
+pub apply_all-requires-clause-numbered : goal.apply_all-requires-clause-numbered
+apply_all-requires-clause-numbered g c = (c.self.inside.next, c.self.invariant.numbered)
+
+pub apply_all-requires-clause-plans : goal.apply_all-requires-clause-plans
+apply_all-requires-clause-plans g c = (edit_of c.args.how c.args.content.now, (c.args.targets.now, c.in_ok-planned.ensures))
 
 pub returns-clause-edited : goal.returns-clause-edited
 returns-clause-edited g c =
-    let entries = c.self.inside.documents.entries in
+    let entries = c.self.inside.documents in
     let edit = edit_of c.args.how c.args.content.now in
     let places = places_of_targets (trees_of entries) c.args.targets.now in
-    let none : limit_of (flat_map drafted_of c.in_ok-planned.planned.items) ≡ None =
-    ap (λ ps. limit_of (flat_map drafted_of ps)) (sym c.as_slice.ensures.value) ∙ (sym c.exceeded.ensures ∙ c.in_default.is) in
-    let moved : map to_document c.replace.new.dest.entries ≡ map to_document c.in_ok-documents.field-0.documents.entries = λ i. map to_document (c.replace.ensures.after i).entries in
-    let after = moved ∙ (c.in_ok-documents.ensures.documents ∙ c.in_ok-planned.ensures.after) in
-    subst (λ (i : Indexed). (map to_document c.replace.new.dest.entries, None) ≡ edited_within edit (places_of_targets i.trees c.args.targets.now) i.documents) c.self.view_is
-    (edited-all edit places (map to_document entries) (map to_document c.replace.new.dest.entries) (sym (ap limit_of c.in_ok-planned.ensures.drafted) ∙ none) after)
+    let ps = c.in_ok-planned.planned.items in
+    let roots = roots-planned edit 0 entries c.args.targets.now ps c.in_ok-planned.ensures in
+    let none : limit_of (map root_after ps) ≡ None =
+    ap (λ qs. limit_of (map root_after qs)) (sym c.as_slice.ensures.value) ∙ (sym c.exceeded.ensures ∙ c.in_default.is) in
+    let moved : map to_document c.replace.new.dest ≡ map to_document c.in_ok-documents.field-0.documents = ap (map to_document) c.replace.ensures.after in
+    let after = moved ∙ c.in_ok-documents.ensures.documents edit c.args.targets.now c.in_ok-planned.ensures in
+    subst (λ (i : Indexed). (map to_document c.replace.new.dest, None) ≡ edited_within edit (places_of_targets i.trees c.args.targets.now) i.documents) c.self.view_is
+    (edited-all edit places (map to_document entries) (map to_document c.replace.new.dest) (sym (ap limit_of roots) ∙ none) after)

@@ -15,7 +15,7 @@ use Rattle.collections.proofs.collection.Collection.load.Goals as goal
 
 pub returns-then-contains_key-clause-answer : goal.returns-then-contains_key-clause-answer
 returns-then-contains_key-clause-answer g c =
-    let entries = c.self.inside.documents.entries in
+    let entries = c.self.inside.documents in
     let documents = c.args.self.now.documents in
     let there = ap (λ (i : Indexed). i.documents) c.self.view_is in
     let same = c.in_ok-name.ensures ∙ c.as_str.ensures in
@@ -29,7 +29,7 @@ returns-then-len-ge-MAX_DOCUMENTS-clause-answer g c =
     let same = c.in_ok-name.ensures ∙ c.as_str.ensures in
     let absent = sym c.contains_key.ensures ∙ c.if-contains_key.false in
     let full = ap (nat_le max_documents) (sym c.len.ensures.len) ∙ grind (arith, nat_tests) in
-    sym (loaded-by c.self.inside.documents.entries c.args.self.now.documents c.in_ok-name.name c.args.name.now there same false true absent full (loadable c.args.block.now))
+    sym (loaded-by c.self.inside.documents c.args.self.now.documents c.in_ok-name.name c.args.name.now there same false true absent full (loadable c.args.block.now))
 
 pub returns-in-Refused-clause-answer : goal.returns-in-Refused-clause-answer
 returns-in-Refused-clause-answer g c =
@@ -39,13 +39,13 @@ returns-in-Refused-clause-answer g c =
     let absent = sym c.contains_key.ensures ∙ c.if-contains_key.false in
     let room = ap (nat_le max_documents) (sym c.len.ensures.len) ∙ grind (arith, nat_tests) in
     let read = sym c.in_ok-refusal.ensures ∙ ap outcome c.in-Refused.is in
-    sym (loaded-by c.self.inside.documents.entries documents c.in_ok-name.name c.args.name.now there same false false absent room (loadable c.args.block.now)
+    sym (loaded-by c.self.inside.documents documents c.in_ok-name.name c.args.name.now there same false false absent room (loadable c.args.block.now)
     ∙ ap (added documents c.args.name.now) read)
 
 pub add-requires : goal.add-requires
 add-requires g c =
     ap (λ (i : Indexed). has_name c.in_ok-name.name i.documents) (sym c.self.view_is)
-    ∙ (has_name-lookup c.in_ok-name.name c.self.inside.documents.entries ∙ (sym c.contains_key.ensures ∙ c.if-contains_key.false))
+    ∙ (has_name-lookup c.in_ok-name.name c.self.inside.documents ∙ (sym c.contains_key.ensures ∙ c.if-contains_key.false))
 
 pub returns-in-Ok-clause-answer : goal.returns-in-Ok-clause-answer
 returns-in-Ok-clause-answer g c =
@@ -58,7 +58,7 @@ returns-in-Ok-clause-answer g c =
     let read = sym c.in_ok-refusal.ensures ∙ ap outcome c.in-Document.is in
     ap (λ ds. with_reply ds Done) c.in-Ok.ensures.documents
     ∙ (ap (λ n. with_reply (documents ++ record { name = n; root = root } ∷ []) Done) same
-    ∙ sym (loaded-by c.self.inside.documents.entries documents c.in_ok-name.name c.args.name.now there same false false absent room (loadable c.args.block.now)
+    ∙ sym (loaded-by c.self.inside.documents documents c.in_ok-name.name c.args.name.now there same false false absent room (loadable c.args.block.now)
     ∙ ap (added documents c.args.name.now) read))
 
 pub returns-in-Ok-clause-rows : goal.returns-in-Ok-clause-rows
@@ -67,7 +67,7 @@ returns-in-Ok-clause-rows g c =
     let absent = sym c.contains_key.ensures ∙ c.if-contains_key.false in
     let room = ap (nat_le max_documents) (sym c.len.ensures.len) ∙ grind (arith, nat_tests) in
     let most = ap (tokens_loaded c.args.self.now.documents c.args.name.now) (sym c.in_ok-refusal.ensures ∙ ap outcome c.in-Document.is)
-    ∙ tokens-come c.self.inside.documents.entries c.args.self.now.documents c.in_ok-name.name c.args.name.now there (c.in_ok-name.ensures ∙ c.as_str.ensures)
+    ∙ tokens-come c.self.inside.documents c.args.self.now.documents c.in_ok-name.name c.args.name.now there (c.in_ok-name.ensures ∙ c.as_str.ensures)
     false false absent room (plain c.in-Document.document.read.tree.root) in
     omega (arith, most, c.add.ensures.rows)
 
@@ -77,6 +77,6 @@ returns-in-Err-clause-rows g c =
     let absent = sym c.contains_key.ensures ∙ c.if-contains_key.false in
     let room = ap (nat_le max_documents) (sym c.len.ensures.len) ∙ grind (arith, nat_tests) in
     let most = ap (tokens_loaded c.args.self.now.documents c.args.name.now) (sym c.in_ok-refusal.ensures ∙ ap outcome c.in-Document.is)
-    ∙ tokens-come c.self.inside.documents.entries c.args.self.now.documents c.in_ok-name.name c.args.name.now there (c.in_ok-name.ensures ∙ c.as_str.ensures)
+    ∙ tokens-come c.self.inside.documents c.args.self.now.documents c.in_ok-name.name c.args.name.now there (c.in_ok-name.ensures ∙ c.as_str.ensures)
     false false absent room (plain c.in-Document.document.read.tree.root) in
     omega (arith, most, c.add.ensures.rows)
