@@ -18,15 +18,8 @@ use Rattle.path_nodes.proofs.WayLemmas.{Parent}
 use Rattle.path_nodes.proofs.ChildrenLemmas.{All-behind, head-spot}
 use Rattle.element_lines.specs.steps.Numbers.{number_of}
 use Rattle.element_lines.specs.LocationSteps.{listed, children, child, name_of, is_named}
+use Rattle.element_lines.specs.steps.Children.{Parted}
 use Rattle.element_lines.proofs.StepLemmas.{children-plain, number-child}
-
--- The children of an element in front of a link, and those behind it.
-pub record Parted (root : Numbered) (parent : NodeRef) (link : Option NodeRef) (prefix : List Node) : Type 0 where
-  pub around : Around
-  pub rest : Children
-  pub first : link ≡ first_of rest
-  pub inside : All (Contains (spots_in root)) (child_spots (element_of root parent).place (suc (length prefix)) around rest)
-  pub split : children (element_of root parent).node ≡ prefix ++ listed (plain_children rest)
 
 -- the link is that of a child
 pub record Child (root : Numbered) (parent child : NodeRef) (prefix : List Node) : Type 0 where

@@ -1,6 +1,6 @@
 pub mod ChildLemmas
 pub mod FewLemmas
-pub mod FirstLemmas
+pub mod SiblingLemmas
 pub mod KeptLemmas
 pub mod CountLemmas
 pub mod NumberLemmas

@@ -17,11 +17,12 @@ use Rattle.path_nodes.proofs.ChildrenLemmas.{Reading, Next, next, there, on, lef
 use Rattle.path_nodes.proofs.PlaceLemmas.{element-is, one-place, one-reference}
 use Rattle.path_nodes.proofs.SpotLemmas.{of_number}
 use Rattle.element_lines.specs.declared.counts.Counts.{Counts}
+use Rattle.element_lines.specs.steps.Children.{Parted}
 use Rattle.element_lines.specs.steps.Counts.{count_of}
 use Rattle.element_lines.specs.steps.Numbers.{number_of, kept, AreNumbers, IsChild}
 use Rattle.element_lines.specs.LocationSteps as steps
 use Rattle.element_lines.specs.LocationSteps.{is_named}
-use Rattle.element_lines.proofs.ChildLemmas.{Parted, Child, next-child, all-children, spot, spot-among, on-child, child-named, parted-next, child-numbered}
+use Rattle.element_lines.proofs.ChildLemmas.{Child, next-child, all-children, spot, spot-among, on-child, child-named, parted-next, child-numbered}
 use Rattle.element_lines.proofs.FewLemmas.{prefix-few}
 use Rattle.element_lines.proofs.StepLemmas.{name-plain, number-within}
 

@@ -1,3 +1,5 @@
 pub mod Counts
 pub mod Leading
 pub mod Numbers
+pub mod Children
+pub mod Known

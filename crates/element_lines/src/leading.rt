@@ -45,7 +45,7 @@ impl Leading {
     }
 
     /// Whether it is the line of this parent.
-    fn is_of(&self, parent: NodeRef) -> bool
+    pub(crate) fn is_of(&self, parent: NodeRef) -> bool
         ensures { result ≡ true → self.now.parent ≡ Some parent }
     {
         match self.parent {
@@ -99,7 +99,7 @@ fn push_steps(
     match tree.parent(node) {
         Some(parent) => {
             push_steps(alloc, tree, parent, numbers, text)?;
-            let number = number_of(alloc, tree, parent, node, numbers)?;
+            let number = number_of(alloc, tree, parent, node, numbers, &mut None)?;
             push_step(tree.name(node), number, text)
         }
         None => push_step(tree.name(node), 1, text),

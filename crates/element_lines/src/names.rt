@@ -1,12 +1,13 @@
 ghost use Rattle.std.specs.Prelude.{◌≡◌, ◌++◌, ℕ, List, All, OnErr, OnOk, map, string_bytes};
 ghost use Rattle.element_lines.specs.Lines.{element_line};
-ghost use Rattle.element_lines.specs.steps.Leading.{IsLeading};
-ghost use Rattle.element_lines.specs.steps.Numbers.{AreNumbers};
+ghost use Rattle.element_lines.specs.steps.Known.{IsKnown};
 ghost use Rattle.ordered_tree.specs.Numbered.{plain};
 ghost use Rattle.path_nodes.specs.References.{IsElement, element_of};
 
+use crate::counting::Counting;
 use crate::leading::{Leading, lead_to};
 use crate::numbers::{Numbers, number_of};
+use crate::siblings::count_to;
 use crate::step_texts::{push_behind, push_root};
 use ft_base::Memory;
 use ordered_tree::{DocTree, NodeRef};
@@ -26,46 +27,77 @@ pub fn push_names(
     ensures ok { OnOk result (lines.new ≡ lines.old ++ map (λ r. element_line document.now (plain tree.now.root) (element_of tree.now.root r)) nodes.now) }
     ensures err { OnErr result ((more : List (List ℕ)) × (lines.new ≡ lines.old ++ more)) }
 {
-    let mut leading = Leading::new(alloc);
-    let mut numbers = Numbers::new(alloc);
+    let mut known = Known {
+        leading: Leading::new(alloc),
+        numbers: Numbers::new(alloc),
+        counting: None,
+    };
     let mut line = String::new(alloc);
     for node in nodes {
-        name_line(
-            alloc,
-            document,
-            tree,
-            *node,
-            &mut leading,
-            &mut numbers,
-            &mut line,
-        )?;
+        name_line(alloc, document, tree, *node, &mut known, &mut line)?;
         lines.push(line.as_str())?;
     }
     Ok(())
 }
 
+/// What is known of elements from those that were named so far.
+#[derive(Drop)]
+struct Known<'t> {
+    leading: Leading,
+    numbers: Numbers,
+    /// How far the children are counted of the parent whose child was named last
+    counting: Option<Counting<'t>>,
+}
+
 /// Makes the text the line that names an element.
-fn name_line(
+fn name_line<'t>(
     alloc: Global,
     document: &str,
-    tree: &DocTree,
+    tree: &'t DocTree,
     node: NodeRef,
-    leading: &mut Leading,
-    numbers: &mut Numbers,
+    known: &mut Known<'t>,
     line: &mut String,
 ) -> Result<(), Memory>
     requires node { IsElement tree.now.root node }
-    requires leading { IsLeading document.now tree.now.root leading.old }
-    requires numbers { AreNumbers tree.now.root numbers.old.items }
+    requires known { IsKnown document.now tree.now.root known.old }
     ensures line { OnOk result (string_bytes line.new ≡ element_line document.now (plain tree.now.root) (element_of tree.now.root node)) }
-    ensures leading { OnOk result (IsLeading document.now tree.now.root leading.new) }
-    ensures numbers { OnOk result (AreNumbers tree.now.root numbers.new.items) }
+    ensures known { OnOk result (IsKnown document.now tree.now.root known.new) }
 {
     line.clear();
+    if let Some(counting) = &mut known.counting {
+        if known.leading.is_of(counting.parent) {
+            if let Some(number) = count_to(tree, counting, node) {
+                return push_behind(known.leading.text(), counting.name, number, line);
+            }
+        }
+    }
+    name_anew(alloc, document, tree, node, known, line)
+}
+
+/// Puts the line that names an element to the end, by its parent.
+fn name_anew<'t>(
+    alloc: Global,
+    document: &str,
+    tree: &'t DocTree,
+    node: NodeRef,
+    known: &mut Known<'t>,
+    line: &mut String,
+) -> Result<(), Memory>
+    requires node { IsElement tree.now.root node }
+    requires known { IsKnown document.now tree.now.root known.old }
+    ensures line { OnOk result (string_bytes line.new
+        ≡ string_bytes line.old ++ element_line document.now (plain tree.now.root) (element_of tree.now.root node)) }
+    ensures known { OnOk result (IsKnown document.now tree.now.root known.new) }
+{
     match tree.parent(node) {
         Some(parent) => {
+            let Known {
+                leading,
+                numbers,
+                counting,
+            } = known;
             lead_to(alloc, document, tree, parent, leading, numbers)?;
-            let number = number_of(alloc, tree, parent, node, numbers)?;
+            let number = number_of(alloc, tree, parent, node, numbers, counting)?;
             push_behind(leading.text(), tree.name(node), number, line)
         }
         None => push_root(document, tree.name(node), line),

@@ -1,38 +1,43 @@
-ghost use Rattle.std.specs.Prelude.{◌≡◌, ◌<◌, ◌≤◌, ◌^◌, ℕ, nat_eq, cond, length, Some, IfOk, IfSome, OnOk};
+ghost use Rattle.std.specs.Prelude.{◌≡◌, ◌<◌, ◌≤◌, ◌^◌, ℕ, nat_eq, cond, length, Some, IfOk, OnOk};
+ghost use Rattle.element_lines.specs.steps.Children.{IsCountingOrNone};
 ghost use Rattle.element_lines.specs.steps.Numbers as spec;
 ghost use Rattle.element_lines.specs.steps.Numbers.{AreNumbers, HasChildren, IsChild};
 ghost use Rattle.path_nodes.specs.References.{IsElement};
 
+use crate::counting::Counting;
 use crate::counts::{Counts, count_name};
+use crate::siblings::{before_children, count_to};
 use ft_base::Memory;
-use ordered_tree::{DocTree, ElementName, NodeRef};
+use ordered_tree::{DocTree, NodeRef};
 use std::alloc::Global;
-
-/// How many children are looked at for the number of one element, before those of all children are found and kept.
-const FEW: u32 = 32;
 
 /// The numbers of elements among their siblings of the same name, by their references; 0 where none is kept.
 pub(crate) type Numbers = Vec<u32>;
 
 /// The number of an element that is a child of the other one. If it isn't there yet, it is counted, where it is one of the first
-/// children; else those of all children are found.
-pub(crate) fn number_of(
+/// children; else those of all children are found and kept.
+pub(crate) fn number_of<'t>(
     alloc: Global,
-    tree: &DocTree,
+    tree: &'t DocTree,
     parent: NodeRef,
     node: NodeRef,
     numbers: &mut Numbers,
+    counting: &mut Option<Counting<'t>>,
 ) -> Result<u32, Memory>
     requires parent { IsElement tree.now.root parent }
     requires node { IsChild tree.now.root parent node }
     requires numbers { AreNumbers tree.now.root numbers.old.items }
+    requires counting { IsCountingOrNone tree.now.root counting.old }
     ensures number { IfOk result (λ number. number ≡ spec.number_of tree.now.root node) }
     ensures numbers { OnOk result (AreNumbers tree.now.root numbers.new.items) }
+    ensures counting { IsCountingOrNone tree.now.root counting.new }
 {
     if let Some(number) = kept(numbers, node) {
         return Ok(number);
     }
-    if let Some(number) = counted(tree, parent, node) {
+    let mut first = before_children(tree, parent, tree.name(node));
+    if let Some(number) = count_to(tree, &mut first, node) {
+        *counting = Some(first);
         return Ok(number);
     }
     number_children(alloc, tree, parent, numbers)?;
@@ -40,36 +45,6 @@ pub(crate) fn number_of(
         Some(number) => Ok(number),
         None => unreachable!(),
     }
-}
-
-/// The number of an element that is one of the first children of the other one.
-fn counted(tree: &DocTree, parent: NodeRef, node: NodeRef) -> Option<u32>
-    requires parent { IsElement tree.now.root parent }
-    requires node { IsChild tree.now.root parent node }
-    ensures { IfSome result (λ number. number ≡ spec.number_of tree.now.root node) }
-{
-    let name = ElementName::new(tree.name(node));
-    let mut number = 1;
-    let mut link = tree.first_child(parent);
-    for _ in 0..FEW {
-        let Some(child) = link else {
-            return None;
-        };
-        if child.0 == node.0 {
-            return Some(number);
-        }
-        number += count_if(tree.is_named(child, &name));
-        link = tree.next(child);
-    }
-    None
-}
-
-/// One, where it counts.
-fn count_if(counts: bool) -> u32
-    ensures one { result ≡ cond counts 1 0 }
-    ensures few { result ≤ 1 }
-{
-    if counts { 1 } else { 0 }
 }
 
 /// Finds the numbers of all elements that are children of an element.

@@ -3,14 +3,12 @@ use Rattle.std.proofs.Common.{◌≡◌, ◌++◌, ℕ, List, drop, map}
 use Rattle.ordered_tree.specs.Numbered.{plain}
 use Rattle.path_nodes.specs.References.{element_of}
 use Rattle.element_lines.specs.Lines.{element_line}
-use Rattle.element_lines.specs.steps.Leading.{IsLeading}
-use Rattle.element_lines.specs.steps.Numbers.{AreNumbers}
+use Rattle.element_lines.specs.steps.Known.{IsKnown}
 use Rattle.element_lines.proofs.names.push_names.Given as goal
 
 abbrev pub invariant-loop-node : goal.invariant-loop-node
 invariant-loop-node l = record {
-  leading : IsLeading l.document l.tree.root l.leading;
-  numbers : AreNumbers l.tree.root l.numbers.items;
+  known : IsKnown l.document l.tree.root l.known;
   lines : l.lines ++ map (λ r. element_line l.document (plain l.tree.root) (element_of l.tree.root r)) (drop l.node-index l.nodes)
       ≡ l.initial.lines ++ map (λ r. element_line l.document (plain l.tree.root) (element_of l.tree.root r)) l.nodes;
   kept : (more : List (List ℕ)) × (l.lines ≡ l.initial.lines ++ more);
