@@ -82,9 +82,6 @@ module _ (ids : List ℕ) (at first end : ℕ) (rows before front back behind : 
     | inr further ↦ further
   ]
 
-  pub around-end : IsAround ids at first end rows before front back behind → end ≤ length rows
-  around-end around = omega (arith, around.end_is, ap length around.rows_are, length-append before (front ++ (back ++ behind)), length-append front (back ++ behind), length-append back behind)
-
   pub put-around : (place : ℕ) (new : List Row) → IsAround ids at first end rows before front back behind → place ≡ length before + length front →
       with_rows rows place new ≡ before ++ (front ++ (new ++ (back ++ behind)))
   put-around place new around is =

@@ -1,22 +1,19 @@
 -- Ascending terms, and whether a term is one of them.
-use Rattle.std.proofs.Common.{◌≡◌, ℕ, ◌<◌, ◌≤◌, suc, zero, Bool, true, false, cond, nat_lt, ◌||◌, ◌==◌, List, [], ◌∷◌, ◌++◌, length, drop, get_or, refl, ap, sym, ◌∙◌, arith, inl, inr, true≢false}
+use Rattle.std.proofs.Common.{◌≡◌, ℕ, ◌<◌, ◌≤◌, suc, zero, true, false, cond, nat_lt, ◌||◌, ◌==◌, List, [], ◌∷◌, ◌++◌, length, drop, get_or, refl, ap, sym, ◌∙◌, arith, inl, inr, true≢false}
 use Rattle.std.proofs.lemmas.Bool.{and_parts, and_from, or_cases, or_right, or_left, ltb-true, lt-ltb, eqb-true, eq-eqb, ne_eqb, cases_eq, cond_both, false_from_ne_true, eqb-false, ltb-false}
 use Rattle.std.proofs.lemmas.List.Folds.{list_any-append}
 use Rattle.ft_base.specs.Places.{is_ascending}
-use Rattle.ft_base.proofs.Truth.{or_swap, or_again}
+use Rattle.ft_base.proofs.Truth.{or_swap, or_again, or_other}
 use Rattle.doc_index.specs.Terms.{has, with_term, terms_of}
 
 pub has-append : (t : ℕ) (xs ys : List ℕ) → has t (xs ++ ys) ≡ (has t xs || has t ys)
 has-append t xs ys = list_any-append (λ other. other == t) xs ys
 
-pub or-skip : (a b : Bool) → a ≡ false → (a || b) ≡ b
-or-skip a b fails = ap (λ x. x || b) fails
-
 pub has-head : (x t : ℕ) (xs : List ℕ) → x ≡ t → has t (x ∷ xs) ≡ true
 has-head x t xs same = or_left (x == t) (has t xs) (eq-eqb x t same)
 
 pub has-other : (x t : ℕ) (xs : List ℕ) → (x ≡ t → ⊥) → has t (x ∷ xs) ≡ has t xs
-has-other x t xs other = or-skip (x == t) (has t xs) (ne_eqb x t other)
+has-other x t xs other = or_other (x == t) (has t xs) (ne_eqb x t other)
 
 pub rest-ascending : (x : ℕ) (xs : List ℕ) → is_ascending (x ∷ xs) ≡ true → is_ascending xs ≡ true
 rest-ascending x [] up = refl

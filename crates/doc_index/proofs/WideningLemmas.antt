@@ -1,9 +1,9 @@
 -- Terms that are merged into those of an index, and terms that go.
-use Rattle.std.proofs.Common.{◌≡◌, ◌≢◌, ℕ, ◌+◌, ◌<◌, ◌≤◌, suc, zero, Bool, true, false, cond, nat_lt, ◌&&◌, ◌||◌, ◌==◌, List, [], ◌∷◌, ◌++◌, length, get_or, take, map, filter, Some, refl, ap, sym, ◌∙◌, arith, append-nil, length-append, inl, inr, true≢false}
+use Rattle.std.proofs.Common.{◌≡◌, ◌≢◌, ℕ, ◌+◌, ◌<◌, ◌≤◌, suc, zero, Bool, true, false, cond, nat_lt, ◌&&◌, ◌||◌, ◌==◌, List, [], ◌∷◌, ◌++◌, length, get_or, take, map, filter, refl, ap, sym, ◌∙◌, arith, append-nil, length-append, inl, inr, true≢false}
 use Rattle.std.proofs.Math.Bool.{and-false, or-false}
 use Rattle.std.proofs.lemmas.Bool.{and_parts, or_cases, or_left, or_right, eqb-true, cases_eq, cases_lt, lt-ltb, le-ltb, false_from_ne_true}
 use Rattle.std.proofs.lemmas.List.{take_more, take_all, map_push, length-map}
-use Rattle.ft_base.specs.Places.{is_ascending, last_place}
+use Rattle.ft_base.specs.Places.{is_ascending}
 use Rattle.postings.specs.declared.row.Row.{Row}
 use Rattle.shared_list.specs.Blocks.{joined, start_of, starts_from}
 use Rattle.shared_list.proofs.StartLemmas.{push-starts, start-read, same-length}
@@ -27,21 +27,6 @@ ascending-push (y ∷ xs) x up below =
       | inl old ↦ first-below y xs up t old
       | inr new ↦ omega (arith, eqb-true x t (sym (has-single t x) ∙ new), below y (has-head y y xs refl))
     ]) (ascending-push xs x (rest-ascending y xs up) (λ t there. below t (or_right (y == t) (has t xs) there)))
-
--- the last of an ascending list that isn't this term, where none is greater
-pub below-last : (xs : List ℕ) (x : ℕ) → is_ascending xs ≡ true → AreUpTo x xs → last_place xs ≢ Some x → (t : ℕ) → has t xs ≡ true → t < x
-below-last [] x up most other t there = absurd (true≢false (sym there))
-below-last (y ∷ []) x up most other t there =
-    let is : y ≡ t = eqb-true y t (sym (has-single t y) ∙ there) in
-    let apart : (y ≡ x) → ⊥ = λ same. other (ap Some same) in
-    let le : t ≤ x = most t there in
-    elim (cases_eq y x) [ inl same ↦ absurd (apart same) | inr differs ↦ elim (cases_lt t x) [ inl below ↦ below | inr above ↦ absurd (differs (omega (arith, is, le, above))) ] ]
-below-last (y ∷ z ∷ xs) x up most other t there =
-    let far = below-last (z ∷ xs) x (rest-ascending y (z ∷ xs) up) (λ u inside. most u (or_right (y == u) (has u (z ∷ xs)) inside)) other in
-    elim (or_cases (y == t) (has t (z ∷ xs)) there) [
-      | inl here ↦ omega (arith, eqb-true y t here, first-below y (z ∷ xs) up z (has-head z z xs refl), far z (has-head z z xs refl))
-      | inr further ↦ far t further
-    ]
 
 pub widening-start : (all : List Entry) (ids : List ℕ) → IsWidening all ids 0 [] [] []
 widening-start all ids = record {

@@ -1,7 +1,7 @@
 -- How counts change where the terms of a document come or go, one after the other.
-use Rattle.std.proofs.Common.{◌≡◌, ℕ, ◌+◌, ◌-◌, ◌<◌, ◌≤◌, suc, zero, Bool, true, false, ◌&&◌, ◌||◌, ◌==◌, cond, List, [], ◌∷◌, ◌++◌, length, get_or, set, take, filter, refl, ap, sym, ◌∙◌, arith, inl, inr, true≢false, append_assoc}
-use Rattle.std.proofs.lemmas.Bool.{cases_eq, cases_lt, eq-eqb, eqb-true, ne_eqb, or_cases, or_right, false_from_ne_true}
-use Rattle.std.proofs.lemmas.List.{get_or-set_same, get_or-set_other, get_or_past, take_all, take_more}
+use Rattle.std.proofs.Common.{◌≡◌, ℕ, ◌+◌, ◌-◌, ◌<◌, ◌≤◌, suc, zero, Bool, true, false, ◌&&◌, ◌||◌, ◌==◌, cond, List, [], ◌∷◌, ◌++◌, length, get_or, take, filter, refl, ap, sym, ◌∙◌, arith, inl, inr, true≢false, append_assoc}
+use Rattle.std.proofs.lemmas.Bool.{eqb-true, or_cases, or_right, false_from_ne_true}
+use Rattle.std.proofs.lemmas.List.{take_all, take_more}
 use Rattle.std.proofs.lemmas.List.Elements.{filter-append}
 use Rattle.std.proofs.lemmas.List.Folds.{list_any_more}
 use Rattle.ft_base.specs.Places.{is_ascending}
@@ -9,47 +9,6 @@ use Rattle.doc_index.specs.Terms.{has, terms_of}
 use Rattle.doc_index.proofs.TermLemmas.{first-below, rest-ascending, has-at, has-head, has-terms_of}
 use Rattle.doc_index.proofs.WideningLemmas.{has-filter}
 use Rattle.document_counts.specs.Counts.{count_of, count_with, count_without, fallen}
-
--- ---- one count
-
-pub count-zero : (counts : List ℕ) (t : ℕ) → count_of (counts ++ 0 ∷ []) t ≡ count_of counts t
-count-zero [] zero = refl
-count-zero [] (suc t) = refl
-count-zero (c ∷ counts) zero = refl
-count-zero (c ∷ counts) (suc t) = count-zero counts t
-
--- a term with a count is one of the list's
-pub counted-there : (counts : List ℕ) (t : ℕ) → 0 < count_of counts t → t < length counts
-counted-there counts t some = elim (cases_lt t (length counts)) [
-  | inl there ↦ there
-  | inr past ↦ absurd (omega (arith, some, get_or_past counts t 0 past))
-]
-
-set-count : (counts : List ℕ) (at y t : ℕ) → at < length counts → count_of (set counts at y) t ≡ cond (at == t) y (count_of counts t)
-set-count counts at y t there = elim (cases_eq at t) [
-  | inl same ↦
-      ap (λ k. get_or (set counts at y) k 0) (sym same) ∙ get_or-set_same counts at y 0 there ∙ sym (ap (λ b. cond b y (count_of counts t)) (eq-eqb at t same))
-  | inr other ↦
-      get_or-set_other counts at t y 0 (λ same. other (sym same)) ∙ sym (ap (λ b. cond b y (count_of counts t)) (ne_eqb at t other))
-]
-
-one_more : (b : Bool) (y n : ℕ) → (b ≡ true → y ≡ n + 1) → cond b y n ≡ n + cond b 1 0
-one_more true y n is = is refl
-one_more false y n is = omega arith
-
-one_less : (b : Bool) (y n : ℕ) → (b ≡ true → y ≡ n - 1) → cond b y n ≡ n - cond b 1 0
-one_less true y n is = is refl
-one_less false y n is = omega arith
-
-pub count-raised : (counts : List ℕ) (at y t : ℕ) → at < length counts → y ≡ count_of counts at + 1 → count_of (set counts at y) t ≡ count_of counts t + cond (at == t) 1 0
-count-raised counts at y t there is =
-    set-count counts at y t there ∙ one_more (at == t) y (count_of counts t) (λ same. is ∙ ap (λ k. count_of counts k + 1) (eqb-true at t same))
-
-pub count-lowered : (counts : List ℕ) (at y t : ℕ) → at < length counts → y ≡ count_of counts at - 1 → count_of (set counts at y) t ≡ count_of counts t - cond (at == t) 1 0
-count-lowered counts at y t there is =
-    set-count counts at y t there ∙ one_less (at == t) y (count_of counts t) (λ same. is ∙ ap (λ k. count_of counts k - 1) (eqb-true at t same))
-
--- ---- one term after the other
 
 -- of ascending terms those in front of one are less
 pub front-below : (terms : List ℕ) (k t : ℕ) → is_ascending terms ≡ true → k < length terms → has t (take k terms) ≡ true → t < get_or terms k 0

@@ -80,9 +80,6 @@ both-front : (breaks : Breaks) (from to : ℕ) (ys : List ℕ) →
 both-front breaks from to [] = refl
 both-front breaks from to (y ∷ ys) = by (nat_lt y from) (nat_lt y to) refl refl (both-front breaks from to ys)
   where
-    in_front : List Hit → List Hit
-    in_front = take_while (λ hit. nat_lt hit.from from)
-
     by : (b c : Bool) → nat_lt y from ≡ b → nat_lt y to ≡ c
         → length (take_while (λ hit. nat_lt hit.from from) (map (word_hit breaks) (take_while (λ p. nat_lt p to) ys))) ≡ prefix_len (is_before_both from to) ys
         → length (take_while (λ hit. nat_lt hit.from from) (map (word_hit breaks) (take_while (λ p. nat_lt p to) (y ∷ ys)))) ≡ cond (b && c) (1 + prefix_len (is_before_both from to) ys) 0

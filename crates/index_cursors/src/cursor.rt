@@ -6,7 +6,7 @@ ghost use Rattle.ft_base.specs.Places.{is_ascending};
 ghost use Rattle.index_cursors.specs.SpanHits.{hits_in, is_before_both, places_up_to};
 
 use crate::BreakView;
-use crate::search::first_from;
+use crate::search::{first_from, first_place};
 use doc_index::TermPlaces;
 use ft_base::{Hit, Hits, Span, Steps};
 use std::marker::Model;
@@ -46,7 +46,7 @@ impl<'v> Cursor<'v> {
         ensures counted { steps.new ≡ steps.old + 1 }
     {
         steps.tick();
-        let first = first_from(&places, 0, span.from);
+        let first = first_place(&places, span.from);
         Cursor {
             places,
             breaks,
@@ -56,8 +56,8 @@ impl<'v> Cursor<'v> {
         }
     }
 
-    /// Makes it the cursor that `new` makes, and counts one step. Where all places in front of the one at which it
-    /// stands are in front of the new span, as in a later span of the same document, it searches on from there.
+    /// Makes it the cursor that `new` makes, and counts one step. It searches on, or back, from the place at which it
+    /// stands, so that a span near the last one of the same document is found soon.
     pub fn aim<L: Ledger>(
         &mut self,
         places: TermPlaces<'v>,

@@ -38,11 +38,6 @@ inside_span from place to result at order inside is =
     let first = found.first in
     record { first = omega (arith, first, order); some = found.some; last = found.last }
 
--- it is the first of those that were left, and the others are left behind it
-pub found_left : (tell : Spot → Hit) (before : List Spot) (left : Spot → List Spot) (result : Option Spot) (at : Spot) (hit : Hit)
-    → before ≡ from_found left result → result ≡ Some at → hit ≡ tell at → map tell before ≡ hit ∷ map tell (left at)
-found_left tell before left result at hit spots is told = ap (map tell) (spots ∙ ap (from_found left) is) ∙ ap (λ h. h ∷ map tell (left at)) (sym told)
-
 pub none_left : (tell : Spot → Hit) (before : List Spot) (left : Spot → List Spot) (result : Option Spot)
     → before ≡ from_found left result → result ≡ None → map tell before ≡ []
 none_left tell before left result spots is = ap (map tell) (spots ∙ ap (from_found left) is)

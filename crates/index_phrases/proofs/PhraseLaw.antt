@@ -1,5 +1,5 @@
 -- The hits of a phrase over an index are those among the tokens of the span.
-use Rattle.std.proofs.Common.{◌≡◌, refl, ap, sym, ◌∙◌, ℕ, zero, suc, ◌+◌, ◌-◌, ◌<◌, ◌≤◌, ◌==◌, Bool, true, false, ◌&&◌, List, [], ◌∷◌, map, filter, length, take, drop, get_or, arith, get_or-drop, length-drop}
+use Rattle.std.proofs.Common.{◌≡◌, refl, ap, sym, ◌∙◌, ℕ, zero, suc, ◌+◌, ◌-◌, ◌<◌, ◌≤◌, ◌==◌, Bool, true, ◌&&◌, List, [], ◌∷◌, map, filter, length, take, drop, get_or, arith, get_or-drop, length-drop}
 use Rattle.std.specs.List.{list_any}
 use Rattle.std.proofs.Math.Dec.{eqb-zero-suc, eqb-suc-zero, eqb-suc-suc}
 use Rattle.std.proofs.lemmas.List.{length-map}
@@ -7,6 +7,7 @@ use Rattle.ft_base.specs.declared.hit.Hit.{Hit}
 use Rattle.ft_base.specs.declared.options.Options.{Options}
 use Rattle.ft_base.specs.declared.span.Span.{Span}
 use Rattle.ft_base.specs.declared.token.Token.{Token}
+use Rattle.ft_base.proofs.Truth.{and_swap}
 use Rattle.all_matches.specs.Counting.{begins_as}
 use Rattle.all_matches.specs.Hits.{Interval, hit_on, hits, intervals, passes_item, sentence_at, paragraph_at, stands_as, tokens_in}
 use Rattle.all_matches.specs.Variants.{Item, Lexicon, variants}
@@ -26,11 +27,6 @@ use Rattle.index_phrases.proofs.TermPlaces.{wanted_law}
 -- ---- items on the front of some tokens
 
 module _ {X : Type 0} (passes : X → Token → Bool) where
-  swapped : (a b c : Bool) → (a && (b && c)) ≡ (b && (a && c))
-  swapped true b c = refl
-  swapped false true c = refl
-  swapped false false c = refl
-
   -- a list of items stands on the front of its own length alone
   pub front_stands : (items : List X) (tokens : List Token) (k : ℕ) → k ≤ length tokens → stands_on passes items (take k tokens) ≡ ((length items == k) && begins_as passes items tokens)
   front_stands [] tokens zero h = refl
@@ -40,7 +36,7 @@ module _ {X : Type 0} (passes : X → Token → Bool) where
   front_stands (item ∷ items) [] (suc k) h = absurd (omega arith)
   front_stands (item ∷ items) (token ∷ tokens) (suc k) h =
       ap (λ b. passes item token && b) (front_stands items tokens k (omega arith))
-      ∙ swapped (passes item token) (length items == k) (begins_as passes items tokens)
+      ∙ and_swap (passes item token) (length items == k) (begins_as passes items tokens)
       ∙ ap (λ b. b && (passes item token && begins_as passes items tokens)) (sym (eqb-suc-suc (length items) k))
 
 -- the items of a phrase stand as all items do

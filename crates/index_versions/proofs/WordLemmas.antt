@@ -1,8 +1,7 @@
 -- Words get ids one after the other: what is named then, and which ids are known to be in the dictionary.
-use Rattle.std.proofs.Common.{◌≡◌, ℕ, ◌<◌, ◌≤◌, ◌+◌, true, false, ◌||◌, ◌==◌, List, [], ◌∷◌, ◌++◌, length, map, take, get_or, refl, ap, sym, subst, ◌∙◌, arith, inl, inr}
-use Rattle.std.specs.Prelude.{nat_le, nat_lt}
+use Rattle.std.proofs.Common.{◌≡◌, ℕ, ◌<◌, ◌+◌, true, ◌||◌, List, [], ◌∷◌, ◌++◌, length, map, take, get_or, refl, ap, sym, subst, ◌∙◌, arith}
 use Rattle.std.specs.Ordering.{is_eq}
-use Rattle.std.proofs.lemmas.Bool.{and_parts, or_cases, or_left, or_right, cases_Bool, eqb-true, leb-true, ltb-true, ltb-false, lt-ltb}
+use Rattle.std.proofs.lemmas.Bool.{and_parts, or_left, or_right, lt-ltb}
 use Rattle.std.proofs.lemmas.Grind.{flat_map-append}
 use Rattle.std.proofs.lemmas.List.{map-append, map_more, take_more, length-map, append-nil}
 use Rattle.std.proofs.lemmas.List.Folds.{list_all-append}
@@ -10,7 +9,7 @@ use Rattle.ft_base.proofs.Truth.{or_turned}
 use Rattle.text_forms.specs.Forms.{key_of}
 use Rattle.doc_index.specs.Terms as by_id
 use Rattle.doc_index.specs.Terms.{has}
-use Rattle.doc_index.proofs.TermLemmas.{has-append, has-head}
+use Rattle.doc_index.proofs.TermLemmas.{has-append}
 use Rattle.document_counts.specs.Counts.{count_of}
 use Rattle.index_meaning.specs.Entries.{Entry, text_cmp}
 use Rattle.index_meaning.specs.Dictionaries.{Dictionary, ids}
@@ -18,7 +17,7 @@ use Rattle.index_meaning.specs.Documents.{Leaf, leaf_of}
 use Rattle.index_meaning.specs.Index.{term_of}
 use Rattle.index_versions.specs.declared.parts.Parts.{Parts}
 use Rattle.index_versions.specs.steps.Held.{word_of, leaf_under, documents_with}
-use Rattle.index_versions.specs.steps.Naming.{all_words, are_keyed, entries_of, IsKnown, IsNamed}
+use Rattle.index_versions.specs.steps.Naming.{all_words, are_keyed, entries_of, IsNamed}
 use Rattle.index_versions.specs.steps.Sound.{IsSound}
 use Rattle.index_versions.proofs.DocumentLemmas.{same_leaves, same_map}
 
@@ -32,26 +31,6 @@ pub named_size : (given : List Entry) (named : List ℕ) (words : List (List ℕ
 named_size given named words h = sym (length-map named (word_of given)) ∙ ap length (h ∙ words_of_entries words)
 
 -- ---- no word, one word, and words behind others
-
-pub none_named : (d : Dictionary) → IsNamed d [] d []
-none_named d = record {
-  kept = λ id there. refl;
-  words = refl;
-  members = λ id. refl;
-  keyed = λ all keys. all;
-}
-
-pub one_named : (d : Dictionary) (word : List ℕ) (id : ℕ) → has id (ids d.terms) ≡ true → word_of d.given id ≡ word → IsNamed d (entries_of (word ∷ [])) d (id ∷ [])
-one_named d word id there names = record {
-  kept = λ other h. refl;
-  words = ap (λ w. w ∷ []) names;
-  members = λ other. elim (cases_Bool (id == other)) [
-    | inl same ↦
-        ap (λ n. has n (ids d.terms)) (sym (eqb-true id other same)) ∙ there ∙ sym (ap (λ b. (b || false) || has other (ids d.terms)) same)
-    | inr apart ↦ sym (ap (λ b. (b || false) || has other (ids d.terms)) apart)
-  ];
-  keyed = λ all keys. all;
-}
 
 pub both_named : (a b c : Dictionary) (es fs : List Entry) (xs ys : List ℕ) → IsNamed a es b xs → IsNamed b fs c ys → IsNamed a (es ++ fs) c (xs ++ ys)
 both_named a b c es fs xs ys first second =
@@ -113,28 +92,6 @@ module _ (old now new : Dictionary) (leaves : List Leaf) (i : ℕ) (leaf : Leaf)
       ∙ sym (take_more leaves i leaf within)
 
 -- ---- ids that are known to be in the dictionary
-
-pub known_there : (counts : List ℕ) (first id : ℕ) (d : Dictionary) → IsKnown counts first d → id < length d.given → (nat_le first id || nat_lt 0 (count_of counts id)) ≡ true
-    → has id (ids d.terms) ≡ true
-known_there counts first id d known within told = elim (or_cases (nat_le first id) (nat_lt 0 (count_of counts id)) told) [
-  | inl late ↦ known.given id (leb-true first id late) within
-  | inr counted ↦ known.counted id (ltb-true 0 (count_of counts id) counted)
-]
-
-pub known_then : (counts : List ℕ) (first n : ℕ) (old new : Dictionary) (es : List Entry) → IsKnown counts first old → IsNamed old es new (n ∷ [])
-    → ((id : ℕ) → length old.given ≤ id → id < length new.given → id ≡ n) → IsKnown counts first new
-known_then counts first n old new es known named last =
-    let stays : (id : ℕ) → has id (ids old.terms) ≡ true → has id (ids new.terms) ≡ true = λ id h.
-    named.members id ∙ or_right (has id (n ∷ [])) (has id (ids old.terms)) h in
-    record {
-      given = λ id from to. elim (cases_Bool (nat_lt id (length old.given))) [
-        | inl before ↦ stays id (known.given id from (ltb-true id (length old.given) before))
-        | inr behind ↦
-            named.members id
-            ∙ or_left (has id (n ∷ [])) (has id (ids old.terms)) (has-head n id [] (sym (last id (ltb-false id (length old.given) behind) to)))
-      ];
-      counted = λ id some. stays id (known.counted id some);
-    }
 
 pub counted_there : (parts : Parts) → IsSound parts → (id : ℕ) → 0 < count_of parts.counts id → has id (ids parts.dictionary.terms) ≡ true
 counted_there parts sound id some =

@@ -1,3 +1,4 @@
+pub mod FirstPlaces
 pub mod Examples
 pub mod Versions
 pub mod Terms

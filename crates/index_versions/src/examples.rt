@@ -6,7 +6,8 @@ ghost use Rattle.index_cursors.specs.Examples.{hit, span};
 ghost use Rattle.index_meaning.specs.Entries.{entry};
 ghost use Rattle.index_meaning.specs.Documents.{document_of, leaf_of};
 ghost use Rattle.index_meaning.specs.Examples.{greeting, short, bare};
-ghost use Rattle.index_versions.specs.Terms.{aimed_at, is_in, version_term};
+ghost use Rattle.index_versions.specs.FirstPlaces.{soonest};
+ghost use Rattle.index_versions.specs.Terms.{aimed_at, first_in, version_term};
 ghost use Rattle.index_versions.specs.Versions.{all_hits, stands_in, term_at, term_hits, terms_of};
 ghost use Rattle.index_versions.specs.steps.Held.{document_under, documents_with, held_at, ids_of_leaf, listed, listed_ids};
 ghost use Rattle.index_versions.specs.steps.Held.{nothing_held, numbers, place_behind, word_of};
@@ -30,9 +31,17 @@ pub fn terms_in_documents()
     ensures there { stands_in 0 3 (short ∷ bare ∷ []) ≡ true }
     ensures not_there { stands_in 0 5 (short ∷ bare ∷ []) ≡ false }
     ensures no_document { stands_in 0 9 (short ∷ bare ∷ []) ≡ false }
-    ensures of_its_version { is_in 3 (version_term (short ∷ bare ∷ []) 0) ≡ true }
-    ensures elsewhere { is_in 5 (version_term (short ∷ bare ∷ []) 0) ≡ false }
     ensures aimed { aimed_at 3 (span 1 2) (version_term (short ∷ bare ∷ []) 0) ≡ hit_place (hit 1 1 1 ∷ []) 0 }
+{}
+
+/// The first place of a term in a span is where a cursor stands that was aimed there; of several, the one in front of the others counts.
+pub fn first_places()
+    ensures first { first_in 3 (span 1 2) (version_term (short ∷ bare ∷ []) 0) ≡ Some 1 }
+    ensures at_the_end { first_in 3 (span 1 1) (version_term (short ∷ bare ∷ []) 0) ≡ None }
+    ensures behind { first_in 3 (span 2 9) (version_term (short ∷ bare ∷ []) 0) ≡ None }
+    ensures no_document { first_in 9 (span 1 2) (version_term (short ∷ bare ∷ []) 0) ≡ None }
+    ensures of_several { soonest (Some 5 ∷ None ∷ Some 3 ∷ Some 4 ∷ []) ≡ Some 3 }
+    ensures of_none { soonest (None ∷ None ∷ []) ≡ None }
 {}
 
 /// An id names a word, and a document over ids means what its ids name.

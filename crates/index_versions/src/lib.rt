@@ -2,7 +2,8 @@
 //! clone, and neither sees a change to the other.
 //!
 //! `version` is the type with its terms, `reading` has the calls that read a document, `changing` those that change one.
-//! `term_source` and `term_sources` aim cursors at the hits of terms, which `term_cursor` has. `word_leaf` is a text that comes in. Inside,
+//! `term_source` and `term_sources` aim cursors at the hits of terms, which `term_cursor` has, and tell the first place of a span
+//! (`first_places`). `word_leaf` is a text that comes in. Inside,
 //! `parts` is what a version is made of, `held` one of its documents, `documents` finds one, and `terms` has the terms and
 //! their ids; `words` makes words into ids, `hints` says where to look for one first, `leaves` puts leaves in and takes them
 //! out, `exchange` puts a document in the place of another, and `changes` keeps the dictionary and the counts with it.
@@ -13,6 +14,7 @@ mod changing;
 mod documents;
 pub mod examples;
 mod exchange;
+mod first_places;
 mod held;
 mod hints;
 mod leaves;
@@ -28,6 +30,7 @@ mod version;
 mod word_leaf;
 mod words;
 
+pub use first_places::sooner;
 pub use hints::WordHints;
 pub use index_cursors::{BreakView, Cursor, Every};
 pub use term_cursor::TermCursor;

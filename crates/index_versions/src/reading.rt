@@ -122,11 +122,12 @@ impl Version {
     {
         let held = held(&self.parts, doc);
         let id = term_id(&self.parts, term);
-        let stands = held.index().places(id).len() > 0;
+        let places = held.index().places(id);
+        let stands = !places.is_empty();
         FoundTerm {
             doc,
             held,
-            id,
+            places,
             stands,
         }
     }

@@ -1,8 +1,11 @@
 ghost use Rattle.std.specs.Prelude.{◌≡◌, ◌+◌, ◌++◌, ◌∷◌, [], true, length, map, OnErr, OnOk};
 ghost use Rattle.std.specs.List.{All, list_any};
 ghost use Rattle.index_meaning.specs.Documents.{has_document};
-ghost use Rattle.index_versions.specs.Terms.{aimed_at, is_in};
+ghost use Rattle.index_versions.specs.FirstPlaces.{soonest};
+ghost use Rattle.index_versions.specs.Terms.{aimed_at, first_in};
+ghost use Rattle.index_versions.specs.Versions.{stands_in};
 
+use crate::first_places::sooner;
 use crate::term_cursor::TermCursor;
 use crate::term_source::TermSource;
 use ft_base::{DocId, Memory, Span, Steps};
@@ -65,11 +68,20 @@ impl<'v> TermSources<'v> {
         documents
     }
 
-    /// Whether one of them stands in the document. In one that isn't there none does.
-    pub fn some_stands_in(&self, doc: DocId) -> bool
-        ensures { result ≡ list_any (is_in doc.0) self.now }
+    /// The first place of one of them in the span of the document, and `None` where none has one there.
+    pub fn first_in(&self, doc: DocId, span: Span) -> Option<u32>
+        ensures { result ≡ soonest (map (first_in doc.0 span) self.now) }
     {
-        one_stands_in(&self.sources, doc)
+        first_of(&self.sources, doc, span)
+    }
+
+    /// Looks each of them up in the document, as `TermSource::look_up` does: who asks much of one document looks each term up
+    /// there once. Whether one of them stands there.
+    pub fn look_up(&mut self, doc: DocId) -> bool
+        ensures says { result ≡ list_any (λ source. stands_in source.term doc.0 source.version) self.old }
+        ensures same { self.new ≡ self.old }
+    {
+        look_all_up(&mut self.sources, doc)
     }
 
     /// Aims each of the cursors at the places of the term of its number, as `TermSource::aim` does.
@@ -90,15 +102,26 @@ impl<'v> TermSources<'v> {
     }
 }
 
-fn one_stands_in(sources: &Vec<TermSource<'_>>, doc: DocId) -> bool
-    ensures { result ≡ list_any (is_in doc.0) sources.now.items }
+fn first_of(sources: &Vec<TermSource<'_>>, doc: DocId, span: Span) -> Option<u32>
+    ensures { result ≡ soonest (map (first_in doc.0 span) sources.now.items) }
 {
+    let mut first = None;
     for source in sources {
-        if source.stands_in(doc) {
-            return true;
-        }
+        first = sooner(first, source.first_in(doc, span));
     }
-    false
+    first
+}
+
+fn look_all_up(sources: &mut Vec<TermSource<'_>>, doc: DocId) -> bool
+    ensures says { result ≡ list_any (λ source. stands_in source.term doc.0 source.version) sources.old.items }
+    ensures same { sources.new.items ≡ sources.old.items }
+{
+    let mut one = false;
+    for number in 0..sources.len() {
+        let stands = sources[number].look_up(doc);
+        one = one || stands;
+    }
+    one
 }
 
 fn aim_all<'v, L: Ledger>(

@@ -169,7 +169,15 @@ fn stands_at<L: Ledger>(
     if aimed.here().is_some() {
         return false;
     }
-    if !source.stands_in(doc) {
+    if source.first_in(doc, whole) != Some(place) {
+        return false;
+    }
+    if source.first_in(doc, behind).is_some() {
+        return false;
+    }
+    let mut asked = TermSource::new(version, number);
+    asked.look_up(doc);
+    if asked.first_in(doc, whole) != Some(place) {
         return false;
     }
     first == place

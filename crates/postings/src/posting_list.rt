@@ -1,5 +1,6 @@
 ghost use Rattle.std.specs.Prelude.{◌≡◌, ◌≤◌, ◌<◌, ◌+◌, [], insert, remove, length, slice_index_or, IfOk, OnErr, OnOk};
 ghost use Rattle.postings.specs.Places.{at_place};
+ghost use Rattle.shared_list.specs.Blocks.{IsRun};
 
 use crate::{Row, RowCursor};
 use ft_base::{Memory, Steps};
@@ -60,6 +61,24 @@ impl PostingList {
         *self.rows.get(at)
     }
 
+    /// The rows from that place on, as far as they stand in one block: who reads many that stand near each other finds their
+    /// block once. No contract says how many they are.
+    pub fn rows_from(&self, at: usize) -> &[Row]
+        requires { at ≤ length self.now }
+        ensures { IsRun self.now at result.now }
+    {
+        let Some((start, rows)) = self.rows.block(block_of(&self.rows, at)) else {
+            return &[];
+        };
+        if start > at {
+            return &[];
+        }
+        if at - start > rows.len() {
+            return &[];
+        }
+        &rows[at - start..]
+    }
+
     /// Puts a row at that place, counted from 0, in front of the one that is there. Counts one row, also where
     /// memory runs out and the list stays as it was.
     pub fn put_row<L: Ledger>(
@@ -95,5 +114,28 @@ impl PostingList {
         ensures { result ≡ at_place self.now 0 }
     {
         RowCursor::new(self)
+    }
+}
+
+/// The number of the block in which the place is, found by halves.
+fn block_of(rows: &SharedList<Row, BLOCK_ROWS>, at: usize) -> usize {
+    let mut low = 0;
+    let mut high = rows.block_count();
+    while high.saturating_sub(low) > 1 {
+        let middle = low + (high - low) / 2;
+        if starts_behind(rows, middle, at) {
+            high = middle;
+        } else {
+            low = middle;
+        }
+    }
+    low
+}
+
+/// Whether the block of that number, if there is one, starts behind the place.
+fn starts_behind(rows: &SharedList<Row, BLOCK_ROWS>, number: usize, at: usize) -> bool {
+    match rows.block(number) {
+        Some((start, _)) => start > at,
+        None => true,
     }
 }

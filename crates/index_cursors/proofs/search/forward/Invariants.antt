@@ -10,4 +10,4 @@ invariant-loop-low l = record {
 }
 
 abbrev pub decreases-loop-low : goal.decreases-loop-low
-decreases-loop-low l = l.len - l.low
+decreases-loop-low l = l.end - l.low

@@ -8,7 +8,7 @@ use Rattle.doc_index.proofs.term_places.TermPlaces.is_empty.Goals as goal
 pub returns : goal.returns
 returns c =
     let inside = c.self.inside in
-    let count : inside.run.end - inside.run.first ≡ length c.args.self.now = run-length inside.leaves.now inside.rows.now inside.run.term inside.run.first inside.run.end c.self.invariant ∙ ap length c.self.view_is in (
+    let count : inside.run.end - inside.run.first ≡ length c.args.self.now = run-length inside.leaves.now inside.rows.now inside.run.term inside.run.first inside.run.end c.self.invariant.0 ∙ ap length c.self.view_is in (
       λ same. nil_from_length c.args.self.now (omega (arith, count, eqb-true inside.run.end inside.run.first same)),
-      λ none. eq-eqb inside.run.end inside.run.first (omega (arith, count, ap length none, c.self.invariant.order)),
+      λ none. eq-eqb inside.run.end inside.run.first (omega (arith, count, ap length none, c.self.invariant.0.order)),
     )
