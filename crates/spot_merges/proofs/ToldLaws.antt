@@ -1,0 +1,115 @@
+-- Phrases whose hits are told of spots of a span, in the span's own numbers.
+use Rattle.std.proofs.Common.{◌≡◌, refl, ap, ◌∙◌, ℕ, suc, ◌+◌, ◌-◌, ◌==◌, Bool, true, ◌&&◌, not, List, [], ◌∷◌, map, arith}
+use Rattle.std.specs.Prelude.{nat_le, nat_lt}
+use Rattle.std.specs.List.{list_all, list_any}
+use Rattle.std.proofs.lemmas.Bool.{and_from, and_parts, le-leb, lt-ltb}
+use Rattle.std.proofs.lemmas.Bool.Decides.{nat_tests}
+use Rattle.std.proofs.lemmas.List.Folds.{list_all-map}
+use Rattle.ft_base.specs.declared.hit.Hit.{Hit}
+use Rattle.ft_base.specs.declared.span.Span.{Span}
+use Rattle.all_matches.specs.Boolean.{satisfied}
+use Rattle.all_matches.specs.Ways.{apart, matches_of, phrase, through_filter}
+use Rattle.all_matches.proofs.ListTests.{list_any-map}
+use Rattle.place_merges.specs.Places.{Wanted}
+use Rattle.place_merges.specs.Spots.{some_at}
+use Rattle.place_merges.specs.declared.spot.Spot.{Spot}
+use Rattle.spot_merges.specs.Apart.{hit_lies_within, lies_within, some_apart}
+use Rattle.spot_merges.specs.Edges.{edge_filter, hit_is_at, is_at, spots_of}
+use Rattle.spot_merges.specs.Phrases.{is_hit, lies_inside}
+use Rattle.spot_merges.specs.declared.edge.Edge.{Edge}
+use Rattle.spot_merges.specs.declared.edge.Edge.TheVariants.{Start, End, Both}
+use Rattle.spot_merges.proofs.HitLaws.{apart_law, edge_law}
+use Rattle.spot_merges.proofs.SpotRanges.{kept_lie, lies_in, lying}
+use Rattle.spot_merges.proofs.SpotTests.{all_on, any_on}
+
+module _ (span : Span) where
+  abbrev offset : ℕ
+  offset = span.from - 1
+
+  abbrev own : Span
+  own = record { from = span.from - offset; to = span.to - offset }
+
+  -- the hit on a spot
+  pub record IsTold (hit : Hit) (at : Spot) : Type 0 where
+    pub from : hit.from ≡ at.place - offset
+    pub to : hit.to ≡ (at.place + (at.words - 1)) - offset
+    pub whole : hit.whole ≡ true
+
+  abbrev lies : Spot → Bool
+  lies at = lies_in span.from span.to at
+
+  module _ (at : Spot) (is : lies at ≡ true) (hit : Hit) (told : IsTold hit at) where
+    hit_inside : lies_inside own hit ≡ true
+    hit_inside =
+        let where_it_is = lying span.from span.to at is in
+        let low = where_it_is.0 in
+        let some = where_it_is.1.0 in
+        let high = where_it_is.1.1 in
+        let from = told.from in
+        let to = told.to in
+        and_from (is_hit hit) (nat_le own.from hit.from && (nat_lt hit.to own.to && hit.whole)) (le-leb hit.from hit.to (omega (arith, from, to, low, some)))
+        (and_from (nat_le own.from hit.from) (nat_lt hit.to own.to && hit.whole) (le-leb own.from hit.from (omega (arith, from, low)))
+        (and_from (nat_lt hit.to own.to) hit.whole (lt-ltb hit.to own.to (omega (arith, to, low, some, high))) told.whole))
+
+    starts : (hit.from == own.from) ≡ (at.place == span.from)
+    starts =
+        let where_it_is = lying span.from span.to at is in
+        grind (arith, nat_tests, where_it_is.0, told.from)
+
+    ends : (suc hit.to == own.to) ≡ (at.place + at.words == span.to)
+    ends =
+        let where_it_is = lying span.from span.to at is in
+        grind (arith, nat_tests, where_it_is.0, where_it_is.1.0, where_it_is.1.1, told.to)
+
+    at_same : (edge : Edge) → hit_is_at edge own hit ≡ is_at edge span at
+    at_same Start = starts
+    at_same End = ends
+    at_same Both = λ i. starts i && ends i
+
+  within_same : (a b : Spot) → lies a ≡ true → lies b ≡ true → (one other : Hit) → IsTold one a → IsTold other b → hit_lies_within one other ≡ lies_within a b
+  within_same a b first second one other told also =
+      let left = lying span.from span.to a first in
+      let right = lying span.from span.to b second in
+      let begins : nat_le other.from one.from ≡ nat_le b.place a.place = grind (arith, nat_tests, left.0, right.0, told.from, also.from) in
+      let ends : nat_le one.to other.to ≡ nat_le (a.place + a.words) (b.place + b.words) =
+      grind (arith, nat_tests, left.0, left.1.0, right.0, right.1.0, told.to, also.to) in
+      λ i. begins i && ends i
+
+  -- the spots of a phrase, as far as they lie in the span
+  all_inside : (tell : Spot → Hit) → ((at : Spot) → IsTold (tell at) at) → (spots : List Spot) → list_all lies spots ≡ true → list_all (lies_inside own) (map tell spots) ≡ true
+  all_inside tell told [] h = refl
+  all_inside tell told (at ∷ spots) h =
+      let parts = and_parts (lies at) (list_all lies spots) h in
+      λ i. hit_inside at parts.0 (tell at) (told at) i && all_inside tell told spots parts.1 i
+
+  all_hits : (tell : Spot → Hit) → ((at : Spot) → IsTold (tell at) at) → (spots : List Spot) → list_all lies spots ≡ true → list_all is_hit (map tell spots) ≡ true
+  all_hits tell told [] h = refl
+  all_hits tell told (at ∷ spots) h =
+      let parts = and_parts (lies at) (list_all lies spots) h in
+      let one = and_parts (is_hit (tell at)) (nat_le own.from (tell at).from && (nat_lt (tell at).to own.to && (tell at).whole)) (hit_inside at parts.0 (tell at) (told at)) in
+      λ i. one.0 i && all_hits tell told spots parts.1 i
+
+  -- a phrase at an edge
+  pub told_edge : (tell : Spot → Hit) → ((at : Spot) → IsTold (tell at) at) → (edge : Edge) (variants : List (List Wanted))
+      → satisfied (matches_of own (through_filter (phrase (map tell (spots_of span variants))) (edge_filter edge))) ≡ list_any (is_at edge span) (spots_of span variants)
+  told_edge tell told edge variants =
+      let spots = spots_of span variants in
+      let lie = kept_lie (some_at span.to variants) span.from span.to in
+      edge_law edge own (map tell spots) (all_inside tell told spots lie)
+      ∙ list_any-map (hit_is_at edge own) tell spots
+      ∙ any_on lies (λ at. hit_is_at edge own (tell at)) (is_at edge span) (λ at h. at_same at h (tell at) (told at) edge) spots lie
+
+  -- a phrase apart from another one
+  pub told_apart : (tell also : Spot → Hit) → ((at : Spot) → IsTold (tell at) at) → ((at : Spot) → IsTold (also at) at) → (left right : List (List Wanted))
+      → satisfied (matches_of own (apart (phrase (map tell (spots_of span left))) (phrase (map also (spots_of span right))))) ≡ some_apart (spots_of span left) (spots_of span right)
+  told_apart tell also told likewise left right =
+      let first = spots_of span left in
+      let second = spots_of span right in
+      let lie = kept_lie (some_at span.to left) span.from span.to in
+      let others = kept_lie (some_at span.to right) span.from span.to in
+      apart_law own (map tell first) (map also second) (all_hits tell told first lie)
+      ∙ list_any-map (λ a. list_all (λ b. not (hit_lies_within a b)) (map also second)) tell first
+      ∙ any_on lies (λ at. list_all (λ b. not (hit_lies_within (tell at) b)) (map also second)) (λ at. list_all (λ b. not (lies_within at b)) second)
+      (λ at h. list_all-map (λ b. not (hit_lies_within (tell at) b)) also second
+      ∙ all_on lies (λ b. not (hit_lies_within (tell at) (also b))) (λ b. not (lies_within at b))
+      (λ b k. ap not (within_same at b h k (tell at) (also b) (told at) (likewise b))) second others) first lie

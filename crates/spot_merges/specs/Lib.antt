@@ -1,0 +1,5 @@
+pub mod Edges
+pub mod Apart
+pub mod Phrases
+pub mod Examples
+pub mod steps

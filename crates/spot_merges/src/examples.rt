@@ -1,0 +1,56 @@
+//! Which spots stand at the edges of a span, and which lie within others, on small texts, by computation.
+#![tactic(auto, unfolding(all_matches::specs::Ways::matches_of))]
+
+ghost use Rattle.std.specs.Prelude.{◌≡◌, ◌∷◌, [], true, false};
+ghost use Rattle.std.specs.List.{list_any};
+ghost use Rattle.ft_base.specs.declared.filter.Filter.TheVariants as F;
+ghost use Rattle.all_matches.specs.Boolean.{satisfied};
+ghost use Rattle.all_matches.specs.Ways.{apart, matches_of, phrase, through_filter};
+ghost use Rattle.place_merges.specs.Spots.{spot};
+ghost use Rattle.place_merges.specs.Examples.{a, b};
+ghost use Rattle.spot_merges.specs.Apart.{some_apart};
+ghost use Rattle.spot_merges.specs.Edges.{is_at, spots_of};
+ghost use Rattle.spot_merges.specs.Examples.{hit, item};
+ghost use Rattle.spot_merges.specs.declared.edge.Edge.TheVariants as E;
+
+/// `a` stands at the places 1, 4 and 6, `b` at 2, 3 and 7.
+pub fn spots_of_spans()
+    ensures both { spots_of (record { from = 1; to = 5 }) ((a ∷ b ∷ []) ∷ (a ∷ []) ∷ []) ≡ spot 1 1 ∷ spot 1 2 ∷ spot 4 1 ∷ [] }
+    ensures cut_off { spots_of (record { from = 2; to = 7 }) ((a ∷ b ∷ []) ∷ []) ≡ [] }
+{}
+
+/// In a text of six words the first two stand at the start, the last one at the end, and all of them are the entire content.
+pub fn edges()
+    ensures first { is_at E.Start item (spot 1 2) ≡ true }
+    ensures second { is_at E.Start item (spot 2 1) ≡ false }
+    ensures last { is_at E.End item (spot 6 1) ≡ true }
+    ensures last_but_one { is_at E.End item (spot 5 1) ≡ false }
+    ensures all { is_at E.Both item (spot 1 6) ≡ true }
+    ensures all_but_the_last { is_at E.Both item (spot 1 5) ≡ false }
+    ensures all_but_the_first { is_at E.Both item (spot 2 5) ≡ false }
+{}
+
+/// A spot is covered by one that has all its words, and not by two that have them together.
+pub fn spots_apart()
+    ensures covered { some_apart (spot 2 1 ∷ []) (spot 1 2 ∷ []) ≡ false }
+    ensures next_to_it { some_apart (spot 3 1 ∷ []) (spot 1 2 ∷ []) ≡ true }
+    ensures the_same { some_apart (spot 2 2 ∷ []) (spot 2 2 ∷ []) ≡ false }
+    ensures over_its_end { some_apart (spot 2 2 ∷ []) (spot 1 2 ∷ []) ≡ true }
+    ensures over_its_first_word { some_apart (spot 1 2 ∷ []) (spot 2 2 ∷ []) ≡ true }
+    ensures by_two { some_apart (spot 2 2 ∷ []) (spot 1 2 ∷ spot 3 2 ∷ []) ≡ true }
+    ensures one_of_two { some_apart (spot 2 1 ∷ spot 4 1 ∷ []) (spot 1 2 ∷ []) ≡ true }
+    ensures no_other { some_apart (spot 2 1 ∷ []) [] ≡ true }
+    ensures none { some_apart [] (spot 1 2 ∷ []) ≡ false }
+{}
+
+/// Hits under the filters and `not in`, by all their Matches: as the spots have it.
+pub fn hits_at_edges_and_apart()
+    ensures at_start { satisfied (matches_of item (through_filter (phrase (hit 1 2 ∷ hit 4 5 ∷ [])) F.AtStart)) ≡ true }
+    ensures not_at_end { satisfied (matches_of item (through_filter (phrase (hit 1 2 ∷ hit 4 5 ∷ [])) F.AtEnd)) ≡ false }
+    ensures at_end { satisfied (matches_of item (through_filter (phrase (hit 5 6 ∷ [])) F.AtEnd)) ≡ true }
+    ensures entire { satisfied (matches_of item (through_filter (phrase (hit 1 6 ∷ [])) F.EntireContent)) ≡ true }
+    ensures in_two_parts { satisfied (matches_of item (through_filter (phrase (hit 1 3 ∷ hit 4 6 ∷ [])) F.EntireContent)) ≡ false }
+    ensures within { satisfied (matches_of item (apart (phrase (hit 2 2 ∷ [])) (phrase (hit 1 2 ∷ [])))) ≡ false }
+    ensures over_the_end { satisfied (matches_of item (apart (phrase (hit 2 3 ∷ [])) (phrase (hit 1 2 ∷ [])))) ≡ true }
+    ensures by_two { satisfied (matches_of item (apart (phrase (hit 2 3 ∷ [])) (phrase (hit 1 2 ∷ hit 3 4 ∷ [])))) ≡ true }
+{}

@@ -1,0 +1,24 @@
+//! What spots have to do with `at start`, `at end`, `entire content` and `not in`.
+
+ghost use Rattle.std.specs.Prelude.{◌≡◌, List, true};
+ghost use Rattle.std.specs.List.{list_all, list_any};
+ghost use Rattle.ft_base.specs.declared.hit.Hit.{Hit};
+ghost use Rattle.ft_base.specs.declared.span.Span.{Span};
+ghost use Rattle.all_matches.specs.Boolean.{satisfied};
+ghost use Rattle.all_matches.specs.Ways.{apart, matches_of, phrase, through_filter};
+ghost use Rattle.spot_merges.specs.Apart.{some_hit_apart};
+ghost use Rattle.spot_merges.specs.Edges.{edge_filter, hit_is_at};
+ghost use Rattle.spot_merges.specs.Phrases.{is_hit, lies_inside};
+ghost use Rattle.spot_merges.specs.declared.edge.Edge.{Edge};
+
+/// Under `at start`, `at end` and `entire content`, some hit of a phrase has to stand at the edges of the text.
+pub fn edge_law()
+    ensures { (edge : Edge) (item : Span) (hits : List Hit) → list_all (lies_inside item) hits ≡ true
+        → satisfied (matches_of item (through_filter (phrase hits) (edge_filter edge))) ≡ list_any (hit_is_at edge item) hits }
+{}
+
+/// Of `not in` over two phrases, some hit of the left one has to lie within none of the right one.
+pub fn apart_law()
+    ensures { (item : Span) (left right : List Hit) → list_all is_hit left ≡ true
+        → satisfied (matches_of item (apart (phrase left) (phrase right))) ≡ some_hit_apart left right }
+{}
