@@ -1,0 +1,11 @@
+pub mod ChoiceLemmas
+pub mod AheadLemmas
+pub mod PassLemmas
+pub mod PhraseLemmas
+pub mod WithinLemmas
+pub mod NearLemmas
+pub mod OrderLemmas
+pub mod AimLemmas
+pub mod UnitLemmas
+pub mod DistanceLemmas
+pub mod ApartLemmas

@@ -1,0 +1,16 @@
+-- Small lists of hits, for the examples.
+use Rattle.std.specs.Prelude.{ℕ, true}
+use Rattle.ft_base.specs.declared.hit.Hit.{Hit}
+use Rattle.ft_base.specs.declared.span.Span.{Span}
+
+-- the hit of a phrase of that number from one word to another, in a text of one sentence
+abbrev pub hit : ℕ → ℕ → ℕ → Hit
+hit query from to = record { query = query; from = from; to = to; sent_from = 1; sent_to = 1; para_from = 1; para_to = 1; whole = true }
+
+-- one that begins in one sentence and ends in another
+abbrev pub in_sentences : ℕ → ℕ → ℕ → Hit
+in_sentences query first last = record (hit query first last) { sent_from = first; sent_to = last }
+
+-- a text of nine words
+abbrev pub item : Span
+item = record { from = 1; to = 10 }

@@ -1,0 +1,4 @@
+pub mod Choices
+pub mod Rows
+pub mod Examples
+pub mod steps
