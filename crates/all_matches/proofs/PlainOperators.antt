@@ -123,7 +123,7 @@ mutual
 
 -- ---- selections with `ftnot` in nothing but Or, And and filters
 
-plain-positive : (operator : Operator) → without_negation operator ≡ true → is_plain operator ≡ true
+pub plain-positive : (operator : Operator) → without_negation operator ≡ true → is_plain operator ≡ true
 plain-positive (phrase found) h = refl
 plain-positive (either left right) h = let parts = and_parts (without_negation left) (without_negation right) h in λ i. plain-positive left parts.0 i && plain-positive right parts.1 i
 plain-positive (together left right) h = let parts = and_parts (without_negation left) (without_negation right) h in λ i. plain-positive left parts.0 i && plain-positive right parts.1 i
@@ -161,7 +161,7 @@ mutual
 
 -- ---- ways
 
-clean-survives : (m : Match) → is_clean m ≡ survives (kept_by []) m
+pub clean-survives : (m : Match) → is_clean m ≡ survives (kept_by []) m
 clean-survives m = each m.excludes m.includes
   where
     each : (excludes includes : List Hit) → is_clean (record { includes = includes; excludes = excludes }) ≡ survives (kept_by []) (record { includes = includes; excludes = excludes })

@@ -9,17 +9,13 @@ use Rattle.std.proofs.lemmas.Bool.{eqb-true, and_parts}
 use Rattle.std.proofs.Math.Dec.{eqb-zero-suc, eqb-suc-zero, eqb-suc-suc}
 use Rattle.ft_base.specs.declared.token.Token.{Token}
 use Rattle.ft_base.specs.declared.options.Options.{Options}
+use Rattle.ft_base.proofs.Truth.{and_swap}
 use Rattle.all_matches.specs.Variants.{Item, Lexicon, variants}
 use Rattle.all_matches.specs.Hits.{passes_item, stands_as}
 use Rattle.all_matches.specs.Counting.{begins_as, places, put_variant, with_variant, by_length, hit_count}
 use Rattle.all_matches.proofs.Counting.{count_by-alike, count_by-cons, count_by-never, first_number, stands_here, prefixes, all_prefixes, hits_on_prefixes}
 
 -- ---- truth values and numbers
-
-swapped : (a b c : Bool) → (a && (b && c)) ≡ (b && (a && c))
-swapped true b c = refl
-swapped false true c = refl
-swapped false false c = refl
 
 differ_back : (m n : ℕ) → (m == n) ≡ false → (n == m) ≡ false
 differ_back m n h = grind (arith, nat_tests)
@@ -142,7 +138,7 @@ module _ (lexicon : Lexicon) (options : Options) where
   prefix_stands (item ∷ items) [] (suc k) h = absurd (omega arith)
   prefix_stands (item ∷ items) (token ∷ tokens) (suc k) h =
       ap (λ b. passes_item lexicon options item token && b) (prefix_stands items tokens k (omega arith))
-      ∙ swapped (passes_item lexicon options item token) (length items == k) (begins tokens items)
+      ∙ and_swap (passes_item lexicon options item token) (length items == k) (begins tokens items)
       ∙ ap (λ b. b && (passes_item lexicon options item token && begins tokens items)) (sym (eqb-suc-suc (length items) k))
 
   long_enough : (items : List Item) (tokens : List Token) → begins tokens items ≡ true → length items ≤ length tokens

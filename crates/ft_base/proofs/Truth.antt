@@ -1,4 +1,4 @@
--- What tests answer: a disjunct that is false, three disjuncts in another order, two tests of which each follows from the other, an equality of bytes, an option that is asked whether it has something.
+-- What tests answer: a disjunct that is false, three disjuncts or conjuncts in another order, two tests of which each follows from the other, an equality of bytes, an option that is asked whether it has something.
 use Rattle.std.proofs.Common.{◌≡◌, ℕ, Bool, true, false, ◌||◌, ◌&&◌, List, [], ◌∷◌, Option, Some, None, refl, sym, ap, ◌∙◌}
 use Rattle.std.proofs.lemmas.Bool.{eq-eqb}
 use Rattle.std.proofs.lemmas.Slice.Eq.{bytes_eq-Decides}
@@ -9,10 +9,18 @@ pub or_false : (a b : Bool) → b ≡ false → (a || b) ≡ a
 or_false true b h = refl
 or_false false b h = h
 
+pub or_other : (a b : Bool) → a ≡ false → (a || b) ≡ b
+or_other a b h = ap (λ c. c || b) h
+
 pub or_swap : (a b c : Bool) → (a || (b || c)) ≡ (b || (a || c))
 or_swap true true c = refl
 or_swap true false c = refl
 or_swap false b c = refl
+
+pub and_swap : (a b c : Bool) → (a && (b && c)) ≡ (b && (a && c))
+and_swap true b c = refl
+and_swap false true c = refl
+and_swap false false c = refl
 
 pub or_turned : (a b c : Bool) → (a || (b || c)) ≡ ((b || a) || c)
 or_turned true true c = refl

@@ -7,20 +7,20 @@ use Rattle.ft_base.specs.Lists.{is_not_empty}
 use Rattle.ft_base.specs.declared.filter.Filter.{Filter}
 use Rattle.ft_base.specs.declared.filter.Filter.TheVariants as F
 use Rattle.ft_base.specs.declared.hit.Hit.{Hit}
-use Rattle.ft_base.specs.declared.hit.Match.{Match}
 use Rattle.ft_base.specs.declared.span.Span.{Span}
 use Rattle.ft_base.specs.declared.unit.TextUnit.TheVariants.{Words, Sentences, Paragraphs}
 use Rattle.all_matches.specs.declared.window.Window.{Window}
 use Rattle.all_matches.specs.Boolean.{is_clean, satisfied, survives}
 use Rattle.all_matches.specs.Chain.{Link, kept_by}
 use Rattle.all_matches.specs.Filters.{choices, after}
-use Rattle.all_matches.specs.Ways.{Operator, phrase, either, together, apart, negated, through_filter, is_plain, matches_of, Way, clean_under, ways_of}
+use Rattle.all_matches.specs.Ways.{Operator, is_plain, matches_of, Way, clean_under, ways_of}
 use Rattle.all_matches.proofs.ListTests.{list_any-alike}
+use Rattle.all_matches.proofs.PlainOperators.{clean-survives}
 use Rattle.all_matches.proofs.WayLaws.{some_way}
 use Rattle.ft_operators.specs.declared.chain.Chain.{Chain}
 use Rattle.ft_operators.specs.declared.course.Course.{Course}
 use Rattle.ft_operators.specs.declared.node.Node.{Node}
-use Rattle.ft_operators.specs.Chains.{clean_now, links_of, outer_window, window_now}
+use Rattle.ft_operators.specs.Chains.{clean_now, links_of, window_now}
 use Rattle.ft_operators.specs.Course.{every, filtered_on, tellings, ways_on}
 use Rattle.ft_operators.specs.Phrases.{PhraseState}
 use Rattle.ft_operators.specs.Standing.{frame, includes_now}
@@ -38,19 +38,12 @@ use Rattle.ft_operators.proofs.TupleLemmas.{shown, shown_ways, kept_frame, stand
 
 -- ---- a selection is satisfied where some way is clean under no filter
 
-clean_survives : (m : Match) → is_clean m ≡ survives (kept_by []) m
-clean_survives m = each m.excludes m.includes
-  where
-    each : (excludes includes : List Hit) → is_clean (record { includes = includes; excludes = excludes }) ≡ survives (kept_by []) (record { includes = includes; excludes = excludes })
-    each [] includes = refl
-    each (hit ∷ rest) includes = refl
-
 pub satisfied_ways : (item : Span) (operator : Operator) (links : List Link) → links ≡ [] → is_plain operator ≡ true
     → list_any (clean_under (kept_by links)) (ways_on (tellings item) operator) ≡ satisfied (matches_of item operator)
 satisfied_ways item operator links none plain =
     clean_told item operator (kept_by links)
     ∙ ap (λ ls. list_any (clean_under (kept_by ls)) (ways_of item operator)) none
-    ∙ sym (list_any-alike is_clean (survives (kept_by [])) (matches_of item operator) clean_survives ∙ some_way item operator (kept_by []) plain)
+    ∙ sym (list_any-alike is_clean (survives (kept_by [])) (matches_of item operator) clean-survives ∙ some_way item operator (kept_by []) plain)
 
 -- ---- a walk that stays at its way
 
@@ -123,14 +116,6 @@ sieve_window kind item lead (way ∷ more) there =
     let below = lead_below kind (every item) lead (way ∷ more) there in
     choice_window kind way (choices_at kind (every item) way) lead (flat_map (filtered_on kind (every item)) more) below
     ∙ ap (λ cs. get_or cs lead None) (kept_choices kind (every item) (includes_now (way ∷ more)) lead below)
-
-pub no_outer : (operator : Operator) → None ≡ outer_window operator []
-no_outer (phrase found) = refl
-no_outer (either left right) = refl
-no_outer (together left right) = refl
-no_outer (apart left right) = refl
-no_outer (negated operand) = refl
-no_outer (through_filter operand kind) = refl
 
 -- a walk that shows the includes of its way
 held_now : (there : Bool) (ways : List Way) (held : List Hit) → there ≡ true → cond there (Some held) None ≡ tuple_of (cond there ways []) → (is_not_empty ways ≡ true) × (held ≡ includes_now ways)

@@ -180,21 +180,7 @@ module _ (course : Course) (left right left_now right_now : Standing) (room now_
     grown = l.grown;
   }
 
-pub sifting_starts : (course : Course) (left right : Standing) (room start : ℕ) (there : Bool) → there ≡ is_not_empty left.rest → Sifting course left right left right room room start start there
-sifting_starts course left right room start there is = record { passed = refl; same_left = refl; same_right = refl; there_now = is; kept_room = omega arith; grown = omega arith }
-
 -- ---- the right side
-
-pub trying_starts : (course : Course) (left right now : Standing) (room now_room start end : ℕ) (answer : Bool) → Moved (at_front course right) now room now_room start end answer
-    → Trying course left right left now room now_room start end none_tried answer
-trying_starts course left right now room now_room start end answer m = record {
-  same_left = refl;
-  same_right = ap frame m.stand;
-  tried = ap (λ s. tried_ways (includes_now left.rest) none_tried s.rest) m.stand;
-  there_now = m.there;
-  kept_room = m.kept_room;
-  grown = m.grown;
-}
 
 tried_more : (left : List Hit) (tried : Tried) (ways : List Way) → is_not_empty ways ≡ true
     → tried_ways left (with_includes left (includes_now ways) tried) (drop 1 ways) ≡ tried_ways left tried ways

@@ -24,24 +24,11 @@ pairs_all [] ys = refl
 pairs_all (x ∷ xs) [] = no_pairs xs
 pairs_all (x ∷ xs) (y ∷ ys) = refl
 
-pairs_on : (xs ys all : List Way) → is_not_empty xs ≡ true → is_not_empty (drop 1 ys) ≡ true → pairs_left xs (drop 1 ys) all ≡ drop 1 (pairs_left xs ys all)
-pairs_on [] ys all there on = cc
-pairs_on (x ∷ xs) [] all there on = cc
-pairs_on (x ∷ xs) (y ∷ []) all there on = cc
-pairs_on (x ∷ xs) (y ∷ z ∷ ys) all there on = refl
-
 pairs_over : (xs ys all : List Way) → is_not_empty xs ≡ true → is_not_empty ys ≡ true → is_not_empty (drop 1 ys) ≡ false → pairs_left (drop 1 xs) all all ≡ drop 1 (pairs_left xs ys all)
 pairs_over [] ys all there right over = cc
 pairs_over (x ∷ xs) [] all there right over = cc
 pairs_over (x ∷ xs) (y ∷ []) all there right over = pairs_all xs all
 pairs_over (x ∷ xs) (y ∷ z ∷ ys) all there right over = cc
-
-pairs_end : (xs ys now all : List Way) → is_not_empty xs ≡ true → is_not_empty ys ≡ true → is_not_empty (drop 1 ys) ≡ false → is_not_empty (drop 1 xs) ≡ false → pairs_left (drop 1 xs) now all ≡ drop 1 (pairs_left xs ys all)
-pairs_end [] ys now all there right over end = cc
-pairs_end (x ∷ z ∷ xs) ys now all there right over end = cc
-pairs_end (x ∷ []) [] now all there right over end = cc
-pairs_end (x ∷ []) (y ∷ z ∷ ys) now all there right over end = cc
-pairs_end (x ∷ []) (y ∷ []) now all there right over end = refl
 
 none_left : (xs ys zs all : List Way) → is_not_empty xs ≡ false → pairs_left xs ys all ≡ all_pairs xs zs
 none_left [] ys zs all none = refl
@@ -71,15 +58,6 @@ module _ (course : Course) (left right : Standing) where
   unfolding ways_on with_rest
   both_front_none none = ap (with_rest (both_of course left right)) (none_left (ways_on course left.operator) right.rest (ways_on course right.operator) (ways_on course right.operator) none)
 
-  pub both_on_right : is_not_empty left.rest ≡ true → is_not_empty ((one_on right).rest) ≡ true → both_of course left (one_on right) ≡ one_on (both_of course left right)
-  unfolding with_rest
-  both_on_right there on = ap (with_rest (both_of course left right)) (pairs_on left.rest right.rest (ways_on course right.operator) there on)
-
   pub both_on_left : is_not_empty left.rest ≡ true → is_not_empty right.rest ≡ true → is_not_empty ((one_on right).rest) ≡ false → both_of course (one_on left) (at_front course right) ≡ one_on (both_of course left right)
   unfolding with_rest
   both_on_left there second over = ap (with_rest (both_of course left right)) (pairs_over left.rest right.rest (ways_on course right.operator) there second over)
-
-  pub both_end : is_not_empty left.rest ≡ true → is_not_empty right.rest ≡ true → is_not_empty ((one_on right).rest) ≡ false → is_not_empty ((one_on left).rest) ≡ false
-      → both_of course (one_on left) (one_on right) ≡ one_on (both_of course left right)
-  unfolding with_rest
-  both_end there second over end = ap (with_rest (both_of course left right)) (pairs_end left.rest right.rest (drop 1 right.rest) (ways_on course right.operator) there second over end)

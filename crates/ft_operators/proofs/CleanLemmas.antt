@@ -1,5 +1,5 @@
 -- Looking for a way that passes a test, and whether the present way is clean, kind by kind.
-use Rattle.std.proofs.Common.{◌≡◌, refl, ap, sym, ◌∙◌, subst, ℕ, ◌+◌, ◌<◌, ◌≤◌, List, [], ◌∷◌, ◌++◌, Bool, true, false, not, ◌&&◌, ◌||◌, cond, drop, length, get_or, arith}
+use Rattle.std.proofs.Common.{◌≡◌, refl, ap, sym, ◌∙◌, subst, ℕ, ◌<◌, ◌≤◌, List, [], ◌∷◌, ◌++◌, Bool, true, false, not, ◌&&◌, ◌||◌, cond, drop, length, get_or, arith}
 use Rattle.std.specs.Prelude.{map, flat_map, Option, None, ⊤}
 use Rattle.std.specs.List.{list_any, list_all}
 use Rattle.std.proofs.lemmas.Bool.{and_parts}
@@ -10,9 +10,10 @@ use Rattle.ft_base.specs.declared.hit.Hit.{Hit}
 use Rattle.all_matches.specs.declared.window.Window.{Window}
 use Rattle.all_matches.specs.Chain.{Link, kept_by}
 use Rattle.all_matches.specs.Filters.{passes, choices}
-use Rattle.all_matches.specs.Ways.{Operator, phrase, either, together, apart, negated, through_filter, matches_of, ways_of, Way, one_hit, turned_about, by_filter, way_includes, clean_under, without_negation, is_plain, bare_match}
+use Rattle.all_matches.specs.Ways.{Operator, negated, matches_of, ways_of, Way, one_hit, turned_about, by_filter, way_includes, clean_under, without_negation, is_plain, bare_match}
 use Rattle.all_matches.proofs.BareWays.{bare_matches}
 use Rattle.all_matches.proofs.ListTests.{list_any-map}
+use Rattle.all_matches.proofs.PlainOperators.{plain-positive}
 use Rattle.ft_operators.specs.declared.course.Course.{Course}
 use Rattle.ft_operators.specs.declared.course.Windows.{Windows}
 use Rattle.ft_operators.specs.Course.{asked_for, firsts, filtered_on, ways_on}
@@ -21,12 +22,9 @@ use Rattle.ft_operators.specs.Chains.{all_kept, passes_now, clean_now, links_of,
 use Rattle.ft_operators.specs.Phrases.{PhraseState}
 use Rattle.ft_operators.specs.Standing.{Frame, Standing, frame, at_front, one_on, includes_now, one_aims}
 use Rattle.ft_operators.specs.steps.Cleaning.{Searched, Searching, MayAsk, Asked, Deciding, Decided}
-use Rattle.ft_operators.specs.steps.Forms.{phrase_of, choice_of, first_left, both_of, pairs_left, apart_of, apart_left, negation_of, negated_shape, sieve_of, sieve_left, chosen_left, choices_of, choices_at}
+use Rattle.ft_operators.specs.steps.Forms.{phrase_of, apart_of, apart_left, negation_of, negated_shape, sieve_of, sieve_left, chosen_left, choices_of, choices_at}
 use Rattle.ft_operators.specs.steps.Walking.{Gathered, IsHeld, Moved, MayGoOn}
-use Rattle.ft_operators.proofs.ApartLemmas.{apart_there}
-use Rattle.ft_operators.proofs.BothLemmas.{pairs_sides}
 use Rattle.ft_operators.proofs.ChainLemmas.{kept_refl, kept_trans}
-use Rattle.ft_operators.proofs.ChoiceLemmas.{left_there}
 use Rattle.ft_operators.proofs.CourseLemmas.{kept_told}
 use Rattle.ft_operators.proofs.SieveLemmas.{fewer, lead_below, sieve_operand_there}
 
@@ -107,14 +105,6 @@ kept_verdict kept now there mid_room new_room held may h is = held_kept kept hel
 
 -- ---- whether the present way is clean, kind by kind
 
-plain_where_none : (operator : Operator) → without_negation operator ≡ true → is_plain operator ≡ true
-plain_where_none (phrase found) h = refl
-plain_where_none (either left right) h = let parts = and_parts (without_negation left) (without_negation right) h in λ i. plain_where_none left parts.0 i && plain_where_none right parts.1 i
-plain_where_none (together left right) h = let parts = and_parts (without_negation left) (without_negation right) h in λ i. plain_where_none left parts.0 i && plain_where_none right parts.1 i
-plain_where_none (apart left right) h = h
-plain_where_none (negated operand) h = cc
-plain_where_none (through_filter operand kind) h = plain_where_none operand h
-
 -- what is asked of what a node has inside, told of the node
 pub may_inside : (inside node : Standing) (room filters hits : ℕ) → node ≡ inside → MayAsk node room filters hits → MayAsk inside room filters hits
 may_inside inside node room filters hits is may = subst (λ s. MayAsk s room filters hits) is may
@@ -142,93 +132,6 @@ asked_phrase s node chain room start is = record {
   grown = omega arith;
 }
 
-first_clean : (kept : Hit → Bool) (xs ys : List Way) → clean_now kept xs ≡ clean_now kept (first_left xs ys)
-first_clean kept [] ys = refl
-first_clean kept (x ∷ xs) ys = refl
-
-module _ (course : Course) (left right : Standing) where
-  pub may_left : (room filters hits : ℕ) → MayAsk (choice_of course false left right) room filters hits → MayAsk left room filters hits
-  may_left room filters hits may = record {
-    there = sym (left_there left.rest (ways_on course right.operator)) ∙ may.there;
-    fits = omega (arith, may.fits);
-    filters = omega (arith, may.filters);
-    hits = omega (arith, may.hits);
-  }
-
-  pub may_right : (room filters hits : ℕ) → MayAsk (choice_of course true left right) room filters hits → MayAsk right room filters hits
-  may_right room filters hits may = record {
-    there = may.there;
-    fits = omega (arith, may.fits);
-    filters = omega (arith, may.filters);
-    hits = omega (arith, may.hits);
-  }
-
-  pub may_first : (room filters hits : ℕ) → MayAsk (both_of course left right) room filters hits → MayAsk left room filters hits
-  may_first room filters hits may = record {
-    there = (pairs_sides left.rest right.rest (ways_on course right.operator) may.there).0;
-    fits = omega (arith, may.fits);
-    filters = omega (arith, may.filters);
-    hits = omega (arith, may.hits);
-  }
-
-  -- the right side, after the left one was asked
-  pub may_second : (left_now : Standing) (before after : Chain) (room new_room start end : ℕ) (answer : Bool) → MayAsk (both_of course left right) room (spare_filters before) (spare_hits before)
-      → Asked left left_now before after room new_room start end answer → MayAsk right new_room (spare_filters after) (spare_hits after)
-  may_second left_now before after room new_room start end answer may a = record {
-    there = (pairs_sides left.rest right.rest (ways_on course right.operator) may.there).1;
-    fits = omega (arith, may.fits, a.kept_room);
-    filters = omega (arith, may.filters, a.kept.filters);
-    hits = omega (arith, may.hits, a.kept.hits);
-  }
-
-  pub may_apart : (room filters hits : ℕ) → MayAsk (apart_of course left right) room filters hits → MayAsk left room filters hits
-  may_apart room filters hits may = record {
-    there = sym (apart_there left.rest (ways_on course right.operator)) ∙ may.there;
-    fits = omega (arith, may.fits);
-    filters = may.filters;
-    hits = may.hits;
-  }
-
-  pub asked_left : (left_now : Standing) (before after : Chain) (room new_room start end : ℕ) (answer : Bool) → Asked left left_now before after room new_room start end answer
-      → Asked (choice_of course false left right) (choice_of course false left_now right) before after room new_room start end answer
-  asked_left left_now before after room new_room start end answer a = record {
-    same = ap (λ s. choice_of course false s right) a.same;
-    clean = λ plain. a.clean ((and_parts (is_plain left.operator) (is_plain right.operator) plain).0) ∙ first_clean (kept_by (links_of before)) left.rest (ways_on course right.operator);
-    kept = a.kept;
-    kept_room = a.kept_room;
-    grown = a.grown;
-  }
-
-  pub asked_right : (right_now : Standing) (before after : Chain) (room new_room start end : ℕ) (answer : Bool) → Asked right right_now before after room new_room start end answer
-      → Asked (choice_of course true left right) (choice_of course true left right_now) before after room new_room start end answer
-  asked_right right_now before after room new_room start end answer a = record {
-    same = ap (choice_of course true left) a.same;
-    clean = λ plain. a.clean ((and_parts (is_plain left.operator) (is_plain right.operator) plain).1);
-    kept = a.kept;
-    kept_room = a.kept_room;
-    grown = a.grown;
-  }
-
--- the side on which the walk is
-module _ (course : Course) (second : Bool) (left right : Standing) where
-  pub may_on_left : (room filters hits : ℕ) → second ≡ false → MayAsk (choice_of course second left right) room filters hits → MayAsk left room filters hits
-  may_on_left room filters hits is may = may_left course left right room filters hits (subst (λ b. MayAsk (choice_of course b left right) room filters hits) is may)
-
-  pub may_on_right : (room filters hits : ℕ) → second ≡ true → MayAsk (choice_of course second left right) room filters hits → MayAsk right room filters hits
-  may_on_right room filters hits is may = may_right course left right room filters hits (subst (λ b. MayAsk (choice_of course b left right) room filters hits) is may)
-
-  pub asked_on_left : (left_now : Standing) (before after : Chain) (room new_room start end : ℕ) (answer : Bool) → second ≡ false → Asked left left_now before after room new_room start end answer
-      → Asked (choice_of course second left right) (choice_of course second left_now right) before after room new_room start end answer
-  asked_on_left left_now before after room new_room start end answer is a =
-      subst (λ b. Asked (choice_of course b left right) (choice_of course b left_now right) before after room new_room start end answer) (sym is)
-      (asked_left course left right left_now before after room new_room start end answer a)
-
-  pub asked_on_right : (right_now : Standing) (before after : Chain) (room new_room start end : ℕ) (answer : Bool) → second ≡ true → Asked right right_now before after room new_room start end answer
-      → Asked (choice_of course second left right) (choice_of course second left right_now) before after room new_room start end answer
-  asked_on_right right_now before after room new_room start end answer is a =
-      subst (λ b. Asked (choice_of course b left right) (choice_of course b left right_now) before after room new_room start end answer) (sym is)
-      (asked_right course left right right_now before after room new_room start end answer a)
-
 apart_clean : (kept : Hit → Bool) (xs ys : List Way) → clean_now kept xs ≡ clean_now kept (apart_left xs ys)
 apart_clean kept [] ys = refl
 apart_clean kept (x ∷ xs) ys = refl
@@ -238,46 +141,12 @@ pub asked_apart : (course : Course) (left right left_now : Standing) (before aft
 asked_apart course left right left_now before after room new_room start end answer a = record {
   same = ap (λ s. apart_of course s right) a.same;
   clean = λ plain.
-      a.clean (plain_where_none left.operator (and_parts (without_negation left.operator) (without_negation right.operator) plain).0)
+      a.clean (plain-positive left.operator (and_parts (without_negation left.operator) (without_negation right.operator) plain).0)
       ∙ apart_clean (kept_by (links_of before)) left.rest (ways_on course right.operator);
   kept = a.kept;
   kept_room = a.kept_room;
   grown = a.grown;
 }
-
-pairs_clean : (kept : Hit → Bool) (xs ys all : List Way) → is_not_empty (pairs_left xs ys all) ≡ true → (clean_now kept xs && clean_now kept ys) ≡ clean_now kept (pairs_left xs ys all)
-pairs_clean kept [] ys all there = cc
-pairs_clean kept (x ∷ xs) [] all there = cc
-pairs_clean kept (x ∷ xs) (y ∷ ys) all there = refl
-
-module _ (course : Course) (left right left_now : Standing) (before mid : Chain) (room mid_room start middle : ℕ) (first : Bool) (there : is_not_empty ((both_of course left right).rest) ≡ true)
-    (a : Asked left left_now before mid room mid_room start middle first) where
-  pub asked_first : first ≡ false → Asked (both_of course left right) (both_of course left_now right) before mid room mid_room start middle first
-  asked_first fails = record {
-    same = ap (λ s. both_of course s right) a.same;
-    clean = λ plain.
-        fails
-        ∙ ap (λ b. b && clean_now (kept_by (links_of before)) right.rest) (sym fails ∙ a.clean ((and_parts (is_plain left.operator) (is_plain right.operator) plain).0))
-        ∙ pairs_clean (kept_by (links_of before)) left.rest right.rest (ways_on course right.operator) there;
-    kept = a.kept;
-    kept_room = a.kept_room;
-    grown = a.grown;
-  }
-
-  pub asked_both : (right_now : Standing) (after : Chain) (new_room end : ℕ) (second : Bool) → first ≡ true → Asked right right_now mid after mid_room new_room middle end second
-      → Asked (both_of course left right) (both_of course left_now right_now) before after room new_room start end second
-  asked_both right_now after new_room end second holds b = record {
-    same = λ i. both_of course (a.same i) (b.same i);
-    clean = λ plain.
-        let parts = and_parts (is_plain left.operator) (is_plain right.operator) plain in
-        b.clean parts.1
-        ∙ ap (λ ls. clean_now (kept_by ls) right.rest) a.kept.links
-        ∙ ap (λ x. x && clean_now (kept_by (links_of before)) right.rest) (sym holds ∙ a.clean parts.0)
-        ∙ pairs_clean (kept_by (links_of before)) left.rest right.rest (ways_on course right.operator) there;
-    kept = kept_trans before mid after a.kept b.kept;
-    kept_room = omega (arith, a.kept_room, b.kept_room);
-    grown = omega (arith, a.grown, b.grown);
-  }
 
 -- a negated selection, wherever a walk through its operand stands
 negation_by : Course → Bool → Frame → Standing
@@ -295,9 +164,6 @@ some_kept course operator kept bare =
     kept_told course operator kept
     ∙ sym (list_any-map (λ m. list_all kept m.includes) bare_match (ways_of course.item operator))
     ∙ ap (list_any (λ m. list_all kept m.includes)) (sym (bare_matches course.item operator bare))
-
-pub may_negated : (course : Course) (there : Bool) (operand : Standing) (room filters hits : ℕ) → MayAsk (negation_of course there operand) room filters hits → operand.shape.room ≤ room
-may_negated course there operand room filters hits may = may.fits
 
 -- the walk that was gone through may be on another course
 pub asked_negated : (course : Course) (there : Bool) (operand now begun ended : Standing) (chain : Chain) (room new_room start end : ℕ) (answer : Bool) → is_not_empty ((negation_of course there operand).rest) ≡ true
@@ -361,20 +227,6 @@ module _ (course : Course) (kind : Filter) (lead : ℕ) (operand : Standing) (ro
   held_includes =
       let size = ap length none in
       g.hits operand_there (omega (arith, size, same, may.fits)) ∙ ap (λ hits. hits ++ includes_now operand.rest) none
-
-  pub held_few : length held ≤ operand.shape.room
-  held_few = let size = ap length held_includes in omega (arith, size, g.few operand_there)
-
-  pub lead_held : lead < length (asked_for course.windows (choices kind held))
-  lead_held = subst (λ hits. lead < length (asked_for course.windows (choices kind hits))) (sym held_includes) (lead_chosen kind course lead operand.rest may.there)
-
-  pub may_operand : (pushed_filters pushed_hits : ℕ) → filters ≤ pushed_filters + 1 → hits ≤ pushed_hits + length held → MayAsk operand new_room pushed_filters pushed_hits
-  may_operand pushed_filters pushed_hits few_filters few_hits = record {
-    there = operand_there;
-    fits = omega (arith, same, may.fits, g.kept_room);
-    filters = omega (arith, may.filters, few_filters);
-    hits = omega (arith, may.hits, few_hits, held_few);
-  }
 
 pub asked_filtered : (course : Course) (kind : Filter) (lead : ℕ) (operand now : Standing) (old pushed asked new : Chain) (held : List Hit) (room mid_room new_room start end : ℕ) (answer : Bool)
     → is_not_empty ((sieve_of course kind lead operand).rest) ≡ true → held ≡ includes_now operand.rest → room ≤ mid_room

@@ -1,7 +1,6 @@
 -- The frame of a node is that of the walk through it, and its shape is that of the frame.
 use Rattle.std.proofs.Common.{◌≡◌, refl, ap, sym, ◌∙◌, ℕ, ◌≤◌, true, ◌&&◌, Box, Global, arith}
 use Rattle.std.proofs.lemmas.Bool.{and_parts}
-use Rattle.ft_base.specs.declared.filter.Filter.{Filter}
 use Rattle.ft_base.specs.declared.span.Span.{Span}
 use Rattle.ft_operators.specs.declared.course.Course.{Course}
 use Rattle.ft_operators.specs.declared.node.Node.{Node, Phrase, Choice', Both', MildNot', Negated', Filtered'}
@@ -138,10 +137,3 @@ aimed_apart doc span left left_new right right_new start end a = record { framed
 pub aimed_pair : (doc : ℕ) (span : Span) (left left_new right right_new : Frame) (start mid end : ℕ) → IsAimed doc span left left_new start mid → IsAimed doc span right right_new mid end
     → AreAimed doc span left left_new right right_new start end
 aimed_pair doc span left left_new right right_new start mid end a b = record { first = a.framed; second = b.framed; grown = omega (arith, a.grown, b.grown) }
-
-pub aimed_negated : (doc : ℕ) (span : Span) (operand new : Frame) (start end : ℕ) → IsAimed doc span operand new start end → IsAimed doc span (negated_frame operand) (negated_frame new) start end
-aimed_negated doc span operand new start end a = record { framed = ap negated_frame a.framed; grown = a.grown }
-
-pub aimed_filtered : (doc : ℕ) (span : Span) (kind : Filter) (operand new : Frame) (start end : ℕ) → IsAimed doc span operand new start end
-    → IsAimed doc span (filtered_frame kind operand) (filtered_frame kind new) start end
-aimed_filtered doc span kind operand new start end a = record { framed = ap (filtered_frame kind) a.framed; grown = a.grown }

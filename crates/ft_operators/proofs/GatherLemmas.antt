@@ -1,6 +1,6 @@
 -- The includes of a way, put one after the other.
 use Rattle.std.proofs.Common.{◌≡◌, refl, ap, sym, ◌∙◌, subst, ℕ, ◌+◌, ◌≤◌, List, [], ◌∷◌, ◌++◌, Bool, true, false, length, drop, take, arith}
-use Rattle.std.specs.Prelude.{Option, Some, None, option_to_list, flat_map}
+use Rattle.std.specs.Prelude.{Option, option_to_list, flat_map}
 use Rattle.std.proofs.lemmas.List.{append_assoc, append-nil, length-append, take_at, drop_at}
 use Rattle.ft_base.specs.Lists.{is_not_empty}
 use Rattle.ft_base.specs.declared.filter.Filter.{Filter}
@@ -12,36 +12,12 @@ use Rattle.all_matches.specs.Join.{join}
 use Rattle.all_matches.specs.Ways.{Way, way_includes}
 use Rattle.ft_operators.specs.declared.course.Course.{Course}
 use Rattle.ft_operators.specs.Course.{filtered_on, ways_on}
-use Rattle.ft_operators.specs.Phrases.{PhraseState, first_hit}
 use Rattle.ft_operators.specs.Standing.{Standing, includes_now}
-use Rattle.ft_operators.specs.steps.Forms.{phrase_of, choice_of, first_left, both_of, pairs_left, apart_of, negation_of, sieve_of, sieve_left, chosen_left, choices_at}
+use Rattle.ft_operators.specs.steps.Forms.{choice_of, first_left, both_of, pairs_left, apart_of, negation_of, sieve_of, sieve_left, chosen_left, choices_at}
 use Rattle.ft_operators.specs.steps.Walking.{Gathered, IsHeld, Replaced}
 use Rattle.ft_operators.proofs.ApartLemmas.{apart_there, apart_includes}
 use Rattle.ft_operators.proofs.BothLemmas.{pairs_sides}
 use Rattle.ft_operators.proofs.SieveLemmas.{sieve_operand_there}
-
-pub gathered_phrase : (s : PhraseState) (hit : Hit) (room new_room : ℕ) (old new : List Hit) → Some hit ≡ first_hit s.rest
-    → length old ≤ length new → room ≤ new_room → (length old + 1 ≤ room → new ≡ old ++ hit ∷ []) → Gathered (phrase_of s) room new_room old new
-gathered_phrase s hit room new_room old new there from kept put = of s.rest there
-  where
-    of : (rest : List Hit) → Some hit ≡ first_hit rest → Gathered (phrase_of (record { aims = s.aims; hits = s.hits; rest = rest })) room new_room old new
-    of [] there = cc
-    of (first ∷ rest) there = record {
-      from = from;
-      kept_room = kept;
-      few = λ _. omega arith;
-      hits = λ _ fits. put fits ∙ ap (λ h. old ++ h ∷ []) (some there);
-    }
-      where
-        some : {a b : Hit} → Some a ≡ Some b → a ≡ b
-        some e = cc
-
-pub gathered_no_phrase : (s : PhraseState) (room : ℕ) (old : List Hit) → None ≡ first_hit s.rest → Gathered (phrase_of s) room room old old
-gathered_no_phrase s room old none = of s.rest none
-  where
-    of : (rest : List Hit) → None ≡ first_hit rest → Gathered (phrase_of (record { aims = s.aims; hits = s.hits; rest = rest })) room room old old
-    of [] none = record { from = omega arith; kept_room = omega arith; few = λ there. cc; hits = λ there. cc }
-    of (first ∷ rest) none = cc
 
 first_includes : (xs ys : List Way) → is_not_empty (first_left xs ys) ≡ true → (is_not_empty xs ≡ true) × (includes_now (first_left xs ys) ≡ includes_now xs)
 first_includes [] ys there = cc

@@ -1,26 +1,19 @@
 -- The ways of a phrase are its hits, one after the other.
-use Rattle.std.proofs.Common.{◌≡◌, refl, List, [], ◌∷◌, map, drop}
+use Rattle.std.proofs.Common.{◌≡◌, refl, List, [], ◌∷◌, map}
 use Rattle.std.specs.Option.{is_some}
 use Rattle.ft_base.specs.Lists.{is_not_empty}
 use Rattle.ft_base.specs.declared.hit.Hit.{Hit}
 use Rattle.all_matches.specs.Ways.{one_hit}
 use Rattle.ft_operators.specs.declared.course.Course.{Course}
 use Rattle.ft_operators.specs.Course.{ways_on}
-use Rattle.ft_operators.specs.Phrases.{PhraseState, first_hit, at_first, one_further}
-use Rattle.ft_operators.specs.Standing.{at_front, one_on}
+use Rattle.ft_operators.specs.Phrases.{PhraseState, first_hit, at_first}
+use Rattle.ft_operators.specs.Standing.{at_front}
 use Rattle.ft_operators.specs.steps.Forms.{phrase_of}
 
 pub some_hit : (hits : List Hit) → is_some (first_hit hits) ≡ is_not_empty (map one_hit hits)
 some_hit [] = refl
 some_hit (hit ∷ rest) = refl
 
-pub drop_mapped : (hits : List Hit) → map one_hit (drop 1 hits) ≡ drop 1 (map one_hit hits)
-drop_mapped [] = refl
-drop_mapped (hit ∷ rest) = refl
-
 pub phrase_front : (course : Course) (s : PhraseState) → phrase_of (at_first s) ≡ at_front course (phrase_of s)
 unfolding ways_on
 phrase_front course s = refl
-
-pub phrase_on : (s : PhraseState) → phrase_of (one_further s) ≡ one_on (phrase_of s)
-phrase_on s = λ i. record (phrase_of s) { rest = drop_mapped s.rest i }

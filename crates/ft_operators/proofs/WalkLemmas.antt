@@ -8,7 +8,7 @@ use Rattle.ft_operators.specs.Standing.{Standing, at_front, one_on}
 use Rattle.ft_operators.specs.steps.Forms.{choice_of, both_of, negation_of, sieve_of, sifted, count_now}
 use Rattle.ft_operators.specs.steps.Walking.{Moved, MayGoOn, Settling}
 use Rattle.ft_operators.proofs.ChoiceLemmas.{choice_front_left, choice_front_right, left_there}
-use Rattle.ft_operators.proofs.BothLemmas.{both_front, both_front_none, both_on_right, both_on_left, both_end, pairs_there, pairs_none, pairs_sides}
+use Rattle.ft_operators.proofs.BothLemmas.{both_front, both_front_none, both_on_left, pairs_there, pairs_none, pairs_sides}
 use Rattle.ft_operators.proofs.SieveLemmas.{sieve_front, sieve_settled, sieve_skip, sieve_end, sieve_on, sieve_over, sieve_there_first, sieve_there_next, sieve_none, fewer}
 
 rest_there : Standing → Bool
@@ -60,19 +60,6 @@ module _ (course : Course) (second : Bool) (left left_now right right_now : Stan
     grown = m.grown;
   }
 
-  -- on the right side, with what is left of the left side
-
-  pub both_next : MayGoOn (both_of course left right) room → Moved (one_on right) right_now room mid_room start mid answer → answer ≡ true
-      → Moved (one_on (both_of course left right)) (both_of course left right_now) room mid_room start mid true
-  both_next may m there =
-      let sides = pairs_sides left.rest right.rest (ways_on course right.operator) may.there in record {
-        stand = ap (λ s. both_of course left s) m.stand
-            ∙ both_on_right course left right sides.0 (arrived (one_on right) right_now room mid_room start mid answer m ∙ there);
-        there = sym there ∙ m.there ∙ sym (pairs_there left.rest right_now.rest (ways_on course right_now.operator) sides.0);
-        kept_room = m.kept_room;
-        grown = m.grown;
-      }
-
 module _ (course : Course) (left left_now right right_now right_first : Standing) (room mid_room next_room new_room start mid next end : ℕ) (answer second_answer third_answer : Bool) where
   pub both_next_left : MayGoOn (both_of course left right) room → Moved (one_on right) right_now room mid_room start mid answer → answer ≡ false
       → Moved (one_on left) left_now mid_room next_room mid next second_answer → second_answer ≡ true
@@ -85,19 +72,6 @@ module _ (course : Course) (left left_now right right_now right_first : Standing
         there = f.there ∙ sym (pairs_there left_now.rest right_first.rest (ways_on course right_first.operator) (sym n.there ∙ there));
         kept_room = omega (arith, m.kept_room, n.kept_room, f.kept_room);
         grown = omega (arith, m.grown, n.grown, f.grown);
-      }
-
-  pub both_next_none : MayGoOn (both_of course left right) room → Moved (one_on right) right_now room mid_room start mid answer → answer ≡ false
-      → Moved (one_on left) left_now mid_room next_room mid next second_answer → second_answer ≡ false
-      → Moved (one_on (both_of course left right)) (both_of course left_now right_now) room next_room start next false
-  both_next_none may m over n none =
-      let sides = pairs_sides left.rest right.rest (ways_on course right.operator) may.there in record {
-        stand = (λ i. both_of course (n.stand i) (m.stand i))
-            ∙ both_end course left right sides.0 sides.1 (arrived (one_on right) right_now room mid_room start mid answer m ∙ over)
-            (arrived (one_on left) left_now mid_room next_room mid next second_answer n ∙ none);
-        there = sym (pairs_none left_now.rest right_now.rest (ways_on course right_now.operator) (sym n.there ∙ none));
-        kept_room = omega (arith, m.kept_room, n.kept_room);
-        grown = omega (arith, m.grown, n.grown);
       }
 
 pub negation_first : (course : Course) (there : Bool) (operand : Standing) (room start : ℕ)

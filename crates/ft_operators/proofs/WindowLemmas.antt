@@ -1,6 +1,6 @@
 -- The windows round the joined hit, as many as a size leaves, and the one of a number.
-use Rattle.std.proofs.Common.{◌≡◌, refl, ap, sym, ◌∙◌, subst, ℕ, zero, suc, ◌+◌, ◌-◌, ◌<◌, List, [], ◌∷◌, drop, min, length, get_or, map, arith}
-use Rattle.std.specs.Prelude.{pos, ◌+ℤ◌, ◌-ℤ◌, Option, Some, None}
+use Rattle.std.proofs.Common.{◌≡◌, refl, ap, sym, ◌∙◌, subst, ℕ, zero, suc, ◌+◌, ◌-◌, ◌<◌, List, drop, min, length, get_or, map, arith}
+use Rattle.std.specs.Prelude.{pos, ◌+ℤ◌, ◌-ℤ◌, Some, None}
 use Rattle.std.proofs.lemmas.Int.{ints}
 use Rattle.std.specs.List.{range_with_len}
 use Rattle.std.proofs.lemmas.List.{get_or-map, get_or-drop, length-drop, length-map}
@@ -83,14 +83,6 @@ module _ (windows : Windows) (size : ℕ) (kind : TextUnit) (hits : List Hit) (j
       ∙ ap Some
       (get_or-map-range_with_len (nth_window size (end_in kind joined)) 0 ((start_in kind joined + size) - end_in kind joined) number number (window_at size (pos 0)) window_below (omega arith)))
 
-no_asked : (windows : Windows) (lead : ℕ) → None ≡ get_or (asked_for windows []) lead None
-no_asked Each lead = refl
-no_asked Telling lead = refl
-no_asked First lead = refl
-
-pub no_window : (windows : Windows) (size : ℕ) (kind : TextUnit) (hits : List Hit) (lead : ℕ) → None ≡ join hits → None ≡ get_or (asked_for windows (choices (F.Window size kind) hits)) lead None
-no_window windows size kind hits lead none = no_asked windows lead ∙ ap (λ j. get_or (asked_for windows (map Some (windows_round size kind j))) lead None) none
-
 -- how many windows are asked for
 abbrev pub count_among : Windows → ℕ → ℕ → ℕ → ℕ
 count_among Each size last all = all
@@ -113,26 +105,6 @@ pub count_asked : (windows : Windows) (size : ℕ) (kind : TextUnit) (hits : Lis
 count_asked windows size kind hits joined is =
     counted windows size (end_in kind joined) ((start_in kind joined + size) - end_in kind joined) (few_in_front (start_in kind joined) size (end_in kind joined))
     ∙ ap (λ j. length (asked_for windows (map Some (windows_round size kind j)))) is
-
-none_counted : (windows : Windows) → 0 ≡ length (asked_for windows [])
-none_counted Each = refl
-none_counted Telling = refl
-none_counted First = refl
-
-pub count_none : (windows : Windows) (size : ℕ) (kind : TextUnit) (hits : List Hit) → None ≡ join hits → 0 ≡ length (asked_for windows (choices (F.Window size kind) hits))
-count_none windows size kind hits none = none_counted windows ∙ ap (λ j. length (asked_for windows (map Some (windows_round size kind j)))) none
-
-abbrev only_none : List (Option Window)
-only_none = None ∷ []
-
-pub asked_only : (windows : Windows) → asked_for windows only_none ≡ only_none
-asked_only Each = refl
-asked_only Telling = refl
-asked_only First = refl
-
-pub only_choice : (lead : ℕ) → None ≡ get_or only_none lead None
-only_choice zero = refl
-only_choice (suc lead) = refl
 
 -- a window by its last number
 last_again : (last size : ℕ) → pos last ≡ ((pos (suc last) -ℤ pos size) +ℤ pos size) -ℤ pos 1

@@ -1,5 +1,5 @@
 -- A word that is the decimal of a number is parsed as that number.
-use Rattle.std.proofs.Common.{◌≡◌, ◌∙◌, sym, ap, refl, subst, arith, ℕ, ◌≤◌, Bool, true, false, cond, ◌&&◌, List}
+use Rattle.std.proofs.Common.{◌≡◌, ◌∙◌, sym, ap, refl, arith, ℕ, ◌≤◌, Bool, true, false, cond, ◌&&◌, List}
 use Rattle.std.specs.Prelude.{Some, None, Result, Ok, nat_le}
 use Rattle.std.specs.Fmt.{decimal}
 use Rattle.std.specs.Str.{bytes_eq}
@@ -21,10 +21,6 @@ pub counted : (n : ℕ) (word : List ℕ) → is_count n word ≡ true → (1 �
 counted n word h =
     let p = both (nat_le 1 n) (nat_le n max_documents) (bytes_eq (decimal n) word) h in
     (leb-true 1 n p.0, leb-true n max_documents p.1, (bytes_eq-Decides (decimal n) word).0 p.2)
-
-pub within : (n : ℕ) (word : List ℕ) → (b : Bool) → is_count n word ≡ b → (m : ℕ) → cond b (Some n) None ≡ Some m → (1 ≤ m) × (m ≤ max_documents)
-within n word true h m is = let p = counted n word h in let same : n ≡ m = cc in (subst (λ k. 1 ≤ k) same p.0, subst (λ k. k ≤ max_documents) same p.1)
-within n word false h m is = let no : ⊥ = cc in absurd no
 
 -- it is parsed so
 pub parsed : {E : Type 0} (n : ℕ) (word : List ℕ) (r : Result ℕ E) → ParsesUnsigned 32 10 word r → is_count n word ≡ true → r ≡ Ok n

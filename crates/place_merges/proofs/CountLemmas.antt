@@ -1,5 +1,5 @@
 -- Counts of the places at which a test holds, as far as the places go.
-use Rattle.std.proofs.Common.{◌≡◌, ℕ, zero, suc, ◌+◌, ◌-◌, ◌<◌, ◌≤◌, min, Bool, true, false, cond, ◌&&◌, ◌||◌, List, [], ◌∷◌, filter, map, refl, sym, ap, ◌∙◌, arith, zero-add}
+use Rattle.std.proofs.Common.{◌≡◌, ℕ, zero, suc, ◌+◌, ◌-◌, ◌<◌, ◌≤◌, Bool, true, false, cond, ◌&&◌, ◌||◌, List, [], ◌∷◌, filter, map, refl, sym, ap, ◌∙◌, arith, zero-add}
 use Rattle.std.specs.List.{count_by, list_any, range_with_len}
 use Rattle.ft_base.specs.Hits.{HitPlace}
 use Rattle.all_matches.proofs.Counting.{count_by-cons, count_by-alike}
@@ -7,7 +7,7 @@ use Rattle.place_merges.specs.declared.item.Variant.{Variant}
 use Rattle.place_merges.specs.Places.{Wanted, stands_before, some_stands, places_between}
 use Rattle.place_merges.specs.Sources.{wanted, wanted_words}
 use Rattle.place_merges.specs.steps.Searching.{Leads, SameFrom, Moved, one_stands, shown_variants}
-use Rattle.place_merges.proofs.MoveLemmas.{unmoved, moved_on, any_map}
+use Rattle.place_merges.proofs.MoveLemmas.{moved_on, any_map}
 
 -- at how many of so many places from one on
 pub count : (ℕ → Bool) → ℕ → ℕ → ℕ
@@ -89,10 +89,6 @@ module _ {H : Type 0} (stands : H → HitPlace) (to : ℕ) where
       let all : to - place ≡ suc (to - (place + 1)) = omega arith in
       ap (count (one_stands stands to variants) place) all ∙ count_here (one_stands stands to variants) place (to - (place + 1)) h
 
-  still_none : (variants : List (Variant H)) (place : ℕ) → to ≤ place → still variants place ≡ 0
-  unfolding still count
-  still_none variants place h = let none : to - place ≡ 0 = omega arith in ap (count (one_stands stands to variants) place) none
-
 -- so many places are counted, and those from the place on are still to come
 pub record Counted {H : Type 0} (stands : H → HitPlace) (plain : H → Bool) (old now : List (Variant H)) (from to most counted place start end : ℕ) : Type 0 where
   pub sum : counted + places_between place to (wanted_words stands now) ≡ places_between from to (wanted_words stands old)
@@ -100,13 +96,6 @@ pub record Counted {H : Type 0} (stands : H → HitPlace) (plain : H → Bool) (
   pub moved : Moved (shown_variants stands plain old) (shown_variants stands plain now) start end
 
 module _ {H : Type 0} (stands : H → HitPlace) (plain : H → Bool) where
-  pub count_starts : (variants : List (Variant H)) (from to most steps : ℕ) → Counted stands plain variants variants from to most 0 from steps steps
-  count_starts variants from to most steps = record {
-    sum = zero-add (places_between from to (wanted_words stands variants));
-    within = omega arith;
-    moved = unmoved (shown_variants stands plain variants) steps;
-  }
-
   module _ (old now after : List (Variant H)) (from to most counted place start middle end : ℕ)
       (so_far : Counted stands plain old now from to most counted place start middle) (order : place < to) (below : counted < most) (next : ℕ)
       (leads : Leads (one_stands stands to now) place to next) (same : SameFrom place (one_stands stands to after) (one_stands stands to now))
@@ -135,18 +124,3 @@ module _ {H : Type 0} (stands : H → HitPlace) (plain : H → Bool) where
         let later = still_same stands to after now next (record { same = λ other h. same.same other (omega arith) }) in
         let is = still_is stands to after next in
         record { sum = omega (arith, sum, was, jumped, later, is); within = so_far.within; moved = moved_too }
-
-  module _ (old now : List (Variant H)) (from to most counted place start end : ℕ) (so_far : Counted stands plain old now from to most counted place start end) where
-    pub count_ends : to ≤ place → counted ≡ min (places_between from to (wanted_words stands old)) most
-    count_ends h =
-        let sum = so_far.sum in
-        let within = so_far.within in
-        let is = still_is stands to now place in
-        let none = still_none stands to now place h in
-        omega (arith, sum, within, is, none)
-
-    pub count_full : most ≤ counted → counted ≡ min (places_between from to (wanted_words stands old)) most
-    count_full h =
-        let sum = so_far.sum in
-        let within = so_far.within in
-        omega (arith, sum, within, h)

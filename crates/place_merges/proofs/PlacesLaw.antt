@@ -1,8 +1,9 @@
 -- The places at which variants stand are the words at which they begin.
-use Rattle.std.proofs.Common.{◌≡◌, ℕ, suc, ◌+◌, ◌-◌, ◌<◌, Bool, true, false, cond, ◌&&◌, ◌||◌, nat_le, List, [], ◌∷◌, map, length, get_or, refl, ap, ◌∙◌, arith}
+use Rattle.std.proofs.Common.{◌≡◌, ℕ, suc, ◌+◌, ◌-◌, ◌<◌, Bool, true, cond, ◌&&◌, ◌||◌, nat_le, List, [], ◌∷◌, map, length, get_or, refl, ap, ◌∙◌, arith}
 use Rattle.std.specs.List.{list_any, count_by, range_with_len}
 use Rattle.std.proofs.lemmas.Bool.{and_left, le-leb, lt-leb}
 use Rattle.std.proofs.lemmas.List.{length-map}
+use Rattle.ft_base.proofs.Truth.{and_swap}
 use Rattle.all_matches.specs.Counting.{begins_as, places}
 use Rattle.all_matches.proofs.Counting.{count_by-cons}
 use Rattle.place_merges.specs.Places.{Wanted, fits, stands_at, stands_before, some_stands, places_between}
@@ -32,13 +33,8 @@ module _ {X Y : Type 0} (passes : X → Y → Bool) (want : X → Wanted) where
       let at : from + suc (length (map want items)) ≡ from + 1 + length (map want items) = omega arith in
       let rest = variant_law items (from + 1) to words (omega arith) (further from word words agrees) in
       ap (λ p. nat_le p to && (fits from (want item) && stands_at (from + 1) (map want items))) at
-      ∙ swapped (nat_le (from + 1 + length (map want items)) to) (fits from (want item)) (stands_at (from + 1) (map want items))
+      ∙ and_swap (nat_le (from + 1 + length (map want items)) to) (fits from (want item)) (stands_at (from + 1) (map want items))
       ∙ (λ i. first_word from word words agrees item i && rest i)
-    where
-      swapped : (a b c : Bool) → (a && (b && c)) ≡ (b && (a && c))
-      swapped true b c = refl
-      swapped false true c = refl
-      swapped false false c = refl
 
   variants_law : (variants : List (List X)) (from to : ℕ) (words : List Y) → to ≡ from + length words → Agrees from words
       → some_stands to (map (map want) variants) from ≡ list_any (λ items. begins_as passes items words) variants

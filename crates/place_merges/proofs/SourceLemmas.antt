@@ -163,18 +163,11 @@ one_in_front place (x ∷ xs) hit e h =
     let front = ap (λ b. cond b (1 + in_front place xs) 0) (lt-ltb x.from place (subst (λ y. y.from < place) (sym same) h)) in
     omega (arith, front)
 
-none_at_end : (place : ℕ) (xs : List Hit) → slice_get xs 0 ≡ None → in_front place xs ≡ 0
-none_at_end place [] e = refl
-none_at_end place (x ∷ xs) e = cc
-
 read_front : (at : HitPlace) → slice_get (drop at.place at.hits) 0 ≡ hit_at at
 read_front at = let sum : at.place + 0 ≡ at.place = omega arith in sym (slice_drop at.hits at.place 0) ∙ ap (slice_get at.hits) sum
 
 pub stays_at_hit : (place : ℕ) (at : HitPlace) (hit : Hit) → Some hit ≡ hit_at at → place ≤ hit.from → at ≡ sought place at
 stays_at_hit place at hit e h = stays place at (passed_is place at ∙ none_in_front place (drop at.place at.hits) hit (read_front at ∙ sym e) h)
-
-pub stays_at_end : (place : ℕ) (at : HitPlace) → None ≡ hit_at at → at ≡ sought place at
-stays_at_end place at e = stays place at (passed_is place at ∙ none_at_end place (drop at.place at.hits) (read_front at ∙ sym e))
 
 fewer_left : (place : ℕ) (at : HitPlace) → length (places_left (sought place at)) + hits_passed place at ≡ length (places_left at)
 fewer_left place at =

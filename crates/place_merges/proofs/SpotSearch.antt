@@ -1,20 +1,18 @@
 -- A search through all variants for the first spot behind another one at which one of them stands.
-use Rattle.std.proofs.Common.{◌≡◌, refl, sym, ap, ◌∙◌, ℕ, ◌+◌, ◌-◌, ◌<◌, ◌≤◌, ◌==◌, Bool, true, false, cond, ◌&&◌, ◌||◌, nat_le, nat_lt, List, ◌∷◌, map, length, get_or, set, drop, subst, arith, length-set, drop-set-lt}
+use Rattle.std.proofs.Common.{◌≡◌, refl, sym, ap, ◌∙◌, ℕ, ◌+◌, ◌<◌, ◌≤◌, ◌==◌, Bool, true, false, cond, ◌&&◌, ◌||◌, nat_lt, List, ◌∷◌, map, length, get_or, set, drop, subst, arith, length-set, drop-set-lt}
 use Rattle.std.specs.List.{list_any}
-use Rattle.std.proofs.lemmas.Bool.{and_left, and_right, and_from, and_parts, eq-eqb, eqb-true, false_from_ne_true}
+use Rattle.std.proofs.lemmas.Bool.{and_left, and_right, eqb-true}
 use Rattle.std.proofs.lemmas.Bool.Decides.{nat_tests}
 use Rattle.std.proofs.lemmas.List.{drop_more, drop_all, length-map}
 use Rattle.std.proofs.lemmas.List.Folds.{list_any_at}
 use Rattle.ft_base.specs.Hits.{HitPlace}
 use Rattle.place_merges.specs.declared.item.Variant.{Variant}
 use Rattle.place_merges.specs.declared.spot.Spot.{Spot}
-use Rattle.place_merges.specs.Places.{stands_at, stands_before}
-use Rattle.place_merges.specs.Sources.{lists_of, wanted}
+use Rattle.place_merges.specs.Sources.{lists_of}
 use Rattle.place_merges.specs.Spots.{spot}
 use Rattle.place_merges.specs.steps.Searching.{Shown, Leads, SameFrom, Moved, shown_all, variant_stands}
 use Rattle.place_merges.specs.steps.Spotting.{LeadsBehind, SameBehind, is_before, variant_at}
-use Rattle.place_merges.proofs.MoveLemmas.{unmoved, moved_on, moved_in, any_set}
-use Rattle.place_merges.proofs.VariantLemmas.{long_leads}
+use Rattle.place_merges.proofs.MoveLemmas.{moved_on, moved_in, any_set}
 
 -- ---- the order of spots
 
@@ -44,13 +42,6 @@ module _ {H : Type 0} (stands : H → HitPlace) (to : ℕ) (variant : Variant H)
       by_test true = omega arith
       by_test false = omega arith
 
-  start_behind : is_before at (spot least long) ≡ true
-  start_behind = by_test (nat_lt at.words long) refl
-    where
-      by_test : (b : Bool) → nat_lt at.words long ≡ b → is_before at (spot (cond b at.place (at.place + 1)) long) ≡ true
-      by_test true e = grind (arith, nat_tests, e)
-      by_test false e = grind (arith, nat_tests)
-
   starts : (other : Spot) → is_before at other ≡ true → long ≡ other.words → least ≤ other.place
   starts other h same = by_test (nat_lt at.words long) refl
     where
@@ -61,59 +52,10 @@ module _ {H : Type 0} (stands : H → HitPlace) (to : ℕ) (variant : Variant H)
   place_before : (other : Spot) (next : ℕ) → is_before other (spot next 0) ≡ true → other.place < next
   place_before other next h = grind (arith, nat_tests, h)
 
-  place_upto : (other : Spot) → is_before other (spot least long) ≡ true → long ≡ other.words → other.place < least
-  place_upto other h same = grind (arith, nat_tests, h, same)
-
   ahead_of : (next : ℕ) → at.place < next → is_before at (spot next 0) ≡ true
   ahead_of next h = grind (arith, nat_tests)
 
-  place_from : (other : Spot) → is_before at other ≡ true → at.place ≤ other.place
-  place_from other h = grind (arith, nat_tests, h)
-
-  -- a variant of another number of words stands on no spot
-  other_size : (other : Spot) → (long ≡ other.words → ⊥) → is_at other ≡ false
-  other_size other differs =
-      and_left (long == other.words) (variant_stands stands to variant other.place) (false_from_ne_true (long == other.words) (λ e. differs (eqb-true long other.words e)))
-
-  pub too_long_leads : at.place < to → to - at.place < long → LeadsBehind is_at at to (spot to 0)
-  too_long_leads order h = record {
-    ahead = ahead_of to order;
-    last = omega arith;
-    there = λ some. absurd (omega (arith, some));
-    none = λ other a b some.
-        let leads = long_leads (wanted stands) to variant.items.items at.place order h in
-        and_right (long == other.words) (variant_stands stands to variant other.place)
-        (and_right variant.counts (stands_before to other.place (map (wanted stands) variant.items.items)) (leads.none other.place (place_from other a) (place_before other to b)));
-  }
-
-  pub no_room_leads : at.place < to → to ≤ least → LeadsBehind is_at at to (spot to 0)
-  no_room_leads order h = record {
-    ahead = ahead_of to order;
-    last = omega arith;
-    there = λ some. absurd (omega (arith, some));
-    none = λ other a b some.
-        let before = place_before other to b in
-        other_size other (λ same. let from = starts other a same in omega (arith, from, before, h));
-  }
-
-  ends_in_front : (place : ℕ) → variant_stands stands to variant place ≡ true → place + long ≤ to
-  ends_in_front place h =
-      let ws = map (wanted stands) variant.items.items in
-      let size = length-map variant.items.items (wanted stands) in
-      let fits = (and_parts (nat_le (place + length ws) to) (stands_at place ws) (and_parts variant.counts (stands_before to place ws) h).1).0 in
-      let most : place + length ws ≤ to = grind (arith, nat_tests, fits) in
-      omega (arith, most, size)
-
   module _ (next : ℕ) (leads : Leads (variant_stands stands to variant) least to next) where
-    pub found_leads : next ≡ least → LeadsBehind is_at at to (spot least long)
-    found_leads e = record {
-      ahead = start_behind;
-      last = ends_in_front least (leads.there e);
-      there = λ some. and_from (long == long) (variant_stands stands to variant least) (eq-eqb long long refl) (leads.there e);
-      none = λ other a b some.
-          other_size other (λ same. let from = starts other a same in let upto = place_upto other b same in omega (arith, from, upto));
-    }
-
     pub jump_leads : (next ≡ least → ⊥) → LeadsBehind is_at at to (spot next 0)
     jump_leads other_place =
         let far = leads.from in
@@ -179,17 +121,6 @@ pub record Passed {A L : Type 0} (passes : A → Spot → Bool) (shown : A → S
   pub moved : Moved (shown_all shown old) (shown_all shown now) start end
 
 module _ {A L : Type 0} (passes : A → Spot → Bool) (shown : A → Shown L) where
-  pub pass_starts : (xs : List A) (at : Spot) (to steps : ℕ) → at.place < to → Passed passes shown xs xs at to (spot to 0) 0 steps steps
-  pass_starts xs at to steps h = record {
-    long = refl;
-    ahead = grind (arith, nat_tests);
-    last = omega arith;
-    there = λ some. absurd (omega (arith, some));
-    left = λ other a b some. refl;
-    same = record { same = λ other a. refl };
-    moved = unmoved (shown_all shown xs) steps;
-  }
-
   module _ (old now : List A) (at : Spot) (to : ℕ) (first : Spot) (number start middle end : ℕ) (so_far : Passed passes shown old now at to first number start middle)
       (x y : A) (within : number < length now) (read : x ≡ get_or now number x) (next : Spot) (leads : LeadsBehind (passes x) at to next)
       (same : SameBehind at (passes y) (passes x)) (moved : Moved (shown x) (shown y) middle end) where

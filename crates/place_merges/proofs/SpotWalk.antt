@@ -1,9 +1,10 @@
 -- From one spot to the next at which one of the variants stands.
-use Rattle.std.proofs.Common.{◌≡◌, refl, sym, ap, ◌∙◌, ℕ, ◌<◌, ◌≤◌, ◌==◌, Bool, true, false, ◌&&◌, List, [], ◌∷◌, map, filter, length, Some, subst, arith}
+use Rattle.std.proofs.Common.{◌≡◌, refl, sym, ap, ◌∙◌, ℕ, ◌<◌, ◌≤◌, ◌==◌, Bool, ◌&&◌, List, [], ◌∷◌, map, filter, length, Some, subst, arith}
 use Rattle.std.specs.Option.{ForSome}
 use Rattle.std.proofs.lemmas.Bool.Decides.{nat_tests}
 use Rattle.std.proofs.lemmas.List.{length-map}
 use Rattle.ft_base.specs.Hits.{HitPlace}
+use Rattle.ft_base.proofs.Truth.{and_swap}
 use Rattle.all_matches.proofs.ListTests.{list_any-alike}
 use Rattle.place_merges.specs.declared.item.Variant.{Variant}
 use Rattle.place_merges.specs.declared.spot.Spot.{Spot}
@@ -18,11 +19,6 @@ use Rattle.place_merges.proofs.SpotLemmas.{left_found, left_jumps, left_same, no
 use Rattle.place_merges.proofs.SpotSearch.{before_trans}
 
 module _ {H : Type 0} (stands : H → HitPlace) (to : ℕ) where
-  swapped : (a b c : Bool) → (a && (b && c)) ≡ (b && (a && c))
-  swapped true b c = refl
-  swapped false true c = refl
-  swapped false false c = refl
-
   as_words : (variants : List (Variant H)) (at : Spot) → some_at to (wanted_words stands variants) at ≡ one_at stands to variants at
   as_words variants at =
       let words = λ (v : Variant H). map (wanted stands) v.items.items in
@@ -31,7 +27,7 @@ module _ {H : Type 0} (stands : H → HitPlace) (to : ℕ) where
       ∙ any_that_counts (λ variant. is_at (words variant)) variants
       ∙ list_any-alike (λ variant. variant.counts && is_at (words variant)) (λ variant. variant_at stands to variant at) variants
       (λ variant. ap (λ n. variant.counts && ((n == at.words) && stands_before to at.place (words variant))) (length-map variant.items.items (wanted stands))
-      ∙ swapped variant.counts (length variant.items.items == at.words) (stands_before to at.place (words variant)))
+      ∙ and_swap variant.counts (length variant.items.items == at.words) (stands_before to at.place (words variant)))
 
   left_words : (variants : List (Variant H)) (at : Spot) → spots_left to (wanted_words stands variants) at ≡ filter (one_at stands to variants) (spots_behind to at)
   left_words variants at = λ i. filter (λ other. as_words variants other i) (spots_behind to at)
@@ -74,9 +70,6 @@ module _ {H : Type 0} (stands : H → HitPlace) (plain : H → Bool) where
       from = next_from;
       moved = walk_moved;
     }
-
-    pub walk_nearer : next.words ≡ 0 → at.place < next.place
-    walk_nearer none = grind (arith, nat_tests, leads.ahead)
 
     pub walk_found : 0 < next.words → spots_left to (wanted_words stands old) behind ≡ from_found (spots_left to (wanted_words stands after)) (Some next)
     walk_found some =

@@ -1,11 +1,11 @@
 -- A search through all elements of a list for the first place at which one of them passes.
-use Rattle.std.proofs.Common.{◌≡◌, ℕ, ◌+◌, ◌<◌, ◌≤◌, min, Bool, true, ◌||◌, List, ◌∷◌, length, get_or, set, drop, refl, sym, ap, subst, ◌∙◌, arith, inl, inr, length-set, drop-set-lt}
+use Rattle.std.proofs.Common.{◌≡◌, ℕ, ◌+◌, ◌<◌, ◌≤◌, min, Bool, true, ◌||◌, List, ◌∷◌, length, get_or, set, drop, sym, ap, subst, ◌∙◌, arith, inl, inr, length-set, drop-set-lt}
 use Rattle.std.specs.List.{list_any}
 use Rattle.std.proofs.lemmas.Bool.{or_left, cases_lt}
 use Rattle.std.proofs.lemmas.List.{drop_more, drop_all}
 use Rattle.std.proofs.lemmas.List.Folds.{list_any_at}
 use Rattle.place_merges.specs.steps.Searching.{Shown, Leads, SameFrom, Moved, shown_all}
-use Rattle.place_merges.proofs.MoveLemmas.{unmoved, moved_on, moved_in, same_on, any_set}
+use Rattle.place_merges.proofs.MoveLemmas.{moved_on, moved_in, same_on, any_set}
 
 -- whether one of them passes at the place
 abbrev pub some_pass : {A : Type 0} → (A → ℕ → Bool) → List A → ℕ → Bool
@@ -27,16 +27,6 @@ pub record Found {A L : Type 0} (passes : A → ℕ → Bool) (shown : A → Sho
   pub moved : Moved (shown_all shown old) (shown_all shown now) start end
 
 module _ {A L : Type 0} (passes : A → ℕ → Bool) (shown : A → Shown L) where
-  pub search_starts : (xs : List A) (place limit steps : ℕ) → place < limit → Searched passes shown xs xs place limit limit 0 steps steps
-  search_starts xs place limit steps h = record {
-    long = refl;
-    ahead = h;
-    most = omega arith;
-    left = λ other a b. refl;
-    same = record { same = λ other a. refl };
-    moved = unmoved (shown_all shown xs) steps;
-  }
-
   some_set : (xs : List A) (i place : ℕ) (x y : A) → i < length xs → x ≡ get_or xs i x → SameFrom place (passes y) (passes x) → SameFrom place (some_pass passes (set xs i y)) (some_pass passes xs)
   some_set xs i place x y h e same = record { same = λ other a. any_set (λ z. passes z other) xs i x y h e (same.same other a) }
 
@@ -107,9 +97,6 @@ pub record Settled {A L : Type 0} (passes : A → ℕ → Bool) (shown : A → S
   pub found : first < limit → some_pass passes old first ≡ true
 
 module _ {A L : Type 0} (passes : A → ℕ → Bool) (shown : A → Shown L) where
-  pub settled_starts : (xs : List A) (place limit steps : ℕ) → place < limit → Settled passes shown xs xs place limit limit 0 steps steps
-  settled_starts xs place limit steps h = record { searched = search_starts passes shown xs place limit steps h; found = λ less. absurd (omega (arith, less)) }
-
   passed_at : (xs : List A) (i place : ℕ) (x : A) → i < length xs → x ≡ get_or xs i x → passes x place ≡ true → some_pass passes xs place ≡ true
   passed_at xs i place x h e there = list_any_at (λ y. passes y place) xs i x h (ap (λ y. passes y place) (sym e) ∙ there)
 

@@ -1,20 +1,15 @@
 -- The items of a variant, one after the other, from a place on.
-use Rattle.std.proofs.Common.{◌≡◌, ℕ, zero, suc, ◌+◌, ◌-◌, ◌<◌, ◌≤◌, Bool, true, false, cond, ◌&&◌, nat_le, List, [], ◌∷◌, map, length, get_or, set, drop, refl, sym, ap, ◌∙◌, arith, length-set, drop-set-lt, drop-drop, Vec, Global}
-use Rattle.std.specs.List.{sum_by}
-use Rattle.std.proofs.lemmas.Bool.{and_left, and_right, and_from, le-leb, lt-leb}
-use Rattle.std.proofs.lemmas.List.{drop_more, drop_all, length-map}
+use Rattle.std.proofs.Common.{◌≡◌, ℕ, zero, suc, ◌+◌, ◌-◌, ◌<◌, Bool, true, false, ◌&&◌, List, [], ◌∷◌, map, length, get_or, set, drop, refl, sym, ap, ◌∙◌, arith, length-set, drop-set-lt, drop-drop, Vec, Global}
+use Rattle.std.proofs.lemmas.Bool.{and_left, and_right}
+use Rattle.std.proofs.lemmas.List.{drop_more}
 use Rattle.ft_base.specs.Hits.{HitPlace}
 use Rattle.place_merges.specs.declared.item.Item.{Item}
 use Rattle.place_merges.specs.declared.item.Item.TheVariants.{Of}
 use Rattle.place_merges.specs.declared.item.Variant.{Variant}
-use Rattle.place_merges.specs.Places.{Wanted, fits, stands_at, stands_before}
-use Rattle.place_merges.specs.Sources.{places_left, wanted, hits_left}
-use Rattle.place_merges.specs.steps.Searching.{Shown, Leads, SameFrom, Moved, shown_all, has, some_has, item_fits, shown_items, shown_variant, variant_stands}
-use Rattle.place_merges.proofs.MoveLemmas.{unmoved, moved_on, moved_in, same_on, any_map}
-
--- an item for which any word does leads nowhere else
-pub any_leads : (place limit : ℕ) → place < limit → Leads (λ other. true) place limit place
-any_leads place limit h = record { from = omega arith; to = omega arith; there = λ e. refl; none = λ other a b. absurd (omega arith) }
+use Rattle.place_merges.specs.Places.{Wanted, fits, stands_at}
+use Rattle.place_merges.specs.Sources.{places_left}
+use Rattle.place_merges.specs.steps.Searching.{Shown, Leads, SameFrom, Moved, shown_all, has, some_has, item_fits}
+use Rattle.place_merges.proofs.MoveLemmas.{moved_on, moved_in, same_on, any_map}
 
 -- an item of sources leads where they lead
 module _ {H : Type 0} (stands : H → HitPlace) where
@@ -79,15 +74,6 @@ pub record Unfitted {A L : Type 0} (want : A → Wanted) (shown : A → Shown L)
   pub moved : Moved (shown_all shown old) (shown_all shown now) start end
 
 module _ {A L : Type 0} (want : A → Wanted) (shown : A → Shown L) where
-  pub fit_starts : (xs : List A) (place steps : ℕ) → Fitted want shown xs xs place 0 steps steps
-  fit_starts xs place steps = record {
-    long = refl;
-    left = let at : place ≡ place + 0 = omega arith in ap (stand want xs) at;
-    rest = refl;
-    same = record { same = λ other a. refl };
-    moved = unmoved (shown_all shown xs) steps;
-  }
-
   -- an item was asked for a place
   module _ (old now : List A) (place limit number start middle end : ℕ) (before : SameFrom place (stand want now) (stand want old)) (earlier : Moved (shown_all shown old) (shown_all shown now) start middle)
       (x y : A) (within : number < length now) (read : x ≡ get_or now number x) (next : ℕ) (leads : Leads (λ other. fits other (want x)) (place + number) (limit + number) next)
@@ -138,16 +124,6 @@ module _ {A L : Type 0} (want : A → Wanted) (shown : A → Shown L) where
           moved = fit_moved old now place limit number start middle end so_far.same so_far.moved x y within read next leads same moved;
         }
 
-  pub fit_ends : (old now : List A) (place limit number start end : ℕ) → place < limit → Fitted want shown old now place number start end → length now ≤ number → Leads (stand want old) place limit place
-  fit_ends old now place limit number start end order so_far h =
-      let long = so_far.long in
-      record {
-        from = omega arith;
-        to = omega arith;
-        there = λ e. so_far.left ∙ ap (λ l. stand want l (place + number)) (drop_all number old (omega arith));
-        none = λ other a b. absurd (omega arith);
-      }
-
 -- nothing was asked yet
 pub nothing_asked : {A : Type 0} (want : A → Wanted) (xs : List A) (place : ℕ) → SameFrom place (stand want xs) (stand want xs)
 nothing_asked want xs place = record { same = λ other a. refl }
@@ -161,83 +137,9 @@ leads_before before after place limit result same leads = record {
   none = λ other a b. sym (same.same other a) ∙ leads.none other a b;
 }
 
--- ---- variants that end in front of the end
-
-module _ {A : Type 0} (want : A → Wanted) (to : ℕ) where
-  abbrev stand_in : List A → ℕ → Bool
-  stand_in xs place = stands_before to place (map want xs)
-
-  too_long : (xs : List A) (other : ℕ) → to < other + length xs → stand_in xs other ≡ false
-  too_long xs other h =
-      let size = length-map xs want in
-      and_left (nat_le (other + length (map want xs)) to) (stand want xs other) (lt-leb (other + length (map want xs)) to (omega (arith, size)))
-
-  pub long_leads : (xs : List A) (place : ℕ) → place < to → to - place < length xs → Leads (stand_in xs) place to to
-  long_leads xs place order h = record {
-    from = omega arith;
-    to = omega arith;
-    there = λ e. absurd (omega (arith, e));
-    none = λ other a b. too_long xs other (omega arith);
-  }
-
-  pub short_leads : (xs : List A) (place limit result : ℕ) → place < to → length xs ≤ to - place → limit ≡ to - (length xs - 1)
-      → Leads (stand want xs) place limit result → Leads (stand_in xs) place to result
-  short_leads xs place limit result order h e leads =
-      let size = length-map xs want in
-      let most = leads.to in
-      record {
-        from = leads.from;
-        to = omega (arith, most, e);
-        there = λ at. and_from (nat_le (place + length (map want xs)) to) (stand want xs place) (le-leb (place + length (map want xs)) to (omega (arith, size))) (leads.there at);
-        none = λ other a b. and_right (nat_le (other + length (map want xs)) to) (stand want xs other) (leads.none other a b);
-      }
-
-  pub variant_same : (xs ys : List A) (place : ℕ) → length ys ≡ length xs → SameFrom place (stand want ys) (stand want xs) → SameFrom place (stand_in ys) (stand_in xs)
-  variant_same xs ys place long same =
-      let size : length (map want ys) ≡ length (map want xs) = length-map ys want ∙ long ∙ sym (length-map xs want) in
-      record { same = λ other a. λ i. nat_le (other + size i) to && same.same other a i }
-
 -- ---- variants that count
 
 module _ {H : Type 0} (stands : H → HitPlace) (plain : H → Bool) (to : ℕ) where
-  -- a variant that doesn't count stands nowhere
-  pub left_out_leads : (variant : Variant H) (place : ℕ) → place < to → variant.counts ≡ false → Leads (variant_stands stands to variant) place to to
-  left_out_leads variant place order out = record {
-    from = omega arith;
-    to = omega arith;
-    there = λ e. absurd (omega (arith, e));
-    none = λ other a b. and_left variant.counts (stands_before to other (map (wanted stands) variant.items.items)) out;
-  }
-
   module _ (variant : Variant H) (after : Vec (Item H) Global) (counts : variant.counts ≡ true) where
     abbrev now : Variant H
     now = record { items = after; lead = variant.lead; counts = variant.counts }
-
-    counted_stands : (place : ℕ) (items : Vec (Item H) Global)
-        → variant_stands stands to (record { items = items; lead = variant.lead; counts = variant.counts }) place ≡ stands_before to place (map (wanted stands) items.items)
-    counted_stands place items = ap (λ b. b && stands_before to place (map (wanted stands) items.items)) counts
-
-    pub counted_leads : (place result : ℕ) → Leads (λ other. stands_before to other (map (wanted stands) variant.items.items)) place to result → Leads (variant_stands stands to variant) place to result
-    counted_leads place result leads = record {
-      from = leads.from;
-      to = leads.to;
-      there = λ at. counted_stands place variant.items ∙ leads.there at;
-      none = λ other a b. counted_stands other variant.items ∙ leads.none other a b;
-    }
-
-    pub counted_same : (place : ℕ) → SameFrom place (λ other. stands_before to other (map (wanted stands) after.items)) (λ other. stands_before to other (map (wanted stands) variant.items.items))
-        → SameFrom place (variant_stands stands to now) (variant_stands stands to variant)
-    counted_same place same = record { same = λ other a. counted_stands other after ∙ same.same other a ∙ sym (counted_stands other variant.items) }
-
-    pub counted_moved : (start end : ℕ) → Moved (shown_items stands plain variant.items) (shown_items stands plain after) start end
-        → Moved (shown_variant stands plain variant) (shown_variant stands plain now) start end
-    counted_moved start end moved = record {
-      lists = moved.lists;
-      plain = moved.plain;
-      counted = λ h.
-          let left = ap (λ b. cond b (sum_by (hits_left stands) variant.items.items) 0) counts in
-          let still = ap (λ b. cond b (sum_by (hits_left stands) after.items) 0) counts in
-          let steps = moved.counted h in
-          omega (arith, left, still, steps);
-      grown = moved.grown;
-    }

@@ -1,8 +1,7 @@
 -- What the symbols that the machine has read spell, wherever it stands.
-use Rattle.std.proofs.Common.{◌≡◌, ℕ, Bool, true, false, List, [], ◌∷◌, ◌++◌, Option, Some, None, refl, sym, ◌∙◌, ap, subst, append_assoc}
+use Rattle.std.proofs.Common.{◌≡◌, ℕ, Bool, false, List, [], ◌∷◌, ◌++◌, Option, Some, None, sym, subst, append_assoc}
 use Rattle.std.proofs.lemmas.List.{append-nil}
 use Rattle.std.specs.Prelude.{codes}
-use Rattle.ft_base.specs.declared.filter.Filter.{Filter}
 use Rattle.ft_base.specs.declared.words.Mode.{Mode}
 use Rattle.ft_base.specs.declared.words.Mode.TheVariants as M
 use Rattle.ft_base.specs.declared.options.StopTerm.{StopTerm}
@@ -11,12 +10,10 @@ use Rattle.selection_grammar.specs.declared.symbol.Symbol.TheVariants as S
 use Rattle.selection_grammar.specs.declared.symbol.Placed.{Placed}
 use Rattle.selection_grammar.specs.declared.parsed.PlacedString.{PlacedString}
 use Rattle.selection_grammar.specs.declared.parsed.PlacedOption.{PlacedOption}
-use Rattle.selection_grammar.specs.Shapes.{Spelled}
-use Rattle.selection_grammar.specs.Keywords.{filters}
 use Rattle.selection_grammar.specs.Tree as tree
-use Rattle.selection_grammar.specs.Tree.{Tree, and_of, joined, Primary, phrases, inner}
+use Rattle.selection_grammar.specs.Tree.{Tree, and_of, joined, Primary}
 use Rattle.selection_grammar.specs.Grammar as g
-use Rattle.selection_grammar.specs.Grammar.{Spot, at, name, string, joint, Strings, Value, Moded, Timed, Named, Thesauri, Terms, Given, Options, Negation, Operand, Unary, Mild, Ands, Ors, Selection}
+use Rattle.selection_grammar.specs.Grammar.{Spot, at, name, joint, Strings, Value, Moded, Named, Thesauri, Terms, Given, Options, Negation, Operand, Unary, Mild, Ands, Ors, Selection}
 use Rattle.selection_grammar.specs.steps.Machine as m
 use Rattle.selection_grammar.specs.steps.Machine.{Left, nothing_left_of, Frame, Stage, State, mild_with, ands_with, ors_with, selection_with, operand_of}
 
@@ -125,9 +122,6 @@ with_ands {v = v} (some {u = u} x p) y = ands_same (g.Ands.further_and x p y) (s
 pub with_ors : {u v : List Placed} {xs ys : List Tree} → LeftOrs u xs → Ands v ys → Ors (u ++ v) (xs ++ joined and_of ys ∷ [])
 with_ors none y = g.Ors.first_or y
 with_ors {v = v} (some {u = u} x p) y = ors_same (g.Ors.further_or x p y) (sym (append_assoc u (name p (codes "ftor") ∷ []) v))
-
-regrouped : (a b c d q : List Placed) → a ++ (b ++ (c ++ d)) ++ q ≡ a ++ b ++ c ++ d ++ q
-regrouped a b c d q = simp append_assoc
 
 pub left_selection : {u v : List Placed} {left : Left} {y : Tree} → Lefts u left → Unary v y → Selection (u ++ v) (selection_with left y)
 left_selection {v = d} (lefts {u = a} {v = b} {w = c} x y z) e = selection_same (g.Selection.plain (with_ors x (with_ands y (with_mild z e)))) (regroup a b c d)

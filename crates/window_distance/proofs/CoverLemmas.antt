@@ -1,9 +1,9 @@
 -- Words that hits cover, up to one word after the other.
-use Rattle.std.proofs.Common.{◌≡◌, refl, ap, sym, ◌∙◌, ℕ, zero, suc, ◌+◌, ◌-◌, ◌<◌, ◌≤◌, Bool, true, false, ◌&&◌, ◌||◌, List, length, get_or, drop, [], cond, ◌⊎◌, inl, inr, subst, arith}
+use Rattle.std.proofs.Common.{◌≡◌, refl, ap, sym, ◌∙◌, ℕ, zero, suc, ◌+◌, ◌-◌, ◌<◌, ◌≤◌, Bool, true, false, ◌&&◌, ◌||◌, List, length, get_or, drop, cond, ◌⊎◌, inl, inr, subst, arith}
 use Rattle.std.specs.Prelude.{nat_lt, nat_le}
 use Rattle.std.specs.List.{list_all, range_with_len}
-use Rattle.std.proofs.Math.Bool.{and_assoc, or-false}
-use Rattle.std.proofs.lemmas.Bool.{and_from, and_parts, cases_lt, le-leb, leb-true, lt-ltb, le-ltb, ltb-false, true≢false}
+use Rattle.std.proofs.Math.Bool.{and_assoc}
+use Rattle.std.proofs.lemmas.Bool.{and_from, and_parts, cases_lt, le-leb, leb-true, lt-ltb, ltb-false, true≢false}
 use Rattle.std.proofs.lemmas.List.{at_drop_more, get_or_default}
 use Rattle.std.proofs.lemmas.List.Folds.{list_any_at}
 use Rattle.ft_base.specs.declared.hit.Hit.{Hit}
@@ -55,18 +55,6 @@ pub record Covering (hits rest : List Hit) (place end : ℕ) : Type 0 where
   pub within : place ≤ end
   pub moved : (nat_lt place end || is_covered rest place) ≡ is_covered hits place
   pub covered : list_all (is_covered hits) (range_with_len place (end - place)) ≡ true
-
-pub covering_starts : (hits : List Hit) (place : ℕ) → Covering hits hits place place
-covering_starts hits place =
-    let none : place - place ≡ 0 = omega arith in
-    record {
-      within = omega arith;
-      moved = ap (λ b. b || is_covered hits place) (le-ltb place place (omega arith));
-      covered = ap (λ n. list_all (is_covered hits) (range_with_len place n)) none;
-    }
-
-pub covering_ends : (hits : List Hit) (place end : ℕ) → Covering hits [] place end → nat_lt place end ≡ is_covered hits place
-covering_ends hits place end c = sym (or-false (nat_lt place end)) ∙ c.moved
 
 module _ (hits : List Hit) (i : ℕ) (hit : Hit) (there : i < length hits) (is : hit ≡ get_or hits i hit) (place end : ℕ) (c : Covering hits (drop i hits) place end) where
   next-moved : (nat_lt place end || ((hit.whole && covers hit place) || is_covered (drop (i + 1) hits) place)) ≡ is_covered hits place

@@ -116,10 +116,6 @@ found place hits next e = one (filter (is_behind place) hits) refl e
           fewer = subst (λ n. n < length (filter (is_behind place) hits)) (ap length behind_it) (fewer (is_behind (Some next)) (filter (is_behind place) hits) there);
         }
 
-none_found : (hits : List Hit) → None ≡ first_of hits → hits ≡ []
-none_found [] e = refl
-none_found (hit ∷ rest) e = cc
-
 all_of : (hits : List Hit) → filter (is_behind None) hits ≡ hits
 all_of [] = refl
 all_of (hit ∷ rest) = ap (λ hits. hit ∷ hits) (all_of rest)
@@ -142,9 +138,6 @@ module _ (range : Range) (kind : TextUnit) where
   walk_starts hits = ap (λ hits. all_follow range kind None (in_order hits)) (all_of hits) ∙ neighbours_follow (in_order hits)
 
   module _ (place last : Option Hit) (hits : List Hit) (kept : all_follow range kind last (in_order (filter (is_behind place) hits)) ≡ neighbours_in_range range kind (in_order hits)) where
-    pub walk_ends : None ≡ first_behind place hits → true ≡ neighbours_in_range range kind (in_order hits)
-    walk_ends e = sym (ap (λ hits. all_follow range kind last (in_order hits)) (none_found (filter (is_behind place) hits) e)) ∙ kept
-
     turned : (next : Hit) → Some next ≡ first_behind place hits
         → (all_follow range kind last (filter (stands_with next) hits) && all_follow range kind (last_of last (filter (stands_with next) hits)) (in_order (filter (is_behind (Some next)) hits)))
         ≡ neighbours_in_range range kind (in_order hits)

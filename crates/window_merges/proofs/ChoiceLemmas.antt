@@ -130,14 +130,14 @@ pub greatest_first : (first : ℕ) (rest : List ℕ) → first ≤ greatest firs
 greatest_first first [] = omega arith
 greatest_first first (p ∷ rest) = let less = greatest_first (max first p) rest in omega (arith, less)
 
-least_of : (first : ℕ) (rest : List ℕ) (place : ℕ) → has rest place ≡ true → least first rest ≤ place
+pub least_of : (first : ℕ) (rest : List ℕ) (place : ℕ) → has rest place ≡ true → least first rest ≤ place
 least_of first [] place h = cc
 least_of first (p ∷ rest) place h = elim (or_cases (eqb p place) (has rest place) h) [
   | inl e ↦ let same = eqb-true p place e in let less = least_first (min first p) rest in omega (arith, same, less)
   | inr later ↦ least_of (min first p) rest place later
 ]
 
-greatest_of : (first : ℕ) (rest : List ℕ) (place : ℕ) → has rest place ≡ true → place ≤ greatest first rest
+pub greatest_of : (first : ℕ) (rest : List ℕ) (place : ℕ) → has rest place ≡ true → place ≤ greatest first rest
 greatest_of first [] place h = cc
 greatest_of first (p ∷ rest) place h = elim (or_cases (eqb p place) (has rest place) h) [
   | inl e ↦ let same = eqb-true p place e in let less = greatest_first (max first p) rest in omega (arith, same, less)

@@ -23,16 +23,6 @@ pub record Reaching {A L : Type 0} (passes : A → ℕ → Bool) (shown : A → 
   pub moved : Moved (shown_all shown old) (shown_all shown now) start end
 
 module _ {A L : Type 0} (passes : A → ℕ → Bool) (shown : A → Shown L) where
-  pub reaching_starts : (words : List A) (place limit steps : ℕ) → place < limit → Reaching passes shown words words place limit place 0 steps steps
-  reaching_starts words place limit steps h = record {
-    same = same_words passes words place;
-    from = omega arith;
-    below = h;
-    near = λ i other less. absurd (omega (arith, less));
-    lacks = λ less. absurd (omega (arith, less));
-    moved = unmoved (shown_all shown words) steps;
-  }
-
   module _ (old now : List A) (place limit far number start middle end : ℕ) (so_far : Reaching passes shown old now place limit far number start middle)
       (x y : A) (within : number < length now) (read : x ≡ get_or now number x) (first : ℕ) (leads : Leads (passes x) place limit first)
       (same : SameFrom place (passes y) (passes x)) (moved : Moved (shown x) (shown y) middle end) where
@@ -98,14 +88,6 @@ module _ {A L : Type 0} (passes : A → ℕ → Bool) (shown : A → Shown L) wh
               let l = subst (λ f. Lacks passes place f old (number + 1)) is lacks_word in
               record { number = l.number; within = omega (arith, l.within, within, so_far.same.long); none = l.none };
         }
-
-  pub reaching_ends : (old now : List A) (place limit far number start end : ℕ) → Reaching passes shown old now place limit far number start end → length now ≤ number → number ≤ length now → Reaches passes old place limit far
-  reaching_ends old now place limit far number start end so_far h k = record {
-    from = so_far.from;
-    to = omega (arith, so_far.below);
-    near = λ less i other inside. so_far.near i other (omega (arith, inside, h, so_far.same.long));
-    lacks = λ less. let l = so_far.lacks less in record { number = l.number; within = omega (arith, l.within, k, so_far.same.long); none = l.none };
-  }
 
 -- ---- the places that count
 

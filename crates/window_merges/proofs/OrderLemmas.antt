@@ -16,7 +16,7 @@ use Rattle.window_merges.proofs.CloseLemmas.{Told, told_from, told_there}
 use Rattle.window_merges.proofs.WordLemmas.{same_after, same_later, same_set, same_words}
 
 -- a test with a part that doesn't look at the choice
-choice_of_and : {A : Type 0} (b : Bool) (test : List A → Bool) (lists : List (List A)) → some_choice (λ chosen. b && test chosen) lists ≡ (b && some_choice test lists)
+pub choice_of_and : {A : Type 0} (b : Bool) (test : List A → Bool) (lists : List (List A)) → some_choice (λ chosen. b && test chosen) lists ≡ (b && some_choice test lists)
 choice_of_and b test [] = refl
 choice_of_and b test (xs ∷ lists) =
     list_any-alike (λ x. some_choice (λ chosen. b && test (x ∷ chosen)) lists) (λ x. b && some_choice (λ chosen. test (x ∷ chosen)) lists) xs
@@ -48,7 +48,7 @@ module _ {A : Type 0} (places : A → List ℕ) where
           let from = leb-true later p parts.0 in
           and_from (nat_le place p) (rising p words) (le-leb place p (omega (arith, h, from))) parts.1
 
-  first_serves : (x : A) (words : List A) (place first : ℕ) → place ≤ first → has (places x) first ≡ true
+  pub first_serves : (x : A) (words : List A) (place first : ℕ) → place ≤ first → has (places x) first ≡ true
       → ((p : ℕ) → place ≤ p → p < first → has (places x) p ≡ true → ⊥) → rising place (x ∷ words) ≡ rising first words
   first_serves x words place first h there none = same_tests (rising place (x ∷ words)) (rising first words) to back
     where
@@ -68,7 +68,7 @@ module _ {A : Type 0} (places : A → List ℕ) where
       back : rising first words ≡ true → rising place (x ∷ words) ≡ true
       back e = from_member (λ p. nat_le place p && rising p words) (places x) first there (and_from (nat_le place first) (rising first words) (le-leb place first h) e)
 
-  none_serves : (x : A) (words : List A) (place : ℕ) → ((p : ℕ) → place ≤ p → has (places x) p ≡ true → ⊥) → rising place (x ∷ words) ≡ false
+  pub none_serves : (x : A) (words : List A) (place : ℕ) → ((p : ℕ) → place ≤ p → has (places x) p ≡ true → ⊥) → rising place (x ∷ words) ≡ false
   none_serves x words place none = false_from_ne_true (rising place (x ∷ words)) (λ e. no e)
     where
       no : rising place (x ∷ words) ≡ true → ⊥
