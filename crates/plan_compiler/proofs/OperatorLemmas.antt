@@ -30,7 +30,7 @@ use Rattle.plan_compiler.specs.declared.joining.Join.TheVariants.{Choice, Both}
 use Rattle.plan_compiler.specs.declared.looks.Looks.{Looks}
 use Rattle.plan_compiler.specs.declared.operator_plan.OperatorPlan.{OperatorPlan}
 use Rattle.plan_compiler.proofs.SelectionMeaning.{served_inside}
-use Rattle.plan_compiler.proofs.ServedLemmas.{form-Words, form-Not, form-Filtered, form-With}
+use Rattle.plan_compiler.proofs.ServedLemmas.{form-Not, form-Filtered, form-With}
 
 module _ (lists : NamedLists) (options : Options) (first next : ℕ) (plan : OperatorPlan) where
   -- ---- words
@@ -44,9 +44,6 @@ module _ (lists : NamedLists) (options : Options) (first next : ℕ) (plan : Ope
   }
 
   module _ (selection : Selection) where
-    pub value_to : (value : Words) → selection ≡ S.Words value → CompilesTo lists options first next plan (words value) → CompilesTo lists options first next plan (form selection)
-    value_to value e one = subst (CompilesTo lists options first next plan) (sym (ap form e ∙ form-Words value)) one
-
     -- ---- operands
 
     pub or_to : (parts : List Selection) → selection ≡ S.Or parts → (plans : List OperatorPlan) → EachCompilesTo lists options first next plans parts

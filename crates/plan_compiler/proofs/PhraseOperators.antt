@@ -11,6 +11,7 @@ use Rattle.ft_base.specs.declared.token.Token.{Token}
 use Rattle.ft_base.specs.declared.words.Words.{Words}
 use Rattle.ft_base.specs.declared.words.Mode.{Mode}
 use Rattle.ft_base.specs.declared.words.Mode.TheVariants.{Any, AnyWord, All, AllWords, Phrase}
+use Rattle.ft_base.proofs.Truth.{and_swap}
 use Rattle.all_matches.specs.Counting.{begins_as}
 use Rattle.all_matches.specs.Hits.{Interval, hit_on, hits, intervals, passes_item, stands_as, tokens_in}
 use Rattle.all_matches.specs.Meaning.{phrases_by, singly, strings_of}
@@ -45,11 +46,6 @@ use Rattle.plan_compiler.proofs.PriceMeaning.{variants_cost}
 
 -- ---- tests in the place of items, one for each word
 
-swapped : (a b c : Bool) → (a && (b && c)) ≡ (b && (a && c))
-swapped true b c = refl
-swapped false true c = refl
-swapped false false c = refl
-
 -- items stand on tokens where these are as many and begin with them
 as_many_begin : (lexicon : Lexicon) (options : Options) (items : List Item) (tokens : List Token)
     → ((length items == length tokens) && begins_as (passes_item lexicon options) items tokens) ≡ stands_as lexicon options items tokens
@@ -58,7 +54,7 @@ as_many_begin lexicon options [] (token ∷ tokens) = ap (λ b. b && true) (eqb-
 as_many_begin lexicon options (item ∷ items) [] = ap (λ b. b && false) (eqb-suc-zero (length items))
 as_many_begin lexicon options (item ∷ items) (token ∷ tokens) =
     ap (λ b. b && (passes_item lexicon options item token && begins_as (passes_item lexicon options) items tokens)) (eqb-suc-suc (length items) (length tokens))
-    ∙ swapped (length items == length tokens) (passes_item lexicon options item token) (begins_as (passes_item lexicon options) items tokens)
+    ∙ and_swap (length items == length tokens) (passes_item lexicon options item token) (begins_as (passes_item lexicon options) items tokens)
     ∙ ap (λ b. passes_item lexicon options item token && b) (as_many_begin lexicon options items tokens)
 
 abbrev stand : List (TextWord → Bool) → List TextWord → Bool

@@ -1,21 +1,20 @@
 -- Variants whose cursors were aimed, one after the other.
-use Rattle.std.proofs.Common.{◌≡◌, ◌≤◌, ◌<◌, ◌+◌, ◌*◌, ◌++◌, ◌||◌, ℕ, suc, subst, true, false, cond, ◌&&◌, List, [], ◌∷◌, map, length, get_or, set, take, refl, sym, ap, ◌∙◌, arith}
-use Rattle.std.specs.List.{All, list_any, sum_by}
-use Rattle.std.proofs.lemmas.List.{length-map, map_more, take_more_set}
-use Rattle.std.proofs.lemmas.List.Folds.{list_any-append}
+use Rattle.std.proofs.Common.{◌≡◌, ◌≤◌, ◌<◌, ◌+◌, ◌*◌, ◌++◌, ℕ, suc, subst, true, cond, List, [], ◌∷◌, map, length, get_or, set, take, refl, sym, ap, ◌∙◌, arith}
+use Rattle.std.specs.List.{All, sum_by}
+use Rattle.std.proofs.lemmas.List.{length-map, map_more, map_push, take_more_set}
 use Rattle.std.proofs.lemmas.List.Sums.{sum_by_push, sum_by_more}
 use Rattle.ft_base.specs.Hits.{HitPlace, hit_place}
 use Rattle.ft_base.specs.declared.hit.Hit.{Hit}
 use Rattle.index_meaning.specs.Documents.{Numbered, has_document}
 use Rattle.index_versions.specs.Terms.{VersionTerm, aimed_at}
 use Rattle.index_versions.specs.Versions.{term_hits}
-use Rattle.place_merges.specs.Places.{Wanted, any_word, one_of, stands_before}
+use Rattle.place_merges.specs.Places.{Wanted, any_word, one_of}
 use Rattle.place_merges.specs.Sources.{all_left, hits_left, places_left, variant_left, wanted}
 use Rattle.place_merges.specs.declared.item.Item.{Item}
 use Rattle.place_merges.specs.declared.item.Item.TheVariants as Merged
 use Rattle.place_merges.specs.declared.item.Variant.{Variant}
-use Rattle.place_merges.specs.steps.Searching.{variant_stands}
-use Rattle.plan_runs.specs.steps.AskedPlaces.{AreAimed, IsAimed, aimed, hits_at, wanted_at}
+use Rattle.index_phrases.specs.steps.Aiming.{counted_words}
+use Rattle.plan_runs.specs.steps.AskedPlaces.{AreAimed, IsAimed, aimed, counted_at, hits_at, wanted_at}
 use Rattle.plan_runs.specs.steps.ChosenTerms.{numbers_of}
 use Rattle.plan_runs.specs.steps.RunCosts.{hit_count, moves_for, term_count}
 use Rattle.plan_runs.specs.declared.asked_place.AskedPlace.{AskedPlace}
@@ -73,26 +72,19 @@ module _ (place : AskedPlace) where
 
   pub aimed_stands : (variant : Variant HitPlace) (terms : List WordTerms) → variant.counts ≡ true
       → map (wanted (λ cursor. cursor)) variant.items.items ≡ map (wanted_at place) terms → IsAimed place terms variant
-  aimed_stands variant terms counts same = record {
-    same = λ other h. λ i. counts i && stands_before place.span.to other (same i);
-  }
+  aimed_stands variant terms counts same = λ i. (counts i, same i)
 
   -- ---- one variant more
 
   module _ (now : List (Variant HitPlace)) (terms : List (List WordTerms)) (i : ℕ) (variant : Variant HitPlace) (word : List WordTerms)
       (many : i < length now) (within : i < length terms) (is : word ≡ get_or terms i word) where
     pub more_aimed : AreAimed place (take i terms) (take i now) → IsAimed place word variant → AreAimed place (take (i + 1) terms) (take (i + 1) (set now i variant))
-    more_aimed before one = record {
-      same = λ other h.
-          let stands = λ (v : Variant HitPlace). variant_stands (λ cursor. cursor) place.span.to v other in
-          let asked = λ (w : List Wanted). stands_before place.span.to other w in
-          ap (list_any stands) (take_more_set now i variant many)
-          ∙ list_any-append stands (take i now) (variant ∷ [])
-          ∙ (λ j. before.same other h j || (one.same other h j || false))
-          ∙ sym (list_any-append asked (map (map (wanted_at place)) (take i terms)) (map (wanted_at place) word ∷ []))
-          ∙ ap (λ (w : List WordTerms). list_any asked (map (map (wanted_at place)) (take i terms) ++ map (wanted_at place) w ∷ [])) is
-          ∙ sym (ap (list_any asked) (map_more (map (wanted_at place)) terms i word within));
-    }
+    more_aimed before one =
+        ap (map counted_words) (take_more_set now i variant many)
+        ∙ map_push counted_words (take i now) variant
+        ∙ (λ j. before j ++ one j ∷ [])
+        ∙ ap (λ (w : List WordTerms). map (counted_at place) (take i terms) ++ counted_at place w ∷ []) is
+        ∙ sym (map_more (counted_at place) terms i word within)
 
     pub more_price : (start middle end : ℕ) → middle + 2 * all_left (λ cursor. cursor) (take i now) ≤ start + sum_by (sum_by (moves_for place)) (take i terms)
         → end + 2 * variant_left (λ cursor. cursor) variant ≤ middle + sum_by (moves_for place) word

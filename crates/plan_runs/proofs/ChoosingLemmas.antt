@@ -19,7 +19,7 @@ use Rattle.match_options.specs.declared.word_forms.Forms.{Forms}
 use Rattle.match_options.specs.declared.word_matching.WordTest.{WordTest}
 use Rattle.match_options.specs.declared.word_matching.WordTest.TheVariants as The
 use Rattle.word_lists.specs.Stems.{Stem}
-use Rattle.plan_runs.specs.steps.AskedKeys.{asked_key, key_of_forms}
+use Rattle.plan_kinds.specs.steps.AskedKeys.{asked_key, key_of_forms}
 use Rattle.plan_compiler.specs.ItemTests.{passes}
 use Rattle.plan_runs.specs.steps.OpenedItems.{word_test}
 use Rattle.plan_compiler.specs.declared.item_matching.ItemTest.{ItemTest}

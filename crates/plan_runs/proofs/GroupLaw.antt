@@ -16,12 +16,13 @@ use Rattle.place_merges.specs.Sources.{all_plain, is_plain, wanted_words}
 use Rattle.place_merges.specs.declared.item.Item.{Item}
 use Rattle.place_merges.specs.declared.item.Item.TheVariants as Merged
 use Rattle.place_merges.specs.declared.item.Variant.{Variant}
-use Rattle.place_merges.proofs.CountLemmas.{as_wanted}
 use Rattle.place_merges.proofs.PlacesLaw.{places_law}
+use Rattle.spot_merges.specs.Edges.{spots_of}
 use Rattle.index_phrases.specs.Phrases as phrases
 use Rattle.index_phrases.specs.Tokens.{IsSpan}
 use Rattle.index_phrases.specs.declared.word_terms.WordTerms.{WordTerms}
 use Rattle.index_phrases.specs.declared.word_terms.WordTerms.TheVariants as Terms
+use Rattle.index_phrases.proofs.AimLemmas.{all_wanted}
 use Rattle.index_phrases.proofs.TermPlaces.{wanted_law}
 use Rattle.plan_runs.specs.steps.AskedPlaces.{AreAimed, hits_at, text_at, wanted_at}
 use Rattle.plan_runs.specs.steps.RunTruth.{is_wanted}
@@ -51,10 +52,15 @@ wanted_same version Terms.Any word = refl
 wanted_same version (Terms.Of sources) word = sym (list_any-map (λ (number : ℕ). same_word (term_at number version).word word) (λ (source : VersionTerm). source.term) sources)
 
 module _ (place : AskedPlace) where
-  -- aimed variants stand at as many places as their terms
+  -- aimed variants want what their terms do
+  pub aimed_words : (terms : List (List WordTerms)) (variants : List (Variant HitPlace)) → AreAimed place terms variants
+      → wanted_words (λ cursor. cursor) variants ≡ map (map (wanted_at place)) terms
+  aimed_words terms variants aimed = all_wanted (wanted_at place) variants terms aimed
+
+  -- so they stand at as many places
   pub aimed_law : (terms : List (List WordTerms)) (variants : List (Variant HitPlace)) → AreAimed place terms variants
       → places_between place.span.from place.span.to (wanted_words (λ cursor. cursor) variants) ≡ places_between place.span.from place.span.to (map (map (wanted_at place)) terms)
-  aimed_law terms variants aimed = as_wanted (λ cursor. cursor) place.span.to variants (map (map (wanted_at place)) terms) place.span.from aimed
+  aimed_law terms variants aimed = ap (places_between place.span.from place.span.to) (aimed_words terms variants aimed)
 
   pub text_length : length (text_at place) ≡ place.span.to - place.span.from
   text_length =
@@ -74,6 +80,11 @@ module _ (place : AskedPlace) where
   places_same Terms.Any = refl
   places_same (Terms.Of sources) =
       ap one_of (map-map (λ (number : ℕ). map (λ (hit : Hit). hit.from) (hits_at place number)) (λ (source : VersionTerm). source.term) sources)
+
+  -- the spots of aimed variants are those of their terms
+  pub aimed_spots : (terms : List (List WordTerms)) (variants : List (Variant HitPlace)) → AreAimed place terms variants
+      → spots_of place.span (wanted_words (λ cursor. cursor) variants) ≡ spots_of place.span (map (map (phrases.wanted_at place.version.now place.doc.0 place.span)) terms)
+  aimed_spots terms variants aimed = ap (spots_of place.span) (aimed_words terms variants aimed ∙ (λ i. map (map (λ (item : WordTerms). places_same item i)) terms))
 
   fits_at_word : (item : WordTerms) (k : ℕ) (word : List ℕ) → k < length (text_at place)
       → fits (place.span.from + k) (wanted_at place item) ≡ is_wanted place.version.now item (get_or (text_at place) k word)

@@ -16,10 +16,11 @@ use Rattle.place_merges.specs.Sources.{places_left}
 use Rattle.window_merges.specs.Rows.{all_places, places_in, word_lists, words_left, words_plain}
 use Rattle.word_lists.specs.Stems.{Stem}
 use Rattle.plan_compiler.specs.NodeCosts.{operator_cost}
-use Rattle.plan_runs.specs.steps.AskedKeys.{asks_nothing}
+use Rattle.plan_kinds.specs.steps.AskedKeys.{asks_nothing}
 use Rattle.plan_runs.specs.steps.AskedPlaces.{aimed, asked_at, hits_at}
 use Rattle.plan_runs.specs.steps.ChosenTerms.{numbers_of}
-use Rattle.plan_runs.specs.steps.Merges.{is_single, joined_phrases, phrase_terms, terms_places, test_terms}
+use Rattle.plan_kinds.specs.steps.JoinedPhrases.{is_single, is_word, joined_phrases}
+use Rattle.plan_runs.specs.steps.Merges.{phrase_terms, terms_places, test_terms}
 use Rattle.plan_runs.specs.steps.OpenedItems.{opened_item}
 use Rattle.plan_runs.specs.steps.RunCosts.{IsFair, moves_for}
 use Rattle.plan_runs.specs.steps.RunShapes.{count_of, cursors_of}
@@ -29,7 +30,7 @@ use Rattle.plan_compiler.specs.declared.looks.Looks.{Looks}
 use Rattle.plan_compiler.specs.declared.operator_plan.OperatorPlan.{OperatorPlan, Phrase, Choice', Both', MildNot', Negated', Filtered'}
 use Rattle.plan_compiler.specs.declared.operator_plan.PhraseTests.{PhraseTests}
 use Rattle.plan_runs.proofs.AimLemmas.{aimed_are}
-use Rattle.plan_runs.proofs.MergeLaw.{all_single, one_test}
+use Rattle.plan_runs.proofs.MergeLaw.{one_test}
 use Rattle.plan_compiler.proofs.SumLemmas.{sum_over}
 use Rattle.plan_runs.proofs.SumLemmas.{sum_with_twice}
 
@@ -76,11 +77,11 @@ module _ (looks : Looks) (stems : List Stem) (version : List Numbered) (word_cos
       let single = ap (sum_by test_cost) one.is ∙ sum_by-cons test_cost one.test [] in
       omega (arith, first, own, rest, all, costs, single)
 
-  pub phrases_cheap : (phrases : List PhraseTests) → all_single phrases ≡ true
+  pub phrases_cheap : (phrases : List PhraseTests) → list_all is_word phrases ≡ true
       → sum_by (λ terms. word_cost (Terms.Of terms)) (map (phrase_terms looks stems version) phrases) ≤ sum_by (tests_cost test_cost) phrases
   phrases_cheap [] h = omega arith
   phrases_cheap (found ∷ phrases) h =
-      let parts = and_parts (list_all is_single found.variants) (all_single phrases) h in
+      let parts = and_parts (list_all is_single found.variants) (list_all is_word phrases) h in
       let first = variants_cheap found.variants parts.0 in
       let rest = phrases_cheap phrases parts.1 in
       let terms = sum_by-cons (λ terms. word_cost (Terms.Of terms)) (phrase_terms looks stems version found) (map (phrase_terms looks stems version) phrases) in

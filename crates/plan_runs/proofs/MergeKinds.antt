@@ -1,10 +1,9 @@
 -- What a filter asks of single words that are joined under it, by the places at which they stand.
-use Rattle.std.proofs.Common.{◌≡◌, refl, sym, ap, ◌∙◌, ℕ, ◌+◌, ◌-◌, eqb, ◌≤◌, Bool, true, ◌&&◌, true≢false, List, [], ◌∷◌, map, length, get_or, Some, arith}
+use Rattle.std.proofs.Common.{◌≡◌, refl, ap, ◌∙◌, ℕ, ◌+◌, ◌-◌, eqb, ◌≤◌, Bool, true, ◌&&◌, List, [], ◌∷◌, map, length, get_or, Some, arith}
 use Rattle.std.specs.Prelude.{nat_le, nat_lt}
 use Rattle.std.specs.List.{list_all}
 use Rattle.std.proofs.lemmas.Bool.{and_from, and_parts}
 use Rattle.std.proofs.lemmas.Bool.Decides.{nat_tests}
-use Rattle.std.proofs.lemmas.List.{length-append}
 use Rattle.std.proofs.lemmas.Option.{cond_some, none-some, same_Some}
 use Rattle.ft_base.specs.declared.filter.Filter.{Filter}
 use Rattle.ft_base.specs.declared.filter.Filter.TheVariants as F
@@ -28,11 +27,13 @@ use Rattle.window_merges.proofs.FilterLemmas.{ordered_choices, window_choices}
 use Rattle.window_merges.proofs.ShiftLemmas.{close_counted, order_counted}
 use Rattle.window_merges.proofs.DistanceFilter.{distance_choices}
 use Rattle.window_merges.proofs.UnitFilter.{counted_units, same_paragraph, same_sentence}
-use Rattle.plan_runs.specs.steps.Merges.{distance_kind, filter_kind, is_pair, is_phrase, joined_phrases, stand_as}
-use Rattle.plan_runs.specs.steps.RisingUnits.{started_rises}
-use Rattle.plan_runs.specs.declared.merge_kind.MergeKind.{MergeKind}
-use Rattle.plan_runs.specs.declared.merge_kind.MergeKind.TheVariants.{Close, InOrder, InSentence, InParagraph}
-use Rattle.plan_compiler.specs.declared.operator_plan.OperatorPlan.{OperatorPlan, Phrase, Choice', Both', MildNot', Negated', Filtered'}
+use Rattle.plan_kinds.specs.steps.JoinedPhrases.{are_two}
+use Rattle.plan_kinds.specs.steps.MergeKinds.{distance_kind, stand_as, words_kind}
+use Rattle.plan_kinds.specs.declared.joined.Joined.{Joined}
+use Rattle.plan_kinds.proofs.JoinedLaw.{pair_count}
+use Rattle.plan_kinds.specs.steps.RisingUnits.{started_rises}
+use Rattle.plan_kinds.specs.declared.merge_kind.MergeKind.{MergeKind}
+use Rattle.plan_kinds.specs.declared.merge_kind.MergeKind.TheVariants.{Close, InOrder, InSentence, InParagraph}
 
 -- the number of a unit round a place that is counted from the first of a span, which is in its first unit
 abbrev pub own_unit : List ℕ → ℕ → ℕ → ℕ
@@ -89,29 +90,6 @@ pub record AreWords (breaks : Breaks) (from number : ℕ) (words : List (List Hi
   pub sentences : are_told Unit.Sentences (own_unit breaks.sentences from) words ≡ true
   pub paragraphs : are_told Unit.Paragraphs (own_unit breaks.paragraphs from) words ≡ true
 
--- two phrases that are joined are two
-pub pair_count : (plan : OperatorPlan) → is_pair plan ≡ true → length (joined_phrases plan) ≡ 2
-unfolding joined_phrases
-pair_count (Phrase found) h = absurd (true≢false (sym h))
-pair_count (Choice' p left right) h = absurd (true≢false (sym h))
-pair_count (Both' p left right) h =
-    let parts = and_parts (is_phrase left) (is_phrase right) h in
-    let one = phrase_count left parts.0 in
-    let other = phrase_count right parts.1 in
-    let both = length-append (joined_phrases left) (joined_phrases right) in
-    omega (arith, one, other, both)
-  where
-    phrase_count : (plan : OperatorPlan) → is_phrase plan ≡ true → length (joined_phrases plan) ≡ 1
-    phrase_count (Phrase found) h = refl
-    phrase_count (Choice' q a b) h = absurd (true≢false (sym h))
-    phrase_count (Both' q a b) h = absurd (true≢false (sym h))
-    phrase_count (MildNot' q a b) h = absurd (true≢false (sym h))
-    phrase_count (Negated' q a) h = absurd (true≢false (sym h))
-    phrase_count (Filtered' q a kind) h = absurd (true≢false (sym h))
-pair_count (MildNot' p left right) h = absurd (true≢false (sym h))
-pair_count (Negated' p operand) h = absurd (true≢false (sym h))
-pair_count (Filtered' p operand kind) h = absurd (true≢false (sym h))
-
 -- a distance of two words
 two_words : (size : ℕ) (item : Span) (hits : List Hit) (words : List (List Hit)) → length words ≡ 1 → are_single (hits ∷ words) ≡ true
     → satisfied (matches_of item (filtered_words (F.Distance (R.AtMost size) Unit.Words) (hits ∷ words))) ≡ some_choice (are_close (size + 2)) (first_words (hits ∷ words))
@@ -119,36 +97,36 @@ two_words size item hits [] two single = absurd (omega (arith, two))
 two_words size item hits (others ∷ []) two single = distance_choices size item hits others single
 two_words size item hits (others ∷ more ∷ rest) two single = absurd (omega (arith, two))
 
-distance_law : (breaks : Breaks) (from : ℕ) (operand : OperatorPlan) (range : Range) (unit : TextUnit) (kind : MergeKind) → distance_kind range unit operand ≡ Some kind
-    → (item : Span) (hits : List Hit) (words : List (List Hit)) → (is_pair operand ≡ true → length words ≡ 1) → are_single (hits ∷ words) ≡ true
+distance_law : (breaks : Breaks) (from : ℕ) (joined : Joined) (range : Range) (unit : TextUnit) (kind : MergeKind) → distance_kind range unit joined ≡ Some kind
+    → (item : Span) (hits : List Hit) (words : List (List Hit)) → joined.last ≡ joined.first + length words → are_single (hits ∷ words) ≡ true
     → satisfied (matches_of item (filtered_words (F.Distance range unit) (hits ∷ words))) ≡ stand_in_span breaks from kind (first_words (hits ∷ words))
-distance_law breaks from operand (R.Exactly size) unit kind h item hits words two single = absurd (none-some kind h)
-distance_law breaks from operand (R.AtLeast size) unit kind h item hits words two single = absurd (none-some kind h)
-distance_law breaks from operand (R.AtMost size) Unit.Words kind h item hits words two single =
-    let made = cond_some (is_pair operand && nat_lt size 4294967294) (Close (size + 2)) kind h in
-    let pair = and_parts (is_pair operand) (nat_lt size 4294967294) made.0 in
-    two_words size item hits words (two pair.0) single ∙ ap (λ k. stand_in_span breaks from k (first_words (hits ∷ words))) made.1
-distance_law breaks from operand (R.AtMost size) Unit.Sentences kind h item hits words two single = absurd (none-some kind h)
-distance_law breaks from operand (R.AtMost size) Unit.Paragraphs kind h item hits words two single = absurd (none-some kind h)
-distance_law breaks from operand (R.FromTo low high) unit kind h item hits words two single = absurd (none-some kind h)
+distance_law breaks from joined (R.Exactly size) unit kind h item hits words counted single = absurd (none-some kind h)
+distance_law breaks from joined (R.AtLeast size) unit kind h item hits words counted single = absurd (none-some kind h)
+distance_law breaks from joined (R.AtMost size) Unit.Words kind h item hits words counted single =
+    let made = cond_some (are_two joined && nat_lt size 4294967294) (Close (size + 2)) kind h in
+    let pair = and_parts (are_two joined) (nat_lt size 4294967294) made.0 in
+    two_words size item hits words (pair_count joined (length words) counted pair.0) single ∙ ap (λ k. stand_in_span breaks from k (first_words (hits ∷ words))) made.1
+distance_law breaks from joined (R.AtMost size) Unit.Sentences kind h item hits words counted single = absurd (none-some kind h)
+distance_law breaks from joined (R.AtMost size) Unit.Paragraphs kind h item hits words counted single = absurd (none-some kind h)
+distance_law breaks from joined (R.FromTo low high) unit kind h item hits words counted single = absurd (none-some kind h)
 
-pub kind_law : (breaks : Breaks) (from : ℕ) (operand : OperatorPlan) (filter : Filter) (kind : MergeKind) → filter_kind filter operand ≡ Some kind
-    → (number : ℕ) (item : Span) (hits : List Hit) (words : List (List Hit)) → (is_pair operand ≡ true → length words ≡ 1)
-    → AreWords breaks from number (hits ∷ words)
+pub merge_law : (breaks : Breaks) (from : ℕ) (joined : Joined) (filter : Filter) (kind : MergeKind) → words_kind filter joined ≡ Some kind
+    → (item : Span) (hits : List Hit) (words : List (List Hit)) → joined.last ≡ joined.first + length words
+    → AreWords breaks from joined.first (hits ∷ words)
     → satisfied (matches_of item (filtered_words filter (hits ∷ words))) ≡ stand_in_span breaks from kind (first_words (hits ∷ words))
-kind_law breaks from operand F.Ordered kind h number item hits words two are =
-    ordered_choices number item hits words are.numbered ∙ ap (λ k. stand_in_span breaks from k (first_words (hits ∷ words))) (same_Some InOrder kind h)
-kind_law breaks from operand (F.Window size Unit.Words) kind h number item hits words two are =
+merge_law breaks from joined F.Ordered kind h item hits words counted are =
+    ordered_choices joined.first item hits words are.numbered ∙ ap (λ k. stand_in_span breaks from k (first_words (hits ∷ words))) (same_Some InOrder kind h)
+merge_law breaks from joined (F.Window size Unit.Words) kind h item hits words counted are =
     window_choices size item hits words are.single ∙ ap (λ k. stand_in_span breaks from k (first_words (hits ∷ words))) (same_Some (Close size) kind h)
-kind_law breaks from operand (F.Window size Unit.Sentences) kind h number item hits words two are = absurd (none-some kind h)
-kind_law breaks from operand (F.Window size Unit.Paragraphs) kind h number item hits words two are = absurd (none-some kind h)
-kind_law breaks from operand (F.Distance range unit) kind h number item hits words two are = distance_law breaks from operand range unit kind h item hits words two are.single
-kind_law breaks from operand F.SameSentence kind h number item hits words two are =
+merge_law breaks from joined (F.Window size Unit.Sentences) kind h item hits words counted are = absurd (none-some kind h)
+merge_law breaks from joined (F.Window size Unit.Paragraphs) kind h item hits words counted are = absurd (none-some kind h)
+merge_law breaks from joined (F.Distance range unit) kind h item hits words counted are = distance_law breaks from joined range unit kind h item hits words counted are.single
+merge_law breaks from joined F.SameSentence kind h item hits words counted are =
     same_sentence (own_unit breaks.sentences from) item hits words are.sentences ∙ ap (λ k. stand_in_span breaks from k (first_words (hits ∷ words))) (same_Some InSentence kind h)
-kind_law breaks from operand F.SameParagraph kind h number item hits words two are =
+merge_law breaks from joined F.SameParagraph kind h item hits words counted are =
     same_paragraph (own_unit breaks.paragraphs from) item hits words are.paragraphs ∙ ap (λ k. stand_in_span breaks from k (first_words (hits ∷ words))) (same_Some InParagraph kind h)
-kind_law breaks from operand F.DifferentSentence kind h number item hits words two are = absurd (none-some kind h)
-kind_law breaks from operand F.DifferentParagraph kind h number item hits words two are = absurd (none-some kind h)
-kind_law breaks from operand F.AtStart kind h number item hits words two are = absurd (none-some kind h)
-kind_law breaks from operand F.AtEnd kind h number item hits words two are = absurd (none-some kind h)
-kind_law breaks from operand F.EntireContent kind h number item hits words two are = absurd (none-some kind h)
+merge_law breaks from joined F.DifferentSentence kind h item hits words counted are = absurd (none-some kind h)
+merge_law breaks from joined F.DifferentParagraph kind h item hits words counted are = absurd (none-some kind h)
+merge_law breaks from joined F.AtStart kind h item hits words counted are = absurd (none-some kind h)
+merge_law breaks from joined F.AtEnd kind h item hits words counted are = absurd (none-some kind h)
+merge_law breaks from joined F.EntireContent kind h item hits words counted are = absurd (none-some kind h)

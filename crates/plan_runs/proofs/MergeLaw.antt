@@ -30,127 +30,30 @@ use Rattle.window_merges.proofs.SingleSpots.{single_spots}
 use Rattle.window_merges.proofs.WantedLemmas.{wanted_places}
 use Rattle.word_lists.specs.Stems.{Stem}
 use Rattle.plan_compiler.specs.Operators.{LookedText, hits_by_tests, looked_text, operator_at}
-use Rattle.plan_runs.specs.steps.AskedKeys.{asks_nothing}
+use Rattle.plan_kinds.specs.steps.AskedKeys.{asks_nothing}
 use Rattle.plan_runs.specs.steps.AskedSpans.{AskedSpan, IsAsked, tokens_in}
 use Rattle.plan_runs.specs.steps.ChosenTerms.{terms_for}
-use Rattle.plan_runs.specs.steps.Merges.{filter_kind, is_pair, is_single, joined_phrases, last_word, one_behind, own_word, phrase_terms, stand_as, terms_places, test_terms, word_number}
+use Rattle.plan_kinds.specs.steps.JoinedPhrases.{is_single, is_word, joined_of, joined_phrases}
+use Rattle.plan_kinds.specs.steps.MergeKinds.{merge_kind}
+use Rattle.plan_kinds.specs.declared.joined.Joined.{Joined}
+use Rattle.plan_kinds.proofs.FilteredLaw.{words_law}
+use Rattle.plan_kinds.proofs.JoinedLaw.{from_number, joined_law}
+use Rattle.plan_kinds.specs.steps.MergeKinds.{stand_as}
+use Rattle.plan_runs.specs.steps.Merges.{phrase_terms, terms_places, test_terms}
 use Rattle.plan_runs.specs.steps.OpenedItems.{opened_item, opened_variant, word_test}
 use Rattle.plan_compiler.specs.declared.item_matching.ItemTest.{ItemTest}
 use Rattle.plan_compiler.specs.declared.looks.Looks.{Looks}
-use Rattle.plan_runs.specs.declared.merge_kind.MergeKind.{MergeKind}
+use Rattle.plan_kinds.specs.declared.merge_kind.MergeKind.{MergeKind}
 use Rattle.plan_compiler.specs.declared.operator_plan.OperatorPlan.{OperatorPlan, Phrase, Choice', Both', MildNot', Negated', Filtered'}
 use Rattle.plan_compiler.specs.declared.operator_plan.PhraseTests.{PhraseTests}
 use Rattle.plan_runs.proofs.OpenedWays.{phrase_law}
-use Rattle.plan_runs.proofs.RuledOutLaw.{not_true}
-use Rattle.plan_runs.proofs.MergeKinds.{kind_law, own_unit, pair_count, stand_counted, stand_in_span, stand_same}
-
--- ---- words that are joined, and how they are numbered
+use Rattle.plan_runs.proofs.RunSkipLaw.{not_true}
+use Rattle.plan_runs.proofs.MergeKinds as kinds
+use Rattle.plan_runs.proofs.MergeKinds.{own_unit, stand_counted, stand_in_span, stand_same}
 
 -- the hits of a phrase, by its tests
 abbrev hits_of : LookedText → PhraseTests → List Hit
 hits_of text found = hits_by_tests text found.number found.variants
-
-abbrev pub all_single : List PhraseTests → Bool
-all_single phrases = list_all (λ found. list_all is_single found.variants) phrases
-
--- whether the phrases have the numbers from one on
-abbrev from_number : ℕ → List PhraseTests → Bool
-from_number number [] = true
-from_number number (found ∷ phrases) = (found.number == number) && from_number (number + 1) phrases
-
-from_number_push : (number : ℕ) (phrases : List PhraseTests) (found : PhraseTests) → from_number number phrases ≡ true → found.number ≡ number + length phrases
-    → from_number number (phrases ++ found ∷ []) ≡ true
-from_number_push number [] found h is = and_from (found.number == number) true (eq-eqb found.number number (omega (arith, is))) refl
-from_number_push number (other ∷ phrases) found h is =
-    let parts = and_parts (other.number == number) (from_number (number + 1) phrases) h in
-    and_from (other.number == number) (from_number (number + 1) (phrases ++ found ∷ [])) parts.0
-    (from_number_push (number + 1) phrases found parts.1 (omega (arith, is)))
-
-single_push : (phrases : List PhraseTests) (found : PhraseTests) → all_single phrases ≡ true → list_all is_single found.variants ≡ true → all_single (phrases ++ found ∷ []) ≡ true
-single_push [] found h one = and_from (list_all is_single found.variants) true one refl
-single_push (other ∷ phrases) found h one =
-    let parts = and_parts (list_all is_single other.variants) (all_single phrases) h in
-    and_from (list_all is_single other.variants) (all_single (phrases ++ found ∷ [])) parts.0 (single_push phrases found parts.1 one)
-
--- a plan that joins words, the last of which has a number
-pub record IsChain (plan : OperatorPlan) (last : ℕ) : Type 0 where
-  pub first : PhraseTests
-  pub rest : List PhraseTests
-  pub phrases : joined_phrases plan ≡ first ∷ rest
-  pub single : all_single (first ∷ rest) ≡ true
-  pub numbered : from_number first.number (first ∷ rest) ≡ true
-  pub counted : last ≡ first.number + length rest
-  pub same : (text : LookedText) → operator_at text plan ≡ together_of (map phrase (map (hits_of text) (first ∷ rest)))
-
-some_word : (found : PhraseTests) (last : ℕ) → word_number found ≡ Some last → (list_all is_single found.variants ≡ true) × (found.number ≡ last)
-some_word found last h = cond_some (list_all is_single found.variants) found.number last h
-
--- two numbers, the second behind the first
-record AreNext (before last : Option ℕ) (number : ℕ) : Type 0 where
-  first : ℕ
-  left : before ≡ Some first
-  right : last ≡ Some number
-  next : number ≡ first + 1
-
-are_next : (before last : Option ℕ) (number : ℕ) → one_behind before last ≡ Some number → AreNext before last number
-are_next None last number h = absurd (none-some number h)
-are_next (Some first) None number h = absurd (none-some number h)
-are_next (Some first) (Some second) number h =
-    let parts = cond_some (second - first == 1) second number h in
-    let next = eqb-true (second - first) 1 parts.0 in
-    record { first = first; left = refl; right = ap Some parts.1; next = omega (arith, next, parts.1) }
-
-one_word : (found : PhraseTests) (last : ℕ) → word_number found ≡ Some last → IsChain (Phrase found) last
-unfolding joined_phrases operator_at
-one_word found last h =
-    let word = some_word found last h in
-    record {
-      first = found;
-      rest = [];
-      phrases = refl;
-      single = and_from (list_all is_single found.variants) true word.0 refl;
-      numbered = and_from (found.number == found.number) true (eq-eqb found.number found.number refl) refl;
-      counted = omega (arith, word.1);
-      same = λ text. refl;
-    }
-
-one_more_word : (p : _) (left : OperatorPlan) (found : PhraseTests) (before last : ℕ) → IsChain left before → word_number found ≡ Some last → last ≡ before + 1
-    → IsChain (Both' p left (Phrase found)) last
-unfolding joined_phrases operator_at
-one_more_word p left found before last chain own next =
-    let word = some_word found last own in
-    let count = chain.counted in
-    record {
-      first = chain.first;
-      rest = chain.rest ++ found ∷ [];
-      phrases = ap (λ phrases. phrases ++ found ∷ []) chain.phrases;
-      single = single_push (chain.first ∷ chain.rest) found chain.single word.0;
-      numbered = from_number_push chain.first.number (chain.first ∷ chain.rest) found chain.numbered (omega (arith, next, count, word.1));
-      counted = let long = length-append chain.rest (found ∷ []) in omega (arith, next, count, long);
-      same = λ text.
-          ap (λ operator. together operator (phrase (hits_of text found))) (chain.same text)
-          ∙ sym (ap (fold together (phrase (hits_of text chain.first))) (ap (map phrase) (map_push (hits_of text) chain.rest found) ∙ map_push phrase (map (hits_of text) chain.rest) (hits_of text found))
-          ∙ fold-append together (phrase (hits_of text chain.first)) (map phrase (map (hits_of text) chain.rest)) (phrase (hits_of text found) ∷ []));
-    }
-
-behind_word : (p : _) (left right : OperatorPlan) (before last : ℕ) → IsChain left before → own_word right ≡ Some last → last ≡ before + 1 → IsChain (Both' p left right) last
-behind_word p left (Phrase found) before last chain own next = one_more_word p left found before last chain own next
-behind_word p left (Choice' q a b) before last chain own next = absurd (none-some last own)
-behind_word p left (Both' q a b) before last chain own next = absurd (none-some last own)
-behind_word p left (MildNot' q a b) before last chain own next = absurd (none-some last own)
-behind_word p left (Negated' q a) before last chain own next = absurd (none-some last own)
-behind_word p left (Filtered' q a kind) before last chain own next = absurd (none-some last own)
-
-pub chain_of : (plan : OperatorPlan) (last : ℕ) → last_word plan ≡ Some last → IsChain plan last
-unfolding last_word
-chain_of (Phrase found) last h = one_word found last h
-chain_of (Choice' p left right) last h = absurd (none-some last h)
-chain_of (Both' p left right) last h =
-    let next = are_next (last_word left) (own_word right) last h in
-    behind_word p left right next.first last (chain_of left next.first next.left) next.right next.next
-chain_of (MildNot' p left right) last h = absurd (none-some last h)
-chain_of (Negated' p operand) last h = absurd (none-some last h)
-chain_of (Filtered' p operand kind) last h = absurd (none-some last h)
 
 -- ---- hits of single words
 
@@ -353,33 +256,30 @@ module _ (looks : Looks) (stems : List Stem) (version : List Numbered) (asked : 
     abbrev text : LookedText
     text = looked_text looks stems (tokens_in version asked)
 
-    hits_are : (phrases : List PhraseTests) → all_single phrases ≡ true → map (hits_of text) phrases ≡ map word_hits phrases
+    hits_are : (phrases : List PhraseTests) → list_all is_word phrases ≡ true → map (hits_of text) phrases ≡ map word_hits phrases
     hits_are [] h = refl
     hits_are (found ∷ phrases) h =
-        let parts = and_parts (list_all is_single found.variants) (all_single phrases) h in
+        let parts = and_parts (list_all is_single found.variants) (list_all is_word phrases) h in
         λ i. (sym (phrase_law looks stems version asked there found.number found.variants) ∙ phrase_on found parts.0) i ∷ hits_are phrases parts.1 i
 
     -- words that are joined under a filter satisfy it exactly where the merge says so
-    pub merge_law : (operand : OperatorPlan) (last : ℕ) (filter : Filter) (kind : MergeKind) (item : Span) → last_word operand ≡ Some last → filter_kind filter operand ≡ Some kind
+    pub merge_law : (operand : OperatorPlan) (joined : Joined) (filter : Filter) (kind : MergeKind) (item : Span) → joined_of operand ≡ Some joined → merge_kind filter joined ≡ Some kind
         → satisfied (matches_of item (through_filter (operator_at text operand) filter)) ≡ stand_as breaks kind (map (terms_places asked) (map terms_of (joined_phrases operand)))
-    merge_law operand last filter kind item words is =
-        let chain = chain_of operand last words in
-        let phrases = chain.first ∷ chain.rest in
-        let one_more : is_pair operand ≡ true → length (map word_hits chain.rest) ≡ 1 =
-        λ pair.
-        let count = pair_count operand pair in
-        let long = ap length chain.phrases in
-        let mapped = length-map chain.rest word_hits in
-        omega (arith, count, long, mapped) in
-        ap (λ operator. satisfied (matches_of item (through_filter operator filter))) (chain.same text)
-        ∙ ap (λ hits. satisfied (matches_of item (filtered_words filter hits))) (hits_are phrases chain.single)
-        ∙ kind_law breaks span.from operand filter kind is chain.first.number item (word_hits chain.first) (map word_hits chain.rest) one_more (record {
+    unfolding operator_at
+    merge_law operand joined filter kind item phrases_are is =
+        let made = words_law filter joined kind is in
+        let own = joined_law operand joined phrases_are in
+        let phrases = own.first ∷ own.rest in
+        let counted : joined.last ≡ joined.first + length (map word_hits own.rest) = let long = own.counted in let mapped = length-map own.rest word_hits in omega (arith, long, mapped) in
+        ap (λ operator. satisfied (matches_of item (through_filter operator filter))) (own.same (operator_at text) (hits_of text) (λ found. refl) (λ p left right. refl))
+        ∙ ap (λ hits. satisfied (matches_of item (filtered_words filter hits))) (hits_are phrases (own.words made.0))
+        ∙ kinds.merge_law breaks span.from joined filter kind made.1 item (word_hits own.first) (map word_hits own.rest) counted (record {
           single = all_hits_single phrases;
-          numbered = all_numbered chain.first.number phrases chain.numbered;
+          numbered = all_numbered joined.first phrases own.numbered;
           sentences = all_in_sentences phrases;
           paragraphs = all_in_paragraphs phrases;
         })
         ∙ ap (stand_in_span breaks span.from kind) (all_firsts phrases)
         ∙ stand_counted breaks span.from kind (map fitting phrases) (all_behind phrases)
         ∙ stand_same breaks kind (map fitting phrases) (map (terms_places asked) (map terms_of phrases)) (all_long phrases) (all_places_same phrases)
-        ∙ ap (λ (ps : List PhraseTests). stand_as breaks kind (map (terms_places asked) (map terms_of ps))) (sym chain.phrases)
+        ∙ ap (λ (ps : List PhraseTests). stand_as breaks kind (map (terms_places asked) (map terms_of ps))) (sym own.phrases)

@@ -17,7 +17,7 @@ use Rattle.match_options.specs.declared.word_forms.Forms.{Forms}
 use Rattle.match_options.specs.declared.word_matching.WordTest.{WordTest}
 use Rattle.match_options.specs.declared.word_matching.WordTest.TheVariants as The
 use Rattle.word_lists.specs.Stems.{Stem}
-use Rattle.plan_runs.specs.steps.AskedKeys.{asks_nothing, forms_pass}
+use Rattle.plan_kinds.specs.steps.AskedKeys.{asks_nothing, forms_pass}
 use Rattle.plan_runs.specs.steps.ChosenTerms.{AreKnown, IsKnown, is_among, terms_for}
 use Rattle.plan_compiler.specs.ItemTests.{passes}
 use Rattle.plan_compiler.specs.NodeCosts.{node_cost}
@@ -149,7 +149,7 @@ module _ (looks : Looks) (stems : List Stem) (version : List Numbered) where
       All-map (All (AreThere version)) (opened_variant looks stems version) variants
       (every _ (λ (tests : List ItemTest). All-map (AreThere version) (opened_item looks stems version) tests (every _ item_there tests)) variants)
 
-  group_fits : (variants : List (List ItemTest)) → IsGroup version (opened_group looks stems version variants)
+  pub group_fits : (variants : List (List ItemTest)) → IsGroup version (opened_group looks stems version variants)
   group_fits variants = record { sized = refl; there = variants_there variants }
 
   words_fit : (plan : WordsPlan) → IsWords version (opened_words looks stems version plan)
@@ -160,7 +160,7 @@ module _ (looks : Looks) (stems : List Stem) (version : List Numbered) where
   -- ---- what opened words cost, where no word costs more than its test
 
   module _ (word_cost : WordTerms → ℕ) (test_cost : ItemTest → ℕ) (most : (test : ItemTest) → word_cost (opened_item looks stems version test) ≤ test_cost test) where
-    group_cheap : (variants : List (List ItemTest)) → group_cost word_cost (opened_group looks stems version variants) ≤ sum_by (sum_by test_cost) variants
+    pub group_cheap : (variants : List (List ItemTest)) → group_cost word_cost (opened_group looks stems version variants) ≤ sum_by (sum_by test_cost) variants
     group_cheap variants =
         sum_over_le (sum_by word_cost) (sum_by test_cost) (opened_variant looks stems version)
         (sum_over_le word_cost test_cost (opened_item looks stems version) most) variants

@@ -24,7 +24,7 @@ use Rattle.plan_compiler.specs.Operators.{LookedText, hits_by_tests, looked_text
 use Rattle.plan_compiler.specs.TextWords.{word_as, words_of_tokens}
 use Rattle.plan_runs.specs.steps.AskedSpans.{AskedSpan, IsAsked, tokens_in}
 use Rattle.plan_runs.specs.steps.ChosenTerms.{AreKnown, IsKnown}
-use Rattle.plan_runs.specs.steps.Lacking.{lacks_of, opened_lacks}
+use Rattle.plan_runs.specs.steps.Skips.{skip_of, opened_skip}
 use Rattle.plan_runs.specs.steps.OpenedItems.{opened_item, opened_variant}
 use Rattle.plan_runs.specs.steps.OpenedOperators.{AreAims, aims_of, opened_aims}
 use Rattle.plan_runs.specs.steps.OpenedWords.{IsOpened}
@@ -43,7 +43,7 @@ use Rattle.plan_runs.specs.declared.run_ways.RunWays.{RunWays}
 use Rattle.plan_runs.proofs.GroupLaw.{wanted_same}
 use Rattle.plan_runs.proofs.KnownTexts.{text_known}
 use Rattle.plan_compiler.proofs.NodeViews.{truth-Ways}
-use Rattle.plan_runs.proofs.LackingLaw.{nothing_there}
+use Rattle.plan_runs.proofs.SkipLaw.{nothing_there}
 use Rattle.plan_runs.proofs.OpenedLemmas.{begins_same, item_says}
 use Rattle.plan_runs.proofs.RunViews.{shape-Ways}
 
@@ -101,7 +101,7 @@ module _ (looks : Looks) (stems : List Stem) (version : List Numbered) where
 
     -- ---- what is made of phrases
 
-    aims_law : (plan : OperatorPlan) → (opened_aims looks stems version plan).operators asked.doc asked.span ≡ operator_at text plan
+    pub aims_law : (plan : OperatorPlan) → (opened_aims looks stems version plan).operators asked.doc asked.span ≡ operator_at text plan
     unfolding opened_aims operator_at
     aims_law (Phrase found) = ap phrase (phrase_law found.number found.variants)
     aims_law (Choice' p left right) = λ i. either (aims_law left i) (aims_law right i)
@@ -129,11 +129,11 @@ module _ (looks : Looks) (stems : List Stem) (version : List Numbered) where
   may_law doc span there (Filtered' p operand kind) = may_law doc span there operand
 
   pub ways_opened : (run : Box RunWays Global) (plan : WaysPlan) (node : Node) → node ≡ N.Ways plan → aims_of run.value.tuples ≡ opened_aims looks stems version plan.operator
-      → lacks_of run.value.needs ≡ opened_lacks looks stems version plan.operator → IsOpened looks stems version (shape (R.Ways run)) node
+      → skip_of run.value.needs ≡ opened_skip looks stems version plan.operator → IsOpened looks stems version (shape (R.Ways run)) node
   unfolding run_truth IsSound run_cost
-  ways_opened run plan node is opened lacking =
-      let made : WaysShape = record { aims = opened_aims looks stems version plan.operator; lacks = opened_lacks looks stems version plan.operator } in
-      let own : shape (R.Ways run) ≡ by_ways made = shape-Ways run ∙ (λ i. by_ways (record { aims = opened i; lacks = lacking i })) in
+  ways_opened run plan node is opened skipped =
+      let made : WaysShape = record { aims = opened_aims looks stems version plan.operator; skips = opened_skip looks stems version plan.operator } in
+      let own : shape (R.Ways run) ≡ by_ways made = shape-Ways run ∙ (λ i. by_ways (record { aims = opened i; skips = skipped i })) in
       let sound : AreAims version (opened_aims looks stems version plan.operator) = record {
         may = λ doc span there. may_law doc span there plan.operator;
         plain = λ doc span there inside.
@@ -142,7 +142,7 @@ module _ (looks : Looks) (stems : List Stem) (version : List Numbered) where
             ap is_plain (aims_law asked is_there plan.operator) ∙ plan.plain (looked_text looks stems (tokens_in version asked));
       } in
       subst (λ (s : Shape). IsOpened looks stems version s node) (sym own) (record {
-        sound = record { aims = sound; lacking = λ doc span h. nothing_there looks stems version doc span (own_span span) plan.operator h };
+        sound = record { aims = sound; skipped = λ doc part span within h. nothing_there looks stems version doc part span within (own_span span) plan.operator h };
         says = λ asked there.
             let whole = looked_text looks stems (tokens_in version asked) in
             (λ i. satisfied (matches_of (own_text asked there i) (aims_law asked there plan.operator i)))

@@ -1,11 +1,13 @@
 -- The shape of each kind of a run's tree, and what it says.
 use Rattle.std.proofs.Common.{◌≡◌, map, Box, Global, rules}
 use Rattle.std.specs.declared.vec.Vec.{Vec}
-use Rattle.plan_runs.specs.steps.RunShapes.{merge_shape, shape, shapes_of, words_shape, words, any_of, all_of, not_of, by_ways, by_merge, ways_shape}
+use Rattle.plan_runs.specs.steps.RunShapes.{hits_shape, merge_shape, shape, shapes_of, words_shape, words, any_of, all_of, not_of, by_ways, by_hits, by_merge, ways_shape, by_spots, placed_shape}
 use Rattle.plan_runs.specs.declared.run_node.RunWords.{RunWords}
+use Rattle.plan_runs.specs.declared.run_hits.RunHits.{RunHits}
 use Rattle.plan_runs.specs.declared.run_merge.RunMerge.{RunMerge}
+use Rattle.plan_runs.specs.declared.run_placed.RunPlaced.{RunPlaced}
 use Rattle.plan_runs.specs.declared.run_ways.RunWays.{RunWays}
-use Rattle.plan_runs.specs.declared.run_node.RunNode.{RunNode, Words, Or, And, Not, Ways, Merge, the_lemmas}
+use Rattle.plan_runs.specs.declared.run_node.RunNode.{RunNode, Words, Or, And, Not, Ways, Hits, Merge, the_lemmas, Placed}
 
 pub shape-Words : (run : RunWords) → shape (Words run) ≡ words (words_shape run)
 unfolding shape
@@ -27,6 +29,14 @@ pub shape-Ways : (run : Box RunWays Global) → shape (Ways run) ≡ by_ways (wa
 unfolding shape
 shape-Ways run = search (rules, the_lemmas)
 
+pub shape-Hits : (run : Box RunHits Global) → shape (Hits run) ≡ by_hits (hits_shape run.value)
+unfolding shape
+shape-Hits run = search (rules, the_lemmas)
+
 pub shape-Merge : (run : RunMerge) → shape (Merge run) ≡ by_merge (merge_shape run)
 unfolding shape
 shape-Merge run = search (rules, the_lemmas)
+
+pub shape-Placed : (run : RunPlaced) → shape (Placed run) ≡ by_spots (placed_shape run)
+unfolding shape
+shape-Placed run = search (rules, the_lemmas)

@@ -5,21 +5,24 @@ use Rattle.std.specs.List.{sum_by}
 use Rattle.std.proofs.lemmas.List.{drop_all, drop_more}
 use Rattle.std.proofs.lemmas.List.Sums.{sum_by-cons}
 use Rattle.index_meaning.specs.Documents.{Numbered}
-use Rattle.plan_runs.specs.steps.RunCosts.{run_cost, run_costs, words_cost}
-use Rattle.plan_runs.specs.steps.RunShapes.{Shape, Shapes, shape, shapes_of, words, any_of, all_of, not_of, by_ways, by_merge, none, more, merge_shape, words_shape, ways_shape}
+use Rattle.plan_runs.specs.steps.RunCosts.{run_cost, run_costs, words_cost, placed_cost}
+use Rattle.plan_runs.specs.steps.RunShapes.{hits_shape, Shape, Shapes, shape, shapes_of, words, any_of, all_of, not_of, by_ways, by_hits, by_merge, none, more, merge_shape, words_shape, ways_shape, by_spots, placed_shape}
 use Rattle.plan_runs.specs.steps.AskedSpans.{AskedSpan, words_in}
+use Rattle.plan_runs.specs.steps.Passes.{AreHits, hits_say}
 use Rattle.plan_runs.specs.steps.Merges.{IsMerge, merge_cost, merge_says}
-use Rattle.plan_runs.specs.steps.Lacking.{lacks_of}
+use Rattle.plan_runs.specs.steps.Skips.{skip_of}
 use Rattle.plan_runs.specs.steps.OpenedOperators.{AreAims, aims_of}
-use Rattle.plan_runs.specs.steps.RunTruth.{AreSound, AreWays, IsSound, IsWords, aims_say, all_true, run_truth, some_true, words_say}
+use Rattle.plan_runs.specs.steps.RunTruth.{AreGroups, ArePlaced, AreSound, AreWays, IsSound, IsWords, aims_say, all_true, phrases_say, run_truth, some_true, words_say}
 use Rattle.plan_runs.specs.declared.run_node.RunWords.{RunWords}
+use Rattle.plan_runs.specs.declared.run_hits.RunHits.{RunHits}
 use Rattle.plan_runs.specs.declared.run_merge.RunMerge.{RunMerge}
+use Rattle.plan_runs.specs.declared.run_placed.RunPlaced.{RunPlaced}
 use Rattle.plan_runs.specs.declared.run_ways.RunWays.{RunWays}
 use Rattle.index_phrases.specs.declared.word_terms.WordTerms.{WordTerms}
 use Rattle.plan_runs.specs.declared.run_node.RunNode.{RunNode}
 use Rattle.plan_runs.specs.declared.run_node.RunNode as R
 use Rattle.plan_runs.proofs.SumLemmas.{so_far}
-use Rattle.plan_runs.proofs.RunViews.{shape-Words, shape-Or, shape-And, shape-Not, shape-Ways, shape-Merge}
+use Rattle.plan_runs.proofs.RunViews.{shape-Words, shape-Or, shape-And, shape-Not, shape-Ways, shape-Hits, shape-Merge, shape-Placed}
 
 module _ (version : List Numbered) (asked : AskedSpan) (node : RunNode) where
   -- ---- when they fit
@@ -46,9 +49,19 @@ module _ (version : List Numbered) (asked : AskedSpan) (node : RunNode) where
       let fits : AreWays version (ways_shape run.value) = subst (IsSound version) (ap shape is ∙ shape-Ways run) h in
       fits.aims
 
+  pub sound-Hits : (run : Box RunHits Global) → node ≡ R.Hits run → IsSound version (shape node) → AreHits version (hits_shape run.value)
+  unfolding IsSound
+  sound-Hits run is h = subst (IsSound version) (ap shape is ∙ shape-Hits run) h
+
   pub sound-Merge : (run : RunMerge) → node ≡ R.Merge run → IsSound version (shape node) → IsMerge version (merge_shape run)
   unfolding IsSound
   sound-Merge run is h = subst (IsSound version) (ap shape is ∙ shape-Merge run) h
+
+  pub sound-Placed : (run : RunPlaced) → node ≡ R.Placed run → IsSound version (shape node) → AreGroups version (placed_shape run).phrases
+  unfolding IsSound
+  sound-Placed run is h =
+      let fits : ArePlaced version (placed_shape run) = subst (IsSound version) (ap shape is ∙ shape-Placed run) h in
+      fits.groups
 
   -- ---- what they say
 
@@ -72,9 +85,17 @@ module _ (version : List Numbered) (asked : AskedSpan) (node : RunNode) where
   unfolding run_truth
   says-Ways run is = sym (ap (λ s. run_truth version s asked) (ap shape is ∙ shape-Ways run))
 
+  pub says-Hits : (run : Box RunHits Global) → node ≡ R.Hits run → hits_say (hits_shape run.value) asked ≡ run_truth version (shape node) asked
+  unfolding run_truth
+  says-Hits run is = sym (ap (λ s. run_truth version s asked) (ap shape is ∙ shape-Hits run))
+
   pub says-Merge : (run : RunMerge) → node ≡ R.Merge run → merge_says version (merge_shape run) asked ≡ run_truth version (shape node) asked
   unfolding run_truth
   says-Merge run is = sym (ap (λ s. run_truth version s asked) (ap shape is ∙ shape-Merge run))
+
+  pub says-Placed : (run : RunPlaced) → node ≡ R.Placed run → phrases_say version (placed_shape run).phrases asked ≡ run_truth version (shape node) asked
+  unfolding run_truth
+  says-Placed run is = sym (ap (λ s. run_truth version s asked) (ap shape is ∙ shape-Placed run))
 
 -- ---- what they look like
 
@@ -91,11 +112,17 @@ module _ (node : RunNode) where
   pub same-Not : (old new : Box RunNode Global) → node ≡ R.Not old → shape new.value ≡ shape old.value → shape (R.Not new) ≡ shape node
   same-Not old new is same = shape-Not new ∙ ap not_of same ∙ sym (ap shape is ∙ shape-Not old)
 
-  pub same-Ways : (old new : Box RunWays Global) → node ≡ R.Ways old → aims_of new.value.tuples ≡ aims_of old.value.tuples → new.value.needs ≡ old.value.needs → shape (R.Ways new) ≡ shape node
-  same-Ways old new is aims needs = shape-Ways new ∙ (λ i. by_ways (record { aims = aims i; lacks = lacks_of (needs i) })) ∙ sym (ap shape is ∙ shape-Ways old)
+  pub same-Ways : (old new : Box RunWays Global) → node ≡ R.Ways old → aims_of new.value.tuples ≡ aims_of old.value.tuples → skip_of new.value.needs ≡ skip_of old.value.needs → shape (R.Ways new) ≡ shape node
+  same-Ways old new is aims needs = shape-Ways new ∙ (λ i. by_ways (record { aims = aims i; skips = needs i })) ∙ sym (ap shape is ∙ shape-Ways old)
+
+  pub same-Hits : (old new : Box RunHits Global) → node ≡ R.Hits old → hits_shape new.value ≡ hits_shape old.value → shape (R.Hits new) ≡ shape node
+  same-Hits old new is same = shape-Hits new ∙ ap by_hits same ∙ sym (ap shape is ∙ shape-Hits old)
 
   pub same-Merge : (old new : RunMerge) → node ≡ R.Merge old → merge_shape new ≡ merge_shape old → shape (R.Merge new) ≡ shape node
   same-Merge old new is same = shape-Merge new ∙ ap by_merge same ∙ sym (ap shape is ∙ shape-Merge old)
+
+  pub same-Placed : (old new : RunPlaced) → node ≡ R.Placed old → placed_shape new ≡ placed_shape old → shape (R.Placed new) ≡ shape node
+  same-Placed old new is same = shape-Placed new ∙ ap by_spots same ∙ sym (ap shape is ∙ shape-Placed old)
 
 -- ---- lists of parts
 
@@ -138,7 +165,9 @@ unfoldable mutual
   weight (all_of parts) = 1 + weights parts
   weight (not_of part) = 1 + weight part
   weight (by_ways run) = 1
+  weight (by_hits run) = 1
   weight (by_merge merge) = 1
+  weight (by_spots run) = 1
 
   pub weights : Shapes → ℕ
   weights none = 0
@@ -185,6 +214,10 @@ module _ (cost : WordTerms → ℕ) (node : RunNode) where
   pub cost-Merge : (run : RunMerge) → node ≡ R.Merge run → run_cost cost (shape node) ≡ merge_cost cost (merge_shape run)
   unfolding run_cost
   cost-Merge run is = ap (run_cost cost) (ap shape is ∙ shape-Merge run)
+
+  pub cost-Placed : (run : RunPlaced) → node ≡ R.Placed run → run_cost cost (shape node) ≡ placed_cost cost (placed_shape run).phrases
+  unfolding run_cost
+  cost-Placed run is = ap (run_cost cost) (ap shape is ∙ shape-Placed run)
 
 pub costs_are : (cost : WordTerms → ℕ) (shapes : List Shape) → run_costs cost (shapes_of shapes) ≡ sum_by (run_cost cost) shapes
 unfolding run_costs

@@ -1,12 +1,11 @@
 pub mod RunCode
 pub mod ChosenTerms
-pub mod AskedKeys
-pub mod RisingUnits
 pub mod Merges
+pub mod Passes
 pub mod RunShapes
 pub mod RunTruth
-pub mod RuledOut
-pub mod Lacking
+pub mod Skips
+pub mod RunSkips
 pub mod OpenedItems
 pub mod OpenedOperators
 pub mod OpenedWords

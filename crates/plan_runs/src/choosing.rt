@@ -2,17 +2,16 @@
 
 ghost use Rattle.std.specs.Prelude.{◌≡◌, ◌<◌, ◌≤◌, ◌-◌, ◌++◌, ◌∷◌, [], cond, length, IfOk, OnOk};
 ghost use Rattle.std.specs.List.{range_with_len};
-ghost use Rattle.std.specs.Option.{option_copied};
 ghost use Rattle.index_meaning.specs.Entries.{found};
 ghost use Rattle.index_versions.specs.Versions.{term_at, terms_of};
 ghost use Rattle.plan_runs.specs.steps.ChosenTerms as spec;
-ghost use Rattle.plan_runs.specs.steps.AskedKeys as keys;
 ghost use Rattle.plan_runs.specs.steps.OpenedItems.{word_test};
 
 use ft_base::{Items, Memory};
 use index_versions::Version;
-use match_options::{PlaceRow, WordTest};
+use match_options::PlaceRow;
 use plan_compiler::{ItemTest, Lists, Looks, TextWord};
+use plan_kinds::asked_key;
 use std::alloc::Global;
 
 /// The version over which a plan is opened, and how the plan looks at words.
@@ -97,25 +96,4 @@ fn passes(
     let term = opening.version.term(number);
     let word = TextWord::new(opening.alloc, opening.looks, opening.lists, term.word)?;
     test.passes_in(&word, row)
-}
-
-/// The one key that words have which pass, where the test asks for one.
-pub(crate) fn asked_key(test: &ItemTest) -> Option<&str>
-    ensures { option_copied result ≡ keys.asked_key test.now }
-{
-    match test {
-        ItemTest::ByForms(test) => key_of_forms(test),
-        ItemTest::ByStem(_stem, _case) => None,
-    }
-}
-
-fn key_of_forms(test: &WordTest) -> Option<&str>
-    ensures { option_copied result ≡ keys.key_of_forms test.now }
-{
-    match test {
-        WordTest::Any => None,
-        WordTest::Same(_choice, query) => Some(query.key.as_str()),
-        WordTest::Covered(_choice, _wild) => None,
-        WordTest::Never => None,
-    }
 }

@@ -7,7 +7,9 @@ ghost use Rattle.plan_runs.specs.steps.RunTruth.{AreSound, IsSound, all_true, ru
 ghost use Rattle.plan_runs.specs.steps.AskedPlaces.{asked_at};
 
 use crate::asked_place::AskedPlace;
+use crate::hits_holding::hits_hold;
 use crate::merge_holding::merge_holds;
+use crate::placed_holding::placed_holds;
 use crate::run_node::RunNode;
 use crate::ways_holding::ways_hold;
 use crate::words_holding::words_hold;
@@ -33,7 +35,9 @@ pub(crate) fn node_holds<'v, L: Ledger>(
         RunNode::And(parts) => all_hold(place, parts, moves),
         RunNode::Not(part) => !part_holds(place, part, moves),
         RunNode::Ways(ways) => ways_hold(place, ways),
+        RunNode::Hits(hits) => hits_hold(place, hits),
         RunNode::Merge(merge) => merge_holds(place, merge, moves),
+        RunNode::Placed(placed) => placed_holds(place, placed, moves),
     }
 }
 

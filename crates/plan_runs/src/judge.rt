@@ -1,15 +1,10 @@
 //! Who says whether the tokens of an element satisfy a selection.
 
-ghost use Rattle.std.specs.Prelude.{◌≡◌, ◌≤◌, ◌+◌, List, true, false};
-ghost use Rattle.ft_base.specs.Selection.{Form};
+ghost use Rattle.std.specs.Prelude.{◌≡◌, ◌≤◌, ◌+◌, true, false};
 ghost use Rattle.ft_base.specs.declared.span.Span.{Span};
-ghost use Rattle.ft_base.specs.declared.token.Token.{Token};
-ghost use Rattle.all_matches.specs.Meaning.{sat};
 ghost use Rattle.index_meaning.specs.Documents.{document_at, has_document, token_count};
 ghost use Rattle.index_phrases.specs.Tokens.{span_tokens};
 ghost use Rattle.plan_runs.specs.Judgement.{Judgement};
-ghost use Rattle.plan_compiler.specs.Lexicon.{lexicon};
-ghost use Rattle.plan_compiler.specs.NamedLists.{NamedLists};
 ghost use Rattle.plan_runs.specs.RunPrice.{price_at};
 
 use crate::run::Run;
@@ -24,7 +19,7 @@ pub trait Judge {
 
     /// Whether the tokens of the span of the document satisfy the selection of the run, under its lists. The run stays over its
     /// selection, its lists and its version. It takes no memory, and moves cursors by no more than the price of the selection there;
-    /// the moves of a walk through the ways of a filter or `not in` aren't counted.
+    /// the moves of a walk through the ways of a filter or `not in`, and of a pass through the hits of phrases, aren't counted.
     fn judge<L: Ledger>(
         &self,
         run: &mut Run<'_>,
@@ -39,12 +34,14 @@ pub trait Judge {
         ensures grown { moves.old ≤ moves.new }
         ensures price { moves.new ≤ moves.old + price_at run.old doc.0 span };
 
-    /// Whether it is known at once that `judge` says of no span of the document that its tokens satisfy the selection of the run.
-    /// `false` says nothing. It moves no cursor and takes no memory.
-    fn rules_out(&self, run: &Run<'_>, doc: DocId) -> bool
+    /// A place up to which the document can be skipped: of no span of it that starts at `from` or behind, and ends there or in front of
+    /// it, does `judge` say that its tokens satisfy the selection of the run. 0 says nothing, and the greatest number says that nothing
+    /// is left in the document. It moves no cursor and takes no memory.
+    fn skip_to(&self, run: &Run<'_>, doc: DocId, from: u32) -> u32
         requires there { has_document doc.0 run.now.version ≡ true }
-        ensures none { result ≡ true → (span : Span)
+        ensures none { (span : Span)
             → (1 ≤ span.from) × (span.from ≤ span.to) × (span.to ≤ token_count (document_at doc.0 run.now.version) + 1)
+            → from ≤ span.from → span.to ≤ result
             → says run.now.form run.now.lists (span_tokens span (document_at doc.0 run.now.version)) ≡ false };
 }
 
@@ -67,12 +64,7 @@ impl Judge for Direct {
         run.test(doc, span, moves)
     }
 
-    fn rules_out(&self, run: &Run<'_>, doc: DocId) -> bool {
-        run.rules_out(doc)
+    fn skip_to(&self, run: &Run<'_>, doc: DocId, from: u32) -> u32 {
+        run.skip_to(doc, from)
     }
 }
-
-/// `Direct` says that tokens satisfy a selection where they satisfy it by the standard's definitions, under these lists.
-pub fn direct_law()
-    ensures { (form : Form) (lists : NamedLists) (tokens : List Token) → ⟦<Direct as Judge>⟧.says form lists tokens ≡ sat (lexicon lists) form tokens }
-{}

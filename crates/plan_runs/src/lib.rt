@@ -1,33 +1,42 @@
 //! Runs: plans opened over a version of an index, and tested at spans of its documents.
 //!
 //! A run has terms of the version and cursors in the place of tests of words (`opening`). It counts words by merging their cursors
-//! (`words_holding`), decides filters over single words by merges of their own where one pass through their places tells (`merges`,
-//! `merge_holding`), and each other filter and `not in` by a walk through its ways (`ways_holding`). A document without the words that a
-//! selection needs is ruled out at once (`ruling_out`). A session asks a `Judge` with it.
+//! (`words_holding`), decides filters over single words by merges of their own where one pass through their places tells
+//! (`merge_holding`), and so a phrase at an edge of the text and one phrase outside another (`placed_holding`). Windows, order, units
+//! and distances over phrases are decided by one pass through their hits (`hits_holding`). Each other filter and `not in` is decided by
+//! a walk through its ways (`ways_holding`). `plan_kinds` says which of these decides a plan. Up to where the words that a selection
+//! needs begin, a document can be skipped (`skipping`); those words are looked up in a document once (`looking_up`). A session asks a
+//! `Judge` with it.
 #![tactic(auto)]
 
 mod aiming;
 mod asked_place;
 mod choosing;
 pub mod examples;
+mod hits_holding;
 mod holding;
 mod judge;
-mod lacking;
+pub mod laws;
+mod looking_up;
 mod merge_holding;
-mod merge_kind;
-mod merges;
+mod needed_skips;
 mod needs;
 mod occurrence_ranges;
 mod opening;
+mod opening_hits;
 mod opening_merges;
 mod opening_needs;
 mod opening_operators;
+mod opening_placed;
+mod placed_holding;
 mod rarity;
-mod ruling_out;
 mod run;
+mod run_hits;
 mod run_merge;
 mod run_node;
+mod run_placed;
 mod run_ways;
+mod skipping;
 mod units;
 mod ways_holding;
 mod words_holding;

@@ -5,17 +5,18 @@ ghost use Rattle.std.specs.List.{All, sum_by};
 ghost use Rattle.index_meaning.specs.Documents.{breaks_of, document_at};
 ghost use Rattle.index_versions.specs.Terms.{aimed_at};
 ghost use Rattle.plan_runs.specs.steps.AskedPlaces.{asked_at};
-ghost use Rattle.plan_runs.specs.steps.Merges.{IsMerge, merge_cost, merge_says, stand_as};
+ghost use Rattle.plan_kinds.specs.steps.MergeKinds.{stand_as};
+ghost use Rattle.plan_runs.specs.steps.Merges.{IsMerge, merge_cost, merge_says};
 ghost use Rattle.plan_runs.specs.steps.RunCosts.{moves_for};
 ghost use Rattle.plan_runs.specs.steps.RunShapes.{cursors_of, count_of, merge_shape};
 ghost use Rattle.window_merges.specs.Rows.{all_places, word_lists, words_left};
 
 use crate::asked_place::AskedPlace;
-use crate::merge_kind::MergeKind;
 use crate::run_merge::RunMerge;
 use crate::units::{Paragraphs, Sentences};
 use ft_base::Steps;
 use index_versions::{TermCursor, TermSources};
+use plan_kinds::MergeKind;
 use std::sync::ledger::Ledger;
 use window_merges::{stand_close, stand_in_order, stand_together};
 

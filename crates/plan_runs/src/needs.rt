@@ -2,7 +2,7 @@
 
 use index_phrases::WordTerms;
 
-/// Where this is lacking, the selection has no Match in the document, whatever the span.
+/// In a span without this the selection has no Match.
 #[cycle(needs)]
 #[derive(Drop)]
 pub(crate) enum Needs<'v> {

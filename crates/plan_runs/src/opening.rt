@@ -5,24 +5,24 @@ ghost use Rattle.std.specs.List.{All};
 ghost use Rattle.index_versions.specs.Terms.{version_term};
 ghost use Rattle.index_versions.specs.Versions.{terms_of};
 ghost use Rattle.plan_compiler.specs.declared.node.Node as Node;
-ghost use Rattle.plan_runs.specs.steps.AskedKeys as keys;
 ghost use Rattle.plan_runs.specs.steps.OpenedItems as items;
 ghost use Rattle.plan_runs.specs.steps.OpenedWords as spec;
 ghost use Rattle.index_phrases.specs.steps.Aiming.{size_of, sizes_of, variant_words, wanted_size};
 ghost use Rattle.plan_runs.specs.steps.RunShapes.{group_shape, phrase_shape, shape, words_shape};
 
 use crate::choosing::{Opening, terms_for};
-use crate::merges::merge_of;
+use crate::opening_hits::open_hits;
 use crate::opening_merges::open_merge;
 use crate::opening_operators::open_ways;
+use crate::opening_placed::{open_apart, open_at_edge};
 use crate::rarity::rarest;
 use crate::run_node::{RunGroup, RunNode, RunPhrase, RunWords};
 use ft_base::{Items, Memory};
 use index_phrases::WordTerms;
 use index_versions::{TermCursor, TermSource, TermSources};
-use match_options::WordTest;
 use place_merges::{Item, Variant};
 use plan_compiler::{ItemTest, Node, PhrasePlan, WaysPlan, WordsPlan};
+use plan_kinds::{apart_of, asks_nothing, edge_of, merge_of, pass_of};
 
 /// The compiled selection, opened.
 #[cycle(open)]
@@ -57,12 +57,34 @@ fn open_all<'v>(opening: &Opening<'v>, parts: &Items<Node>) -> Result<Vec<RunNod
     Ok(runs)
 }
 
-/// A filter or `not in`: a merge, where one decides it, or else a walk through its ways.
+/// A filter or `not in`: a merge, the spots of phrases or a pass through their hits, where these decide it, or else a walk through its
+/// ways.
 fn open_filtered<'v>(opening: &Opening<'v>, plan: &WaysPlan) -> Result<RunNode<'v>, Memory>
     ensures { IfOk result (λ run. spec.IsOpened opening.now.looks opening.now.lists.now.stems opening.now.version.now (shape run) (Node.Ways plan.now)) }
 {
-    match merge_of(&plan.operator) {
-        Some((kind, operand)) => Ok(RunNode::Merge(open_merge(opening, kind, operand)?)),
+    if let Some((kind, operand)) = merge_of(&plan.operator) {
+        return Ok(RunNode::Merge(open_merge(opening, kind, operand)?));
+    }
+    if let Some((edge, phrase)) = edge_of(&plan.operator) {
+        let placed = open_at_edge(opening, edge, phrase, &plan.operator)?;
+        return Ok(RunNode::Placed(placed));
+    }
+    if let Some((left, right)) = apart_of(&plan.operator) {
+        let placed = open_apart(opening, left, right, &plan.operator)?;
+        return Ok(RunNode::Placed(placed));
+    }
+    open_passed(opening, plan)
+}
+
+/// A pass through hits, where one decides it, or else a walk through its ways.
+fn open_passed<'v>(opening: &Opening<'v>, plan: &WaysPlan) -> Result<RunNode<'v>, Memory>
+    ensures { IfOk result (λ run. spec.IsOpened opening.now.looks opening.now.lists.now.stems opening.now.version.now (shape run) (Node.Ways plan.now)) }
+{
+    match pass_of(&plan.operator) {
+        Some((kind, operand)) => {
+            let operator = &plan.operator;
+            Ok(RunNode::Hits(open_hits(opening, kind, operand, operator)?))
+        }
         None => Ok(RunNode::Ways(open_ways(opening, plan)?)),
     }
 }
@@ -102,11 +124,26 @@ fn open_groups<'v>(
 {
     let mut runs = Vec::new(opening.alloc);
     for group in groups {
-        let terms = open_variants(opening, group.as_slice())?;
-        let variants = cursors_of_variants(opening, &terms)?;
-        runs.push(RunGroup { terms, variants })?;
+        runs.push(open_group(opening, group.as_slice())?)?;
     }
     Ok(runs)
+}
+
+/// The variants, with a cursor for each of their terms.
+pub(crate) fn open_group<'v>(
+    opening: &Opening<'v>,
+    tests: &[Items<ItemTest>],
+) -> Result<RunGroup<'v>, Memory>
+    ensures { IfOk result (λ run. group_shape run ≡ spec.opened_group opening.now.looks opening.now.lists.now.stems opening.now.version.now tests.now) }
+{
+    let terms = open_variants(opening, tests)?;
+    match cursors_of_variants(opening, &terms) {
+        Ok(variants) => Ok(RunGroup { terms, variants }),
+        Err(memory) => {
+            drop(terms);
+            Err(memory)
+        }
+    }
 }
 
 pub(crate) fn open_variants<'v>(
@@ -123,7 +160,10 @@ pub(crate) fn open_variants<'v>(
     Ok(terms)
 }
 
-fn open_items<'v>(opening: &Opening<'v>, tests: &[ItemTest]) -> Result<Vec<WordTerms<'v>>, Memory>
+pub(crate) fn open_items<'v>(
+    opening: &Opening<'v>,
+    tests: &[ItemTest],
+) -> Result<Vec<WordTerms<'v>>, Memory>
     ensures { IfOk result (λ terms. terms.items ≡ map (items.opened_item opening.now.looks opening.now.lists.now.stems opening.now.version.now) tests.now) }
 {
     let mut terms = Vec::new(opening.alloc);
@@ -167,25 +207,6 @@ pub(crate) fn push_terms<'v>(
         terms.push(TermSource::new(version, *number))?;
     }
     Ok(())
-}
-
-/// Whether each word passes, whatever it is.
-pub(crate) fn asks_nothing(test: &ItemTest) -> bool
-    ensures { result ≡ keys.asks_nothing test.now }
-{
-    match test {
-        ItemTest::ByForms(test) => forms_pass(test),
-        ItemTest::ByStem(_stem, _case) => false,
-    }
-}
-
-fn forms_pass(test: &WordTest) -> bool
-    ensures { result ≡ keys.forms_pass test.now }
-{
-    match test {
-        WordTest::Any => true,
-        _ => false,
-    }
 }
 
 /// A cursor for each term of each word of each variant. The word that the fewest documents have leads.

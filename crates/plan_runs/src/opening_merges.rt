@@ -3,16 +3,17 @@
 ghost use Rattle.std.specs.Prelude.{◌≡◌, ◌<◌, ◌++◌, ◌∷◌, [], flat_map, length, map, IfOk, OnOk};
 ghost use Rattle.std.specs.List.{All};
 ghost use Rattle.index_versions.specs.Versions.{terms_of};
+ghost use Rattle.plan_kinds.specs.steps.JoinedPhrases.{joined_phrases};
 ghost use Rattle.plan_runs.specs.steps.Merges as spec;
 ghost use Rattle.plan_runs.specs.steps.RunShapes.{merge_shape};
 
 use crate::choosing::{Opening, terms_for};
-use crate::merge_kind::MergeKind;
 use crate::opening::{new_cursors, push_terms};
 use crate::run_merge::RunMerge;
 use ft_base::{Items, Memory};
 use index_versions::{TermCursor, TermSources};
 use plan_compiler::{ItemTest, OperatorPlan, OperatorSides, PhraseTests};
+use plan_kinds::MergeKind;
 
 /// The words that the operand joins, opened to stand like this.
 pub(crate) fn open_merge<'v>(
@@ -42,7 +43,7 @@ fn open_operand<'v>(
     operand: &OperatorPlan,
 ) -> Result<Vec<TermSources<'v>>, Memory>
     ensures { IfOk result (λ words. words.items
-        ≡ map (spec.phrase_terms opening.now.looks opening.now.lists.now.stems opening.now.version.now) (spec.joined_phrases operand.now)) }
+        ≡ map (spec.phrase_terms opening.now.looks opening.now.lists.now.stems opening.now.version.now) (joined_phrases operand.now)) }
 {
     let mut words = Vec::new(opening.alloc);
     match push_words(opening, operand, &mut words) {
@@ -62,7 +63,7 @@ fn push_words<'v>(
     words: &mut Vec<TermSources<'v>>,
 ) -> Result<(), Memory>
     ensures { OnOk result (words.new.items ≡ words.old.items
-        ++ map (spec.phrase_terms opening.now.looks opening.now.lists.now.stems opening.now.version.now) (spec.joined_phrases plan.now)) }
+        ++ map (spec.phrase_terms opening.now.looks opening.now.lists.now.stems opening.now.version.now) (joined_phrases plan.now)) }
 {
     match plan {
         OperatorPlan::Phrase(phrase) => push_phrase(opening, phrase, words),
@@ -82,7 +83,7 @@ fn push_sides<'v>(
 ) -> Result<(), Memory>
     ensures { OnOk result (words.new.items ≡ words.old.items
         ++ map (spec.phrase_terms opening.now.looks opening.now.lists.now.stems opening.now.version.now)
-        (spec.joined_phrases sides.now.left ++ spec.joined_phrases sides.now.right)) }
+        (joined_phrases sides.now.left ++ joined_phrases sides.now.right)) }
 {
     push_words(opening, &sides.left, words)?;
     push_words(opening, &sides.right, words)

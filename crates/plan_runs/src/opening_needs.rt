@@ -1,16 +1,17 @@
 //! What compiled selections with filters or `not in` need of documents, opened over a version of the index.
 
 ghost use Rattle.std.specs.Prelude.{◌≡◌, map, IfOk};
-ghost use Rattle.plan_runs.specs.steps.Lacking as spec;
-ghost use Rattle.plan_runs.specs.steps.Lacking.{lacks_of, opened_lacks};
+ghost use Rattle.plan_runs.specs.steps.Skips as spec;
+ghost use Rattle.plan_runs.specs.steps.Skips.{skip_of, opened_skip};
 ghost use Rattle.index_phrases.specs.steps.Aiming.{variant_words};
 
-use crate::choosing::{Opening, asked_key};
+use crate::choosing::Opening;
 use crate::needs::{NeededSides, Needs};
 use crate::opening::open_item;
 use ft_base::{Items, Memory};
 use index_phrases::WordTerms;
 use plan_compiler::{ItemTest, OperatorPlan, OperatorSides};
+use plan_kinds::asked_key;
 
 /// What the compiled selection needs: of `not in` the left side, and nothing of a negated selection, which may match where no word
 /// stands.
@@ -19,7 +20,7 @@ pub(crate) fn open_needs<'v>(
     opening: &Opening<'v>,
     plan: &OperatorPlan,
 ) -> Result<Needs<'v>, Memory>
-    ensures { IfOk result (λ needs. lacks_of needs ≡ opened_lacks opening.now.looks opening.now.lists.now.stems opening.now.version.now plan.now) }
+    ensures { IfOk result (λ needs. skip_of needs ≡ opened_skip opening.now.looks opening.now.lists.now.stems opening.now.version.now plan.now) }
 {
     match plan {
         OperatorPlan::Phrase(phrase) => Ok(Needs::Phrase(needed_variants(
@@ -39,10 +40,10 @@ fn needed_sides<'v>(
     opening: &Opening<'v>,
     sides: &OperatorSides,
 ) -> Result<Box<NeededSides<'v>>, Memory>
-    ensures left { IfOk result (λ needed. lacks_of needed.value.left
-        ≡ opened_lacks opening.now.looks opening.now.lists.now.stems opening.now.version.now sides.now.left) }
-    ensures right { IfOk result (λ needed. lacks_of needed.value.right
-        ≡ opened_lacks opening.now.looks opening.now.lists.now.stems opening.now.version.now sides.now.right) }
+    ensures left { IfOk result (λ needed. skip_of needed.value.left
+        ≡ opened_skip opening.now.looks opening.now.lists.now.stems opening.now.version.now sides.now.left) }
+    ensures right { IfOk result (λ needed. skip_of needed.value.right
+        ≡ opened_skip opening.now.looks opening.now.lists.now.stems opening.now.version.now sides.now.right) }
 {
     let left = open_needs(opening, &sides.left)?;
     match open_needs(opening, &sides.right) {
@@ -59,8 +60,8 @@ fn boxed_sides<'v>(
     left: Needs<'v>,
     right: Needs<'v>,
 ) -> Result<Box<NeededSides<'v>>, Memory>
-    ensures left { IfOk result (λ needed. lacks_of needed.value.left ≡ lacks_of left.entry) }
-    ensures right { IfOk result (λ needed. lacks_of needed.value.right ≡ lacks_of right.entry) }
+    ensures left { IfOk result (λ needed. skip_of needed.value.left ≡ skip_of left.entry) }
+    ensures right { IfOk result (λ needed. skip_of needed.value.right ≡ skip_of right.entry) }
 {
     match Box::new(opening.alloc, NeededSides { left, right }) {
         Ok(sides) => Ok(sides),

@@ -1,7 +1,7 @@
 //! Selections with filters and `not in`, opened over a version of the index.
 
 ghost use Rattle.std.specs.Prelude.{◌≡◌, IfOk};
-ghost use Rattle.plan_runs.specs.steps.Lacking.{lacks_of, opened_lacks};
+ghost use Rattle.plan_runs.specs.steps.Skips.{skip_of, opened_skip};
 ghost use Rattle.plan_runs.specs.steps.OpenedOperators.{aims_of, opened_aims, phrase_opened};
 
 use crate::choosing::Opening;
@@ -22,8 +22,8 @@ pub(crate) fn open_ways<'v>(
 ) -> Result<Box<RunWays<'v>>, Memory>
     ensures aims { IfOk result (λ run. aims_of run.value.tuples
         ≡ opened_aims opening.now.looks opening.now.lists.now.stems opening.now.version.now plan.now.operator) }
-    ensures lacks { IfOk result (λ run. lacks_of run.value.needs
-        ≡ opened_lacks opening.now.looks opening.now.lists.now.stems opening.now.version.now plan.now.operator) }
+    ensures skips { IfOk result (λ run. skip_of run.value.needs
+        ≡ opened_skip opening.now.looks opening.now.lists.now.stems opening.now.version.now plan.now.operator) }
 {
     let needs = open_needs(opening, &plan.operator)?;
     match open_operator(opening, &plan.operator) {
@@ -42,7 +42,7 @@ fn ways_with<'v>(
     needs: Needs<'v>,
 ) -> Result<Box<RunWays<'v>>, Memory>
     ensures aims { IfOk result (λ run. aims_of run.value.tuples ≡ aims_of tuples.entry) }
-    ensures lacks { IfOk result (λ run. lacks_of run.value.needs ≡ lacks_of needs.entry) }
+    ensures skips { IfOk result (λ run. skip_of run.value.needs ≡ skip_of needs.entry) }
 {
     let (filters, hits) = tuples.room();
     match Chain::open(opening.alloc, filters, hits) {
@@ -64,7 +64,7 @@ fn ways_with<'v>(
 
 fn boxed_ways<'v>(opening: &Opening<'v>, ways: RunWays<'v>) -> Result<Box<RunWays<'v>>, Memory>
     ensures aims { IfOk result (λ run. aims_of run.value.tuples ≡ aims_of ways.entry.tuples) }
-    ensures lacks { IfOk result (λ run. lacks_of run.value.needs ≡ lacks_of ways.entry.needs) }
+    ensures skips { IfOk result (λ run. skip_of run.value.needs ≡ skip_of ways.entry.needs) }
 {
     match Box::new(opening.alloc, ways) {
         Ok(run) => Ok(run),

@@ -11,9 +11,10 @@ ghost use Rattle.plan_runs.specs.RunPrice.{price_at};
 use crate::asked_place::AskedPlace;
 use crate::choosing::Opening;
 use crate::holding::node_holds;
+use crate::looking_up::look_up;
 use crate::opening::open_node;
-use crate::ruling_out::is_ruled_out;
 use crate::run_node::RunNode;
+use crate::skipping::skip;
 use ft_base::{DocId, Memory, Span, Steps};
 use index_versions::Version;
 use plan_compiler::Plan;
@@ -70,8 +71,8 @@ impl<'v> Run<'v> {
     }
 
     /// Whether the tokens of the span of the document satisfy the plan's selection. It moves cursors forward, and takes no memory. The
-    /// moves that are counted are at most the selection's price at the span. Those of a walk through the ways of a filter or `not in`
-    /// aren't counted; each other one is. What a merge decides needs no such walk.
+    /// moves that are counted are at most the selection's price at the span. Those of a walk through the ways of a filter or `not in`,
+    /// and of a pass through the hits of phrases, aren't counted; each other one is.
     pub fn test<L: Ledger>(&mut self, doc: DocId, span: Span, moves: &mut Steps<L>) -> bool
         requires there { has_document doc.0 self.old.version ≡ true }
         requires inside { (1 ≤ span.from) × (span.from ≤ span.to) × (span.to ≤ token_count (document_at doc.0 self.old.version) + 1) }
@@ -85,14 +86,28 @@ impl<'v> Run<'v> {
         node_holds(&place, &mut self.root, moves)
     }
 
-    /// Whether it is known at once that no span of the document satisfies the plan's selection, since words that it needs don't stand
-    /// in the document. `false` says nothing. It moves no cursor and takes no memory.
-    pub fn rules_out(&self, doc: DocId) -> bool
+    /// Looks the words that the selection needs up in the document, so that `skip_to` finds them kept: who asks much of one document
+    /// looks each of them up there once. Behind words that are needed and aren't there nothing is looked up.
+    pub fn look_up(&mut self, doc: DocId)
+        ensures { self.new ≡ self.old }
+    {
+        let _may = look_up(doc, &mut self.root);
+    }
+
+    /// A place up to which the document can be skipped: no span of it that starts at `from` or behind, and ends there or in front of
+    /// it, satisfies the plan's selection, since words that it needs stand further behind. 0 says nothing, and the greatest number
+    /// says that nothing is left in the document. It moves no cursor and takes no memory.
+    pub fn skip_to(&self, doc: DocId, from: u32) -> u32
         requires there { has_document doc.0 self.now.version ≡ true }
-        ensures none { result ≡ true → (span : Span)
+        ensures none { (span : Span)
             → (1 ≤ span.from) × (span.from ≤ span.to) × (span.to ≤ token_count (document_at doc.0 self.now.version) + 1)
+            → from ≤ span.from → span.to ≤ result
             → sat (lexicon self.now.lists) self.now.form (span_tokens span (document_at doc.0 self.now.version)) ≡ false }
     {
-        is_ruled_out(doc, &self.root)
+        let part = Span { from, to: u32::MAX };
+        match skip(doc, part, &self.root) {
+            Some(place) => place,
+            None => u32::MAX,
+        }
     }
 }

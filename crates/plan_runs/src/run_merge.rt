@@ -1,5 +1,5 @@
-use crate::merge_kind::MergeKind;
 use index_versions::{TermCursor, TermSources};
+use plan_kinds::MergeKind;
 
 /// Single words that have to stand near one another or in order, opened over a version: the terms of each, and a cursor for each of
 /// the terms.

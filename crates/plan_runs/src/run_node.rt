@@ -1,6 +1,8 @@
 //! The tree of a run: the compiled selection, with the terms of a version and cursors in place of tests of words.
 
+use crate::run_hits::RunHits;
 use crate::run_merge::RunMerge;
+use crate::run_placed::RunPlaced;
 use crate::run_ways::RunWays;
 use ft_base::Range;
 use index_phrases::WordTerms;
@@ -18,8 +20,12 @@ pub(crate) enum RunNode<'v> {
     Not(Box<RunNode<'v>>),
     /// A selection with filters or `not in`, by its ways.
     Ways(Box<RunWays<'v>>),
+    /// A filter over phrases, by one pass through their hits.
+    Hits(Box<RunHits<'v>>),
     /// A filter over single words, by a merge of their hits.
     Merge(RunMerge<'v>),
+    /// A phrase at an edge of the text, or outside another one, by the spots at which they stand.
+    Placed(RunPlaced<'v>),
 }
 
 /// The words of a selection.
@@ -38,7 +44,7 @@ pub(crate) struct RunPhrase<'v> {
     pub(crate) groups: Vec<RunGroup<'v>>,
 }
 
-/// Variants of one length: what their words may be, and a cursor for each of the terms.
+/// Variants of a phrase: what their words may be, and a cursor for each of the terms.
 #[derive(Drop)]
 pub(crate) struct RunGroup<'v> {
     pub(crate) terms: Vec<Vec<WordTerms<'v>>>,

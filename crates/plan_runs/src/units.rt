@@ -10,7 +10,7 @@ pub(crate) struct Sentences<'v> {
 }
 
 impl<'v> Units for Sentences<'v> {
-    ghost use Rattle.plan_runs.specs.steps.RisingUnits.{started_rises};
+    ghost use Rattle.plan_kinds.specs.steps.RisingUnits.{started_rises};
     ghost use Rattle.index_cursors.specs.SpanHits.{started};
 
     ghost number = { λ units place. started units.breaks.breaks.now.sentences place };
@@ -29,7 +29,7 @@ pub(crate) struct Paragraphs<'v> {
 }
 
 impl<'v> Units for Paragraphs<'v> {
-    ghost use Rattle.plan_runs.specs.steps.RisingUnits.{started_rises};
+    ghost use Rattle.plan_kinds.specs.steps.RisingUnits.{started_rises};
     ghost use Rattle.index_cursors.specs.SpanHits.{started};
 
     ghost number = { λ units place. started units.breaks.breaks.now.paragraphs place };

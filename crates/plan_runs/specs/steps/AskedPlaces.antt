@@ -1,12 +1,12 @@
 -- Where a run is tested, and where the terms of its words stand there.
-use Rattle.std.specs.Prelude.{ℕ, List, map}
+use Rattle.std.specs.Prelude.{◌≡◌, ℕ, Bool, true, List, map}
 use Rattle.ft_base.specs.Hits.{HitPlace, hit_place}
 use Rattle.ft_base.specs.declared.hit.Hit.{Hit}
 use Rattle.index_meaning.specs.Documents.{document_at}
 use Rattle.index_versions.specs.Versions.{term_hits}
-use Rattle.place_merges.specs.Places.{Wanted, any_word, one_of, some_stands, stands_before}
+use Rattle.place_merges.specs.Places.{Wanted, any_word, one_of}
 use Rattle.place_merges.specs.declared.item.Variant.{Variant}
-use Rattle.place_merges.specs.steps.Searching.{SameFrom, one_stands, variant_stands}
+use Rattle.index_phrases.specs.steps.Aiming.{counted_words}
 use Rattle.index_phrases.specs.Phrases.{words_at}
 use Rattle.plan_runs.specs.steps.AskedSpans.{AskedSpan}
 use Rattle.plan_runs.specs.steps.ChosenTerms.{numbers_of}
@@ -35,14 +35,13 @@ abbrev pub wanted_at : AskedPlace → WordTerms → Wanted
 wanted_at place Terms.Any = any_word
 wanted_at place (Terms.Of sources) = one_of (map (λ number. map (λ hit. hit.from) (hits_at place number)) (numbers_of sources))
 
--- a variant stands in the span where the terms of its words do
-abbrev pub IsAimed : AskedPlace → List WordTerms → Variant HitPlace → Type 0
-IsAimed place terms variant =
-    SameFrom place.span.from (variant_stands (λ cursor. cursor) place.span.to variant)
-    (λ other. stands_before place.span.to other (map (wanted_at place) terms))
+-- what the words of a variant want there, and that it counts
+abbrev pub counted_at : AskedPlace → List WordTerms → Bool × List Wanted
+counted_at place terms = (true, map (wanted_at place) terms)
 
--- one of some variants does
+-- a variant counts, and its words want the places of their terms
+abbrev pub IsAimed : AskedPlace → List WordTerms → Variant HitPlace → Type 0
+IsAimed place terms variant = counted_words variant ≡ counted_at place terms
+
 abbrev pub AreAimed : AskedPlace → List (List WordTerms) → List (Variant HitPlace) → Type 0
-AreAimed place terms variants =
-    SameFrom place.span.from (one_stands (λ cursor. cursor) place.span.to variants)
-    (some_stands place.span.to (map (map (wanted_at place)) terms))
+AreAimed place terms variants = map counted_words variants ≡ map (counted_at place) terms

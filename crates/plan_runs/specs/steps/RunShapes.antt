@@ -4,16 +4,25 @@ use Rattle.std.specs.declared.alloc.Global.{Global}
 use Rattle.std.specs.declared.vec.Vec.{Vec}
 use Rattle.ft_base.specs.Hits.{HitPlace}
 use Rattle.ft_base.specs.declared.range.Range.{Range}
+use Rattle.ft_base.specs.declared.span.Span.{Span}
 use Rattle.ft_operators.specs.Standing.{Aims}
+use Rattle.index_phrases.specs.Cursors.{state_of}
 use Rattle.index_phrases.specs.declared.word_terms.WordTerms.{WordTerms}
 use Rattle.index_phrases.specs.steps.Aiming.{sizes_of, variant_words}
+use Rattle.phrase_merges.specs.Rows.{all_aims}
+use Rattle.spot_merges.specs.declared.edge.Edge.{Edge}
 use Rattle.plan_runs.specs.steps.Merges.{MergeShape}
-use Rattle.plan_runs.specs.steps.Lacking.{lacks_of}
+use Rattle.plan_runs.specs.steps.Skips.{skip_of}
 use Rattle.plan_runs.specs.steps.OpenedOperators.{aims_of}
+use Rattle.plan_runs.specs.steps.Passes.{HitsShape}
+use Rattle.plan_runs.specs.declared.run_hits.RunHits.{RunHits}
 use Rattle.plan_runs.specs.declared.run_merge.RunMerge.{RunMerge}
 use Rattle.plan_runs.specs.declared.run_node.RunGroup.{RunGroup}
 use Rattle.plan_runs.specs.declared.run_node.RunPhrase.{RunPhrase}
 use Rattle.plan_runs.specs.declared.run_node.RunWords.{RunWords}
+use Rattle.plan_runs.specs.declared.run_placed.PlacedPhrases.{PlacedPhrases}
+use Rattle.plan_runs.specs.declared.run_placed.PlacedPhrases.TheVariants.{AtEdge, Apart}
+use Rattle.plan_runs.specs.declared.run_placed.RunPlaced.{RunPlaced}
 use Rattle.plan_runs.specs.declared.run_ways.RunWays.{RunWays}
 use Rattle.plan_runs.specs.declared.run_node.RunNode.{RunNode, fold-RunNode}
 use Rattle.plan_runs.specs.declared.run_node.RunNode.TheOpen.{RunNode-F}
@@ -28,10 +37,20 @@ pub record WordsShape : Type 0 where
   pub all : Bool
   pub times : Option Range
 
--- what the walk through the ways is at the spans of documents, and the documents in which what it needs is lacking
+-- what the walk through the ways is at the spans of documents, and up to where a part of a document has no Match
 pub record WaysShape : Type 0 where
   pub aims : Aims
-  pub lacks : ℕ → Bool
+  pub skips : ℕ → Span → Option ℕ
+
+-- a phrase at an edge of the text, or one outside another
+pub data PhrasesShape : Type 0 where
+  at_edge : Edge → GroupShape → PhrasesShape
+  outside : GroupShape → GroupShape → PhrasesShape
+
+-- the same, and up to where parts of documents can be skipped
+pub record PlacedShape : Type 0 where
+  pub phrases : PhrasesShape
+  pub skips : ℕ → Span → Option ℕ
 
 mutual
   pub data Shape : Type 0 where
@@ -40,7 +59,9 @@ mutual
     all_of : Shapes → Shape
     not_of : Shape → Shape
     by_ways : WaysShape → Shape
+    by_hits : HitsShape → Shape
     by_merge : MergeShape → Shape
+    by_spots : PlacedShape → Shape
 
   pub data Shapes : Type 0 where
     none : Shapes
@@ -70,7 +91,17 @@ abbrev pub merge_shape : RunMerge → MergeShape
 merge_shape run = record { kind = run.kind; words = run.words.items; sizes = map count_of run.cursors.items }
 
 abbrev pub ways_shape : RunWays → WaysShape
-ways_shape run = record { aims = aims_of run.tuples; lacks = lacks_of run.needs }
+ways_shape run = record { aims = aims_of run.tuples; skips = skip_of run.needs }
+
+abbrev pub hits_shape : RunHits → HitsShape
+hits_shape run = record { kind = run.kind; phrases = all_aims state_of run.phrases.items; skips = skip_of run.needs }
+
+abbrev pub phrases_shape : PlacedPhrases → PhrasesShape
+phrases_shape (AtEdge phrase) = at_edge phrase.edge (group_shape phrase.group)
+phrases_shape (Apart phrases) = outside (group_shape phrases.left) (group_shape phrases.right)
+
+abbrev pub placed_shape : RunPlaced → PlacedShape
+placed_shape run = record { phrases = phrases_shape run.phrases; skips = skip_of run.needs }
 
 -- one level, with the shape of each part
 abbrev pub layer : RunNode-F Shape → Shape
@@ -79,7 +110,9 @@ layer (RunNode-F.Or parts) = any_of (shapes_of parts.items)
 layer (RunNode-F.And parts) = all_of (shapes_of parts.items)
 layer (RunNode-F.Not part) = not_of part.value
 layer (RunNode-F.Ways run) = by_ways (ways_shape run.value)
+layer (RunNode-F.Hits run) = by_hits (hits_shape run.value)
 layer (RunNode-F.Merge run) = by_merge (merge_shape run)
+layer (RunNode-F.Placed run) = by_spots (placed_shape run)
 
 unfoldable pub shape : RunNode → Shape
 shape = fold-RunNode Shape layer

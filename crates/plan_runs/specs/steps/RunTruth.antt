@@ -1,6 +1,6 @@
 -- What a run's tree says of a span of a document, and when it fits a version.
 use Rattle.std.specs.Prelude.{◌≡◌, ⊤, ℕ, Bool, true, false, not, ◌&&◌, ◌||◌, List, [], map, sum}
-use Rattle.std.specs.List.{All}
+use Rattle.std.specs.List.{All, list_any}
 use Rattle.ft_base.specs.declared.span.Span.{Span}
 use Rattle.all_matches.specs.Boolean.{satisfied}
 use Rattle.all_matches.specs.Counting.{places}
@@ -13,9 +13,15 @@ use Rattle.plan_runs.specs.steps.AskedSpans.{AskedSpan, words_in}
 use Rattle.plan_runs.specs.steps.ChosenTerms.{is_among, numbers_of}
 use Rattle.plan_runs.specs.steps.Merges.{IsMerge, merge_says}
 use Rattle.plan_runs.specs.steps.OpenedOperators.{AreAims}
+use Rattle.plan_runs.specs.steps.Passes.{AreHits, hits_say}
 use Rattle.index_phrases.specs.steps.Aiming.{AreThere, wanted_size}
-use Rattle.plan_runs.specs.steps.RunShapes.{GroupShape, WaysShape, WordsShape}
-use Rattle.plan_runs.specs.steps.RunShapes.{Shape, Shapes, words, any_of, all_of, not_of, by_ways, by_merge, none, more}
+use Rattle.plan_runs.specs.steps.Skips.{IsWithin, ends_in_front}
+use Rattle.plan_runs.specs.steps.RunShapes.{GroupShape, WaysShape, WordsShape, PhrasesShape, at_edge, outside, PlacedShape}
+use Rattle.plan_runs.specs.steps.RunShapes.{Shape, Shapes, words, any_of, all_of, not_of, by_ways, by_hits, by_merge, none, more, by_spots}
+use Rattle.index_phrases.specs.Phrases.{wanted_at}
+use Rattle.place_merges.specs.declared.spot.Spot.{Spot}
+use Rattle.spot_merges.specs.Apart.{some_apart}
+use Rattle.spot_merges.specs.Edges.{is_at, spots_of}
 use Rattle.plan_compiler.specs.WordsMeaning.{joined}
 use Rattle.index_phrases.specs.declared.word_terms.WordTerms.{WordTerms}
 use Rattle.index_phrases.specs.declared.word_terms.WordTerms.TheVariants as Terms
@@ -43,6 +49,15 @@ words_say version run text = enough run.times (words_total version run text)
 abbrev pub aims_say : Aims → AskedSpan → Bool
 aims_say aims asked = satisfied (matches_of (own_span asked.span) (aims.operators asked.doc asked.span))
 
+-- the spots at which the variants of a group stand
+abbrev pub group_spots : List Numbered → GroupShape → AskedSpan → List Spot
+group_spots version group asked = spots_of asked.span (map (map (wanted_at version asked.doc asked.span)) group.terms)
+
+-- whether phrases stand where they have to
+abbrev pub phrases_say : List Numbered → PhrasesShape → AskedSpan → Bool
+phrases_say version (at_edge edge group) asked = list_any (is_at edge asked.span) (group_spots version group asked)
+phrases_say version (outside left right) asked = some_apart (group_spots version left asked) (group_spots version right asked)
+
 unfoldable mutual
   pub run_truth : List Numbered → Shape → AskedSpan → Bool
   run_truth version (words run) asked = words_say version run (words_in version asked)
@@ -50,7 +65,9 @@ unfoldable mutual
   run_truth version (all_of parts) asked = all_true version parts asked
   run_truth version (not_of part) asked = not (run_truth version part asked)
   run_truth version (by_ways run) asked = aims_say run.aims asked
+  run_truth version (by_hits run) asked = hits_say run asked
   run_truth version (by_merge merge) asked = merge_says version merge asked
+  run_truth version (by_spots run) asked = phrases_say version run.phrases asked
 
   pub some_true : List Numbered → Shapes → AskedSpan → Bool
   some_true version none asked = false
@@ -70,10 +87,21 @@ pub record IsGroup (version : List Numbered) (group : GroupShape) : Type 0 where
 abbrev pub IsWords : List Numbered → WordsShape → Type 0
 IsWords version run = All (All (IsGroup version)) run.phrases
 
--- the walk fits the version, and where what it needs is lacking there is no Match
+-- the walk fits the version, and spans that can be skipped have no Match
 pub record AreWays (version : List Numbered) (run : WaysShape) : Type 0 where
   pub aims : AreAims version run.aims
-  pub lacking : (doc : ℕ) (span : Span) → run.lacks doc ≡ true → matches_of (own_span span) (run.aims.operators doc span) ≡ []
+  pub skipped : (doc : ℕ) (part span : Span) → IsWithin part span → ends_in_front span.to (run.skips doc part) ≡ true
+      → matches_of (own_span span) (run.aims.operators doc span) ≡ []
+
+abbrev pub AreGroups : List Numbered → PhrasesShape → Type 0
+AreGroups version (at_edge edge group) = IsGroup version group
+AreGroups version (outside left right) = IsGroup version left × IsGroup version right
+
+-- the groups fit the version, and in spans that can be skipped they don't stand like this
+pub record ArePlaced (version : List Numbered) (run : PlacedShape) : Type 0 where
+  pub groups : AreGroups version run.phrases
+  pub skipped : (doc : ℕ) (part span : Span) → IsWithin part span → ends_in_front span.to (run.skips doc part) ≡ true
+      → phrases_say version run.phrases (record { doc = doc; span = span }) ≡ false
 
 unfoldable mutual
   pub IsSound : List Numbered → Shape → Type 0
@@ -82,7 +110,9 @@ unfoldable mutual
   IsSound version (all_of parts) = AreSound version parts
   IsSound version (not_of part) = IsSound version part
   IsSound version (by_ways run) = AreWays version run
+  IsSound version (by_hits run) = AreHits version run
   IsSound version (by_merge merge) = IsMerge version merge
+  IsSound version (by_spots run) = ArePlaced version run
 
   pub AreSound : List Numbered → Shapes → Type 0
   AreSound version none = ⊤

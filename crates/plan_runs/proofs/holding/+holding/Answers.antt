@@ -1,19 +1,23 @@
 -- Each kind is tested by its parts, which keep their shapes.
 use Rattle.std.proofs.Common.{◌∙◌, ◌||◌, ◌&&◌, Bool, ap, sym, not, refl, rules, map, drop, ◌+◌, arith, subst, Box, Global, Vec}
-use Rattle.plan_runs.specs.steps.RunCosts.{moves_for, run_cost, run_costs, words_cost}
-use Rattle.plan_runs.specs.steps.RunShapes.{merge_shape, shape, shapes_of, words_shape}
+use Rattle.plan_runs.specs.steps.RunCosts.{moves_for, run_cost, run_costs, words_cost, placed_cost}
+use Rattle.plan_runs.specs.steps.RunShapes.{hits_shape, merge_shape, shape, shapes_of, words_shape, placed_shape}
+use Rattle.plan_runs.specs.steps.Passes.{AreHits, hits_say}
 use Rattle.plan_runs.specs.steps.Merges.{IsMerge, merge_cost, merge_says}
 use Rattle.plan_runs.specs.steps.OpenedOperators.{AreAims, aims_of}
-use Rattle.plan_runs.specs.steps.RunTruth.{AreSound, IsSound, IsWords, all_true, aims_say, run_truth, some_true, words_say}
+use Rattle.plan_runs.specs.steps.Skips.{skip_of}
+use Rattle.plan_runs.specs.steps.RunTruth.{AreGroups, AreSound, IsSound, IsWords, all_true, aims_say, phrases_say, run_truth, some_true, words_say}
 use Rattle.plan_runs.specs.steps.AskedPlaces.{asked_at, text_at}
 use Rattle.plan_runs.specs.declared.run_node.RunNode.{RunNode, the_lemmas}
+use Rattle.plan_runs.specs.declared.run_hits.RunHits.{RunHits}
 use Rattle.plan_runs.specs.declared.run_merge.RunMerge.{RunMerge}
 use Rattle.plan_runs.specs.declared.run_node.RunNode as R
 use Rattle.plan_runs.specs.declared.run_node.RunWords.{RunWords}
+use Rattle.plan_runs.specs.declared.run_placed.RunPlaced.{RunPlaced}
 use Rattle.plan_runs.specs.declared.run_ways.RunWays.{RunWays}
 use Rattle.index_phrases.proofs.PartLemmas.{as_many, holds_at, part_at, parts_kept}
 use Rattle.plan_runs.proofs.SumLemmas.{one_more}
-use Rattle.plan_runs.proofs.TreeLemmas.{all_end, all_more, cost-And, cost-Merge, cost-Not, cost-Or, cost-Words, costs_so_far, each_sound, same-And, same-Merge, same-Not, same-Or, same-Ways, same-Words, says-And, says-Merge, says-Not, says-Or, says-Ways, says-Words, some_end, some_more, sound-And, sound-Merge, sound-Not, sound-Or, sound-Ways, sound-Words, weight, weights, weight_at, weight-And, weight-Not, weight-Or}
+use Rattle.plan_runs.proofs.TreeLemmas.{all_end, all_more, cost-And, cost-Merge, cost-Not, cost-Or, cost-Words, costs_so_far, each_sound, same-And, same-Hits, same-Merge, same-Not, same-Or, same-Ways, same-Words, says-And, says-Hits, says-Merge, says-Not, says-Or, says-Ways, says-Words, some_end, some_more, sound-And, sound-Hits, sound-Merge, sound-Not, sound-Or, sound-Ways, sound-Words, weight, weights, weight_at, weight-And, weight-Not, weight-Or, cost-Placed, same-Placed, says-Placed, sound-Placed}
 use Rattle.plan_runs.proofs.holding.+holding.Goals as goal
 
 pub node_holds-words_hold-requires : goal.node_holds-words_hold-requires
@@ -96,7 +100,19 @@ node_holds-returns-in-Ways-clause-says g t c =
 pub node_holds-returns-in-Ways-clause-same : goal.node_holds-returns-in-Ways-clause-same
 node_holds-returns-in-Ways-clause-same g t c =
     let same = same-Ways (R.Ways c.in-Ways.ways) c.in-Ways.ways c.ways_hold.new.ways refl (c.ways_hold.ensures.same ∙ ap (λ (run : Box RunWays Global). aims_of run.value.tuples) c.in-Ways.ways-is)
-    (c.ways_hold.ensures.needs ∙ ap (λ (run : Box RunWays Global). run.value.needs) c.in-Ways.ways-is) in rw c.in-Ways.is (search (rules, the_lemmas, same))
+    (ap skip_of (c.ways_hold.ensures.needs ∙ ap (λ (run : Box RunWays Global). run.value.needs) c.in-Ways.ways-is)) in rw c.in-Ways.is (search (rules, the_lemmas, same))
+
+pub node_holds-hits_hold-requires : goal.node_holds-hits_hold-requires
+node_holds-hits_hold-requires g t c =
+    subst (λ (run : Box RunHits Global). AreHits c.args.place.now.version.now (hits_shape run.value)) (sym c.in-Hits.hits-is) (sound-Hits c.args.place.now.version.now (asked_at c.args.place.now) c.args.node.now c.in-Hits.hits c.in-Hits.is c.requires)
+
+pub node_holds-returns-in-Hits-clause-says : goal.node_holds-returns-in-Hits-clause-says
+node_holds-returns-in-Hits-clause-says g t c =
+    c.hits_hold.ensures.says ∙ ap (λ (run : Box RunHits Global). hits_say (hits_shape run.value) (asked_at c.args.place.now)) c.in-Hits.hits-is ∙ says-Hits c.args.place.now.version.now (asked_at c.args.place.now) c.args.node.now c.in-Hits.hits c.in-Hits.is
+
+pub node_holds-returns-in-Hits-clause-same : goal.node_holds-returns-in-Hits-clause-same
+node_holds-returns-in-Hits-clause-same g t c =
+    let same = same-Hits (R.Hits c.in-Hits.hits) c.in-Hits.hits c.hits_hold.new.hits refl (c.hits_hold.ensures.same ∙ ap (λ (run : Box RunHits Global). hits_shape run.value) c.in-Hits.hits-is) in rw c.in-Hits.is (search (rules, the_lemmas, same))
 
 pub node_holds-merge_holds-requires : goal.node_holds-merge_holds-requires
 node_holds-merge_holds-requires g t c =
@@ -116,6 +132,25 @@ node_holds-returns-in-Merge-clause-price g t c =
     let own = ap (λ (run : RunMerge). merge_cost cost (merge_shape run)) c.in-Merge.merge-is in
     let whole = cost-Merge cost c.args.node.now c.in-Merge.merge c.in-Merge.is in
     omega (arith, own, whole, c.merge_holds.ensures.price)
+
+pub node_holds-placed_holds-requires : goal.node_holds-placed_holds-requires
+node_holds-placed_holds-requires g t c =
+    subst (λ (run : RunPlaced). AreGroups c.args.place.now.version.now (placed_shape run).phrases) (sym c.in-Placed.placed-is) (sound-Placed c.args.place.now.version.now (asked_at c.args.place.now) c.args.node.now c.in-Placed.placed c.in-Placed.is c.requires)
+
+pub node_holds-returns-in-Placed-clause-says : goal.node_holds-returns-in-Placed-clause-says
+node_holds-returns-in-Placed-clause-says g t c =
+    c.placed_holds.ensures.says ∙ ap (λ (run : RunPlaced). phrases_say c.args.place.now.version.now (placed_shape run).phrases (asked_at c.args.place.now)) c.in-Placed.placed-is ∙ says-Placed c.args.place.now.version.now (asked_at c.args.place.now) c.args.node.now c.in-Placed.placed c.in-Placed.is
+
+pub node_holds-returns-in-Placed-clause-same : goal.node_holds-returns-in-Placed-clause-same
+node_holds-returns-in-Placed-clause-same g t c =
+    let same = same-Placed (R.Placed c.in-Placed.placed) c.in-Placed.placed c.placed_holds.new.placed refl (c.placed_holds.ensures.same ∙ ap placed_shape c.in-Placed.placed-is) in rw c.in-Placed.is (search (rules, the_lemmas, same))
+
+pub node_holds-returns-in-Placed-clause-price : goal.node_holds-returns-in-Placed-clause-price
+node_holds-returns-in-Placed-clause-price g t c =
+    let cost = moves_for c.args.place.now in
+    let own = ap (λ (run : RunPlaced). placed_cost cost (placed_shape run).phrases) c.in-Placed.placed-is in
+    let whole = cost-Placed cost c.args.node.now c.in-Placed.placed c.in-Placed.is in
+    omega (arith, own, whole, c.placed_holds.ensures.price)
 
 pub some_holds-node_holds-requires : goal.some_holds-node_holds-requires
 some_holds-node_holds-requires g t c κs within =

@@ -1,7 +1,7 @@
 -- The cursors were aimed, and the merge went on from there.
 use Rattle.std.proofs.Common.{◌∙◌, ap}
 use Rattle.index_meaning.specs.Documents.{breaks_of, document_at}
-use Rattle.plan_runs.specs.steps.Merges.{stand_as}
+use Rattle.plan_kinds.specs.steps.MergeKinds.{stand_as}
 use Rattle.plan_runs.proofs.MergeCosts.{aimed_places, merge_moves, same_counts}
 use Rattle.plan_runs.proofs.merge_holding.merge_holds.Goals as goal
 

@@ -5,7 +5,7 @@ use Rattle.index_cursors.specs.SpanHits.{started}
 use Rattle.index_meaning.specs.Documents.{breaks_of, document_at}
 use Rattle.window_merges.specs.Choices.{are_in_one, some_choice}
 use Rattle.window_merges.specs.Rows.{all_places}
-use Rattle.plan_runs.specs.steps.Merges.{stand_as}
+use Rattle.plan_kinds.specs.steps.MergeKinds.{stand_as}
 use Rattle.plan_runs.proofs.MergeCosts.{all_plain}
 use Rattle.plan_runs.proofs.merge_holding.words_stand.Goals as goal
 

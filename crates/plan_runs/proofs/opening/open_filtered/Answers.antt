@@ -1,18 +1,34 @@
--- A merge where one decides it, or the walk through its ways.
-use Rattle.std.proofs.Common.{refl, sym}
-use Rattle.plan_compiler.specs.declared.node.Node as N
+-- A merge or the spots of phrases, where these decide it.
+use Rattle.std.proofs.Common.{sym}
+use Rattle.plan_runs.specs.steps.OpenedWords.{opened_group}
+use Rattle.plan_runs.specs.steps.RunShapes.{at_edge, outside}
 use Rattle.plan_runs.proofs.OpenedMerges.{merge_opened}
-use Rattle.plan_runs.proofs.OpenedWays.{ways_opened}
+use Rattle.plan_runs.proofs.OpenedPlaced.{apart_placed, edge_placed, placed_opened}
 use Rattle.plan_runs.proofs.opening.open_filtered.Goals as goal
 
-pub returns-in_ok-open_merge-in-Some : goal.returns-in_ok-open_merge-in-Some
-returns-in_ok-open_merge-in-Some c =
+pub returns-in-Some : goal.returns-in-Some
+returns-in-Some c =
     let opening = c.args.opening.now in
-    merge_opened opening.looks opening.lists.now.stems opening.version.now c.in_ok-open_merge-in-Some.field-0 c.args.plan.now c.in-Some.kind c.in-Some.operand.now
-    (sym c.in-Some.ensures) c.in_ok-open_merge-in-Some.ensures
+    merge_opened opening.looks opening.lists.now.stems opening.version.now c.in_ok-open_merge.field-0 c.args.plan.now c.in-Some.kind c.in-Some.operand.now
+    (sym c.in-Some.ensures) c.in_ok-open_merge.ensures
 
-pub returns-in_ok-open_ways-in-None : goal.returns-in_ok-open_ways-in-None
-returns-in_ok-open_ways-in-None c =
+pub returns-in-Some-edge_of : goal.returns-in-Some-edge_of
+returns-in-Some-edge_of c =
     let opening = c.args.opening.now in
-    ways_opened opening.looks opening.lists.now.stems opening.version.now c.in_ok-open_ways-in-None.field-0 c.args.plan.now (N.Ways c.args.plan.now) refl
-    c.in_ok-open_ways-in-None.ensures.aims c.in_ok-open_ways-in-None.ensures.lacks
+    let edge = c.in-Some-edge_of.edge in
+    let phrase = c.in-Some-edge_of.phrase.now in
+    placed_opened opening.looks opening.lists.now.stems opening.version.now c.in_ok-placed.placed c.args.plan.now
+    (at_edge edge (opened_group opening.looks opening.lists.now.stems opening.version.now phrase.variants))
+    (edge_placed opening.looks opening.lists.now.stems opening.version.now c.args.plan.now.operator edge phrase (sym c.in-Some-edge_of.ensures))
+    c.in_ok-placed.ensures.phrases c.in_ok-placed.ensures.skips
+
+pub returns-in-Some-apart_of : goal.returns-in-Some-apart_of
+returns-in-Some-apart_of c =
+    let opening = c.args.opening.now in
+    let left = c.in-Some-apart_of.left.now in
+    let right = c.in-Some-apart_of.right.now in
+    placed_opened opening.looks opening.lists.now.stems opening.version.now c.in_ok-placed-2.placed c.args.plan.now
+    (outside (opened_group opening.looks opening.lists.now.stems opening.version.now left.variants)
+    (opened_group opening.looks opening.lists.now.stems opening.version.now right.variants))
+    (apart_placed opening.looks opening.lists.now.stems opening.version.now c.args.plan.now.operator left right (sym c.in-Some-apart_of.ensures))
+    c.in_ok-placed-2.ensures.phrases c.in_ok-placed-2.ensures.skips

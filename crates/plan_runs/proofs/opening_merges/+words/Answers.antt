@@ -3,7 +3,8 @@ use Rattle.std.proofs.Common.{◌≡◌, ◌∙◌, ◌++◌, List, [], OnOk, ap
 use Rattle.index_versions.specs.Terms.{VersionTerm}
 use Rattle.plan_compiler.specs.declared.operator_plan.OperatorSides.{OperatorSides}
 use Rattle.plan_compiler.specs.declared.operator_plan.PhraseTests.{PhraseTests}
-use Rattle.plan_runs.specs.steps.Merges.{joined_phrases, phrase_terms}
+use Rattle.plan_kinds.specs.steps.JoinedPhrases.{joined_phrases}
+use Rattle.plan_runs.specs.steps.Merges.{phrase_terms}
 use Rattle.plan_runs.proofs.opening_merges.+words.Goals as goal
 
 -- nothing is put where no phrase is joined

@@ -1,6 +1,6 @@
 -- The terms of the first words are there.
 use Rattle.std.proofs.Common.{◌≡◌, map, take}
-use Rattle.plan_runs.specs.steps.Lacking.{needed_item}
+use Rattle.plan_runs.specs.steps.Skips.{needed_item}
 use Rattle.plan_runs.proofs.opening_needs.needed_items.Given as goal
 
 abbrev pub invariant-loop-test : goal.invariant-loop-test

@@ -1,6 +1,6 @@
 -- The terms of the first variants are there.
 use Rattle.std.proofs.Common.{◌≡◌, map, take}
-use Rattle.plan_runs.specs.steps.Lacking.{needed_variants}
+use Rattle.plan_runs.specs.steps.Skips.{needed_variants}
 use Rattle.index_phrases.specs.steps.Aiming.{variant_words}
 use Rattle.plan_runs.proofs.opening_needs.needed_variants.Given as goal
 

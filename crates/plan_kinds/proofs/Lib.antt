@@ -1,0 +1,4 @@
+pub mod JoinedLaw
+pub mod FilteredLaw
+pub mod PassLaw
+pub mod PlacedLaw

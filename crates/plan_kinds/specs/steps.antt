@@ -1,0 +1,6 @@
+pub mod AskedKeys
+pub mod JoinedPhrases
+pub mod MergeKinds
+pub mod PassKinds
+pub mod PlacedPhrases
+pub mod RisingUnits

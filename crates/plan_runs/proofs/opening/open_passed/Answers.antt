@@ -1,0 +1,18 @@
+-- A pass where one decides it, or the walk through its ways.
+use Rattle.std.proofs.Common.{refl, sym}
+use Rattle.plan_compiler.specs.declared.node.Node as N
+use Rattle.plan_runs.proofs.OpenedHits.{hits_opened}
+use Rattle.plan_runs.proofs.OpenedWays.{ways_opened}
+use Rattle.plan_runs.proofs.opening.open_passed.Goals as goal
+
+pub returns-in_ok-open_hits-in-Some : goal.returns-in_ok-open_hits-in-Some
+returns-in_ok-open_hits-in-Some c =
+    let opening = c.args.opening.now in
+    hits_opened opening.looks opening.lists.now.stems opening.version.now c.in_ok-open_hits-in-Some.field-0 c.args.plan.now c.in-Some.kind c.in-Some.operand.now
+    (sym c.in-Some.ensures) c.in_ok-open_hits-in-Some.ensures.kind c.in_ok-open_hits-in-Some.ensures.phrases c.in_ok-open_hits-in-Some.ensures.skips
+
+pub returns-in_ok-open_ways-in-None : goal.returns-in_ok-open_ways-in-None
+returns-in_ok-open_ways-in-None c =
+    let opening = c.args.opening.now in
+    ways_opened opening.looks opening.lists.now.stems opening.version.now c.in_ok-open_ways-in-None.field-0 c.args.plan.now (N.Ways c.args.plan.now) refl
+    c.in_ok-open_ways-in-None.ensures.aims c.in_ok-open_ways-in-None.ensures.skips

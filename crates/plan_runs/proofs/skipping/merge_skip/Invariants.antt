@@ -1,0 +1,8 @@
+-- The last of those so far and of those that are left is the last of all.
+use Rattle.std.proofs.Common.{◌≡◌, drop, fold, map, Some}
+use Rattle.plan_runs.specs.steps.RunSkips.{terms_skip}
+use Rattle.plan_runs.specs.steps.Skips.{later, latest}
+use Rattle.plan_runs.proofs.skipping.merge_skip.Given as goal
+
+abbrev pub invariant-loop-terms : goal.invariant-loop-terms
+invariant-loop-terms l = fold later (Some l.last) (map (terms_skip l.doc.0 l.part) (drop l.terms-index l.words.items)) ≡ latest (map (terms_skip l.doc.0 l.part) l.words.items)

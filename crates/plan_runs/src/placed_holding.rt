@@ -1,0 +1,67 @@
+//! Whether phrases stand in a span where they have to.
+
+ghost use Rattle.std.specs.Prelude.{◌≡◌, ◌+◌, ◌≤◌};
+ghost use Rattle.plan_runs.specs.steps.AskedPlaces.{asked_at};
+ghost use Rattle.plan_runs.specs.declared.run_placed.PlacedPhrases.TheVariants.{Apart, AtEdge};
+ghost use Rattle.plan_runs.specs.steps.RunCosts.{moves_for, placed_cost};
+ghost use Rattle.plan_runs.specs.steps.RunShapes.{phrases_shape, placed_shape};
+ghost use Rattle.plan_runs.specs.steps.RunTruth.{AreGroups, phrases_say};
+
+use crate::aiming::aim_variants;
+use crate::asked_place::AskedPlace;
+use crate::run_placed::{ApartPhrases, EdgePhrase, PlacedPhrases, RunPlaced};
+use ft_base::Steps;
+use spot_merges::{stand_apart, stands_at_edge};
+use std::sync::ledger::Ledger;
+
+/// Whether the phrases stand in the span where they have to.
+pub(crate) fn placed_holds<'v, L: Ledger>(
+    place: &AskedPlace<'v>,
+    placed: &mut RunPlaced<'v>,
+    moves: &mut Steps<L>,
+) -> bool
+    requires { AreGroups place.now.version.now (placed_shape placed.old).phrases }
+    ensures says { result ≡ phrases_say place.now.version.now (placed_shape placed.old).phrases (asked_at place.now) }
+    ensures same { placed_shape placed.new ≡ placed_shape placed.old }
+    ensures price { moves.new ≤ moves.old + placed_cost (moves_for place.now) (placed_shape placed.old).phrases }
+    ensures grown { moves.old ≤ moves.new }
+{
+    match &mut placed.phrases {
+        PlacedPhrases::AtEdge(phrase) => holds_at_edge(place, phrase, moves),
+        PlacedPhrases::Apart(phrases) => holds_apart(place, phrases, moves),
+    }
+}
+
+fn holds_at_edge<'v, L: Ledger>(
+    place: &AskedPlace<'v>,
+    phrase: &mut EdgePhrase<'v>,
+    moves: &mut Steps<L>,
+) -> bool
+    requires { AreGroups place.now.version.now (phrases_shape (AtEdge phrase.old)) }
+    ensures says { result ≡ phrases_say place.now.version.now (phrases_shape (AtEdge phrase.old)) (asked_at place.now) }
+    ensures same { phrases_shape (AtEdge phrase.new) ≡ phrases_shape (AtEdge phrase.old) }
+    ensures price { moves.new ≤ moves.old + placed_cost (moves_for place.now) (phrases_shape (AtEdge phrase.old)) }
+    ensures grown { moves.old ≤ moves.new }
+{
+    let group = &mut phrase.group;
+    aim_variants(place, &mut group.terms, &mut group.variants, moves);
+    stands_at_edge(&mut group.variants, phrase.edge, place.span, moves)
+}
+
+fn holds_apart<'v, L: Ledger>(
+    place: &AskedPlace<'v>,
+    phrases: &mut ApartPhrases<'v>,
+    moves: &mut Steps<L>,
+) -> bool
+    requires { AreGroups place.now.version.now (phrases_shape (Apart phrases.old)) }
+    ensures says { result ≡ phrases_say place.now.version.now (phrases_shape (Apart phrases.old)) (asked_at place.now) }
+    ensures same { phrases_shape (Apart phrases.new) ≡ phrases_shape (Apart phrases.old) }
+    ensures price { moves.new ≤ moves.old + placed_cost (moves_for place.now) (phrases_shape (Apart phrases.old)) }
+    ensures grown { moves.old ≤ moves.new }
+{
+    let left = &mut phrases.left;
+    let right = &mut phrases.right;
+    aim_variants(place, &mut left.terms, &mut left.variants, moves);
+    aim_variants(place, &mut right.terms, &mut right.variants, moves);
+    stand_apart(&mut left.variants, &mut right.variants, place.span, moves)
+}
