@@ -34,42 +34,52 @@ among-below above number (node_then (element name attributes kids) ns) =
     (λ k d within. Contains-append_right first rest (get_or (elements_among above (number + 1) ns) k d) (among-below above (number + 1) ns k d within))
 among-below above number (node_then (text bytes) ns) = among-below above (number + 1) ns
 
-children-from : (place : List ℕ) (n : Node) → All (Contains (elements_from place n)) (elements_among place 1 (kids_of n))
+pub children-from : (place : List ℕ) (n : Node) → All (Contains (elements_from place n)) (elements_among place 1 (kids_of n))
 children-from place (element name attributes kids) = λ k d within.
     Contains-cons (placed place (element name attributes kids)) (elements_below place 1 kids) (get_or (elements_among place 1 kids) k d) (among-below place 1 kids k d within)
 children-from place (text bytes) = All-nil (Contains [])
 
+-- what is below one of the elements, and what a context offers, where something holds of all that is below an element of which it holds
+abbrev pub ContextOf : (Element → Type 0) → Context → Type 0
+ContextOf P (document n) = All P (elements n)
+ContextOf P (item e) = P e
+
+module _ (P : Element → Type 0) (closed : (e : Element) → P e → All P (at_or_below e)) where
+  pub children-of : (e : Element) → P e → All P (element_children e)
+  children-of e there = λ k d within.
+      All-contains P (at_or_below e) (get_or (element_children e) k d) (closed e there) (children-from e.place e.node k d within)
+
+  root-of : (n : Node) → All P (elements n) → All P (el.element_at [] n)
+  root-of (element name attributes kids) h =
+      let e = placed [] (element name attributes kids) in All-cons P e [] (All-head P e (elements_below [] 1 kids) h) (All-nil P)
+  root-of (text bytes) h = All-nil P
+
+  offered-of : (c : Context) → ContextOf P c → All P (children c)
+  offered-of (document n) h = root-of n h
+  offered-of (item e) there = children-of e there
+
+  contexts-of : (c : Context) → ContextOf P c → All (ContextOf P) (with_descendants c)
+  contexts-of (document n) h = All-cons (ContextOf P) (document n) (map item (elements n)) h (All-map (ContextOf P) item (elements n) h)
+  contexts-of (item e) there = All-map (ContextOf P) item (at_or_below e) (closed e there)
+
+  lists-of : (deep : Bool) (c : Context) → ContextOf P c → All (All P) (lists deep c)
+  lists-of true c h =
+      All-map (All P) children (with_descendants c) (All-weaker (ContextOf P) (λ x. All P (children x)) offered-of (with_descendants c) (contexts-of c h))
+  lists-of false c h = All-cons (All P) (children c) [] (offered-of c h) (All-nil (All P))
+
+  pub all-lists-of : (deep : Bool) (cs : List Context) → All (ContextOf P) cs → All (All P) (flat_map (lists deep) cs)
+  all-lists-of deep [] h = All-nil (All P)
+  all-lists-of deep (c ∷ cs) h =
+      All-append (All P) (lists deep c) (flat_map (lists deep) cs) (lists-of deep c (All-head (ContextOf P) c cs h)) (all-lists-of deep cs (All-tail (ContextOf P) c cs h))
+
 pub children-in : (root : Node) (e : Element) → In root e → All (In root) (element_children e)
-children-in root e there = λ k d within.
-    All-contains (In root) (at_or_below e) (get_or (element_children e) k d) (region-in root e there) (children-from e.place e.node k d within)
+children-in root = children-of (In root) (region-in root)
 
 abbrev pub ContextIn : Node → Context → Type 0
-ContextIn root (document n) = n ≡ root
-ContextIn root (item e) = In root e
-
-root-in : (n : Node) → All (In n) (el.element_at [] n)
-root-in (element name attributes kids) = All-cons (In (element name attributes kids)) (placed [] (element name attributes kids)) [] (0, omega arith, refl) (All-nil (In (element name attributes kids)))
-root-in (text bytes) = All-nil (In (text bytes))
-
-offered-in : (root : Node) (c : Context) → ContextIn root c → All (In root) (children c)
-offered-in root (document n) is = subst (λ x. All (In x) (el.element_at [] n)) is (root-in n)
-offered-in root (item e) there = children-in root e there
-
-contexts-in : (root : Node) (c : Context) → ContextIn root c → All (ContextIn root) (with_descendants c)
-contexts-in root (document n) is =
-    All-cons (ContextIn root) (document n) (map item (elements n)) is
-    (All-map (ContextIn root) item (elements n) (subst (λ x. All (In x) (elements n)) is (All-contains_itself (elements n))))
-contexts-in root (item e) there = All-map (ContextIn root) item (at_or_below e) (region-in root e there)
-
-lists-in : (root : Node) (deep : Bool) (c : Context) → ContextIn root c → All (All (In root)) (lists deep c)
-lists-in root true c h =
-    All-map (All (In root)) children (with_descendants c) (All-weaker (ContextIn root) (λ x. All (In root) (children x)) (offered-in root) (with_descendants c) (contexts-in root c h))
-lists-in root false c h = All-cons (All (In root)) (children c) [] (offered-in root c h) (All-nil (All (In root)))
+ContextIn root = ContextOf (In root)
 
 pub all-lists-in : (root : Node) (deep : Bool) (cs : List Context) → All (ContextIn root) cs → All (All (In root)) (flat_map (lists deep) cs)
-all-lists-in root deep [] h = All-nil (All (In root))
-all-lists-in root deep (c ∷ cs) h =
-    All-append (All (In root)) (lists deep c) (flat_map (lists deep) cs) (lists-in root deep c (All-head (ContextIn root) c cs h)) (all-lists-in root deep cs (All-tail (ContextIn root) c cs h))
+all-lists-in root = all-lists-of (In root) (region-in root)
 
 pub map-alike : (f g : List Element → List Element) (ls : List (List Element)) → All (λ l. f l ≡ g l) ls → map f ls ≡ map g ls
 map-alike f g [] same = refl
@@ -141,5 +151,5 @@ module _ (f g : ℕ → Element → Bool) (root : Node) (same : All (λ e. (k : 
   unfolding selected
   selected-alike no_steps = refl
   selected-alike (step_then first rest) =
-      ap (led f (elements root) rest) (stepped-alike first (document root ∷ []) (All-cons (ContextIn root) (document root) [] refl (All-nil (ContextIn root))))
+      ap (led f (elements root) rest) (stepped-alike first (document root ∷ []) (All-cons (ContextIn root) (document root) [] (All-contains_itself (elements root)) (All-nil (ContextIn root))))
       ∙ led-alike rest (stepped g (elements root) first (document root ∷ [])) (stepped-in first (document root ∷ []))

@@ -85,7 +85,7 @@ module _ (sat : ℕ → Element → Bool) (all : List Element) (P : Element → 
   by-of (form.number k) items h = numbered-of P k items h
   by-of (form.holds c) items h = All-filter (is_true sat all c) P items h
 
-  filtered-of : (ps : Predicates) (items : List Element) → All P items → All P (filtered sat all ps items)
+  pub filtered-of : (ps : Predicates) (items : List Element) → All P items → All P (filtered sat all ps items)
   unfolding filtered
   filtered-of no_predicates items h = h
   filtered-of (predicate_then p ps) items h = filtered-of ps (filtered_by sat all p items) (by-of p items h)

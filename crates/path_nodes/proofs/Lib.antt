@@ -23,5 +23,7 @@ pub mod CostLemmas
 pub mod OrderLemmas
 pub mod OfferedLemmas
 pub mod OutermostLemmas
+pub mod SpanLemmas
+pub mod SufficeLemmas
 pub mod NamingLemmas
 pub mod RulingOutLemmas

@@ -14,7 +14,7 @@ use Rattle.path_nodes.proofs.PlaceLemmas.{reference-back}
 use Rattle.path_nodes.proofs.SpotLemmas.{Contains-cons, element_of-is}
 
 -- one of the nodes is this element
-abbrev Has : List Spot → Element → Type 0
+abbrev pub Has : List Spot → Element → Type 0
 Has ss e = (s : Spot) × Contains ss s × (is_element s.stand.node ≡ true) × (spot_element s ≡ e)
 
 has-more : (xs ys : List Spot) (e : Element) → ((s : Spot) → Contains xs s → Contains ys s) → Has xs e → Has ys e
@@ -23,7 +23,7 @@ has-more xs ys e f (s, there, is, same) = (s, f s there, is, same)
 mutual
   unfolding spots child_spots
 
-  has-from : (place : List ℕ) (a : Around) (n : Numbered) → All (Has (spots place a n)) (elements_from place (plain n))
+  pub has-from : (place : List ℕ) (a : Around) (n : Numbered) → All (Has (spots place a n)) (elements_from place (plain n))
   has-from place a (text_at r bytes) = All-nil (Has (spots place a (text_at r bytes)))
   has-from place a (element_at r name attrs kids) =
       let n = element_at r name attrs kids in

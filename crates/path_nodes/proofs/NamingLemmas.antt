@@ -9,10 +9,14 @@ use Rattle.ordered_tree.specs.Numbered.{Numbered, Children, no_children, child_t
 use Rattle.ordered_tree.specs.Stands.{OnNode, references}
 use Rattle.ft_base.specs.declared.ids.NodeRef.{NodeRef}
 use Rattle.path_nodes.specs.References.{element_of, IsElement}
-use Rattle.path_nodes.specs.steps.Kept.{offered, offered_from}
+use Rattle.path_grammar.specs.Form.{Predicates}
+use Rattle.path_nodes.specs.Says.{Meaning}
+use Rattle.path_nodes.specs.steps.Kept.{offered, offered_from, some_number}
+use Rattle.path_nodes.specs.steps.RuledOut.{Suffice}
 use Rattle.path_nodes.proofs.ChildrenLemmas.{Reading, Next, next, on, named, is-child, there, start, past-text, past-element, smaller, left, element-adds, All-behind, on_element}
 use Rattle.path_nodes.proofs.ListLemmas.{flat-more}
 use Rattle.path_nodes.proofs.RegionLemmas.{weight, children-light, below-children}
+use Rattle.path_nodes.proofs.SufficeLemmas.{suffice-same, suffice-further, suffice-more}
 
 alone : (xs : List Element) → flat_map (offered_from false) xs ≡ xs
 alone [] = refl
@@ -24,18 +28,18 @@ offered-children true e = below-children e
 offered-children false e = alone (element_children e)
 
 -- The children in front of a link were gone through.
-pub record Gone (root : Numbered) (node : NodeRef) (name : Element → Bool) (deep : Bool) (link : Option NodeRef) (old found : List NodeRef) : Type 0 where
+pub record Gone (root : Numbered) (m : Meaning) (ps : Predicates) (node : NodeRef) (name : Element → Bool) (deep : Bool) (link : Option NodeRef) (old found : List NodeRef) : Type 0 where
   pub done : List NodeRef
   pub reading : Reading root (element_of root node) link done
-  pub elements : map (element_of root) found ≡ map (element_of root) old ++ filter name (flat_map (offered_from deep) (map (element_of root) done))
+  pub elements : Suffice root m ps (map (element_of root) found) (map (element_of root) old ++ filter name (flat_map (offered_from deep) (map (element_of root) done)))
   pub there : All (IsElement root) found
 
-module _ (root : Numbered) (node : NodeRef) (x : IsElement root node) (name : Element → Bool) (deep : Bool) (old : List NodeRef) where
-  pub gone-first : (link : Option NodeRef) → OnNode root node (λ s. link ≡ first_of (children s.node)) → All (IsElement root) old → Gone root node name deep link old old
+module _ (root : Numbered) (m : Meaning) (ps : Predicates) (none : some_number ps ≡ false) (node : NodeRef) (x : IsElement root node) (name : Element → Bool) (deep : Bool) (old : List NodeRef) where
+  pub gone-first : (link : Option NodeRef) → OnNode root node (λ s. link ≡ first_of (children s.node)) → All (IsElement root) old → Gone root m ps node name deep link old old
   gone-first link first all = record {
     done = [];
     reading = start root node x link (on_element root node x (λ s. link ≡ first_of (children s.node)) first);
-    elements = sym (append-nil (map (element_of root) old));
+    elements = suffice-same root m ps _ _ (sym (append-nil (map (element_of root) old)));
     there = all;
   }
 
@@ -44,13 +48,15 @@ module _ (root : Numbered) (node : NodeRef) (x : IsElement root node) (name : El
   no-more above done number no_children none all = sym (append-nil (map (element_of root) done)) ∙ all
   no-more above done number (child_then n ns) none all = cc
 
-  pub gone-all : (found : List NodeRef) → Gone root node name deep None old found → map (element_of root) found ≡ map (element_of root) old ++ filter name (offered deep (element_of root node))
+  pub gone-all : (found : List NodeRef) → Gone root m ps node name deep None old found
+      → Suffice root m ps (map (element_of root) found) (map (element_of root) old ++ filter name (offered deep (element_of root node)))
   gone-all found g =
+      subst (Suffice root m ps (map (element_of root) found))
+      (ap (λ l. map (element_of root) old ++ filter name (flat_map (offered_from deep) l)) (no-more (element_of root node) g.done g.reading.number g.reading.rest g.reading.first g.reading.all)
+      ∙ ap (λ l. map (element_of root) old ++ filter name l) (offered-children deep (element_of root node)))
       g.elements
-      ∙ ap (λ l. map (element_of root) old ++ filter name (flat_map (offered_from deep) l)) (no-more (element_of root node) g.done g.reading.number g.reading.rest g.reading.first g.reading.all)
-      ∙ ap (λ l. map (element_of root) old ++ filter name l) (offered-children deep (element_of root node))
 
-  module _ (link : Option NodeRef) (found : List NodeRef) (g : Gone root node name deep link old found) (child : NodeRef) (is : link ≡ Some child) where
+  module _ (link : Option NodeRef) (found : List NodeRef) (g : Gone root m ps node name deep link old found) (child : NodeRef) (is : link ≡ Some child) where
     abbrev n : Next root (element_of root node) child g.done
     n = next root (element_of root node) link child g.done is g.reading
 
@@ -79,24 +85,28 @@ module _ (root : Numbered) (node : NodeRef) (x : IsElement root node) (name : El
           subst P (sym (named root up child g.done n x.apart)) (All-head P (placed place (plain n.n)) rest first)
 
       pub gone-element : (after : Option NodeRef) → OnNode root child (λ s. after ≡ s.around.next) → (new : List NodeRef)
-          → map (element_of root) new ≡ map (element_of root) found ++ filter name (offered_from deep (element_of root child)) → All (IsElement root) new → Gone root node name deep after old new
+          → Suffice root m ps (map (element_of root) new) (map (element_of root) found ++ filter name (offered_from deep (element_of root child)))
+          → All (IsElement root) new → Gone root m ps node name deep after old new
       gone-element after to new more all =
           let up = element_of root node in
           let offers = flat_map (offered_from deep) (map (element_of root) g.done) in
+          let last = filter name (offered_from deep (element_of root child)) in
+          let was = map (element_of root) old in
           record {
             done = g.done ++ child ∷ [];
             reading = past-element root up child g.done n x.apart after (on root up child g.done n (λ s. after ≡ s.around.next) to) element-here (g.done ++ child ∷ []) refl;
             elements =
-                more
-                ∙ ap (λ l. l ++ filter name (offered_from deep (element_of root child))) g.elements
-                ∙ append_assoc (map (element_of root) old) (filter name offers) (filter name (offered_from deep (element_of root child)))
-                ∙ ap (λ l. map (element_of root) old ++ l) (sym (filter-append name offers (offered_from deep (element_of root child))))
-                ∙ ap (λ l. map (element_of root) old ++ filter name l)
-                (sym (ap (flat_map (offered_from deep)) (map-append (element_of root) g.done (child ∷ [])) ∙ flat-more (offered_from deep) (map (element_of root) g.done) (element_of root child)));
+                suffice-further root m ps _ _ _ more
+                (subst (Suffice root m ps (map (element_of root) found ++ last))
+                (append_assoc was (filter name offers) last
+                ∙ ap (λ l. was ++ l) (sym (filter-append name offers (offered_from deep (element_of root child))))
+                ∙ ap (λ l. was ++ filter name l)
+                (sym (ap (flat_map (offered_from deep)) (map-append (element_of root) g.done (child ∷ [])) ∙ flat-more (offered_from deep) (map (element_of root) g.done) (element_of root child))))
+                (suffice-more root m ps none (map (element_of root) found) (was ++ filter name offers) last g.elements));
             there = all;
           }
 
-    pub gone-text : OnNode root child (λ s. false ≡ is_element s.node) → (after : Option NodeRef) → OnNode root child (λ s. after ≡ s.around.next) → Gone root node name deep after old found
+    pub gone-text : OnNode root child (λ s. false ≡ is_element s.node) → (after : Option NodeRef) → OnNode root child (λ s. after ≡ s.around.next) → Gone root m ps node name deep after old found
     gone-text tells after to =
         let up = element_of root node in
         record {

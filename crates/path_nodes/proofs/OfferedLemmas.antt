@@ -156,7 +156,7 @@ both-parts : (a b c d : ℕ) → (a + b) + (c + d) ≡ (a + c) + (b + d)
 both-parts a b c d = omega arith
 
 module _ (root : Numbered) (m : Meaning) where
-  price-parts : (ps : Predicates) → some_number ps ≡ false → (xs ys : List Element) → predicates_price root m ps (xs ++ ys) ≡ predicates_price root m ps xs + predicates_price root m ps ys
+  pub price-parts : (ps : Predicates) → some_number ps ≡ false → (xs ys : List Element) → predicates_price root m ps (xs ++ ys) ≡ predicates_price root m ps xs + predicates_price root m ps ys
   unfolding predicates_tests filtered_by
   price-parts no_predicates none xs ys = let h = price-none root m in omega (arith, h)
   price-parts (predicate_then (form.number k) rest) none xs ys = cc

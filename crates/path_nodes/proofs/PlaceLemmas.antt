@@ -1,15 +1,14 @@
 -- No two nodes of a document have the same place.
-use Rattle.std.proofs.Common.{◌≡◌, ◌+◌, ◌==◌, ℕ, suc, Bool, true, List, [], ◌∷◌, ◌++◌, Some, refl, sym, ap, ◌∙◌, arith, append_assoc, append-nil}
+use Rattle.std.proofs.Common.{◌≡◌, ◌+◌, ◌==◌, ℕ, suc, Bool, List, [], ◌∷◌, ◌++◌, Some, refl, sym, ap, ◌∙◌, arith, append_assoc, append-nil}
 use Rattle.std.specs.List.{All, Contains}
 use Rattle.std.specs.Prelude.{option_and_then}
 use Rattle.std.proofs.lemmas.Bool.Decides.{nat_tests}
 use Rattle.std.proofs.lemmas.List.Elements.{All-nil, All-cons, All-append, All-contains}
 use Rattle.std.proofs.lemmas.Slice.Eq.{bytes_eq-Decides}
-use Rattle.std.specs.Prelude.{bytes_eq}
 use Rattle.path_grammar.specs.declared.path.NameTest.TheVariants as T
 use Rattle.path_meaning.specs.Elements.{is_same}
 use Rattle.path_meaning.specs.Meaning.{is_named}
-use Rattle.ordered_tree.specs.Numbered.{Numbered, element_at, text_at, Children, no_children, child_then, plain, reference, first_of, is_element, has_name}
+use Rattle.ordered_tree.specs.Numbered.{Numbered, element_at, text_at, Children, no_children, child_then, plain, reference, first_of, has_name}
 use Rattle.ordered_tree.specs.Places.{at_place, child}
 use Rattle.ordered_tree.specs.Stands.{Stand, OnNode, round_root, round_first, round_next, stands_in}
 use Rattle.ordered_tree.specs.declared.around.Around.{Around}

@@ -119,10 +119,10 @@ module _ (root : Numbered) (m : Meaning) (test : _) (ps : Predicates) (e : Eleme
 
 -- ---- the root by its reference
 
-abbrev root-spot : Numbered → Spot
+abbrev pub root-spot : Numbered → Spot
 root-spot root = record { place = []; stand = record { node = root; around = round_root } }
 
-root-among : (root : Numbered) → Contains (spots_in root) (root-spot root)
+pub root-among : (root : Numbered) → Contains (spots_in root) (root-spot root)
 unfolding spots
 root-among (element_at r name attrs kids) = (0, omega arith, refl)
 root-among (text_at r bytes) = (0, omega arith, refl)

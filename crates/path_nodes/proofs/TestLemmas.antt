@@ -1,7 +1,7 @@
 -- The tests for which steps ask, and their prices, depend on what is said of the elements of the document alone.
 use Rattle.std.proofs.Common.{◌≡◌, ◌≢◌, ◌+◌, ℕ, Bool, List, [], ◌∷◌, ◌++◌, map, filter, flat_map, get_or, refl, sym, ap, ◌∙◌}
 use Rattle.std.specs.List.{All, AllPairs}
-use Rattle.std.proofs.lemmas.List.Elements.{All-nil, All-cons, All-head, All-tail, All-append, All-map, All-filter, All-weaker, All-contains}
+use Rattle.std.proofs.lemmas.List.Elements.{All-nil, All-cons, All-head, All-tail, All-append, All-map, All-filter, All-weaker, All-contains, All-contains_itself}
 use Rattle.std.proofs.lemmas.List.Sums.{sum_by-cons}
 use Rattle.plain_tree.specs.Document.{Node}
 use Rattle.path_meaning.specs.Elements.{Element, elements}
@@ -97,7 +97,7 @@ module _ (f g : ℕ → Element → Bool) (root : Node) (same : All (λ e. (k : 
   unfolding selected_tests
   selected-tests no_steps = alike-none root
   selected-tests (step_then first rest) =
-      let contexts = All-cons (ContextIn root) (document root) [] refl (All-nil (ContextIn root)) in
+      let contexts = All-cons (ContextIn root) (document root) [] (All-contains_itself (elements root)) (All-nil (ContextIn root)) in
       let next = stepped g (elements root) first (document root ∷ []) in
       let later = steps-tests rest next (stepped-in f g root same first (document root ∷ [])) in
       alike-append root (step_tests f (elements root) first (document root ∷ [])) (step_tests g (elements root) first (document root ∷ []))

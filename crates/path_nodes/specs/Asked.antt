@@ -1,8 +1,9 @@
 -- The numbers of selections for which steps ask.
-use Rattle.std.specs.Prelude.{ℕ, IsTrue}
+use Rattle.std.specs.Prelude.{◌≡◌, ℕ, IsTrue}
 use Rattle.path_grammar.specs.Form.{Step, step, Steps, no_steps, step_then, Predicate, number, holds, Predicates, no_predicates, predicate_then}
 use Rattle.path_grammar.specs.Form.{Condition, or_of, and_of, not_of, attribute, exists, contains, Conditions, no_conditions, condition_then}
 use Rattle.ordered_tree.specs.Numbered.{Numbered}
+use Rattle.ordered_tree.specs.Stands.{OnNode, span}
 use Rattle.ft_base.specs.declared.ids.NodeRef.{NodeRef}
 use Rattle.path_nodes.specs.References.{IsElement}
 use Rattle.path_nodes.specs.Says.{Meaning}
@@ -36,6 +37,7 @@ unfoldable mutual
   OfConditions P no_conditions = Unit {0}
   OfConditions P (condition_then condition rest) = OfCondition P condition × OfConditions P rest
 
--- A test may be asked whether each element of the document satisfies the selection of this number.
+-- A test may be asked whether each element of the document satisfies the selection of this number, and knows where its words stand.
 abbrev pub MayAsk : Numbered → Meaning → ℕ → Type 0
-MayAsk root meaning selection = (r : NodeRef) → IsElement root r → IsTrue (meaning.may_ask selection r)
+MayAsk root meaning selection = (r : NodeRef) → IsElement root r
+    → IsTrue (meaning.may_ask selection r) × OnNode root r (λ s. meaning.span r ≡ span s)

@@ -3,15 +3,18 @@ use Rattle.std.specs.Prelude.{◌≡◌, ℕ, Bool, List, Option, Some, None}
 use Rattle.ordered_tree.specs.Numbered.{Numbered, reference}
 use Rattle.ordered_tree.specs.Places.{at_place}
 use Rattle.ft_base.specs.declared.ids.NodeRef.{NodeRef}
+use Rattle.ft_base.specs.declared.span.Span.{Span}
 use Rattle.path_meaning.specs.Elements.{Element}
 use Rattle.path_nodes.specs.References.{IsElement, element_of}
 
 -- What a test is: the pairs of a selection's number and a node that it may be asked for, what it says of each, and what it
--- spends at most to say it; and the names of the loans that it holds, by which a caller knows that they come back.
+-- spends at most to say it; the positions of a node's words; and the names of the loans that it holds, by which a caller knows that they
+-- come back.
 pub record Meaning : Type 0 where
   pub may_ask : ℕ → NodeRef → Bool
   pub says : ℕ → NodeRef → Bool
   pub price : ℕ → NodeRef → ℕ
+  pub span : NodeRef → Span
   pub lent : List ℕ
 
 abbrev pub reference_or : NodeRef → Option Numbered → NodeRef

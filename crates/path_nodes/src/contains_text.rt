@@ -1,4 +1,4 @@
-ghost use Rattle.std.specs.Prelude.{◌≡◌, ◌≤◌, ◌+◌, ℕ, false, true, IfOk, IsTrue};
+ghost use Rattle.std.specs.Prelude.{◌≡◌, ◌≤◌, ◌+◌, ℕ, false, IfOk, IsTrue};
 ghost use Rattle.path_nodes.specs.Says.{Meaning};
 
 use ft_base::Memory;
@@ -6,8 +6,8 @@ use ordered_tree::NodeRef;
 
 /// What answers `contains text`.
 pub trait TextTest {
-    /// For which pairs of a selection's number and a node it may be asked, what it says of each, its price, and what it is lent. It
-    /// never changes.
+    /// For which pairs of a selection's number and a node it may be asked, what it says of each, its price, where the node's words
+    /// stand, and what it is lent. It never changes.
     ghost meaning: { Self → Meaning };
 
     /// What was spent on the tests so far.
@@ -21,9 +21,9 @@ pub trait TextTest {
         ensures meaning { meaning self.new ≡ meaning self.old }
         ensures cost { cost self.new ≤ cost self.old + (meaning self.old).price selection node };
 
-    /// Whether it is known at once that none of the nodes for which it may be asked satisfies the selection of this number: `false`
-    /// says nothing. It spends nothing.
-    fn rules_out(&self, selection: usize) -> bool
-        ensures { result ≡ true → (node : NodeRef) → IsTrue ((meaning self.now).may_ask selection node)
-            → (meaning self.now).says selection node ≡ false };
+    /// A place up to which the selection of this number is known at once not to be satisfied: no node for which it may be asked, whose
+    /// span starts at `from` or behind it and ends at or in front of the result, satisfies it. 0 says nothing. It spends nothing.
+    fn skip_to(&self, selection: usize, from: u32) -> u32
+        ensures { (node : NodeRef) → IsTrue ((meaning self.now).may_ask selection node) → from ≤ ((meaning self.now).span node).from
+            → ((meaning self.now).span node).to ≤ result → (meaning self.now).says selection node ≡ false };
 }

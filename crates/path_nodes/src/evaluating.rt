@@ -177,7 +177,7 @@ fn chosen_in_order<T: TextTest>(
         + sum_by (price.children_price tree.now.root (T.meaning test.old) (view.step step.now))
         (spec.parents step.now.deep (map (element_of tree.now.root) outer.now)) }
 {
-    let named = named_under(known.alloc, tree, &step.test, step.deep, outer)?;
+    let named = named_under(known.alloc, tree, step, outer, test)?;
     passed(tree, step, number, named, test, known)
 }
 

@@ -15,6 +15,7 @@ mod numbers;
 mod outermost;
 mod ruling_out;
 mod selected;
+mod skipping;
 mod walks;
 
 pub use contains_text::TextTest;

@@ -24,8 +24,8 @@ use path_grammar::{Step, Steps};
 use std::alloc::Global;
 
 /// The elements of a document to which steps lead from it, in document order, each once. `contains text` is answered by the
-/// test, which is asked only as long as the truth isn't known, and of no element where it rules out what a predicate of a step asks
-/// for. Answers `Memory` for want of memory alone.
+/// test, which is asked only as long as the truth isn't known. Elements are gone past, with all below them, where it rules out what the
+/// predicates of a step ask for. Answers `Memory` for want of memory alone.
 ///
 /// The meaning of steps is that of XQuery 3.0, section 3.3.
 pub fn nodes<T: TextTest>(

@@ -281,6 +281,10 @@ led_from-returns-clause-known g t c =
 
 -- ---- chosen_in_order
 
+pub chosen_in_order-named_under-requires-clause-asked : goal.chosen_in_order-named_under-requires-clause-asked
+chosen_in_order-named_under-requires-clause-asked g t c =
+    of-step (MayAsk c.args.tree.now.root (g.T.TextTest.meaning c.args.test.now)) c.args.step.now c.requires.asked
+
 pub chosen_in_order-returns-clause-elements : goal.chosen_in_order-returns-clause-elements
 chosen_in_order-returns-clause-elements g t c =
     let root = c.args.tree.now.root in
@@ -290,7 +294,7 @@ chosen_in_order-returns-clause-elements g t c =
     let there = All-map (Contains (elements (plain root))) (element_of root) c.args.outer.now
     (All-weaker (IsElement root) (λ r. Contains (elements (plain root)) (element_of root r)) (of-document root) c.args.outer.now c.requires.outer) in
     subst (λ es. IfOk c.passed.result (λ found. map (element_of root) found ≡ es))
-    (ap (meaning.filtered (satisfied root m) (elements (plain root)) ps) c.in_ok-named.ensures.elements
+    (c.in_ok-named.ensures.elements.kept
     ∙ in-one-pass root m (view.step s) s.deep s.test ps (step-is s) c.requires.no_number (map (element_of root) c.args.outer.now) c.requires.apart there)
     c.passed.ensures.elements
 
@@ -300,9 +304,8 @@ chosen_in_order-returns-clause-cost g t c =
     let m = g.T.TextTest.meaning c.args.test.now in
     let s = c.args.step.now in
     let ps = form.predicates (map view.predicate s.predicates) in
-    at-price _ _ _ _ c.passed.ensures.cost
-    (ap (price.predicates_price root m ps) c.in_ok-named.ensures.elements
-    ∙ one-pass-price root m (view.step s) s.deep s.test ps (step-is s) c.requires.no_number (map (element_of root) c.args.outer.now))
+    at-most _ _ _ _ _ c.passed.ensures.cost c.in_ok-named.ensures.elements.price
+    (one-pass-price root m (view.step s) s.deep s.test ps (step-is s) c.requires.no_number (map (element_of root) c.args.outer.now))
 
 -- ---- stepped
 
@@ -627,3 +630,6 @@ pub chosen-returns-in_err-mark_kept-clause-cost : goal.chosen-returns-in_err-mar
 chosen-returns-in_err-mark_kept-clause-cost g t c =
     cost-part _ _ _ _ _ _ (rw c.loop-parent.invariant.meaning at c.kept_children.ensures.cost) c.loop-parent.invariant.cost
     (sum-next (price.children_price c.args.tree.now.root (g.T.TextTest.meaning c.args.test.now) (view.step c.args.step.now)) (element_of c.args.tree.now.root) c.as_slice-parent-items.result.now c.loop-parent.parent-index (of_number 0) c.loop-parent-test.true)
+
+pub contains_text-some_contains-requires-clause-asked : goal.contains_text-some_contains-requires-clause-asked
+contains_text-some_contains-requires-clause-asked g t c = rw c.in_ok-nodes.ensures.meaning c.requires.text

@@ -1,26 +1,21 @@
--- What is ruled out by what is left is ruled out by all.
-use Rattle.std.proofs.Common.{map, drop}
+-- What is ruled out up to the place that was found so far.
+use Rattle.std.proofs.Common.{All, map, take}
 use Rattle.path_grammar.specs.Form as form
 use Rattle.path_grammar.specs.View as view
 use Rattle.path_nodes.specs.steps.RuledOut.{IsFalse, KeepNothing, LeadNowhere}
 use Rattle.path_nodes.proofs.ruling_out.+rule_out.Given as goal
 
-abbrev pub invariant-lead_nowhere-loop-step : goal.invariant-lead_nowhere-loop-step
-invariant-lead_nowhere-loop-step g l =
-    LeadNowhere l.fn.tree.root (g.T.TextTest.meaning l.fn.test) (form.steps (map view.step (drop l.step-index l.step-items)))
-    → LeadNowhere l.fn.tree.root (g.T.TextTest.meaning l.fn.test) (form.steps (map view.step l.fn.steps))
+abbrev pub invariant-skip_steps-loop-step : goal.invariant-skip_steps-loop-step
+invariant-skip_steps-loop-step g l = LeadNowhere l.tree.root (g.T.TextTest.meaning l.test) l.from l.place (form.steps (map view.step l.fn.steps))
 
-abbrev pub invariant-keep_nothing-loop-predicate : goal.invariant-keep_nothing-loop-predicate
-invariant-keep_nothing-loop-predicate g l =
-    KeepNothing l.fn.tree.root (g.T.TextTest.meaning l.fn.test) (form.predicates (map view.predicate (drop l.predicate-index l.predicate-items)))
-    → KeepNothing l.fn.tree.root (g.T.TextTest.meaning l.fn.test) (form.predicates (map view.predicate l.fn.predicates))
+abbrev pub invariant-skip_predicates-loop-predicate : goal.invariant-skip_predicates-loop-predicate
+invariant-skip_predicates-loop-predicate g l =
+    KeepNothing l.tree.root (g.T.TextTest.meaning l.test) l.from l.place (form.predicates (map view.predicate l.fn.predicates))
 
-abbrev pub invariant-all_false-loop-condition : goal.invariant-all_false-loop-condition
-invariant-all_false-loop-condition g l =
-    IsFalse l.fn.tree.root (g.T.TextTest.meaning l.fn.test) (form.or_of (form.conditions (map view.condition (drop l.condition-index l.condition-items))))
-    → IsFalse l.fn.tree.root (g.T.TextTest.meaning l.fn.test) (form.or_of (form.conditions (map view.condition l.fn.conditions)))
+abbrev pub invariant-skip_all-loop-condition : goal.invariant-skip_all-loop-condition
+invariant-skip_all-loop-condition g l =
+    All (λ c. IsFalse l.tree.root (g.T.TextTest.meaning l.test) l.from l.place (view.condition c)) (take l.condition-index l.condition-items)
 
-abbrev pub invariant-one_false-loop-condition : goal.invariant-one_false-loop-condition
-invariant-one_false-loop-condition g l =
-    IsFalse l.fn.tree.root (g.T.TextTest.meaning l.fn.test) (form.and_of (form.conditions (map view.condition (drop l.condition-index l.condition-items))))
-    → IsFalse l.fn.tree.root (g.T.TextTest.meaning l.fn.test) (form.and_of (form.conditions (map view.condition l.fn.conditions)))
+abbrev pub invariant-skip_one-loop-condition : goal.invariant-skip_one-loop-condition
+invariant-skip_one-loop-condition g l =
+    IsFalse l.tree.root (g.T.TextTest.meaning l.test) l.from l.place (form.and_of (form.conditions (map view.condition l.fn.conditions)))

@@ -40,7 +40,7 @@ returns-then-is_empty-clause-agrees g c = λ satisfies agree.
 pub returns-then-lead_nowhere-clause-elements : goal.returns-then-lead_nowhere-clause-elements
 returns-then-lead_nowhere-clause-elements g c =
     let root = c.args.tree.now.root in
-    ap (map (element_of root)) c.new-then-lead_nowhere.ensures.items ∙ sym (c.lead_nowhere.ensures c.if-lead_nowhere.true).from_document
+    ap (map (element_of root)) c.new-then-lead_nowhere.ensures.items ∙ sym (c.lead_nowhere.ensures c.if-lead_nowhere.true)
 
 pub returns-then-lead_nowhere-clause-agrees : goal.returns-then-lead_nowhere-clause-agrees
 returns-then-lead_nowhere-clause-agrees g c = λ satisfies agree.

@@ -1,6 +1,0 @@
--- What is said of each node is said of each element.
-use Rattle.path_nodes.proofs.RulingOutLemmas.{none-there}
-use Rattle.path_nodes.proofs.ruling_out.has_none.Goals as goal
-
-pub returns : goal.returns
-returns g c = λ out. none-there c.args.tree.now.root (g.T.TextTest.meaning c.args.test.now) c.root-root.ensures.apart c.args.selection c.requires (c.rules_out.ensures out)
