@@ -88,13 +88,6 @@ led-here says path name document refs there elements leads = record {
       ∙ sym (ap (λ t. cond t (map (λ (e : Element). e.place) (planned_in says path (plain document.tree.root))) []) leads));
 }
 
--- a document through which it doesn't lead has none of them
-pub led-nowhere : (says : Judgement) (path : PlannedPath) (name : List ℕ) (document : LoadedTree) → leads_through path.root.now name ≡ false → AreLedTo says path (name, document) []
-led-nowhere says path name document leads = record {
-  there = λ k d less. absurd (omega arith);
-  places = sym (ap (λ t. cond t (map (λ (e : Element). e.place) (planned_in says path (plain document.tree.root))) []) leads);
-}
-
 -- the root is among elements where one of their places is empty
 pub root-among : (root : Numbered) (refs : List NodeRef) → All (IsElement root) refs → is_among refs (reference root) ≡ list_any is_empty (places_of root refs)
 root-among root [] there = refl

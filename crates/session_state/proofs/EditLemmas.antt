@@ -1,8 +1,7 @@
 -- What a command that edits does, once its path is read and all that it names is there, or is refused.
 use Rattle.std.proofs.Common.{◌≡◌, ◌∙◌, sym, ap, refl, ℕ, true, false, cond, List, map}
-use Rattle.std.specs.Prelude.{Some, None, Result, Ok, Err, IfOk}
+use Rattle.std.specs.Prelude.{None, Result, Ok, Err, IfOk}
 use Rattle.collections.specs.Documents.{Edit}
-use Rattle.ft_base.specs.declared.fault.QueryFault.{QueryFault}
 use Rattle.ft_base.specs.declared.memory.Memory.{Memory}
 use Rattle.kept_plans.specs.Kept.{Kept, all_used}
 use Rattle.kept_plans.specs.Preparation.{Preparation, with_kept}
@@ -11,17 +10,13 @@ use Rattle.path_subset.specs.Answer.{path_read}
 use Rattle.path_subset.specs.Paths.{PathForm}
 use Rattle.plan_runs.specs.Judgement.{Judgement}
 use Rattle.session_text.specs.Replies.{is_refusal}
-use Rattle.session_text.specs.declared.reply.Refusal.{Refusal}
-use Rattle.session_text.specs.declared.reply.Refusal.TheVariants as refusal
 use Rattle.session_text.specs.declared.reply.Reply.{Reply}
-use Rattle.session_text.specs.declared.reply.Reply.TheVariants.{Refused}
 use Rattle.session_state.specs.declared.edit.Targets.{Targets}
 use Rattle.session_state.specs.declared.planned.PlannedPath.{PlannedPath}
 use Rattle.session_state.specs.Edits.{edit_path, edit_placed, edit_read, edit_selected, stays_if_refused, target_refusal, touched_path, touched_placed, touched_read}
 use Rattle.session_state.specs.KeptTexts.{keep_plans, kept_behind, kept_by, selection_texts}
 use Rattle.session_state.specs.Paths.{missing_document, missing_list, selections_of}
 use Rattle.session_state.specs.PlannedPaths.{IsPlanOf}
-use Rattle.session_state.specs.ReadyPaths.{path_refusal}
 use Rattle.session_state.specs.State.{State, with_documents}
 use Rattle.session_state.specs.StateView.{prepared_of}
 use Rattle.session_state.specs.steps.Chosen.{planned_places}
@@ -75,9 +70,3 @@ module _ (says : Judgement) (state : State) (targets : Targets) (edit : Edit) (t
       ∙ (ap (λ places. keep_plans text (with_documents state (edit_placed state.documents edit places (target_refusal targets edit places)))) (planned-places says state p planned plan)
       ∙ sym (ap (keep_plans text) (edit-ready document lists))))
   edit-kept planned plan document lists (Err e) documents q texts same edited kept = tt
-
--- a path that is refused is answered by its refusal
-module _ (says : Judgement) (state : State) (targets : Targets) (edit : Edit) (why : Refusal) where
-  pub edit-refused : (read : Result PathForm QueryFault) → path_refusal state.documents state.lists read ≡ Some why → edit_read says state targets edit read ≡ replied state (Refused why)
-  edit-refused (Err fault) is = let same : refusal.Query fault ≡ why = cc in ap (λ w. replied state (Refused w)) same
-  edit-refused (Ok p) is = ap (λ o. stays_if_refused state o (edit_selected says state targets edit p)) is

@@ -17,8 +17,9 @@ use Rattle.index_updates.proofs.WordsLemmas.{count-tree, words-tree}
 use Rattle.ordered_tree.specs.Counts.{word_count}
 use Rattle.ordered_tree.specs.Numbered.{Numbered, plain}
 use Rattle.ordered_tree.specs.Part.{counted_from, part, renumbered}
-use Rattle.ordered_tree.specs.Stands.{Stand, references, span, stands_in}
+use Rattle.ordered_tree.specs.Stands.{OnNode, Stand, references, span, stands_in}
 use Rattle.ft_base.specs.declared.ids.NodeRef.{NodeRef}
+use Rattle.ordered_tree.proofs.LawsLemmas.{one-node}
 use Rattle.ordered_tree.proofs.ShiftLemmas.{length-tokens, shift, stands-few}
 use Rattle.path_meaning.specs.Elements.{Element, placed}
 use Rattle.path_nodes.specs.References.{Spot, spots_in, spot_element, spot_reference, found_in, element_of, IsElement}
@@ -30,7 +31,7 @@ use Rattle.kept_plans.specs.PlanOf.{PlanOf}
 use Rattle.tokenizer.specs.Tokens.{tokens}
 use Rattle.session_state.specs.PathPrices.{element_price, words_of as element_words}
 use Rattle.session_state.specs.PlannedPaths.{is_meant, meant, run_meant, run_over, run_price}
-use Rattle.session_state.specs.SelectionTests.{asked_of, is_there, may_ask, AreOver, AreOverEach}
+use Rattle.session_state.specs.SelectionTests.{asked_of, is_there, may_ask, span_among, span_at, AreOver, AreOverEach}
 use Rattle.collections.specs.Indexed.{FollowsEach}
 use Rattle.session_state.proofs.TextLemmas.{tokens-at-span}
 
@@ -40,6 +41,7 @@ pub record Node (root : Numbered) (r : NodeRef) : Type 0 where
   pub among : Contains (spots_in root) spot
   pub refers : spot_reference spot ≡ r
   pub is : element_of root r ≡ spot_element spot
+  pub at : span_at root r ≡ span spot.stand
 
 same-number : (s : Spot) (r : NodeRef) → ((spot_reference s).0 == r.0) ≡ true → spot_reference s ≡ r
 same-number s r h = let numbers : (spot_reference s).0 ≡ r.0 = grind (arith, nat_tests, h) in ap (λ (n : ℕ). let named : NodeRef = record { 0 = n } in named) numbers
@@ -49,6 +51,7 @@ record Among (r : NodeRef) (other : Element) (xs : List Spot) : Type 0 where
   among : Contains xs spot
   refers : spot_reference spot ≡ r
   is : found_in r other xs ≡ spot_element spot
+  at : span_among r xs ≡ span spot.stand
 
 further : (x : Spot) (xs : List Spot) (s : Spot) → Contains xs s → Contains (x ∷ xs) s
 further x xs s (k, more, is) = (suc k, (omega (arith, more)), is)
@@ -63,6 +66,7 @@ found (x ∷ xs) r other h = by (found xs r other) ((spot_reference x).0 == r.0)
       among = (zero, (omega arith), refl);
       refers = same-number x r e;
       is = ap (λ t. cond t (spot_element x) (found_in r other xs)) e;
+      at = ap (λ t. cond t (span x.stand) (span_among r xs)) e;
     }
     by later false e =
         let rest = later (sym (ap (λ t. t || list_any (λ s. (spot_reference s).0 == r.0) xs) e) ∙ h) in
@@ -71,13 +75,14 @@ found (x ∷ xs) r other h = by (found xs r other) ((spot_reference x).0 == r.0)
           among = further x xs rest.spot rest.among;
           refers = rest.refers;
           is = ap (λ t. cond t (spot_element x) (found_in r other xs)) e ∙ rest.is;
+          at = ap (λ t. cond t (span x.stand) (span_among r xs)) e ∙ rest.at;
         }
 
 node-there : (root : Numbered) (r : NodeRef) → is_there root r ≡ true → Node root r
 unfolding element_of
 node-there root r h =
     let n = found (spots_in root) r (placed [] (plain root)) h in
-    record { spot = n.spot; among = n.among; refers = n.refers; is = n.is }
+    record { spot = n.spot; among = n.among; refers = n.refers; is = n.is; at = n.at }
 
 -- what runs may be asked for is a node
 pub asked-node : (runs : List RunMeaning) (root : Numbered) (k : ℕ) (r : NodeRef) → IsTrue (may_ask runs root k r) → Node root r
@@ -103,10 +108,17 @@ there (x ∷ xs) r (suc k) s more is refers =
 pub element-there : (root : Numbered) (r : NodeRef) → IsElement root r → is_there root r ≡ true
 element-there root r e = there (spots_in root) r e.among.0 e.spot e.among.1 e.among.2 e.refers
 
-pub may-asked : (runs : List RunMeaning) (root : Numbered) (k : ℕ) → k < length runs → (r : NodeRef) → IsElement root r → IsTrue (may_ask runs root k r)
+-- and its words stand where the span says
+pub span-known : (root : Numbered) (r : NodeRef) → IsElement root r → OnNode root r (λ s. span_at root r ≡ span s)
+span-known root r e s among refers =
+    let n = node-there root r (element-there root r e) in
+    n.at ∙ ap span (one-node root e.apart n.spot.stand s (spot-stand root n.spot n.among) among (n.refers ∙ sym refers))
+
+pub may-asked : (runs : List RunMeaning) (root : Numbered) (k : ℕ) → k < length runs → (r : NodeRef) → IsElement root r
+    → IsTrue (may_ask runs root k r) × OnNode root r (λ s. span_at root r ≡ span s)
 may-asked runs root k less r e =
     let named : nat_lt k (length runs) ≡ true = grind (arith, nat_tests, less) in
-    ap (λ b. b && is_there root r) named ∙ element-there root r e
+    (ap (λ b. b && is_there root r) named ∙ element-there root r e, span-known root r e)
 
 -- there are as many runs as plans
 pub as-many : (plans : List PlanOf) (runs : List RunMeaning) → map run_meant runs ≡ map meant plans → length plans ≡ length runs
@@ -130,6 +142,10 @@ priced-at (r ∷ runs) (suc k) run e more is = priced-at runs k run e (omega (ar
 
 pub over-at : (runs : List RunMeaning) (k : ℕ) (run : RunMeaning) (t : ℕ × Numbered) → k < length runs → get_or runs k run ≡ run → AreOver runs t → Follows run.version t.0 t.1
 over-at runs k run t more is over = subst (λ (q : RunMeaning). Follows q.version t.0 t.1) is (over k run more)
+
+-- the run of a number among the runs that are lent
+pub run-lent : (lent runs : List RunMeaning) (k : ℕ) (run : RunMeaning) → runs ≡ lent → run ≡ get_or runs k run → get_or lent k (get_or runs k run) ≡ get_or runs k run
+run-lent lent runs k run same is = ap (λ rs. get_or rs k (get_or runs k run)) (sym same) ∙ ap (get_or runs k) (sym is)
 
 -- ---- the loans of a test
 
@@ -176,11 +192,11 @@ module _ (version : List indexed.Numbered) (doc : ℕ) (root : Numbered) (follow
 
 -- ---- what is said of the tokens at each span is said of each node
 
-pub ruled-out : (says : Judgement) (runs : List RunMeaning) (root : Numbered) (k : ℕ) (run : RunMeaning) (doc : ℕ) → get_or runs k run ≡ run → AreOver runs (doc, root)
+pub skipped : (says : Judgement) (runs : List RunMeaning) (root : Numbered) (k : ℕ) (run : RunMeaning) (doc from to : ℕ) → get_or runs k run ≡ run → AreOver runs (doc, root)
     → ((at : Span) → (1 ≤ at.from) × (at.from ≤ at.to) × (at.to ≤ token_count (document_at doc run.version) + 1)
-    → says run.form run.lists (span_tokens at (document_at doc run.version)) ≡ false)
-    → (r : NodeRef) → IsTrue (may_ask runs root k r) → is_meant says (map run_meant runs) k (element_of root r) ≡ false
-ruled-out says runs root k run doc is over none r asked =
+    → from ≤ at.from → at.to ≤ to → says run.form run.lists (span_tokens at (document_at doc run.version)) ≡ false)
+    → (r : NodeRef) → IsTrue (may_ask runs root k r) → from ≤ (span_at root r).from → (span_at root r).to ≤ to → is_meant says (map run_meant runs) k (element_of root r) ≡ false
+skipped says runs root k run doc from to is over none r asked behind in_front =
     let n = asked-node runs root k r asked in
     let among = spot-stand root n.spot n.among in
     let less = asked-run runs root k r asked in
@@ -191,7 +207,7 @@ ruled-out says runs root k run doc is over none r asked =
     let same = tokens-at-span run.version doc root (span n.spot.stand) ts follows (span-there run.version doc root follows n.spot.stand among) here in
     met-at says runs k run (element_of root r) less is
     ∙ (ap (λ (e : Element). says run.form run.lists (tokens e.node)) n.is
-    ∙ (ap (says run.form run.lists) (sym same) ∙ none (span n.spot.stand) (omega arith, omega arith, below)))
+    ∙ (ap (says run.form run.lists) (sym same) ∙ none (span n.spot.stand) (omega arith, omega arith, below) (subst (λ (s : Span). from ≤ s.from) n.at behind) (subst (λ (s : Span). s.to ≤ to) n.at in_front)))
 
 -- ---- runs of plans over one version
 

@@ -6,11 +6,10 @@ use Rattle.std.specs.Str.{bytes_eq}
 use Rattle.collections.specs.Indexed.{Indexed}
 use Rattle.ft_base.specs.declared.fault.QueryFault.{QueryFault}
 use Rattle.ft_base.specs.declared.memory.Memory.{Memory}
-use Rattle.kept_plans.specs.Preparation.{Preparation, with_kept, with_new_lists}
+use Rattle.kept_plans.specs.Preparation.{Preparation, with_kept}
 use Rattle.path_subset.specs.Answer.{path_read}
 use Rattle.path_subset.specs.Paths.{PathForm}
 use Rattle.plan_runs.specs.Judgement.{Judgement}
-use Rattle.plan_compiler.specs.NamedLists.{NamedLists}
 use Rattle.session_text.specs.Replies.{is_refusal}
 use Rattle.session_text.specs.declared.reply.Refusal.TheVariants as refusal
 use Rattle.session_text.specs.declared.reply.Reply.{Reply}
@@ -20,14 +19,13 @@ use Rattle.session_state.specs.declared.shown.Shown.TheVariants.{Names}
 use Rattle.session_state.specs.Held.{Held}
 use Rattle.session_state.specs.KeptMarks.{marks_of, versions_of}
 use Rattle.session_state.specs.KeptTexts.{keep_plans, kept_behind}
-use Rattle.session_state.specs.Lists.{with_prepared}
 use Rattle.session_state.specs.Marks.{at_mark, mark_named, version_of_mark}
 use Rattle.session_state.specs.PathPrices.{held_at, price_at, read_price}
 use Rattle.session_state.specs.Paths.{answer, answer_read}
 use Rattle.session_state.specs.ReadyPaths.{kept_for}
 use Rattle.session_state.specs.State.{Mark, State}
 use Rattle.session_state.specs.StateView.{held_of, prepared_of, state_of}
-use Rattle.session_state.specs.Step.{shown_at, with_lists}
+use Rattle.session_state.specs.Step.{shown_at}
 use Rattle.session_state.proofs.EditLemmas.{replied, with_prepared_in}
 use Rattle.session_state.proofs.MarkLemmas.{found-mark, Entry, IsFound}
 
@@ -38,19 +36,6 @@ held_as collection q entries = record {
   version = collection.version;
   mark_versions = versions_of entries;
 }
-
--- lists that come are those of the state
-pub lists-state : (state : State) (q : Preparation) (reply : Reply) (x : NamedLists × Reply) → (q, reply) ≡ with_prepared (prepared_of state) x
-    → replied (with_prepared_in state q) reply ≡ with_lists state x
-lists-state state q reply x is =
-    ap (λ (y : Preparation × Reply). replied (with_prepared_in state y.0) y.1) is
-    ∙ elim (is_refusal x.1) as (λ b. replied (with_prepared_in state (cond b (prepared_of state) (with_new_lists x.0 (prepared_of state)))) x.1
-    ≡ replied (cond b state (record state { lists = x.0; kept = (with_new_lists x.0 (prepared_of state)).kept })) x.1) [ true ↦ refl | false ↦ refl ]
-
-pub lists-put : (state : State) (q : Preparation) (result : Result Reply Memory) (x : NamedLists × Reply) → IfOk result (λ reply. (q, reply) ≡ with_prepared (prepared_of state) x)
-    → IfOk result (λ reply. replied (with_prepared_in state q) reply ≡ with_lists state x)
-lists-put state q (Ok reply) x is = lists-state state q reply x is
-lists-put state q (Err e) x is = tt
 
 -- a path is answered by the documents and the lists alone
 module _ (says : Judgement) (what : Shown) (a b : State) (documents : a.documents ≡ b.documents) (lists : a.lists ≡ b.lists) where

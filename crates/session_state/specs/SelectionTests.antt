@@ -1,10 +1,12 @@
 -- What is said of the nodes of a document, by runs and the judge that is asked with them.
-use Rattle.std.specs.Prelude.{ℕ, ◌==◌, Bool, ◌&&◌, nat_lt, List, [], ◌∷◌, length, map, All}
+use Rattle.std.specs.Prelude.{ℕ, ◌==◌, Bool, ◌&&◌, nat_lt, List, [], ◌∷◌, length, map, All, if◌then◌else◌}
 use Rattle.std.specs.List.{list_any, AllByRecursion}
 use Rattle.index_updates.specs.Follows.{Follows}
 use Rattle.ordered_tree.specs.Numbered.{Numbered}
+use Rattle.ordered_tree.specs.Stands.{span}
 use Rattle.ft_base.specs.declared.ids.NodeRef.{NodeRef}
-use Rattle.path_nodes.specs.References.{element_of, spot_reference, spots_in}
+use Rattle.ft_base.specs.declared.span.Span.{Span}
+use Rattle.path_nodes.specs.References.{Spot, element_of, spot_reference, spots_in}
 use Rattle.path_nodes.specs.Says.{Meaning}
 use Rattle.plan_runs.specs.Judgement.{Judgement}
 use Rattle.plan_runs.specs.RunMeaning.{RunMeaning}
@@ -14,6 +16,14 @@ use Rattle.session_state.specs.PlannedPaths.{is_meant, run_meant, run_price}
 -- whether a reference names a node of a document
 abbrev pub is_there : Numbered → NodeRef → Bool
 is_there root r = list_any (λ s. (spot_reference s).0 == r.0) (spots_in root)
+
+-- the positions of the words of the node that a reference names
+abbrev pub span_among : NodeRef → List Spot → Span
+span_among r [] = record { from = 1; to = 1 }
+span_among r (s ∷ rest) = if (spot_reference s).0 == r.0 then span s.stand else span_among r rest
+
+abbrev pub span_at : Numbered → NodeRef → Span
+span_at root r = span_among r (spots_in root)
 
 -- Runs may be asked, each by its number, of each node of a document.
 abbrev pub may_ask : List RunMeaning → Numbered → ℕ → NodeRef → Bool
@@ -26,6 +36,7 @@ asked_of says runs root runs_loan moves_loan = record {
   may_ask = may_ask runs root;
   says = λ k r. is_meant says (map run_meant runs) k (element_of root r);
   price = λ k r. element_price (map run_price runs) k (element_of root r);
+  span = span_at root;
   lent = runs_loan ∷ moves_loan ∷ [];
 }
 

@@ -33,11 +33,11 @@ pub(crate) struct SelectionTest<'j, 't, 'r, 'v, 'm, J: Judge, B: Loan, M: Ledger
     /// The document's number in the version of the runs
     pub(crate) doc: DocId,
     pub(crate) tree: &'t DocTree,
-    pub(crate) runs: &'r mut Vec<Run<'v>>,
+    pub(crate) runs: &'r mut [Run<'v>],
     pub(crate) moves: &'m mut Steps<M>,
     pub(crate) loan: PhantomData<B>,
     ghost over: { AreOver B.runs (doc.0, tree.now.root) },
-    ghost same: { runs.now.items ≡ B.runs },
+    ghost same: { runs.now ≡ B.runs },
     ghost raised: { B.moves ≤ moves.now },
 }
 
@@ -51,15 +51,25 @@ impl<'j, 't, 'r, 'v, 'm, J: Judge, B: Loan, M: Ledger> TextTest
 
     fn contains(&mut self, selection: usize, node: NodeRef) -> Result<bool, Memory> {
         let span = self.tree.span_of(node);
-        let run = &mut self.runs[selection];
+        let runs = &mut *self.runs;
+        let run = &mut runs[selection];
         Ok(self.judge.judge(run, self.doc, span, self.moves))
     }
 
-    fn rules_out(&self, selection: usize) -> bool {
-        if selection >= self.runs.len() {
-            return false;
+    fn skip_to(&self, selection: usize, from: u32) -> u32 {
+        let runs = &*self.runs;
+        if selection >= runs.len() {
+            return 0;
         }
-        let run = &self.runs[selection];
-        self.judge.rules_out(run, self.doc)
+        self.judge.skip_to(&runs[selection], self.doc, from)
+    }
+}
+
+/// Looks the words that the runs need up in a document, so that what is asked of it finds them kept.
+pub(crate) fn look_up(runs: &mut [Run<'_>], doc: DocId)
+    ensures { runs.new ≡ runs.old }
+{
+    for number in 0..runs.len() {
+        runs[number].look_up(doc);
     }
 }

@@ -73,7 +73,7 @@ fn choose_along<J: Judge, M: Ledger>(
 {
     let documents = collection.documents();
     let mut runs = open_runs(path.alloc, path.plans, collection.version())?;
-    let chosen = choose(judge, documents, path, &mut runs, moves);
+    let chosen = choose(judge, documents, path, runs.as_mut_slice(), moves);
     drop(runs);
     chosen
 }

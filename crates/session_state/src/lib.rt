@@ -2,7 +2,6 @@
 #![tactic(auto)]
 
 mod asked_runs;
-pub mod command_examples;
 mod edit;
 mod editing;
 pub mod examples;

@@ -22,9 +22,8 @@ use crate::keeping::keep_accepted;
 use crate::planned::{PlannedPath, open_runs, plan_selections};
 use crate::selected::collect_lines;
 use crate::shown::{Shown, reply_with};
-use collections::{Collection, Loaded};
+use collections::{Collection, Documents};
 use ft_base::{Line, Memory, QueryFault, Steps};
-use indexmap::IndexMap;
 use kept_plans::{KeptPlan, NextPlans, Prepared};
 use path_grammar::PathRoot;
 use path_subset::{ReadPath, read_path};
@@ -247,7 +246,7 @@ fn answer_planned<J: Judge, M: Ledger>(
 {
     let documents = collection.documents();
     let mut runs = open_runs(planned.alloc, planned.plans, collection.version())?;
-    let lines = collect_lines(judge, documents, shown, planned, &mut runs, moves);
+    let lines = collect_lines(judge, documents, shown, planned, runs.as_mut_slice(), moves);
     drop(runs);
     match lines {
         Ok(lines) => Ok(reply_with(shown, lines)),
@@ -256,8 +255,8 @@ fn answer_planned<J: Judge, M: Ledger>(
 }
 
 /// The name of the document with which a path begins, if there is none of that name.
-fn missing_document<'a>(documents: &IndexMap<Line, Loaded>, root: &'a PathRoot) -> Option<&'a str>
-    ensures { option_copied result ≡ paths.missing_document root.now (map to_document documents.now.entries) }
+fn missing_document<'a>(documents: &Documents, root: &'a PathRoot) -> Option<&'a str>
+    ensures { option_copied result ≡ paths.missing_document root.now (map to_document documents.now) }
 {
     match root {
         PathRoot::Collection => None,

@@ -1,6 +1,6 @@
 //! The lines of the elements that a path selects.
 
-ghost use Rattle.std.specs.Prelude.{◌≡◌, ◌≤◌, ◌+◌, ◌++◌, All, IfOk, OnOk, flat_map, map};
+ghost use Rattle.std.specs.Prelude.{◌≡◌, ◌≤◌, ◌+◌, ◌++◌, All, IfOk, OnOk, flat_map, length, map};
 ghost use Rattle.ordered_tree.specs.Numbered.{plain};
 ghost use Rattle.path_meaning.specs.Collection.{documents as documents_of};
 ghost use Rattle.path_grammar.specs.declared.path.PathRoot.TheVariants as roots;
@@ -10,13 +10,12 @@ ghost use Rattle.session_state.specs.PlannedPaths.{planned_in, planned_lines, pl
 ghost use Rattle.session_state.specs.SelectionTests.{AreOver, AreOverEach};
 ghost use Rattle.collections.specs.Loaded.{to_document, trees_of};
 
-use crate::asked_runs::{Loan, SelectionTest};
+use crate::asked_runs::{Loan, SelectionTest, look_up};
 use crate::planned::PlannedPath;
 use crate::shown::Shown;
-use collections::Loaded;
+use collections::{Documents, Loaded};
 use element_lines::{push_names, push_printed};
 use ft_base::{Line, Memory, Steps};
-use indexmap::IndexMap;
 use ordered_tree::NodeRef;
 use path_grammar::PathRoot;
 use path_nodes::nodes;
@@ -30,21 +29,21 @@ use text_list::TextList;
 /// follows the documents.
 pub(crate) fn collect_lines<J: Judge, M: Ledger>(
     judge: &J,
-    documents: &IndexMap<Line, Loaded>,
+    documents: &Documents,
     shown: Shown,
     path: &PlannedPath<'_>,
-    runs: &mut Vec<Run<'_>>,
+    runs: &mut [Run<'_>],
     moves: &mut Steps<M>,
 ) -> Result<TextList, Memory>
     requires plans { HasItsPlans path.now }
-    requires runs { AreRunsOf path.now runs.old.items }
-    requires over { AreOverEach runs.old.items (trees_of documents.now.entries) }
+    requires runs { AreRunsOf path.now runs.old }
+    requires over { AreOverEach runs.old (trees_of documents.now) }
     ensures lines { IfOk result (λ lines. lines
-        ≡ flat_map (planned_lines J.says shown path.now) (documents_of path.now.root.now (map to_document documents.now.entries))) }
+        ≡ flat_map (planned_lines J.says shown path.now) (documents_of path.now.root.now (map to_document documents.now))) }
     ensures moves { moves.old ≤ moves.new }
     ensures price { moves.new
         ≤ moves.old
-        + prices_in J.says path.now runs.old.items (documents_of path.now.root.now (map to_document documents.now.entries)) }
+        + prices_in J.says path.now runs.old (documents_of path.now.root.now (map to_document documents.now)) }
 {
     match path.root {
         PathRoot::Collection => collect_all(judge, documents, shown, path, runs, moves),
@@ -55,18 +54,18 @@ pub(crate) fn collect_lines<J: Judge, M: Ledger>(
 /// The lines of all documents, in their order.
 fn collect_all<J: Judge, M: Ledger>(
     judge: &J,
-    documents: &IndexMap<Line, Loaded>,
+    documents: &Documents,
     shown: Shown,
     path: &PlannedPath<'_>,
-    runs: &mut Vec<Run<'_>>,
+    runs: &mut [Run<'_>],
     moves: &mut Steps<M>,
 ) -> Result<TextList, Memory>
     requires plans { HasItsPlans path.now }
-    requires runs { AreRunsOf path.now runs.old.items }
-    requires over { AreOverEach runs.old.items (trees_of documents.now.entries) }
-    ensures lines { IfOk result (λ lines. lines ≡ flat_map (planned_lines J.says shown path.now) (map to_document documents.now.entries)) }
+    requires runs { AreRunsOf path.now runs.old }
+    requires over { AreOverEach runs.old (trees_of documents.now) }
+    ensures lines { IfOk result (λ lines. lines ≡ flat_map (planned_lines J.says shown path.now) (map to_document documents.now)) }
     ensures moves { moves.old ≤ moves.new }
-    ensures price { moves.new ≤ moves.old + prices_in J.says path.now runs.old.items (map to_document documents.now.entries) }
+    ensures price { moves.new ≤ moves.old + prices_in J.says path.now runs.old (map to_document documents.now) }
 {
     let mut lines = TextList::new(path.alloc);
     for (name, document) in documents.iter() {
@@ -86,22 +85,22 @@ fn collect_all<J: Judge, M: Ledger>(
 /// The lines of the document of that name, if there is one.
 fn collect_one<J: Judge, M: Ledger>(
     judge: &J,
-    documents: &IndexMap<Line, Loaded>,
+    documents: &Documents,
     name: &Line,
     shown: Shown,
     path: &PlannedPath<'_>,
-    runs: &mut Vec<Run<'_>>,
+    runs: &mut [Run<'_>],
     moves: &mut Steps<M>,
 ) -> Result<TextList, Memory>
     requires plans { HasItsPlans path.now }
-    requires runs { AreRunsOf path.now runs.old.items }
-    requires over { AreOverEach runs.old.items (trees_of documents.now.entries) }
+    requires runs { AreRunsOf path.now runs.old }
+    requires over { AreOverEach runs.old (trees_of documents.now) }
     ensures lines { IfOk result (λ lines. lines
-        ≡ flat_map (planned_lines J.says shown path.now) (documents_of (roots.Doc name.now) (map to_document documents.now.entries))) }
+        ≡ flat_map (planned_lines J.says shown path.now) (documents_of (roots.Doc name.now) (map to_document documents.now))) }
     ensures moves { moves.old ≤ moves.new }
     ensures price { moves.new
         ≤ moves.old
-        + prices_in J.says path.now runs.old.items (documents_of (roots.Doc name.now) (map to_document documents.now.entries)) }
+        + prices_in J.says path.now runs.old (documents_of (roots.Doc name.now) (map to_document documents.now)) }
 {
     // No two documents have one name, as the clauses of `iter` say.
     let _entries = documents.iter();
@@ -118,15 +117,15 @@ fn collect_from<J: Judge, M: Ledger>(
     document: &Loaded,
     shown: Shown,
     path: &PlannedPath<'_>,
-    runs: &mut Vec<Run<'_>>,
+    runs: &mut [Run<'_>],
     moves: &mut Steps<M>,
 ) -> Result<TextList, Memory>
     requires plans { HasItsPlans path.now }
-    requires runs { AreRunsOf path.now runs.old.items }
-    requires over { AreOver runs.old.items (document.now.doc.0, document.now.tree.root) }
+    requires runs { AreRunsOf path.now runs.old }
+    requires over { AreOver runs.old (document.now.doc.0, document.now.tree.root) }
     ensures lines { IfOk result (λ lines. lines ≡ planned_lines J.says shown path.now (to_document (name.now, document.now))) }
     ensures moves { moves.old ≤ moves.new }
-    ensures price { moves.new ≤ moves.old + planned_price J.says path.now runs.old.items (plain document.now.tree.root) }
+    ensures price { moves.new ≤ moves.old + planned_price J.says path.now runs.old (plain document.now.tree.root) }
 {
     let found = select(judge, document, path, runs, moves)?;
     let mut lines = TextList::new(path.alloc);
@@ -165,18 +164,19 @@ pub(crate) fn select<J: Judge, M: Ledger>(
     judge: &J,
     document: &Loaded,
     path: &PlannedPath<'_>,
-    runs: &mut Vec<Run<'_>>,
+    runs: &mut [Run<'_>],
     moves: &mut Steps<M>,
 ) -> Result<Vec<NodeRef>, Memory>
     requires plans { HasItsPlans path.now }
-    requires runs { AreRunsOf path.now runs.old.items }
-    requires over { AreOver runs.old.items (document.now.doc.0, document.now.tree.root) }
+    requires runs { AreRunsOf path.now runs.old }
+    requires over { AreOver runs.old (document.now.doc.0, document.now.tree.root) }
     ensures elements { IfOk result (λ found. map (element_of document.now.tree.root) found.items ≡ planned_in J.says path.now (plain document.now.tree.root)) }
     ensures there { IfOk result (λ found. All (IsElement document.now.tree.root) found.items) }
-    ensures runs { runs.new.items ≡ runs.old.items }
+    ensures runs { runs.new ≡ runs.old }
     ensures moves { moves.old ≤ moves.new }
-    ensures price { moves.new ≤ moves.old + planned_price J.says path.now runs.old.items (plain document.now.tree.root) }
+    ensures price { moves.new ≤ moves.old + planned_price J.says path.now runs.old (plain document.now.tree.root) }
 {
+    look_up(runs, document.doc());
     select_with::<J, Brand, M>(judge, document, path, runs, moves)
 }
 
@@ -185,19 +185,19 @@ fn select_with<J: Judge, B: Loan, M: Ledger>(
     judge: &J,
     document: &Loaded,
     path: &PlannedPath<'_>,
-    runs: &mut Vec<Run<'_>>,
+    runs: &mut [Run<'_>],
     moves: &mut Steps<M>,
 ) -> Result<Vec<NodeRef>, Memory>
     requires plans { HasItsPlans path.now }
-    requires runs { AreRunsOf path.now runs.old.items }
-    requires over { AreOver runs.old.items (document.now.doc.0, document.now.tree.root) }
-    requires lent_runs { runs.old.items ≡ B.runs }
+    requires runs { AreRunsOf path.now runs.old }
+    requires over { AreOver runs.old (document.now.doc.0, document.now.tree.root) }
+    requires lent_runs { runs.old ≡ B.runs }
     requires lent_moves { moves.old ≡ B.moves }
     ensures elements { IfOk result (λ found. map (element_of document.now.tree.root) found.items ≡ planned_in J.says path.now (plain document.now.tree.root)) }
     ensures there { IfOk result (λ found. All (IsElement document.now.tree.root) found.items) }
-    ensures runs { runs.new.items ≡ runs.old.items }
+    ensures runs { runs.new ≡ runs.old }
     ensures moves { moves.old ≤ moves.new }
-    ensures price { moves.new ≤ moves.old + planned_price J.says path.now runs.old.items (plain document.now.tree.root) }
+    ensures price { moves.new ≤ moves.old + planned_price J.says path.now runs.old (plain document.now.tree.root) }
 {
     // The root is an element, as the clauses of `root` say.
     let tree = document.tree();

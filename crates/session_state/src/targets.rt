@@ -14,9 +14,8 @@ ghost use Rattle.session_state.specs.steps.Chosen.{planned_places, price_through
 
 use crate::planned::PlannedPath;
 use crate::selected::select;
-use collections::Loaded;
+use collections::{Documents, Loaded};
 use ft_base::{Items, Line, Memory, Steps};
-use indexmap::IndexMap;
 use ordered_tree::{NodeRef, NodeRefs};
 use path_grammar::PathRoot;
 use plan_runs::{Judge, Run};
@@ -34,19 +33,19 @@ pub(crate) struct Chosen {
 /// documents.
 pub(crate) fn choose<J: Judge, M: Ledger>(
     judge: &J,
-    documents: &IndexMap<Line, Loaded>,
+    documents: &Documents,
     path: &PlannedPath<'_>,
-    runs: &mut Vec<Run<'_>>,
+    runs: &mut [Run<'_>],
     moves: &mut Steps<M>,
 ) -> Result<Chosen, Memory>
     requires plans { HasItsPlans path.now }
-    requires runs { AreRunsOf path.now runs.old.items }
-    requires over { AreOverEach runs.old.items (trees_of documents.now.entries) }
-    ensures refs { IfOk result (λ chosen. AreLedToEach J.says path.now documents.now.entries chosen.refs) }
-    ensures count { IfOk result (λ chosen. chosen.count ≡ target_count (map (planned_places J.says path.now) (map to_document documents.now.entries))) }
-    ensures rooted { IfOk result (λ chosen. chosen.has_root ≡ has_root (map (planned_places J.says path.now) (map to_document documents.now.entries))) }
+    requires runs { AreRunsOf path.now runs.old }
+    requires over { AreOverEach runs.old (trees_of documents.now) }
+    ensures refs { IfOk result (λ chosen. AreLedToEach J.says path.now documents.now chosen.refs) }
+    ensures count { IfOk result (λ chosen. chosen.count ≡ target_count (map (planned_places J.says path.now) (map to_document documents.now))) }
+    ensures rooted { IfOk result (λ chosen. chosen.has_root ≡ has_root (map (planned_places J.says path.now) (map to_document documents.now))) }
     ensures moves { moves.old ≤ moves.new }
-    ensures price { moves.new ≤ moves.old + prices_through J.says path.now runs.old.items (map to_document documents.now.entries) }
+    ensures price { moves.new ≤ moves.old + prices_through J.says path.now runs.old (map to_document documents.now) }
 {
     let mut chosen = Chosen {
         refs: Items::new(path.alloc),
@@ -66,16 +65,16 @@ fn choose_in<J: Judge, M: Ledger>(
     name: &Line,
     document: &Loaded,
     path: &PlannedPath<'_>,
-    runs: &mut Vec<Run<'_>>,
+    runs: &mut [Run<'_>],
     moves: &mut Steps<M>,
 ) -> Result<NodeRefs, Memory>
     requires plans { HasItsPlans path.now }
-    requires runs { AreRunsOf path.now runs.old.items }
-    requires over { AreOver runs.old.items (document.now.doc.0, document.now.tree.root) }
+    requires runs { AreRunsOf path.now runs.old }
+    requires over { AreOver runs.old (document.now.doc.0, document.now.tree.root) }
     ensures led { IfOk result (AreLedTo J.says path.now (name.now, document.now)) }
-    ensures runs { runs.new.items ≡ runs.old.items }
+    ensures runs { runs.new ≡ runs.old }
     ensures moves { moves.old ≤ moves.new }
-    ensures price { moves.new ≤ moves.old + price_through J.says path.now runs.old.items (to_document (name.now, document.now)) }
+    ensures price { moves.new ≤ moves.old + price_through J.says path.now runs.old (to_document (name.now, document.now)) }
 {
     if !leads_through(path.root, name) {
         return Ok(Items::new(path.alloc));

@@ -12,15 +12,15 @@ use Rattle.session_state.proofs.SelectionTestLemmas.{over-each}
 use Rattle.session_state.proofs.paths.answer_planned.Goals as goal
 
 pub collect_lines-lines-requires-clause-runs : goal.collect_lines-lines-requires-clause-runs
-collect_lines-lines-requires-clause-runs g c = ap (map run_meant) c.in_ok-runs.ensures ∙ runs-meant c.version.result.now c.args.planned.now.plans.now
+collect_lines-lines-requires-clause-runs g c = ap (map run_meant) (c.as_mut_slice.ensures.value ∙ c.in_ok-runs.ensures) ∙ runs-meant c.version.result.now c.args.planned.now.plans.now
 
 pub collect_lines-lines-requires-clause-over : goal.collect_lines-lines-requires-clause-over
 collect_lines-lines-requires-clause-over g c =
-    let trees = trees_of c.documents-documents.result.now.entries in
+    let trees = trees_of c.documents-documents.result.now in
     let follow : FollowsEach c.version.result.now trees =
     subst (λ (v : List Numbered). FollowsEach v trees) (sym c.version.ensures)
     (subst (FollowsEach c.args.collection.now.version) (sym c.documents-documents.ensures.trees) c.documents-documents.ensures.followed) in
-    subst (λ (rs : List RunMeaning). AreOverEach rs trees) (sym c.in_ok-runs.ensures)
+    subst (λ (rs : List RunMeaning). AreOverEach rs trees) (sym (c.as_mut_slice.ensures.value ∙ c.in_ok-runs.ensures))
     (over-each c.version.result.now c.args.planned.now.plans.now trees follow)
 
 pub returns-in-Ok-clause-price : goal.returns-in-Ok-clause-price
@@ -28,10 +28,10 @@ returns-in-Ok-clause-price g c =
     let planned = c.args.planned.now in
     let all : List RunMeaning → List Named → ℕ = λ rs ds. prices_in g.J.Judge.says planned rs (documents planned.root.now ds) in
     let over = map (run_over c.args.collection.now.version) in
-    let runs = c.in_ok-runs.ensures ∙ ap (λ (v : List Numbered). map (run_over v) planned.plans.now) c.version.ensures in
+    let runs = c.as_mut_slice.ensures.value ∙ c.in_ok-runs.ensures ∙ ap (λ (v : List Numbered). map (run_over v) planned.plans.now) c.version.ensures in
     subst (λ (ds : List Named). c.collect_lines-lines.new.moves ≤ c.args.moves.now + all (over planned.plans.now) ds)
     c.documents-documents.ensures.documents
-    (subst (λ (rs : List RunMeaning). c.collect_lines-lines.new.moves ≤ c.args.moves.now + all rs (map to_document c.documents-documents.result.now.entries))
+    (subst (λ (rs : List RunMeaning). c.collect_lines-lines.new.moves ≤ c.args.moves.now + all rs (map to_document c.documents-documents.result.now))
     runs c.collect_lines-lines.ensures.price)
 
 pub returns-in-Err-clause-price : goal.returns-in-Err-clause-price
@@ -39,8 +39,8 @@ returns-in-Err-clause-price g c =
     let planned = c.args.planned.now in
     let all : List RunMeaning → List Named → ℕ = λ rs ds. prices_in g.J.Judge.says planned rs (documents planned.root.now ds) in
     let over = map (run_over c.args.collection.now.version) in
-    let runs = c.in_ok-runs.ensures ∙ ap (λ (v : List Numbered). map (run_over v) planned.plans.now) c.version.ensures in
+    let runs = c.as_mut_slice.ensures.value ∙ c.in_ok-runs.ensures ∙ ap (λ (v : List Numbered). map (run_over v) planned.plans.now) c.version.ensures in
     subst (λ (ds : List Named). c.collect_lines-lines.new.moves ≤ c.args.moves.now + all (over planned.plans.now) ds)
     c.documents-documents.ensures.documents
-    (subst (λ (rs : List RunMeaning). c.collect_lines-lines.new.moves ≤ c.args.moves.now + all rs (map to_document c.documents-documents.result.now.entries))
+    (subst (λ (rs : List RunMeaning). c.collect_lines-lines.new.moves ≤ c.args.moves.now + all rs (map to_document c.documents-documents.result.now))
     runs c.collect_lines-lines.ensures.price)

@@ -9,10 +9,10 @@ use Rattle.session_state.proofs.selected.collect_all.Given as goal
 abbrev pub invariant-loop-name : goal.invariant-loop-name
 invariant-loop-name g l = record {
   lines : l.lines ++ flat_map (planned_lines g.J.Judge.says l.shown l.path) (map to_document l.name-iterator)
-      ≡ flat_map (planned_lines g.J.Judge.says l.shown l.path) (map to_document l.documents.entries);
-  runs : l.runs.items ≡ l.fn.runs.items;
-  over : AreOverEach l.fn.runs.items (trees_of l.name-iterator);
+      ≡ flat_map (planned_lines g.J.Judge.says l.shown l.path) (map to_document l.documents);
+  runs : l.runs ≡ l.fn.runs;
+  over : AreOverEach l.fn.runs (trees_of l.name-iterator);
   moves : l.fn.moves ≤ l.moves;
-  price : l.moves + prices_in g.J.Judge.says l.path l.fn.runs.items (map to_document l.name-iterator)
-      ≤ l.fn.moves + prices_in g.J.Judge.says l.path l.fn.runs.items (map to_document l.documents.entries);
+  price : l.moves + prices_in g.J.Judge.says l.path l.fn.runs (map to_document l.name-iterator)
+      ≤ l.fn.moves + prices_in g.J.Judge.says l.path l.fn.runs (map to_document l.documents);
 }

@@ -4,10 +4,11 @@ use Rattle.ft_base.specs.declared.ids.NodeRef.{NodeRef}
 use Rattle.path_grammar.specs.Form.{steps}
 use Rattle.path_grammar.specs.View.{step}
 use Rattle.ordered_tree.specs.Numbered.{plain}
+use Rattle.ordered_tree.specs.Stands.{OnNode, span}
 use Rattle.path_nodes.specs.References.{IsElement, element_of}
 use Rattle.session_state.specs.PathPrices.{element_price}
 use Rattle.session_state.specs.PlannedPaths.{is_meant, meant, planned_price, run_meant, run_price}
-use Rattle.session_state.specs.SelectionTests.{may_ask}
+use Rattle.session_state.specs.SelectionTests.{may_ask, span_at}
 use Rattle.session_state.proofs.PathLemmas.{asked-weaker}
 use Rattle.session_state.proofs.SelectionTestLemmas.{as-many, may-asked, moves-loan, runs-loan}
 use Rattle.session_state.proofs.selected.select_with.Goals as goal
@@ -16,8 +17,8 @@ pub nodes-requires-clause-asked : goal.nodes-requires-clause-asked
 nodes-requires-clause-asked g c =
     let root = c.tree-tree.result.now.root in
     let runs = g.B.Loan.runs in
-    let count = as-many c.args.path.now.plans.now c.args.runs.now.items c.requires.runs ∙ ap length c.requires.lent_runs in
-    asked-weaker (λ k. k < length c.args.path.now.plans.now) (λ k. (r : NodeRef) → IsElement root r → IsTrue (may_ask runs root k r))
+    let count = as-many c.args.path.now.plans.now c.args.runs.now c.requires.runs ∙ ap length c.requires.lent_runs in
+    asked-weaker (λ k. k < length c.args.path.now.plans.now) (λ k. (r : NodeRef) → IsElement root r → IsTrue (may_ask runs root k r) × OnNode root r (λ s. span_at root r ≡ span s))
     (λ k less r e. may-asked runs root k (omega (arith, less, count)) r e) (steps (map step c.args.path.now.steps.now)) c.requires.plans
 
 pub returns-clause-runs : goal.returns-clause-runs

@@ -9,5 +9,5 @@ returns-clause-refs g c =
     let says = g.J.Judge.says in
     let path = c.args.path.now in
     let empty : c.loop-name.name-iterator ≡ [] = search rules in
-    subst (λ (rs : List (List NodeRef)). AreLedToEach says path c.args.documents.now.entries rs) (append-nil c.loop-name.chosen.refs)
+    subst (λ (rs : List (List NodeRef)). AreLedToEach says path c.args.documents.now rs) (append-nil c.loop-name.chosen.refs)
     (c.loop-name.invariant.refs [] (subst (λ es. AreLedToEach says path es []) (sym empty) tt))

@@ -11,7 +11,7 @@ use Rattle.plan_runs.specs.RunPrice.{price_at}
 use Rattle.tokenizer.specs.Tokens.{tokens}
 use Rattle.session_state.specs.PathPrices.{element_price, words_of}
 use Rattle.session_state.specs.PlannedPaths.{run_price}
-use Rattle.session_state.proofs.SelectionTestLemmas.{asked-node, asked-run, met-at, over-at, priced-at, reference-there, span-inside, span-there, words-at-span}
+use Rattle.session_state.proofs.SelectionTestLemmas.{asked-node, asked-run, met-at, over-at, priced-at, reference-there, run-lent, span-inside, span-there, words-at-span}
 use Rattle.session_state.proofs.TextLemmas.{tokens-at-span}
 use Rattle.session_state.proofs.asked_runs.SelectionTestTextTest.contains.Goals as goal
 
@@ -25,8 +25,8 @@ judge-requires-clause-there g c =
     let root = c.args.self.now.tree.now.root in
     let runs = g.B.Loan.runs in
     let k = c.args.selection in
-    let run = c.index_mut-run.result.now in
-    let is : get_or runs k run ≡ run = ap (λ rs. get_or rs k run) (sym c.args.self.now.same) ∙ sym c.index_mut-run.ensures.value in
+    let run = get_or c.args.self.now.runs.now k c.index-runs-selection.result in
+    let is : get_or runs k run ≡ run = run-lent runs c.args.self.now.runs.now k c.index-runs-selection.result c.args.self.now.same c.index-runs-selection.is in
     let follows = over-at runs k run (c.args.self.now.doc.0, root) (asked-run runs root k c.args.node c.requires) is c.args.self.now.over in
     follows.there
 
@@ -35,11 +35,11 @@ judge-requires-clause-inside g c =
     let root = c.args.self.now.tree.now.root in
     let runs = g.B.Loan.runs in
     let k = c.args.selection in
-    let run = c.index_mut-run.result.now in
+    let run = get_or c.args.self.now.runs.now k c.index-runs-selection.result in
     let doc = c.args.self.now.doc.0 in
     let n = asked-node runs root k c.args.node c.requires in
     let among = spot-stand root n.spot n.among in
-    let is : get_or runs k run ≡ run = ap (λ rs. get_or rs k run) (sym c.args.self.now.same) ∙ sym c.index_mut-run.ensures.value in
+    let is : get_or runs k run ≡ run = run-lent runs c.args.self.now.runs.now k c.index-runs-selection.result c.args.self.now.same c.index-runs-selection.is in
     let follows = over-at runs k run (doc, root) (asked-run runs root k c.args.node c.requires) is c.args.self.now.over in
     let below = span-inside run.version doc root follows n.spot.stand among in
     subst (λ (s : Span). (1 ≤ s.from) × (s.from ≤ s.to) × (s.to ≤ token_count (document_at doc run.version) + 1))
@@ -50,12 +50,12 @@ returns-clause-says g c =
     let root = c.args.self.now.tree.now.root in
     let runs = g.B.Loan.runs in
     let k = c.args.selection in
-    let run = c.index_mut-run.result.now in
+    let run = get_or c.args.self.now.runs.now k c.index-runs-selection.result in
     let doc = c.args.self.now.doc.0 in
     let n = asked-node runs root k c.args.node c.requires in
     let among = spot-stand root n.spot n.among in
     let less = asked-run runs root k c.args.node c.requires in
-    let is : get_or runs k run ≡ run = ap (λ rs. get_or rs k run) (sym c.args.self.now.same) ∙ sym c.index_mut-run.ensures.value in
+    let is : get_or runs k run ≡ run = run-lent runs c.args.self.now.runs.now k c.index-runs-selection.result c.args.self.now.same c.index-runs-selection.is in
     let follows = over-at runs k run (doc, root) less is c.args.self.now.over in
     let inside = subst (λ (s : Span). IsSpan s (document_at doc run.version)) (sym (c.span_of-span.ensures.positions n.spot.stand among n.refers))
     (span-there run.version doc root follows n.spot.stand among) in
@@ -71,12 +71,12 @@ returns-clause-cost g c =
     let root = c.args.self.now.tree.now.root in
     let runs = g.B.Loan.runs in
     let k = c.args.selection in
-    let run = c.index_mut-run.result.now in
+    let run = get_or c.args.self.now.runs.now k c.index-runs-selection.result in
     let doc = c.args.self.now.doc.0 in
     let n = asked-node runs root k c.args.node c.requires in
     let among = spot-stand root n.spot n.among in
     let less = asked-run runs root k c.args.node c.requires in
-    let is : get_or runs k run ≡ run = ap (λ rs. get_or rs k run) (sym c.args.self.now.same) ∙ sym c.index_mut-run.ensures.value in
+    let is : get_or runs k run ≡ run = run-lent runs c.args.self.now.runs.now k c.index-runs-selection.result c.args.self.now.same c.index-runs-selection.is in
     let follows = over-at runs k run (doc, root) less is c.args.self.now.over in
     let ts = tokens (plain n.spot.stand.node) in
     let words = words-at-span run.version doc root follows c.span_of-span.result ts (c.span_of-span.ensures.tokens n.spot.stand among n.refers) in
