@@ -1,4 +1,4 @@
-// How often a test of text is asked on the way to elements, and where it isn't asked since it rules out that there are any.
+// How often a test of text is asked on the way to elements, and where it isn't asked since all of them may be skipped.
 ghost use Rattle.std.specs.Prelude.{◌≡◌, All, IfOk, true};
 ghost use Rattle.ordered_tree.specs.Numbered.{is_element};
 ghost use Rattle.path_nodes.specs.References.{IsElement};
@@ -14,23 +14,26 @@ use std::process::Abort;
 use std::test::Fail;
 use tokenizer::tokens_of;
 
-/// A test that is true of the nodes of these numbers, except for the selections that no node satisfies, which it rules out. It counts
-/// how often it is asked; each time costs 1.
+/// A test of the nodes of a document that is true of those of these numbers, except for the selections that no node satisfies, for which
+/// all may be skipped. It counts how often it is asked; each time costs 1.
 #[derive(Drop)]
-pub(crate) struct Judge {
+pub(crate) struct Judge<'t> {
+    pub(crate) tree: &'t DocTree,
     pub(crate) nodes: &'static [u32],
     pub(crate) unsatisfied: &'static [usize],
     pub(crate) asked: usize,
 }
 
-impl TextTest for Judge {
+impl<'t> TextTest for Judge<'t> {
     ghost use Rattle.std.specs.Prelude.{◌==◌, ◌&&◌, not, [], true};
     ghost use Rattle.std.specs.List.{list_any};
+    ghost use Rattle.session_state.specs.SelectionTests.{span_at};
 
     ghost meaning = { λ test. record {
       may_ask = λ selection r. true;
       says = λ selection r. not (list_any (λ n. n == selection) test.unsatisfied.now) && list_any (λ n. n == r.0) test.nodes.now;
       price = λ selection r. 1;
+      span = span_at test.tree.now.root;
       lent = [];
     } };
 
@@ -41,8 +44,12 @@ impl TextTest for Judge {
         Ok(!self.unsatisfied.contains(&selection) && self.nodes.contains(&node.0))
     }
 
-    fn rules_out(&self, selection: usize) -> bool {
-        self.unsatisfied.contains(&selection)
+    fn skip_to(&self, selection: usize, _from: u32) -> u32 {
+        if self.unsatisfied.contains(&selection) {
+            u32::MAX
+        } else {
+            0
+        }
     }
 }
 
@@ -60,16 +67,12 @@ pub(crate) fn tree_of(alloc: Global, text: &str) -> Result<DocTree, Fail>
     Ok(DocTree::from_doc(alloc, &doc)?)
 }
 
-/// The elements to which the steps of a path lead, whatever it begins with.
-pub(crate) fn led(
-    alloc: Global,
-    tree: &DocTree,
-    path: &str,
-    test: &mut Judge,
-) -> Result<Vec<NodeRef>, Fail>
-    requires { is_element tree.now.root ≡ true }
-    ensures { IfOk result (λ found. All (IsElement tree.now.root) found.items) }
+/// The elements of the test's document to which the steps of a path lead, whatever it begins with.
+pub(crate) fn led(alloc: Global, path: &str, test: &mut Judge<'_>) -> Result<Vec<NodeRef>, Fail>
+    requires { is_element test.old.tree.now.root ≡ true }
+    ensures { IfOk result (λ found. All (IsElement test.old.tree.now.root) found.items) }
 {
+    let tree = test.tree;
     match read_path(alloc, path) {
         Ok(path) => Ok(nodes(alloc, path.steps(), tree, test)?),
         Err(_) => Err(Fail::from("no path")),
@@ -92,11 +95,12 @@ fn expect_asked(rt: &impl Abort, alloc: Global, row: &RuledOut) -> Result<(), Fa
     let (unsatisfied, (document, path, true_of, wanted, asked)) = row;
     let tree = tree_of(alloc, document)?;
     let mut test = Judge {
+        tree: &tree,
         nodes: *true_of,
         unsatisfied: *unsatisfied,
         asked: 0,
     };
-    let found = led(alloc, &tree, path, &mut test)?;
+    let found = led(alloc, path, &mut test)?;
     assert!(rt;
         found.iter().map(|node| node.0).eq(wanted.iter().copied()),
         "{path}"
@@ -242,7 +246,7 @@ const RULED_OUT: [RuledOut; 14] = [
             "collection()/a[not(b[. contains text \"s\"])]",
             &[1],
             &[0],
-            2,
+            0,
         ),
     ),
     // steps that aren't the last

@@ -228,11 +228,12 @@ fn expect_names_backwards(
 ) -> Result<(), Fail> {
     let tree = tree_of(alloc, document)?;
     let mut test = Judge {
+        tree: &tree,
         nodes: &[],
         unsatisfied: &[],
         asked: 0,
     };
-    let mut found = led(alloc, &tree, "collection()//*", &mut test)?;
+    let mut found = led(alloc, "collection()//*", &mut test)?;
     found.reverse();
     let mut lines = TextList::new(alloc);
     push_names(alloc, "x", &tree, &found, &mut lines)?;

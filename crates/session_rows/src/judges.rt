@@ -13,6 +13,36 @@ use std::process::Abort;
 use std::sync::ledger::Ledger;
 use std::test::Fail;
 
+/// Says what the run says. It counts the elements for which it is asked, and skips what the run skips, or nothing.
+#[derive(Clone, Copy)]
+struct Counting<'c> {
+    skips: bool,
+    asked: &'c Cell<u32>,
+}
+
+impl<'c> Judge for Counting<'c> {
+    ghost says = { by_definition };
+
+    fn judge<L: Ledger>(
+        &self,
+        run: &mut Run<'_>,
+        doc: DocId,
+        span: Span,
+        moves: &mut Steps<L>,
+    ) -> bool {
+        self.asked.set(self.asked.get().wrapping_add(1));
+        run.test(doc, span, moves)
+    }
+
+    fn skip_to(&self, run: &Run<'_>, doc: DocId, from: u32) -> u32 {
+        if self.skips {
+            run.skip_to(doc, from)
+        } else {
+            0
+        }
+    }
+}
+
 /// Says the contrary of what the run says.
 #[derive(Clone, Copy)]
 struct Contrary;
@@ -30,8 +60,8 @@ impl Judge for Contrary {
         !run.test(doc, span, moves)
     }
 
-    fn rules_out(&self, _run: &Run<'_>, _doc: DocId) -> bool {
-        false
+    fn skip_to(&self, _run: &Run<'_>, _doc: DocId, _from: u32) -> u32 {
+        0
     }
 }
 
@@ -52,16 +82,16 @@ impl Judge for Content {
         true
     }
 
-    fn rules_out(&self, _run: &Run<'_>, _doc: DocId) -> bool {
-        false
+    fn skip_to(&self, _run: &Run<'_>, _doc: DocId, _from: u32) -> u32 {
+        0
     }
 }
 
-/// Says that no element satisfies a selection, and asks no run. It counts the elements for which it is asked, and may rule out each
-/// document.
+/// Says that no element satisfies a selection, and asks no run. It counts the elements for which it is asked, and skips up to
+/// the same place of each document.
 #[derive(Clone, Copy)]
 struct Discontent<'c> {
-    rules_out: bool,
+    skips_to: u32,
     asked: &'c Cell<u32>,
 }
 
@@ -81,8 +111,8 @@ impl<'c> Judge for Discontent<'c> {
         false
     }
 
-    fn rules_out(&self, _run: &Run<'_>, _doc: DocId) -> bool {
-        self.rules_out
+    fn skip_to(&self, _run: &Run<'_>, _doc: DocId, _from: u32) -> u32 {
+        self.skips_to
     }
 }
 
@@ -205,7 +235,19 @@ fn expect_judged<J: Judge + Drop>(
     command: &str,
     reply: &str,
 ) -> Result<(), Fail> {
-    let session = joined(alloc, &[LOAD, command])?;
+    expect_judged_of(rt, alloc, judge, LOAD, command, reply)
+}
+
+/// The same behind another load.
+fn expect_judged_of<J: Judge + Drop>(
+    rt: &impl Abort,
+    alloc: Global,
+    judge: J,
+    load: &str,
+    command: &str,
+    reply: &str,
+) -> Result<(), Fail> {
+    let session = joined(alloc, &[load, command])?;
     let output = ["ok\n", reply];
     let answered = is_answered_by(
         alloc,
@@ -231,54 +273,127 @@ fn what_a_path_selects_follows_its_judge(rt: HostRuntime) -> Result<(), Fail> {
     Ok(())
 }
 
-/// Whether a judge rules out each document, a command, its reply, and for how many elements the judge is asked.
-type CountedRow = (bool, &'static str, &'static str, u32);
+/// Up to where a judge skips each document, a command, its reply, and for how many elements the judge is asked.
+type CountedRow = (u32, &'static str, &'static str, u32);
 
 const COUNTED: [CountedRow; 6] = [
     (
-        false,
+        0,
         "query collection()//*[. contains text \"hello\"]",
         NONE,
         2,
     ),
     (
-        true,
+        u32::MAX,
         "query collection()//*[. contains text \"hello\"]",
         NONE,
         0,
     ),
     (
-        true,
+        u32::MAX,
         "print doc(\"one\")/a[. contains text \"hello\"]/b",
         NONE,
         0,
     ),
     (
-        true,
+        u32::MAX,
         "query collection()//*[. contains text \"hello\" or . contains text \"world\"]",
         NONE,
         0,
     ),
     (
-        true,
+        u32::MAX,
         "query collection()//a[not(. contains text \"hello\")]",
         A,
         1,
     ),
-    (true, "query collection()//b", B, 0),
+    (u32::MAX, "query collection()//b", B, 0),
 ];
 
 #[test]
 fn no_element_is_looked_at_in_documents_that_are_ruled_out(rt: HostRuntime) -> Result<(), Fail> {
     let alloc = rt.alloc();
-    for (rules_out, command, reply, wanted) in &COUNTED {
+    for (skips_to, command, reply, wanted) in &COUNTED {
         let asked = Cell::new(0);
         let judge = Discontent {
-            rules_out: *rules_out,
+            skips_to: *skips_to,
             asked: &asked,
         };
         expect_judged(&rt, alloc, judge, command, reply)?;
         assert!(rt; asked.get() == *wanted, "{command}");
+    }
+    Ok(())
+}
+
+const HITS: &str = "load one\n<r><p>a</p><p>b rare</p><p>c</p><p>d<q>rare</q></p><p>e</p></r>\n.\n";
+
+const SECOND: &str = "= 1\ndoc(\"one\")/r[1]/p[2]\n";
+
+const FOURTH: &str = "= 1\ndoc(\"one\")/r[1]/p[4]\n";
+
+const BOTH_HITS: &str = "= 2\ndoc(\"one\")/r[1]/p[2]\ndoc(\"one\")/r[1]/p[4]\n";
+
+const OTHERS: &str =
+    "= 3\ndoc(\"one\")/r[1]/p[1]\ndoc(\"one\")/r[1]/p[3]\ndoc(\"one\")/r[1]/p[5]\n";
+
+/// What the paragraphs have to contain, the reply, and for how many of them the judge is asked.
+type SkippedRow = (&'static str, &'static str, u32);
+
+const SKIPPED: [SkippedRow; 9] = [
+    // nothing is asked in front of a place where a paragraph may have what is asked for, nor between two such places
+    ("\"rare\"", BOTH_HITS, 2),
+    ("\"b rare\"", SECOND, 1),
+    ("\"d\" ftand \"rare\"", FOURTH, 1),
+    // where answers lead not far, one behind the other, some elements are tested before it is asked again
+    ("\"d\" ftor \"rare\"", BOTH_HITS, 3),
+    ("{\"rare\", \"d\"} all", FOURTH, 1),
+    ("(\"d\" ftand \"rare\") window 2 words", FOURTH, 1),
+    // the words are there, and not as they are wanted
+    ("\"rare\" at start", NONE, 2),
+    ("\"rare d\"", NONE, 1),
+    // a part that needn't occur skips nothing, and the others do
+    ("ftnot \"d\" ftand \"rare\"", SECOND, 2),
+];
+
+/// Selections that don't need their words: each paragraph is asked for.
+const UNSKIPPED: [&str; 2] = ["ftnot \"rare\"", "\"rare\" occurs at most 0 times"];
+
+/// Compares the reply to a command, and for how many paragraphs a judge is asked that skips or doesn't.
+fn expect_asked(
+    rt: &impl Abort,
+    alloc: Global,
+    skips: bool,
+    command: &str,
+    reply: &str,
+    wanted: u32,
+) -> Result<(), Fail> {
+    let asked = Cell::new(0);
+    let judge = Counting {
+        skips,
+        asked: &asked,
+    };
+    expect_judged_of(rt, alloc, judge, HITS, command, reply)?;
+    assert!(rt; asked.get() == wanted, "{command}");
+    Ok(())
+}
+
+#[test]
+fn elements_between_hits_are_skipped(rt: HostRuntime) -> Result<(), Fail> {
+    let alloc = rt.alloc();
+    for (selection, reply, wanted) in &SKIPPED {
+        let command = joined(
+            alloc,
+            &["query collection()//p[. contains text ", selection, "]"],
+        )?;
+        expect_asked(&rt, alloc, true, command.as_str(), reply, *wanted)?;
+        expect_asked(&rt, alloc, false, command.as_str(), reply, 5)?;
+    }
+    for selection in &UNSKIPPED {
+        let command = joined(
+            alloc,
+            &["query collection()//p[. contains text ", selection, "]"],
+        )?;
+        expect_asked(&rt, alloc, true, command.as_str(), OTHERS, 5)?;
     }
     Ok(())
 }
