@@ -1,0 +1,20 @@
+//! `ordered` on small texts, by computation.
+#![tactic(auto, unfolding(all_matches::specs::Meaning::sat_under, all_matches::specs::Meaning::all_matches, all_matches::specs::Meaning::phrase_count))]
+
+ghost use Rattle.std.specs.Prelude.{◌≡◌, true, false, [], ◌∷◌, codes, None};
+ghost use Rattle.ft_base.specs.declared.filter.Filter.TheVariants as F;
+ghost use Rattle.ft_base.specs.declared.words.Mode.TheVariants as M;
+ghost use Rattle.ft_base.specs.Selection.{filtered, mild_not, not_of, with_options};
+ghost use Rattle.all_matches.specs.Examples.{plain, text, value, two_and, word_a, word_b, word_c, word_x, with_wildcards};
+ghost use Rattle.all_matches.specs.Meaning.{sat};
+ghost use Rattle.selection_examples.specs.Examples.{spaced_under_wildcards};
+
+/// The phrases of an operand are numbered behind all those of the operands in front of it.
+pub fn order_behind_operands()
+    ensures behind_mild_not { sat plain (filtered (two_and (mild_not word_a word_x) word_b) F.Ordered) (text (codes "b a")) ≡ false }
+    ensures behind_two_words_of_mild_not { sat plain (filtered (two_and (mild_not (two_and word_a word_c) word_x) word_b) F.Ordered)
+        (text (codes "a b c")) ≡ false }
+    ensures right_behind_not { sat plain (filtered (two_and (not_of word_x) word_a) F.Ordered) (text (codes "a x")) ≡ true }
+    ensures behind_words_under_options { sat spaced_under_wildcards
+        (filtered (two_and (with_options (value M.AnyWord None (codes "a b" ∷ [])) (with_wildcards true)) word_c) F.Ordered) (text (codes "c b")) ≡ false }
+{}
