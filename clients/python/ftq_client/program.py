@@ -13,6 +13,10 @@ from .replies import Done, Found, Reply, Said
 MOST_BYTES = 67_108_864
 """How many bytes the program reads of one session."""
 
+TUNABLES = {"GLIBC_TUNABLES": "glibc.malloc.hugetlb=1"}
+"""What the program is started with where the caller's environment says nothing of it: memory in large pages, where the system gives them,
+saves a third of the time that it takes to ask thousands of documents."""
+
 
 def find_program() -> Path:
     """The program to start: what the variable FTQ_PROGRAM names, else the one that this repository built, else `ftq` on the path."""
@@ -39,6 +43,7 @@ class Process:
                 stdin=subprocess.PIPE,
                 stdout=subprocess.PIPE,
                 stderr=subprocess.PIPE,
+                env={**TUNABLES, **os.environ},
                 start_new_session=True,
             )
         except OSError as error:

@@ -283,6 +283,20 @@ def test_a_program_that_isnt_there(monkeypatch: pytest.MonkeyPatch, tmp_path: Pa
         Session()
 
 
+@pytest.mark.parametrize(("own", "given"), [(None, "glibc.malloc.hugetlb=1"), ("glibc.malloc.arena_max=1", "glibc.malloc.arena_max=1")])
+def test_the_program_gets_large_pages_unless_the_caller_says_otherwise(
+    program: Path, monkeypatch: pytest.MonkeyPatch, own: str | None, given: str
+) -> None:
+    if own is None:
+        monkeypatch.delenv("GLIBC_TUNABLES", raising=False)
+    else:
+        monkeypatch.setenv("GLIBC_TUNABLES", own)
+    with Session(program) as session:
+        session.load("d", b"<a/>")
+        started_with = Path(f"/proc/{session.pid}/environ").read_bytes().split(b"\0")
+    assert [it for it in started_with if it.startswith(b"GLIBC_TUNABLES=")] == [b"GLIBC_TUNABLES=" + given.encode()]
+
+
 def test_the_bytes_of_commands() -> None:
     assert command_bytes("load d", b".a\nb\n") == b"load d\n..a\nb\n\n.\n"
     assert command_bytes("query collection()/é") == "query collection()/é\n".encode()
