@@ -59,7 +59,8 @@ class Fts5:
 
 
 class BaseX:
-    """The documents in a database of BaseX's with a full-text index, made and asked in one run of the program."""
+    """The documents in a database of BaseX's with a full-text index, made and asked in one run of the program: how many elements a query
+    finds, and the path of each of them, as ftq prints it."""
 
     name = "BaseX"
 
@@ -68,22 +69,30 @@ class BaseX:
         os.makedirs(os.path.join(home, "documents"))
         for path in paths:
             shutil.copy(path, os.path.join(home, "documents"))
-        # Each query is asked twice: the first time the program gets warm.
-        asked = [line for query in queries for line in [f"XQUERY count({query})"] * 2]
-        commands = ["SET FTINDEX true", f"CREATE DB bench {home}/documents", f"SET RUNS {repeated}", "SET QUERYINFO true", *asked]
+        asked = [form.format(query) for query in queries for form in ("count({})", "({}) ! (db:path(.) || path(.))")]
+        # Each is asked twice: the first time the program gets warm.
+        asked = [f"XQUERY {query}" for query in asked for _ in range(2)]
+        # Blanks between elements stay, as in ftq: without them a title's last word would be one with the first of what follows.
+        commands = ["SET CHOP false", "SET FTINDEX true", f"CREATE DB bench {home}/documents", f"SET RUNS {repeated}", "SET QUERYINFO true", *asked]
         script = os.path.join(home, "bench.bxs")
         with open(script, "w", encoding="utf-8") as file:
             file.write("\n".join(commands) + "\n")
-        environment = {**os.environ, "JAVA_ARGS": f"-Dorg.basex.path={home}"}
+        environment = {**os.environ, "JAVA_ARGS": f"-Dorg.basex.path={home} -XX:+UseTransparentHugePages"}
         ran = subprocess.run(["basex", "-V", script], capture_output=True, text=True, env=environment, check=True)
         created = re.search(r"created in ([\d.]+) ms", ran.stdout)
         self.index_seconds = float(created[1]) / 1000
-        counts = [int(found) for found in re.findall(r"^(\d+)\nQuery:$", ran.stdout, re.MULTILINE)]
-        seconds = [float(found) / 1000 for found in re.findall(r"^Total Time: ([\d.]+) ms", ran.stdout, re.MULTILINE)]
-        if len(counts) != len(asked) or len(seconds) != len(asked):
-            raise ValueError(f"BaseX answered {len(counts)} of {len(asked)} queries: {ran.stdout[-400:]}")
-        self.answers = dict(zip(queries, zip(counts[1::2], seconds[1::2])))
+        counts = [int(found) for found in re.findall(r"^(\d+)\nQuery:$", ran.stdout, re.MULTILINE)][1::2]
+        hits = [int(found) for found in re.findall(r"^Hit\(s\): (\d+) Item", ran.stdout, re.MULTILINE)][3::4]
+        seconds = [float(found) / 1000 for found in re.findall(r"^Total Time: ([\d.]+) ms", ran.stdout, re.MULTILINE)][1::2]
+        if counts != hits or 2 * len(counts) != len(seconds) or len(counts) != len(queries):
+            raise ValueError(f"BaseX counted {counts} and printed {hits} for {len(queries)} queries: {ran.stdout[-400:]}")
+        self.counted = dict(zip(queries, zip(counts, seconds[0::2])))
+        self.printed = dict(zip(queries, zip(hits, seconds[1::2])))
 
     def count(self, query, _repeated):
         """How many elements the query finds, and the seconds that it takes to count them."""
-        return self.answers[query]
+        return self.counted[query]
+
+    def print_paths(self, query, _repeated):
+        """How many elements the query finds, and the seconds that it takes to print the document and the path of each."""
+        return self.printed[query]

@@ -4,7 +4,14 @@ import math
 
 WIDTH, LEFT, RIGHT, TOP = 980, 330, 150, 64
 BAR, GAP = 15, 9
-COLOURS = {"ftq": "#2f6f9f", "BaseX": "#b5651d", "SQLite FTS5": "#6b8e23", "xmllint": "#7a6a9a"}
+COLOURS = {
+    "ftq": "#2f6f9f",
+    "BaseX": "#b5651d",
+    "BaseX, counting": "#dfb68c",
+    "SQLite FTS5": "#6b8e23",
+    "SQLite FTS5, counting": "#b9cc94",
+    "xmllint": "#7a6a9a",
+}
 
 
 def escaped(text):
