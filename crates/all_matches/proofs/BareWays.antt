@@ -14,7 +14,7 @@ use Rattle.all_matches.specs.Hits.{match_of_hit}
 use Rattle.all_matches.specs.Boolean.{both, ft_and, is_clean}
 use Rattle.all_matches.specs.MildNot.{stands_out, ft_mild_not}
 use Rattle.all_matches.specs.Filters.{passes, choices, through, ft_filtered}
-use Rattle.all_matches.specs.Ways.{is_plain, Operator, phrase, either, together, apart, negated, through_filter, matches_of, Way, one_hit, two_ways, turned_about, by_filter, way_includes, made, standing_out, filtered_ways, ways_of, without_negation, bare_match, is_bare, is_good, behind_filter}
+use Rattle.all_matches.specs.Ways.{is_plain, Operator, phrase, either, together, apart, negated, through_filter, matches_of, Way, one_hit, two_ways, turned_about, by_filter, way_includes, made, standing_out, filtered_ways, ways_of, without_negation, bare_match, is_bare, is_good, after_filter}
 use Rattle.all_matches.proofs.ListTests.{list_any-map}
 use Rattle.all_matches.proofs.Shifted.{map-cond}
 
@@ -133,7 +133,7 @@ made-bare (two_ways left right) h =
     let parts = and_parts (is_bare left) (is_bare right) h in
     λ i. ft_and (made-bare left parts.0 i) (made-bare right parts.1 i)
 made-bare (turned_about matches) h = cc
-made-bare (by_filter way kind choice) h = ap (map (behind_filter kind (way_includes way) choice)) (made-bare way h)
+made-bare (by_filter way kind choice) h = ap (map (after_filter kind (way_includes way) choice)) (made-bare way h)
 
 pub bare_good : (way : Way) → is_bare way ≡ true → is_good way ≡ true
 bare_good (one_hit hit) h = refl

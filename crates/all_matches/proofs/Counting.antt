@@ -111,7 +111,7 @@ count_by-flat_map : {X Y : Type 0} (p : Y → Bool) (f : X → List Y) (xs : Lis
 count_by-flat_map p f [] = refl
 count_by-flat_map p f (x ∷ xs) = count_by-append p (f x) (flat_map f xs) ∙ ap (λ n. count_by p (f x) + n) (count_by-flat_map p f xs) ∙ sym (sum_by-cons (λ y. count_by p (f y)) x xs)
 
--- the first number, and those behind it
+-- the first number, and those after it
 pub first_number : (q : ℕ → Bool) (m : ℕ) → count_by q (range_with_len 0 (suc m)) ≡ cond (q 0) 1 0 + count_by (λ k. q (suc k)) (range_with_len 0 m)
 first_number q m =
     count_by-cons q 0 (range_with_len 1 m)
@@ -123,11 +123,11 @@ module _ (lexicon : Lexicon) (options : Options) (stood : List (List Item)) wher
   unfoldable pub stands_here : List Token → Bool
   stands_here tokens = list_any (λ items. stands_as lexicon options items tokens) stood
 
-  -- on how many fronts of a list, but for the empty one
+  -- on how many prefixes of a list, but for the empty one
   unfoldable pub prefixes : List Token → ℕ
   prefixes tokens = count_by (λ j. stands_here (take (suc j) tokens)) (range_with_len 0 (length tokens))
 
-  -- on how many fronts of what is left from each place on
+  -- on how many prefixes of what is left from each place on
   unfoldable pub all_prefixes : List Token → ℕ
   all_prefixes [] = 0
   all_prefixes (token ∷ tokens) = prefixes (token ∷ tokens) + all_prefixes tokens
@@ -166,15 +166,15 @@ module _ (lexicon : Lexicon) (options : Options) (stood : List (List Item)) wher
         let left : length tokens ≡ suc k + length rest = omega arith in
         sum_by-cons (λ from. count_by fits (from_place from)) (suc k) (range_with_len (suc k + 1) (length rest))
         ∙ (λ i. from_here k (token ∷ rest) split size i
-        + (ap (λ from. sum_by (λ f. count_by fits (from_place f)) (range_with_len from (length rest))) next ∙ all_places (suc k) rest (behind k tokens split) left) i)
+        + (ap (λ from. sum_by (λ f. count_by fits (from_place f)) (range_with_len from (length rest))) next ∙ all_places (suc k) rest (after k tokens split) left) i)
       where
-        behind : (k : ℕ) (ts : List Token) → drop k ts ≡ token ∷ rest → drop (suc k) ts ≡ rest
-        behind zero [] e = cc
-        behind zero (t ∷ ts) e = cc
-        behind (suc k) [] e = cc
-        behind (suc k) (t ∷ ts) e = behind k ts e
+        after : (k : ℕ) (ts : List Token) → drop k ts ≡ token ∷ rest → drop (suc k) ts ≡ rest
+        after zero [] e = cc
+        after zero (t ∷ ts) e = cc
+        after (suc k) [] e = cc
+        after (suc k) (t ∷ ts) e = after k ts e
 
--- the hits of a phrase are on fronts of what is left from each place on
+-- the hits of a phrase are on prefixes of what is left from each place on
 pub hits_on_prefixes : (lexicon : Lexicon) (options : Options) (phrase : List Item) (tokens : List Token) → hit_count lexicon options tokens phrase ≡ all_prefixes lexicon options (variants lexicon options phrase) tokens
 unfolding fits from_place
 hits_on_prefixes lexicon options phrase tokens =

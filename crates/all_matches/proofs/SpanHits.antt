@@ -168,8 +168,8 @@ module _ (sentences paragraphs : ℕ → ℕ) (tokens : List Token) (k m : ℕ) 
       ∙ sym (ap (λ o. paragraphs (option_map_or (λ token. token.paragraph) o 0)) (found place first last))
 
   -- a hit of the text, told in the numbers of the part
-  abbrev told : Hit → Hit
-  told hit = record {
+  abbrev known : Hit → Hit
+  known hit = record {
     query = hit.query;
     from = hit.from - k;
     to = hit.to - k;
@@ -180,7 +180,7 @@ module _ (sentences paragraphs : ℕ → ℕ) (tokens : List Token) (k m : ℕ) 
     whole = hit.whole;
   }
 
-  hit-cut : (number : ℕ) (i : Interval) → Places m i → hit_on cut number i ≡ told (hit_on tokens number (moved i))
+  hit-cut : (number : ℕ) (i : Interval) → Places m i → hit_on cut number i ≡ known (hit_on tokens number (moved i))
   unfolding moved
   hit-cut number i at =
       let first = at.first in

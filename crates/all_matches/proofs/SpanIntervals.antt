@@ -68,8 +68,8 @@ module _ (n k m : ℕ) where
   row_before : (a : ℕ) → a ≤ k → filter inside (row n a) ≡ []
   row_before a low = none_passes inside (on a) a (suc n - a) (λ j above. outside_low a j low)
 
-  row_behind : (a : ℕ) → k + m < a → filter inside (row n a) ≡ []
-  row_behind a high = none_passes inside (on a) a (suc n - a) (λ j above. outside_high a j (omega arith))
+  row_after : (a : ℕ) → k + m < a → filter inside (row n a) ≡ []
+  row_after a high = none_passes inside (on a) a (suc n - a) (λ j above. outside_high a j (omega arith))
 
   row_within : (a : ℕ) → k < a → a ≤ k + m → k + m ≤ n → filter inside (row n a) ≡ row (k + m) a
   row_within a low high fits =
@@ -94,7 +94,7 @@ module _ (n k m : ℕ) where
       ∙ ap (λ xs. filter inside (flat_map (row n) (range_with_len 1 k)) ++ xs) (filter-append inside (flat_map (row n) (range_with_len (1 + k) m)) (flat_map (row n) (range_with_len ((1 + k) + m) (n - (k + m)))))
       ∙ (λ i. (rows_are inside (row n) no_intervals 1 k (λ a above below. row_before a (omega arith)) ∙ none_left (range_with_len 1 k)) i
       ++ (rows_are inside (row n) (row (k + m)) (1 + k) m (λ a above below. row_within a (omega arith) (omega arith) fits) i
-      ++ (rows_are inside (row n) no_intervals ((1 + k) + m) (n - (k + m)) (λ a above below. row_behind a (omega arith)) ∙ none_left (range_with_len ((1 + k) + m) (n - (k + m)))) i))
+      ++ (rows_are inside (row n) no_intervals ((1 + k) + m) (n - (k + m)) (λ a above below. row_after a (omega arith)) ∙ none_left (range_with_len ((1 + k) + m) (n - (k + m)))) i))
       ∙ append-nil (flat_map (row (k + m)) (range_with_len (1 + k) m))
 
   -- an interval of the part, in the whole text

@@ -69,16 +69,16 @@ module _ {X : Type 0} where
     some_group : List (ℕ × List (List X)) → Bool
     some_group groups = list_any (λ group. list_any test group.1) groups
 
-    any_behind : (lists : List (List X)) (items : List X) → list_any test (lists ++ items ∷ []) ≡ (list_any test lists || test items)
-    any_behind [] items = or-false (test items)
-    any_behind (first ∷ rest) items = ap (λ b. test first || b) (any_behind rest items) ∙ sym (or_assoc (test first) (list_any test rest) (test items))
+    any_after : (lists : List (List X)) (items : List X) → list_any test (lists ++ items ∷ []) ≡ (list_any test lists || test items)
+    any_after [] items = or-false (test items)
+    any_after (first ∷ rest) items = ap (λ b. test first || b) (any_after rest items) ∙ sym (or_assoc (test first) (list_any test rest) (test items))
 
     put_any : (groups : List (ℕ × List (List X))) (items : List X) → some_group (put_variant items groups) ≡ (some_group groups || test items)
     unfolding some_group
     put_any [] items = or-false (test items || false) ∙ or-false (test items)
     put_any (group ∷ groups) items =
         elim (length items == group.0) as (λ t. some_group (cond t ((group.0, group.1 ++ items ∷ []) ∷ groups) (group ∷ put_variant items groups)) ≡ (some_group (group ∷ groups) || test items)) [
-          | true ↦ ap (λ b. b || some_group groups) (any_behind group.1 items) ∙ or_assoc (list_any test group.1) (test items) (some_group groups) ∙ ap (λ b. list_any test group.1 || b) (or_comm (test items) (some_group groups)) ∙ sym (or_assoc (list_any test group.1) (some_group groups) (test items))
+          | true ↦ ap (λ b. b || some_group groups) (any_after group.1 items) ∙ or_assoc (list_any test group.1) (test items) (some_group groups) ∙ ap (λ b. list_any test group.1 || b) (or_comm (test items) (some_group groups)) ∙ sym (or_assoc (list_any test group.1) (some_group groups) (test items))
           | false ↦ ap (λ b. list_any test group.1 || b) (put_any groups items) ∙ sym (or_assoc (list_any test group.1) (some_group groups) (test items))
         ]
 
@@ -128,7 +128,7 @@ module _ (lexicon : Lexicon) (options : Options) where
   begins : List Token → List Item → Bool
   begins tokens items = begins_as (passes_item lexicon options) items tokens
 
-  -- a list of items stands on the front of its own length alone
+  -- a list of items stands on the prefix of its own length alone
   prefix_stands : (items : List Item) (tokens : List Token) (k : ℕ) → k ≤ length tokens → stands_as lexicon options items (take k tokens) ≡ ((length items == k) && begins tokens items)
   unfolding begins
   prefix_stands [] tokens zero h = refl
@@ -164,7 +164,7 @@ module _ (lexicon : Lexicon) (options : Options) where
       by_first further true e = let short = long_enough items tokens e in let same = long.0 in omega (arith, short, same)
       by_first further false e = further (ap (λ b. b || list_any (begins tokens) lists) (sym e) ∙ h)
 
-  -- whether a list of a group stands on the front that ends behind a place
+  -- whether a list of a group stands on the prefix that ends after a place
   abbrev stands_at : List Token → ℕ → ℕ × List (List Item) → Bool
   stands_at tokens j group = (group.0 == suc j) && list_any (begins tokens) group.1
 

@@ -13,7 +13,7 @@ use Rattle.all_matches.specs.declared.window.Window.{Window}
 use Rattle.all_matches.specs.Hits.{match_of_hit}
 use Rattle.all_matches.specs.Boolean.{both, with_include, with_exclude, ft_and, ft_not, is_clean, survives}
 use Rattle.all_matches.specs.Filters.{passes, choices, keeps, after, filtered_match}
-use Rattle.all_matches.specs.Ways.{Operator, phrase, either, together, apart, negated, through_filter, matches_of, Way, one_hit, two_ways, turned_about, by_filter, way_includes, made, filtered_ways, ways_of, clean_under, is_plain, bare_match, is_bare, is_good, behind_filter}
+use Rattle.all_matches.specs.Ways.{Operator, phrase, either, together, apart, negated, through_filter, matches_of, Way, one_hit, two_ways, turned_about, by_filter, way_includes, made, filtered_ways, ways_of, clean_under, is_plain, bare_match, is_bare, is_good, after_filter}
 use Rattle.all_matches.proofs.ListTests.{list_any-alike, list_any-map, list_any-flat_map, list_any-and, list_any-and_first, list_any-never}
 use Rattle.all_matches.proofs.BareWays.{bare_matches, bare_ways, made-bare, good_ways}
 use Rattle.all_matches.proofs.Choices.{some_choice}
@@ -26,7 +26,7 @@ any_of : (test f g : Way → Bool) → ((way : Way) → test way ≡ true → f 
 any_of test f g same [] h = refl
 any_of test f g same (way ∷ rest) h = let parts = and_parts (test way) (list_all test rest) h in λ i. same way parts.0 i || any_of test f g same rest parts.1 i
 
-any_or : {Y : Type 0} (p q : Y → Bool) (ys : List Y) → (list_any p ys || list_any q ys) ≡ list_any (λ y. p y || q y) ys
+pub any_or : {Y : Type 0} (p q : Y → Bool) (ys : List Y) → (list_any p ys || list_any q ys) ≡ list_any (λ y. p y || q y) ys
 any_or p q [] = refl
 any_or p q (y ∷ ys) = exchange (p y) (list_any p ys) (q y) (list_any q ys) ∙ ap (λ b. (p y || q y) || b) (any_or p q ys)
   where
@@ -36,7 +36,7 @@ any_or p q (y ∷ ys) = exchange (p y) (list_any p ys) (q y) (list_any q ys) ∙
     exchange false true false d = refl
     exchange false false c d = refl
 
-any_swap : {X Y : Type 0} (f : X → Y → Bool) (xs : List X) (ys : List Y) → list_any (λ x. list_any (f x) ys) xs ≡ list_any (λ y. list_any (λ x. f x y) xs) ys
+pub any_swap : {X Y : Type 0} (f : X → Y → Bool) (xs : List X) (ys : List Y) → list_any (λ x. list_any (f x) ys) xs ≡ list_any (λ y. list_any (λ x. f x y) xs) ys
 any_swap f [] ys = sym (list_any-never ys)
 any_swap f (x ∷ xs) ys = ap (λ b. list_any (f x) ys || b) (any_swap f xs ys) ∙ any_or (f x) (λ y. list_any (λ z. f z y) xs) ys
 
@@ -73,7 +73,7 @@ turned_includes (m ∷ rest) c =
     all_append (λ n. n.includes ≡ []) (flat_map (λ hit. map (with_exclude hit) (ft_not rest)) m.includes) (flat_map (λ hit. map (with_include hit) (ft_not rest)) m.excludes)
     (exclude_rows m.includes (ft_not rest) (turned_includes rest parts.1)) (no_includes m.includes m.excludes (ft_not rest) parts.0)
 
-filter_includes : (kind : Filter) (includes : List Hit) (choice : Option Window) (ms : List Match) → AllByRecursion (λ m. m.includes ≡ after kind includes) (map (behind_filter kind includes choice) ms)
+filter_includes : (kind : Filter) (includes : List Hit) (choice : Option Window) (ms : List Match) → AllByRecursion (λ m. m.includes ≡ after kind includes) (map (after_filter kind includes choice) ms)
 filter_includes kind includes choice [] = tt
 filter_includes kind includes choice (m ∷ rest) = (refl, filter_includes kind includes choice rest)
 
@@ -93,21 +93,21 @@ and_any p left right =
 
 -- what a filter makes of a Match whose includes are known
 made_by_filter : Filter → Span → List Hit → Match → List Match
-made_by_filter kind item includes m = cond (passes kind includes item) (map (λ c. behind_filter kind includes c m) (choices kind includes)) []
+made_by_filter kind item includes m = cond (passes kind includes item) (map (λ c. after_filter kind includes c m) (choices kind includes)) []
 
 filter_known : (kind : Filter) (item : Span) (includes : List Hit) (m : Match) → m.includes ≡ includes → filtered_match kind item m ≡ made_by_filter kind item includes m
 unfolding made_by_filter
-filter_known kind item includes m e = ap (λ xs. cond (passes kind xs item) (map (λ c. behind_filter kind xs c m) (choices kind xs)) []) e
+filter_known kind item includes m e = ap (λ xs. cond (passes kind xs item) (map (λ c. after_filter kind xs c m) (choices kind xs)) []) e
 
 some_choices : (p : Match → Bool) (way : Way) (kind : Filter) (ms : List Match) (b : Bool) (cs : List (Option Window)) → made way ≡ ms
-    → list_any (λ m. list_any p (cond b (map (λ c. behind_filter kind (way_includes way) c m) cs) [])) ms ≡ list_any (λ u. list_any p (made u)) (cond b (map (by_filter way kind) cs) [])
+    → list_any (λ m. list_any p (cond b (map (λ c. after_filter kind (way_includes way) c m) cs) [])) ms ≡ list_any (λ u. list_any p (made u)) (cond b (map (by_filter way kind) cs) [])
 some_choices p way kind ms false cs e = list_any-never ms
 some_choices p way kind ms true cs e =
-    list_any-alike (λ m. list_any p (map (λ c. behind_filter kind (way_includes way) c m) cs)) (λ m. list_any (λ c. p (behind_filter kind (way_includes way) c m)) cs) ms
-    (λ m. list_any-map p (λ c. behind_filter kind (way_includes way) c m) cs)
-    ∙ any_swap (λ m c. p (behind_filter kind (way_includes way) c m)) ms cs
-    ∙ list_any-alike (λ c. list_any (λ m. p (behind_filter kind (way_includes way) c m)) ms) (λ c. list_any p (made (by_filter way kind c))) cs
-    (λ c. sym (list_any-map p (behind_filter kind (way_includes way) c) ms) ∙ ap (λ ns. list_any p (map (behind_filter kind (way_includes way) c) ns)) (sym e))
+    list_any-alike (λ m. list_any p (map (λ c. after_filter kind (way_includes way) c m) cs)) (λ m. list_any (λ c. p (after_filter kind (way_includes way) c m)) cs) ms
+    (λ m. list_any-map p (λ c. after_filter kind (way_includes way) c m) cs)
+    ∙ any_swap (λ m c. p (after_filter kind (way_includes way) c m)) ms cs
+    ∙ list_any-alike (λ c. list_any (λ m. p (after_filter kind (way_includes way) c m)) ms) (λ c. list_any p (made (by_filter way kind c))) cs
+    (λ c. sym (list_any-map p (after_filter kind (way_includes way) c) ms) ∙ ap (λ ns. list_any p (map (after_filter kind (way_includes way) c) ns)) (sym e))
     ∙ sym (list_any-map (λ u. list_any p (made u)) (by_filter way kind) cs)
 
 filter_any : (p : Match → Bool) (kind : Filter) (item : Span) (way : Way) → is_good way ≡ true → list_any (λ m. list_any p (filtered_match kind item m)) (made way) ≡ list_any (λ u. list_any p (made u)) (filtered_ways kind item way)
@@ -151,7 +151,7 @@ any_way item (through_filter operand kind) h p =
     ∙ any_of is_good (λ w. list_any (λ m. list_any p (filtered_match kind item m)) (made w)) (λ w. list_any (λ u. list_any p (made u)) (filtered_ways kind item w)) (λ w e. filter_any p kind item w e) (ways_of item operand) (good_ways item operand h)
     ∙ sym (list_any-flat_map (λ u. list_any p (made u)) (filtered_ways kind item) (ways_of item operand))
 
--- a test that looks at excludes alone, under And and behind a filter
+-- a test that looks at excludes alone, under And and after a filter
 survives-both : (kept : Hit → Bool) (a b : Match) → survives kept (both a b) ≡ (survives kept a && survives kept b)
 survives-both kept a b = list_all-append (λ hit. not (kept hit)) a.excludes b.excludes
 
@@ -162,9 +162,9 @@ survives-and kept left right =
     (λ a. list_any-alike (λ b. survives kept (both a b)) (λ b. survives kept a && survives kept b) right (survives-both kept a) ∙ list_any-and_first (survives kept a) (survives kept) right)
     ∙ list_any-and (survives kept) (list_any (survives kept) right) left
 
-kept_behind : (keep kept : Hit → Bool) (hits : List Hit) → list_all (λ hit. not (kept hit)) (filter keep hits) ≡ list_all (λ hit. not (keep hit && kept hit)) hits
-kept_behind keep kept [] = refl
-kept_behind keep kept (hit ∷ rest) = one (keep hit) ∙ ap (λ b. not (keep hit && kept hit) && b) (kept_behind keep kept rest)
+kept_after : (keep kept : Hit → Bool) (hits : List Hit) → list_all (λ hit. not (kept hit)) (filter keep hits) ≡ list_all (λ hit. not (keep hit && kept hit)) hits
+kept_after keep kept [] = refl
+kept_after keep kept (hit ∷ rest) = one (keep hit) ∙ ap (λ b. not (keep hit && kept hit) && b) (kept_after keep kept rest)
   where
     one : (b : Bool) → list_all (λ h. not (kept h)) (cond b (hit ∷ filter keep rest) (filter keep rest)) ≡ (not (b && kept hit) && list_all (λ h. not (kept h)) (filter keep rest))
     one true = refl
@@ -178,9 +178,9 @@ clean_way kept (two_ways left right) h =
     survives-and kept (made left) (made right) ∙ (λ i. clean_way kept left parts.0 i && clean_way kept right parts.1 i)
 clean_way kept (turned_about matches) h = some_choice kept matches h
 clean_way kept (by_filter way kind choice) h =
-    list_any-map (survives kept) (behind_filter kind (way_includes way) choice) (made way)
-    ∙ list_any-alike (λ m. survives kept (behind_filter kind (way_includes way) choice m)) (survives (λ hit. keeps kind (way_includes way) choice hit && kept hit)) (made way)
-    (λ m. kept_behind (keeps kind (way_includes way) choice) kept m.excludes)
+    list_any-map (survives kept) (after_filter kind (way_includes way) choice) (made way)
+    ∙ list_any-alike (λ m. survives kept (after_filter kind (way_includes way) choice m)) (survives (λ hit. keeps kind (way_includes way) choice hit && kept hit)) (made way)
+    (λ m. kept_after (keeps kind (way_includes way) choice) kept m.excludes)
     ∙ clean_way (λ hit. keeps kind (way_includes way) choice hit && kept hit) way h
 
 pub some_way : (item : Span) (operator : Operator) (kept : Hit → Bool) → is_plain operator ≡ true → list_any (survives kept) (matches_of item operator) ≡ list_any (clean_under kept) (ways_of item operator)

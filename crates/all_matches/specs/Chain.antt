@@ -17,6 +17,6 @@ abbrev pub kept_by : List Link → Hit → Bool
 kept_by [] hit = true
 kept_by (link ∷ links) hit = keeps link.kind link.includes link.choice hit && kept_by links hit
 
--- the filter behind which a way goes on
+-- the filter after which a way goes on
 abbrev pub link_of : Way → Filter → Option Window → Link
 link_of way kind choice = record { kind = kind; includes = way_includes way; choice = choice }

@@ -96,7 +96,7 @@ paragraph number bytes = map (λ w. record { word = w; sentence = number; paragr
 abbrev pub under_options : (Options → Bool) → Lexicon
 under_options test = record plain { accepts = λ options item w. test options && is_word item w }
 
--- the word `a` with options in front of it, and others in front of these
+-- the word `a` with options before it, and others before these
 abbrev pub word_inside : Options → Options → Form
 word_inside inner outer = with_options (with_options word_a inner) outer
 

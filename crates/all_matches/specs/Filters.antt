@@ -1,5 +1,5 @@
 -- Positional filters (XQuery and XPath Full Text 3.0, section 4.2.7): whether a Match stays, the windows through which it goes,
--- whether an exclude stays, and the includes behind the filter.
+-- whether an exclude stays, and the includes after the filter.
 use Rattle.std.specs.Prelude.{suc, Bool, true, false, ◌&&◌, ◌==◌, if◌then◌else◌, List, [], ◌∷◌, map, flat_map, filter, Option, Some, None, option_to_list}
 use Rattle.std.specs.List.{list_any, list_all}
 use Rattle.ft_base.specs.Hits.{every_two}
@@ -61,7 +61,7 @@ keeps F.AtStart includes choice hit = true
 keeps F.AtEnd includes choice hit = true
 keeps F.EntireContent includes choice hit = true
 
--- the includes behind a filter: a window and a distance leave the joined hit alone
+-- the includes after a filter: a window and a distance leave the joined hit alone
 abbrev pub after : Filter → List Hit → List Hit
 after F.Ordered includes = includes
 after (F.Window size kind) includes = option_to_list (join includes)
@@ -74,7 +74,7 @@ after F.AtStart includes = includes
 after F.AtEnd includes = includes
 after F.EntireContent includes = includes
 
--- a Match behind a filter, through a chosen window
+-- a Match after a filter, through a chosen window
 abbrev pub through : Filter → Match → Option Window → Match
 through kind m choice = record { includes = after kind m.includes; excludes = filter (keeps kind m.includes choice) m.excludes }
 

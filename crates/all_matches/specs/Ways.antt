@@ -46,16 +46,16 @@ way_includes (two_ways left right) = way_includes left ++ way_includes right
 way_includes (turned_about matches) = []
 way_includes (by_filter way kind choice) = after kind (way_includes way)
 
--- a Match behind a filter, whose includes in front of the filter are known
-abbrev pub behind_filter : Filter → List Hit → Option Window → Match → Match
-behind_filter kind includes choice m = record { includes = after kind includes; excludes = filter (keeps kind includes choice) m.excludes }
+-- a Match after a filter, whose includes before the filter are known
+abbrev pub after_filter : Filter → List Hit → Option Window → Match → Match
+after_filter kind includes choice m = record { includes = after kind includes; excludes = filter (keeps kind includes choice) m.excludes }
 
 -- the Matches that are made in a way
 abbrev pub made : Way → List Match
 made (one_hit hit) = match_of_hit hit ∷ []
 made (two_ways left right) = ft_and (made left) (made right)
 made (turned_about matches) = ft_not matches
-made (by_filter way kind choice) = map (behind_filter kind (way_includes way) choice) (made way)
+made (by_filter way kind choice) = map (after_filter kind (way_includes way) choice) (made way)
 
 -- the ways of mild not: those of the left side that stand out of each of the right side
 abbrev pub standing_out : List Way → List Way → List Way

@@ -1,6 +1,6 @@
 -- Windows (XQuery and XPath Full Text 3.0, section 4.2.7.7: ApplyFTWindow).
 -- A window of a size stands round the joined hit of the includes. Its numbers count as those of the hits do, and may be
--- below 1, since it may begin in front of the text.
+-- below 1, since it may begin before the text.
 use Rattle.std.specs.Prelude.{ℕ, suc, ◌+◌, ◌-◌, ℤ, pos, ◌+ℤ◌, ◌-ℤ◌, int_le, Bool, false, ◌&&◌, nat_lt, List, [], map, Option, Some, None}
 use Rattle.std.specs.List.{range_with_len}
 use Rattle.ft_base.specs.declared.hit.Hit.{Hit}

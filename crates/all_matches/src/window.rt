@@ -1,7 +1,7 @@
 /// A window, from one number of a word, a sentence or a paragraph to another, which belongs to it.
 ///
-/// Words, sentences and paragraphs count from 1. A window may begin in front of the text, at a number below 1, and end
-/// behind it.
+/// Words, sentences and paragraphs count from 1. A window may begin before the text, at a number below 1, and end
+/// after it.
 #[derive(Clone, Copy, PartialEq, Eq)]
 pub struct Window {
     pub from: i64,

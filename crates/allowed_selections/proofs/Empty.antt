@@ -9,7 +9,7 @@ pub parts_empty : {A : Type 0} (xs ys : List A) → xs ++ ys ≡ [] → (xs ≡ 
 parts_empty [] ys h = (refl, h)
 parts_empty (x ∷ xs) ys h = cc
 
--- what selections hold, where some of them stand behind others
+-- what selections hold, where some of them stand after others
 pub none_in : (places : Tree → List ℕ) (xs ys : List Tree) → flat_map places (xs ++ ys) ≡ [] → (flat_map places xs ≡ []) × (flat_map places ys ≡ [])
 none_in places xs ys h = parts_empty (flat_map places xs) (flat_map places ys) (sym (flat_map-append places xs ys) ∙ h)
 

@@ -4,7 +4,7 @@ use std::alloc::Global;
 use std::process::Abort;
 use std::test::Fail;
 
-/// Reads the fragment, and compares what is printed of its nodes, with a bar behind each, or the place of its fault.
+/// Reads the fragment, and compares what is printed of its nodes, with a bar after each, or the place of its fault.
 fn expect_fragment(
     rt: &impl Abort,
     alloc: Global,

@@ -7,7 +7,7 @@ use std::alloc::Global;
 use std::process::Abort;
 use std::test::Fail;
 
-/// A text, the place from which it is read, and what comes of it: the place behind the selection and its printed form, or the refusal.
+/// A text, the place from which it is read, and what comes of it: the place after the selection and its printed form, or the refusal.
 type PrefixRow = (&'static str, usize, &'static str);
 
 // The selection is read, and no further.
@@ -173,8 +173,8 @@ fn prefixes_that_are_no_selections_are_refused(rt: HostRuntime) -> Result<(), Fa
 
 /// Compares the refusal of a text with repeated pieces.
 fn expect_deep(rt: &impl Abort, alloc: Global, row: DeepRow) -> Result<(), Fail> {
-    let (before, count, piece, behind, from, expected) = row;
-    let text = repeated(alloc, before, count, piece, behind)?;
+    let (before, count, piece, suffix, from, expected) = row;
+    let text = repeated(alloc, before, count, piece, suffix)?;
     expect_prefix(rt, alloc, text.as_str(), from, expected)
 }
 
@@ -191,17 +191,17 @@ fn what_is_limited_in_a_prefix_has_its_place(rt: HostRuntime) -> Result<(), Fail
     expect_all_deep(&rt, rt.alloc(), &DEEP)
 }
 
-/// Compares the place behind the selection with which the text begins.
+/// Compares the place after the selection with which the text begins.
 fn expect_place(rt: &impl Abort, alloc: Global, text: &str, place: usize) {
     assert!(rt; text.is_char_boundary(0));
-    let behind = match read_prefix(alloc, text, 0) {
-        Ok((selection, behind)) => {
+    let end = match read_prefix(alloc, text, 0) {
+        Ok((selection, end)) => {
             std::mem::drop(selection);
-            Some(behind)
+            Some(end)
         }
         Err(_fault) => None,
     };
-    assert!(rt; behind == Some(place), "{text}");
+    assert!(rt; end == Some(place), "{text}");
 }
 
 #[test]

@@ -50,7 +50,7 @@ const REWRITTEN: [RewrittenRow; 10] = [
     ),
 ];
 
-/// A text, a piece that stands behind it so many times, and what stands behind these.
+/// A text, a piece that stands after it so many times, and what stands after these.
 type RepeatedRow = (&'static str, usize, &'static str, &'static str);
 
 // Filters that stand directly round one another are 64 at most. Other forms part them, and parentheses without options don't.
@@ -61,7 +61,7 @@ const READ: [RepeatedRow; 4] = [
     (r#"("a""#, 64, " ordered", r#") ftor "b" ordered"#),
 ];
 
-/// How many parentheses stand round a text, the text, and what stands behind.
+/// How many parentheses stand round a text, the text, and what stands after.
 type NestedRow = (usize, &'static str, &'static str);
 
 // The same for levels of parentheses, those of stop words among them.
@@ -128,8 +128,8 @@ fn expect_rewritten(rt: &impl Abort, alloc: Global, rows: &[RewrittenRow]) -> Re
 /// The same for texts with repeated pieces, which are read.
 fn expect_all_read(rt: &impl Abort, alloc: Global, rows: &[RepeatedRow]) -> Result<(), Fail> {
     for row in rows {
-        let (before, count, piece, behind) = *row;
-        let text = repeated(alloc, before, count, piece, behind)?;
+        let (before, count, piece, suffix) = *row;
+        let text = repeated(alloc, before, count, piece, suffix)?;
         expect_read(rt, alloc, text.as_str());
     }
     Ok(())
@@ -138,9 +138,9 @@ fn expect_all_read(rt: &impl Abort, alloc: Global, rows: &[RepeatedRow]) -> Resu
 /// The same for texts in parentheses.
 fn expect_all_nested(rt: &impl Abort, alloc: Global, rows: &[NestedRow]) -> Result<(), Fail> {
     for row in rows {
-        let (count, inside, behind) = *row;
+        let (count, inside, suffix) = *row;
         let prefix = repeated(alloc, "", count, "(", inside)?;
-        let text = repeated(alloc, prefix.as_str(), count, ")", behind)?;
+        let text = repeated(alloc, prefix.as_str(), count, ")", suffix)?;
         expect_read(rt, alloc, text.as_str());
     }
     Ok(())

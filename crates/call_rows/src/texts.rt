@@ -4,7 +4,7 @@ use ft_base::{Line, Memory, QueryFault};
 use session_text::{Refusal, Reply, print_reply};
 use std::alloc::{AllocError, Global};
 
-/// The texts, one behind the other.
+/// The texts, one after the other.
 pub fn joined(alloc: Global, parts: &[&str]) -> Result<String, AllocError> {
     let mut text = String::new(alloc);
     for part in parts {
@@ -19,13 +19,13 @@ pub fn repeated(
     before: &str,
     count: usize,
     piece: &str,
-    behind: &str,
+    suffix: &str,
 ) -> Result<String, AllocError> {
     let mut text = String::from_str(alloc, before)?;
     for _ in 0..count {
         text.push_str(piece)?;
     }
-    text.push_str(behind)?;
+    text.push_str(suffix)?;
     Ok(text)
 }
 

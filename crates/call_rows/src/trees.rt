@@ -62,7 +62,7 @@ fn tree_of(alloc: Global, text: &str) -> Result<DocTree, Fail> {
     Ok(DocTree::from_doc(alloc, &doc)?)
 }
 
-/// A node: its number; the name of an element; its parent, its first child and the sibling behind it; the positions of its words;
+/// A node: its number; the name of an element; its parent, its first child and the sibling after it; the positions of its words;
 /// its place; and what is printed of it.
 struct Node {
     number: u32,
@@ -118,8 +118,8 @@ fn is_placed(alloc: Global, tree: &DocTree, node: NodeRef, wanted: &Node) -> Res
     Ok(place.as_slice() == wanted.place && line.as_str() == wanted.printed)
 }
 
-/// The node behind a node in document order.
-fn behind(tree: &DocTree, node: NodeRef) -> Option<NodeRef>
+/// The node after a node in document order.
+fn following(tree: &DocTree, node: NodeRef) -> Option<NodeRef>
     requires { Contains (references tree.now.root) node }
     ensures { IfSome result (Contains (references tree.now.root)) }
 {
@@ -148,7 +148,7 @@ fn has_nodes(alloc: Global, tree: &DocTree, wanted: &[Node]) -> Result<bool, Fai
                 if !stands_so(tree, node, row) || !is_placed(alloc, tree, node, row)? {
                     return Ok(false);
                 }
-                link = behind(tree, node);
+                link = following(tree, node);
             }
             None => return Ok(false),
         }
@@ -239,7 +239,7 @@ fn an_element_has_its_attributes(rt: HostRuntime) -> Result<(), Fail> {
     Ok(())
 }
 
-/// A text: its leaf, the leaf in front of it, and its words.
+/// A text: its leaf, the leaf before it, and its words.
 type Leaf = (u32, Option<u32>, &'static [&'static str]);
 
 fn leaf_number(leaf: Option<LeafId>) -> Option<u32> {

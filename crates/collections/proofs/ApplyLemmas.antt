@@ -1,4 +1,4 @@
--- Documents with their version, one after the other of which is put as it is behind an edit.
+-- Documents with their version, one after the other of which is put as it is after an edit.
 use Rattle.std.proofs.Common.{◌≡◌, ◌∙◌, subst, sym, ap, refl, ℕ, ◌+◌, ◌-◌, ◌<◌, ◌≤◌, arith, true, false, Bool, cond, ◌||◌, ◌==◌, List, [], ◌∷◌, ◌++◌, length, length-append, map, drop, append_assoc, Option, Some, None}
 use Rattle.std.specs.Prelude.{nat_lt}
 use Rattle.std.specs.List.{list_any}
@@ -76,16 +76,16 @@ module _ (name : List ℕ) (doc : DocId) (before after : Stored) where
       ∙ (cond-false (doc.0 == first.doc.0) (new ∷ ds) (d ∷ with_document new ds) (ne_eqb doc.0 first.doc.0 (λ same. omega (arith, low, same)))
       ∙ ap (λ l. d ∷ l) (with-at (first.doc.0 + 1) es rest to up.1))
 
-  pub numbered-behind : (draft : Draft) (es rest : Entries) (version next_version : List Numbered) (next : ℕ) → after.root ≡ ref_node draft.root
+  pub numbered-ahead : (draft : Draft) (es rest : Entries) (version next_version : List Numbered) (next : ℕ) → after.root ≡ ref_node draft.root
       → next_version ≡ with_document (under_tree (doc.0, ref_node draft.root)) version → IsNumbered (es ++ was ∷ rest) version next → IsNumbered (es ++ is ∷ rest) next_version next
-  numbered-behind draft es rest version next_version next root made held = record {
+  numbered-ahead draft es rest version next_version next root made held = record {
     ascend = ascend-at 0 es rest next held.ascend;
     follows = made
         ∙ (ap (λ r. with_document (under_tree (doc.0, r)) version) (sym root)
         ∙ (ap (with_document (under_tree (doc.0, after.root))) held.follows ∙ with-at 0 es rest next held.ascend));
   }
 
--- the version follows a document that stands behind others
+-- the version follows a document that stands after others
 pub follows-at : (es : Entries) (name : List ℕ) (loaded : LoadedTree) (rest : Entries) (version : List Numbered) (next : ℕ) → IsNumbered (es ++ (name, loaded) ∷ rest) version next
     → Follows version loaded.doc.0 loaded.tree.root
 follows-at es name loaded rest version next held =
@@ -158,7 +158,7 @@ module _ (ps : List Planned) where
   pub limit-none : is_deep ≡ false → has_many ≡ false → is_long ≡ false → limit_of (map root_after ps) ≡ None
   limit-none d m l = limit-by ∙ (ap (λ t. by_tests t has_many is_long) d ∙ (ap (λ t. by_tests false t is_long) m ∙ ap (λ t. by_tests false false t) l))
 
--- ---- the documents behind those that were looked at
+-- ---- the documents after those that were looked at
 
 abbrev Lists : Type 0
 Lists = List (List NodeRef)
@@ -172,7 +172,7 @@ edited edit es lists = edited_documents edit (places es lists) (map to_document 
 abbrev words : Edit → Entries → Lists → ℕ
 words edit es lists = touched_in edit (places es lists) (map to_document es)
 
--- The roots behind the edit are those of the drafts.
+-- The roots after the edit are those of the drafts.
 pub roots-planned : (edit : Edit) (at : ℕ) (es : Entries) (lists : Lists) (ps : List Planned) → ArePlanned edit at es lists ps
     → map root_after ps ≡ changed_roots edit (places es lists) (map to_document es)
 roots-planned edit at [] lists ps plans = ap (map root_after) plans
@@ -180,7 +180,7 @@ roots-planned edit at (e ∷ es) [] ps plans = absurd plans
 roots-planned edit at (e ∷ es) ([] ∷ lists) ps plans = roots-planned edit (at + 1) es lists ps plans
 roots-planned edit at (e ∷ es) ((r ∷ refs) ∷ lists) [] plans = absurd plans
 roots-planned edit at (e ∷ es) ((r ∷ refs) ∷ lists) (p ∷ ps) plans =
-    ap (λ n. n ∷ map root_after ps) plans.1.0.behind
+    ap (λ n. n ∷ map root_after ps) plans.1.0.ahead
     ∙ ap (λ ns. edited_root edit (places_of e.1.tree.root (r ∷ refs)) (plain e.1.tree.root) ∷ ns) (roots-planned edit (at + 1) es lists ps plans.1.1)
 
 -- Where no draft is left the documents stay.
@@ -190,19 +190,19 @@ none-left edit at (e ∷ es) [] plans = absurd plans
 none-left edit at (e ∷ es) ([] ∷ lists) plans = ap (λ ds. to_document e ∷ ds) (none-left edit (at + 1) es lists plans)
 none-left edit at (e ∷ es) ((r ∷ refs) ∷ lists) plans = absurd plans
 
--- The document of the next draft stands behind some that stay.
+-- The document of the next draft stands after some that stay.
 pub record Reached (edit : Edit) (at : ℕ) (es : Entries) (lists : Lists) (p : Planned) (ps : List Planned) : Type 0 where
-  pub front : Entries
+  pub prefix : Entries
   pub name : List ℕ
   pub loaded : LoadedTree
   pub back : Entries
   pub refs : List NodeRef
   pub left : Lists
-  pub split : es ≡ front ++ (name, loaded) ∷ back
-  pub place : p.at ≡ at + length front
+  pub split : es ≡ prefix ++ (name, loaded) ∷ back
+  pub place : p.at ≡ at + length prefix
   pub drafted : IsDrafted edit loaded.tree.root refs p.draft
   pub planned : ArePlanned edit (p.at + 1) back left ps
-  pub after : edited edit es lists ≡ map to_document front ++ record { name = name; root = root_after p } ∷ edited edit back left
+  pub after : edited edit es lists ≡ map to_document prefix ++ record { name = name; root = root_after p } ∷ edited edit back left
   pub costs : words edit es lists ≡ touched loaded.tree.root (ref_node p.draft.root) + words edit back left
 
 pub reached : (edit : Edit) (at : ℕ) (es : Entries) (lists : Lists) (p : Planned) (ps : List Planned) → ArePlanned edit at es lists (p ∷ ps) → Reached edit at es lists p ps
@@ -213,7 +213,7 @@ reached edit at (e ∷ es) ([] ∷ lists) p ps plans =
     let place = later.place in
     let rest : words edit es lists ≡ touched later.loaded.tree.root (ref_node p.draft.root) + words edit later.back later.left = later.costs in
     record {
-      front = e ∷ later.front;
+      prefix = e ∷ later.prefix;
       name = later.name;
       loaded = later.loaded;
       back = later.back;
@@ -227,7 +227,7 @@ reached edit at (e ∷ es) ([] ∷ lists) p ps plans =
       costs = omega (arith, rest);
     }
 reached edit at (e ∷ es) ((r ∷ refs) ∷ lists) p ps plans = record {
-  front = [];
+  prefix = [];
   name = e.0;
   loaded = e.1;
   back = es;
@@ -237,7 +237,7 @@ reached edit at (e ∷ es) ((r ∷ refs) ∷ lists) p ps plans = record {
   place = let here = plans.0 in omega (arith, here);
   drafted = plans.1.0;
   planned = subst (λ k. ArePlanned edit (k + 1) es lists ps) (sym plans.0) plans.1.1;
-  after = ap (λ n. record { name = e.0; root = n } ∷ edited edit es lists) (sym plans.1.0.behind);
+  after = ap (λ n. record { name = e.0; root = n } ∷ edited edit es lists) (sym plans.1.0.ahead);
   costs = ap (λ n. n + words edit es lists) (sym plans.1.0.words);
 }
 
@@ -249,25 +249,25 @@ head-same x xs y ys both = let one : x ≡ y = cc in one
 tail-same : {X : Type 0} (x : X) (xs : List X) (y : X) (ys : List X) → x ∷ xs ≡ y ∷ ys → xs ≡ ys
 tail-same x xs y ys both = let one : xs ≡ ys = cc in one
 
--- another document in the place behind some
-set-behind : (es : Entries) (name : List ℕ) (before after : LoadedTree) (rest : Entries) → set_value_at (es ++ (name, before) ∷ rest) (length es) after ≡ es ++ (name, after) ∷ rest
-set-behind [] name before after rest = refl
-set-behind (e ∷ es) name before after rest = ap (λ fs. e ∷ fs) (set-behind es name before after rest)
+-- another document in the place after some
+set-ahead : (es : Entries) (name : List ℕ) (before after : LoadedTree) (rest : Entries) → set_value_at (es ++ (name, before) ∷ rest) (length es) after ≡ es ++ (name, after) ∷ rest
+set-ahead [] name before after rest = refl
+set-ahead (e ∷ es) name before after rest = ap (λ fs. e ∷ fs) (set-ahead es name before after rest)
 
 -- its tokens in place of those of before
-total-behind : (es : Entries) (name : List ℕ) (loaded : LoadedTree) (rest : Entries)
+total-ahead : (es : Entries) (name : List ℕ) (loaded : LoadedTree) (rest : Entries)
     → token_total (map to_document (es ++ (name, loaded) ∷ rest))
     ≡ token_total (map to_document (es ++ rest)) + length (tokens (plain loaded.tree.root))
-total-behind [] name loaded rest =
+total-ahead [] name loaded rest =
     let first = sum_by-cons (λ (d : Named). length (tokens d.root)) (to_document (name, loaded)) (map to_document rest) in omega (arith, first)
-total-behind (e ∷ es) name loaded rest =
-    let later = total-behind es name loaded rest in
+total-ahead (e ∷ es) name loaded rest =
+    let later = total-ahead es name loaded rest in
     let here = sum_by-cons (λ (d : Named). length (tokens d.root)) (to_document e) (map to_document (es ++ (name, loaded) ∷ rest)) in
     let there = sum_by-cons (λ (d : Named). length (tokens d.root)) (to_document e) (map to_document (es ++ rest)) in
     omega (arith, later, here, there)
 
 module _ (edit : Edit) (all : Entries) (targets : Lists) (version : List Numbered) (rows : ℕ) where
-  -- The documents in front of a place are as they are behind the edit, in the version too; those from it on are as they were, and the drafts that are left are theirs.
+  -- The documents before a place are as they are after the edit, in the version too; those from it on are as they were, and the drafts that are left are theirs.
   pub record Applied (now : Entries) (made : List Numbered) (counted now_rows : ℕ) (rest : List Planned) : Type 0 where
     pub done : Entries
     pub left : Entries
@@ -310,19 +310,19 @@ module _ (edit : Edit) (all : Entries) (targets : Lists) (version : List Numbere
     next = reached edit (length held.done) held.left held.lists p ps held.planned
 
     abbrev before : Entries
-    before = held.done ++ next.front
+    before = held.done ++ next.prefix
 
     now-is : now ≡ before ++ (next.name, next.loaded) ∷ next.back
-    now-is = held.split ∙ (ap (λ es. held.done ++ es) next.split ∙ sym (append_assoc held.done next.front ((next.name, next.loaded) ∷ next.back)))
+    now-is = held.split ∙ (ap (λ es. held.done ++ es) next.split ∙ sym (append_assoc held.done next.prefix ((next.name, next.loaded) ∷ next.back)))
 
     before-long : length before ≡ p.at
-    before-long = length-append held.done next.front ∙ sym next.place
+    before-long = length-append held.done next.prefix ∙ sym next.place
 
     from-place : drop p.at all ≡ (next.name, next.loaded) ∷ next.back
     from-place =
         ap (λ k. drop k all) next.place
-        ∙ (sym (drop-drop (length next.front) (length held.done) all)
-        ∙ (ap (drop (length next.front)) (held.suffix ∙ next.split) ∙ drop_at next.front ((next.name, next.loaded) ∷ next.back) (length next.front) refl))
+        ∙ (sym (drop-drop (length next.prefix) (length held.done) all)
+        ∙ (ap (drop (length next.prefix)) (held.suffix ∙ next.split) ∙ drop_at next.prefix ((next.name, next.loaded) ∷ next.back) (length next.prefix) refl))
 
     pub place-there : (p.at < length all) × (p.at < length now)
     place-there =
@@ -330,8 +330,8 @@ module _ (edit : Edit) (all : Entries) (targets : Lists) (version : List Numbere
         let long = length-drop p.at all in
         let split : length now ≡ length (before ++ (next.name, next.loaded) ∷ next.back) = ap length now-is in
         let parts = length-append before ((next.name, next.loaded) ∷ next.back) in
-        let front = before-long in
-        (omega (arith, some, long), omega (arith, split, parts, front))
+        let prefix = before-long in
+        (omega (arith, some, long), omega (arith, split, parts, prefix))
 
     module _ (name : List ℕ) (document : LoadedTree) (found : drop p.at all ≡ (name, document) ∷ drop (p.at + 1) all) where
       same-entry : ◌≡◌ {A = List ℕ × LoadedTree} (name, document) (next.name, next.loaded)
@@ -340,8 +340,8 @@ module _ (edit : Edit) (all : Entries) (targets : Lists) (version : List Numbere
       same-document : document ≡ next.loaded
       same-document = ap (λ (e : List ℕ × LoadedTree). e.1) same-entry
 
-      behind : drop (p.at + 1) all ≡ next.back
-      behind = tail-same (name, document) (drop (p.at + 1) all) (next.name, next.loaded) next.back (sym found ∙ from-place)
+      ahead : drop (p.at + 1) all ≡ next.back
+      ahead = tail-same (name, document) (drop (p.at + 1) all) (next.name, next.loaded) next.back (sym found ∙ from-place)
 
       pub next-follows : (number : ℕ) → IsNumbered all version number → Follows made document.doc.0 document.tree.root
       next-follows number numbered =
@@ -354,7 +354,7 @@ module _ (edit : Edit) (all : Entries) (targets : Lists) (version : List Numbere
 
       pub next-counted : length (tokens (plain document.tree.root)) ≤ counted
       next-counted =
-          let total = held.total ∙ (ap (λ es. token_total (map to_document es)) now-is ∙ total-behind before next.name next.loaded next.back) in
+          let total = held.total ∙ (ap (λ es. token_total (map to_document es)) now-is ∙ total-ahead before next.name next.loaded next.back) in
           let same = ap (λ (l : LoadedTree). length (tokens (plain l.tree.root))) same-document in
           omega (arith, total, same)
 
@@ -378,14 +378,14 @@ module _ (edit : Edit) (all : Entries) (targets : Lists) (version : List Numbere
           put.entries
           ∙ (ap (λ es. set_value_at es p.at (loaded_as document.doc put.tree)) now-is
           ∙ (ap (λ k. set_value_at (before ++ (next.name, old) ∷ next.back) k (loaded_as document.doc put.tree)) (sym before-long)
-          ∙ (set-behind before next.name old (loaded_as document.doc put.tree) next.back ∙ ap (λ d. before ++ (next.name, loaded_as d put.tree) ∷ next.back) doc_same))) in
+          ∙ (set-ahead before next.name old (loaded_as document.doc put.tree) next.back ∙ ap (λ d. before ++ (next.name, loaded_as d put.tree) ∷ next.back) doc_same))) in
           let joined : now' ≡ (before ++ new ∷ []) ++ next.back = changed ∙ sym (append_assoc before (new ∷ []) next.back) in
           let longer : length (before ++ new ∷ []) ≡ p.at + 1 = length-append before (new ∷ []) ∙ ap (λ k. k + 1) before-long in
           let place : made' ≡ with_document (under_tree (old.doc.0, ref_node p.draft.root)) made =
           version' ∙ ap (λ (d : DocId). with_document (under_tree (d.0, ref_node p.draft.root)) made) doc_same in
           let count : length (tokens (plain document.tree.root)) ≡ length (tokens (plain old.tree.root)) = ap (λ r. length (tokens (plain r))) root_same in
-          let before_total = held.total ∙ (ap (λ es. token_total (map to_document es)) now-is ∙ total-behind before next.name old next.back) in
-          let after_total = ap (λ es. token_total (map to_document es)) changed ∙ total-behind before next.name (loaded_as old.doc put.tree) next.back in
+          let before_total = held.total ∙ (ap (λ es. token_total (map to_document es)) now-is ∙ total-ahead before next.name old next.back) in
+          let after_total = ap (λ es. token_total (map to_document es)) changed ∙ total-ahead before next.name (loaded_as old.doc put.tree) next.back in
           let new_count : length (tokens (plain put.tree.root)) ≡ length (tokens (root_after p)) = ap (λ r. length (tokens (plain r))) put.root in
           let touch : touched document.tree.root (ref_node p.draft.root) ≡ touched old.tree.root (ref_node p.draft.root) = ap (λ r. touched r (ref_node p.draft.root)) root_same in
           let parts = next.costs in
@@ -395,17 +395,17 @@ module _ (edit : Edit) (all : Entries) (targets : Lists) (version : List Numbere
             left = next.back;
             lists = next.left;
             split = joined;
-            suffix = ap (λ k. drop k all) longer ∙ behind;
+            suffix = ap (λ k. drop k all) longer ∙ ahead;
             planned = subst (λ k. ArePlanned edit k next.back next.left ps) (sym longer) next.planned;
             numbered = λ number numbered.
                 subst (λ es. IsNumbered es made' number) (sym changed)
-                (numbered-behind next.name old.doc old.tree put.tree p.draft before next.back made made' number put.root place
+                (numbered-ahead next.name old.doc old.tree put.tree p.draft before next.back made made' number put.root place
                 (subst (λ es. IsNumbered es made number) now-is (held.numbered number numbered)));
             after = ap (λ ds. ds ++ edited edit next.back next.left) (map-append to_document before (new ∷ []))
                 ∙ (append_assoc (map to_document before) (to_document new ∷ []) (edited edit next.back next.left)
-                ∙ (ap (λ ds. ds ++ to_document new ∷ edited edit next.back next.left) (map-append to_document held.done next.front)
-                ∙ (append_assoc (map to_document held.done) (map to_document next.front) (to_document new ∷ edited edit next.back next.left)
-                ∙ (ap (λ r. map to_document held.done ++ (map to_document next.front ++ record { name = next.name; root = plain r } ∷ edited edit next.back next.left)) put.root
+                ∙ (ap (λ ds. ds ++ to_document new ∷ edited edit next.back next.left) (map-append to_document held.done next.prefix)
+                ∙ (append_assoc (map to_document held.done) (map to_document next.prefix) (to_document new ∷ edited edit next.back next.left)
+                ∙ (ap (λ r. map to_document held.done ++ (map to_document next.prefix ++ record { name = next.name; root = plain r } ∷ edited edit next.back next.left)) put.root
                 ∙ (ap (λ ds. map to_document held.done ++ ds) (sym next.after) ∙ held.after)))));
             total = omega (arith, words', count, before_total, after_total, new_count);
             most = omega (arith, most, touch, parts, whole);

@@ -1,4 +1,4 @@
--- What an edit answers: the limit that is exceeded, or the documents behind it.
+-- What an edit answers: the limit that is exceeded, or the documents after it.
 use Rattle.std.proofs.Common.{◌≡◌, ◌∙◌, sym, ap, ℕ, List, Some, None}
 use Rattle.path_meaning.specs.Collection.{Named}
 use Rattle.session_text.specs.declared.reply.LimitOf.{LimitOf}

@@ -21,7 +21,7 @@ differs-turned a b differs = elim (cases_Bool (bytes_eq b a)) [
   | inr differs ↦ differs
 ]
 
--- a name that stands behind others isn't one of them, where no name stands twice
+-- a name that stands after others isn't one of them, where no name stands twice
 new-name : (names : List (List ℕ)) (name : List ℕ) (rest : List (List ℕ)) → IsDistinct bytes_eq (names ++ name ∷ rest) → list_any (bytes_eq name) names ≡ false
 unfolding IsDistinct
 new-name [] name rest apart = refl
@@ -29,7 +29,7 @@ new-name (other ∷ names) name rest apart =
     or_from (bytes_eq name other) (list_any (bytes_eq name) names) (differs-turned other name (all-at (λ n. bytes_eq other n ≡ false) names name rest apart.0))
     (new-name names name rest apart.1)
 
--- the next name is put behind those that were put already
+-- the next name is put after those that were put already
 pub put-next : (all done done' : List (List ℕ)) (at : ℕ) (next name : List ℕ) → IsDistinct bytes_eq all → done ≡ take at all → at < length all → next ≡ get_or all at next → name ≡ next
     → done' ≡ insert_key bytes_eq done name → done' ≡ take (at + 1) all
 put-next all done done' at next name apart before there chosen same made =
@@ -41,6 +41,6 @@ put-next all done done' at next name apart before there chosen same made =
     ∙ (ap (λ t. cond t (take at all) (take at all ++ next ∷ [])) none
     ∙ sym (take_more all at next there ∙ ap (λ n. take at all ++ n ∷ []) (sym chosen)))))
 
--- a new name is put behind the others
+-- a new name is put after the others
 pub put-new : (names done done' : List (List ℕ)) (name : List ℕ) → done ≡ names → list_any (bytes_eq name) names ≡ false → done' ≡ insert_key bytes_eq done name → done' ≡ names ++ name ∷ []
 put-new names done done' name same none made = made ∙ (ap (λ ns. insert_key bytes_eq ns name) same ∙ ap (λ t. cond t names (names ++ name ∷ [])) none)

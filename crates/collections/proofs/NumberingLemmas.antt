@@ -63,7 +63,7 @@ absent from ((name, first) ∷ rest) to id up less =
     let below = ascend-most (first.doc.0 + 1) rest to up.1 in
     or_from (first.doc.0 == id) (has_document id (followed rest)) (ne_eqb first.doc.0 id (λ is. omega (arith, below, less, is))) (absent (first.doc.0 + 1) rest to id up.1 less)
 
--- the document of the next one stands behind all
+-- the document of the next one stands after all
 pub with-last : (from : ℕ) (es : Entries) (to : ℕ) (new : Numbered) → Ascend from es to → new.id ≡ to → with_document new (followed es) ≡ followed es ++ new ∷ []
 with-last from [] to new up is = refl
 with-last from ((name, first) ∷ rest) to new up is =
@@ -196,25 +196,25 @@ follows-first id root rest = record {
   document = cond-true (id == id) (tree_document root) (document_at id rest) (eq-eqb id id refl);
 }
 
-follows-behind : (d : Numbered) (rest : List Numbered) (id : ℕ) (root : tree.Numbered) → d.id ≢ id → Follows rest id root → Follows (d ∷ rest) id root
-follows-behind d rest id root apart follows = record {
+follows-ahead : (d : Numbered) (rest : List Numbered) (id : ℕ) (root : tree.Numbered) → d.id ≢ id → Follows rest id root → Follows (d ∷ rest) id root
+follows-ahead d rest id root apart follows = record {
   there = or_right (d.id == id) (has_document id rest) follows.there;
   document = cond-false (d.id == id) d.document (document_at id rest) (ne_eqb d.id id apart) ∙ follows.document;
 }
 
-all-behind : (d : Numbered) (version : List Numbered) (from : ℕ) (es : Entries) (to : ℕ) → d.id < from → Ascend from es to → FollowsEach version (trees_of es) → FollowsEach (d ∷ version) (trees_of es)
-all-behind d version from [] to less up all = tt
-all-behind d version from ((name, first) ∷ rest) to less up all =
+all-ahead : (d : Numbered) (version : List Numbered) (from : ℕ) (es : Entries) (to : ℕ) → d.id < from → Ascend from es to → FollowsEach version (trees_of es) → FollowsEach (d ∷ version) (trees_of es)
+all-ahead d version from [] to less up all = tt
+all-ahead d version from ((name, first) ∷ rest) to less up all =
     let low = up.0 in (
-      follows-behind d version first.doc.0 first.tree.root (λ same. omega (arith, low, less, same)) all.0,
-      all-behind d version (first.doc.0 + 1) rest to (omega (arith, low, less)) up.1 all.1,
+      follows-ahead d version first.doc.0 first.tree.root (λ same. omega (arith, low, less, same)) all.0,
+      all-ahead d version (first.doc.0 + 1) rest to (omega (arith, low, less)) up.1 all.1,
     )
 
 all-followed : (from : ℕ) (es : Entries) (to : ℕ) → Ascend from es to → FollowsEach (followed es) (trees_of es)
 all-followed from [] to up = tt
 all-followed from ((name, first) ∷ rest) to up = (
   follows-first first.doc.0 first.tree.root (followed rest),
-  all-behind (under_tree (tree_of (name, first))) (followed rest) (first.doc.0 + 1) rest to (omega arith) up.1 (all-followed (first.doc.0 + 1) rest to up.1),
+  all-ahead (under_tree (tree_of (name, first))) (followed rest) (first.doc.0 + 1) rest to (omega arith) up.1 (all-followed (first.doc.0 + 1) rest to up.1),
 )
 
 pub follows-each : (es : Entries) (version : List Numbered) (next : ℕ) → IsNumbered es version next → FollowsEach version (trees_of es)

@@ -36,7 +36,7 @@ with_few_tokens (Ok root) = if nat_lt max_tokens (length (tokens root)) then Err
 unfoldable pub loadable : List ℕ → Result Node Refusal
 loadable block = with_few_tokens (document_of block)
 
--- the documents with one more behind them
+-- the documents with one more after them
 abbrev pub added : List Named → List ℕ → Result Node Refusal → List Named × Reply
 added documents name (Err why) = (documents, Refused why)
 added documents name (Ok root) = (documents ++ record { name = name; root = root } ∷ [], Done)
@@ -76,18 +76,18 @@ pub record Edit : Type 0 where
   pub how : Option How
   pub content : Nodes
 
--- the root of a document behind an edit of its elements at these places
+-- the root of a document after an edit of its elements at these places
 abbrev pub edited_root : Edit → List (List ℕ) → Node → Node
 edited_root edit [] root = root
 edited_root edit (place ∷ rest) root = edited edit.how edit.content (place ∷ rest) root
 
--- documents behind an edit, of each of which the places are told, in order
+-- documents after an edit, of each of which the places are told, in order
 abbrev pub edited_documents : Edit → List (List (List ℕ)) → List Named → List Named
 edited_documents edit [] documents = documents
 edited_documents edit (places ∷ rest) [] = []
 edited_documents edit (places ∷ rest) (d ∷ ds) = record { name = d.name; root = edited_root edit places d.root } ∷ edited_documents edit rest ds
 
--- the roots, behind the edit, of the documents that it changes
+-- the roots, after the edit, of the documents that it changes
 abbrev pub changed_root : Edit → List (List ℕ) → Node → List Node
 changed_root edit [] root = []
 changed_root edit (place ∷ rest) root = edited_root edit (place ∷ rest) root ∷ []
@@ -109,7 +109,7 @@ abbrev pub or_limited : List Named → Option LimitOf → List Named → List Na
 or_limited before (Some what) after = (before, Some what)
 or_limited before None after = (after, None)
 
--- documents behind an edit, unless one would exceed a limit; then they stay as they are
+-- documents after an edit, unless one would exceed a limit; then they stay as they are
 unfoldable pub edited_within : Edit → List (List (List ℕ)) → List Named → List Named × Option LimitOf
 edited_within edit places documents = or_limited documents (limit_of (changed_roots edit places documents)) (edited_documents edit places documents)
 

@@ -32,7 +32,7 @@ pub(crate) struct Edited {
     pub(crate) tokens: usize,
 }
 
-/// The documents behind the edit for which drafts of them were planned, with their version. None of the drafts exceeds a limit.
+/// The documents after the edit for which drafts of them were planned, with their version. None of the drafts exceeds a limit.
 /// The documents that the edit leaves are shared.
 pub(crate) fn apply_all<L: Ledger>(
     alloc: Global,

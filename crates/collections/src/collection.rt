@@ -144,7 +144,7 @@ impl Collection {
         self.version.key_count()
     }
 
-    /// Puts the document that the block is behind those that are there, unless its name is taken, there are as many as
+    /// Puts the document that the block is after those that are there, unless its name is taken, there are as many as
     /// there may be, or the block is none that can be loaded.
     pub fn load<L: Ledger>(
         &mut self,
@@ -173,7 +173,7 @@ impl Collection {
         }
     }
 
-    /// Puts a document behind the others, under the next number.
+    /// Puts a document after the others, under the next number.
     fn add<L: Ledger>(
         &mut self,
         name: Line,

@@ -106,7 +106,7 @@ impl Documents {
         }
     }
 
-    /// The document at that place, counted from 0, with its name; the others that are behind it come next.
+    /// The document at that place, counted from 0, with its name; the others that are after it come next.
     pub(crate) fn entry(&self, at: usize) -> (&Line, &Loaded)
         requires { at < length self.now }
         ensures { drop at self.now ≡ (result.0.now, result.1.now) ∷ drop (at + 1) self.now }
@@ -114,7 +114,7 @@ impl Documents {
         (&self.names.as_slice()[at], self.loaded.get(at))
     }
 
-    /// Puts a document with a new name behind the others.
+    /// Puts a document with a new name after the others.
     pub(crate) fn push(&mut self, alloc: Global, name: Line, document: Loaded) -> Result<(), Memory>
         requires { lookup (bytes_eq name) self.old ≡ None }
         ensures ok { OnOk result (self.new ≡ self.old ++ (name, document) ∷ []) }
@@ -168,7 +168,7 @@ impl Documents {
     }
 }
 
-/// These documents and one more behind them.
+/// These documents and one more after them.
 fn with_one_more(loaded: &Ordered, document: Loaded) -> Result<Ordered, Memory>
     ensures { IfOk result (λ more. more ≡ loaded.now ++ document ∷ []) }
 {

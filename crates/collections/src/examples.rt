@@ -14,7 +14,7 @@ pub fn named_documents()
     ensures nothing_gone { without (codes "c") (first_named ∷ second_named ∷ []) ≡ first_named ∷ second_named ∷ [] }
 {}
 
-/// An edit of the second of three documents leaves the others; the places of those behind may be left out.
+/// An edit of the second of three documents leaves the others; the places of those after may be left out.
 pub fn edits_of_documents()
     ensures edited { edited_documents deletion ([] ∷ ((1 ∷ []) ∷ []) ∷ []) (first_named ∷ second_named ∷ last_named ∷ [])
         ≡ first_named ∷ record { name = codes "b"; root = bare } ∷ last_named ∷ [] }

@@ -1,4 +1,4 @@
-//! Whether documents would exceed a limit behind an edit.
+//! Whether documents would exceed a limit after an edit.
 
 ghost use Rattle.std.specs.Prelude.{◌≡◌, length, map, nat_lt};
 ghost use Rattle.std.specs.List.{list_any};
@@ -27,7 +27,7 @@ pub(crate) fn exceeded(planned: &[Planned]) -> Option<LimitOf>
     }
 }
 
-/// Whether one of the documents has too many levels of elements behind the edit.
+/// Whether one of the documents has too many levels of elements after the edit.
 fn any_too_deep(planned: &[Planned]) -> bool
     ensures { result ≡ list_any (λ p. nat_lt max_depth (height (root_after p))) planned.now }
 {
@@ -48,7 +48,7 @@ fn any_with_too_many_tokens(planned: &[Planned]) -> bool
     planned.iter().any(|one| has_too_many_tokens(one))
 }
 
-/// Whether the document has too many levels of elements behind the edit.
+/// Whether the document has too many levels of elements after the edit.
 fn is_too_deep(planned: &Planned) -> bool
     ensures { result ≡ nat_lt max_depth (height (root_after planned.now)) }
 {

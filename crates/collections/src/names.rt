@@ -66,7 +66,7 @@ impl Names {
         Ok(Names { table })
     }
 
-    /// Puts a name that isn't among them behind the last one. Names that others share are copied first, so that they keep theirs.
+    /// Puts a name that isn't among them after the last one. Names that others share are copied first, so that they keep theirs.
     pub(crate) fn push(&mut self, alloc: Global, name: Line) -> Result<(), Memory>
         requires { list_any (bytes_eq name) self.old ≡ false }
         ensures ok { OnOk result (self.new ≡ self.old ++ name ∷ []) }
@@ -94,7 +94,7 @@ impl Names {
     }
 }
 
-/// Puts a new name behind the others of a table that may be shared.
+/// Puts a new name after the others of a table that may be shared.
 fn push_shared(alloc: Global, table: &mut Rc<IndexSet<Line>>, name: Line) -> Result<(), Memory>
     requires { list_any (bytes_eq name) table.old.value.keys ≡ false }
     ensures ok { OnOk result (table.new.value.keys ≡ table.old.value.keys ++ name ∷ []) }

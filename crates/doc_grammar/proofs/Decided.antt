@@ -114,15 +114,15 @@ pub lines-plain : (u : List ℕ) → no_return u ≡ true → lines_from false u
 lines-plain [] h = refl
 lines-plain (c ∷ u) h = let two = not_and _ _ h in lines-kept false c u two.0 (and-false (c == 10)) ∙ ap (λ z. c ∷ z) (lines-plain u two.1)
 
--- a text that leads on as u does, also behind a carriage return
-behind : Bool → List ℕ → List ℕ
-behind true u = 10 ∷ u
-behind false u = u
+-- a text that leads on as u does, also after a carriage return
+suffix : Bool → List ℕ → List ℕ
+suffix true u = 10 ∷ u
+suffix false u = u
 
-lines-behind : (b : Bool) (u : List ℕ) → no_return u ≡ true → lines_from b (behind b u) ≡ u
-unfolding behind
-lines-behind true u h = lines-plain u h
-lines-behind false u h = lines-plain u h
+lines-suffix : (b : Bool) (u : List ℕ) → no_return u ≡ true → lines_from b (suffix b u) ≡ u
+unfolding suffix
+lines-suffix true u h = lines-plain u h
+lines-suffix false u h = lines-plain u h
 
 pub read_spelled : (kind : Kind) (text : List ℕ) (s : State) → read kind text ≡ Some s → Spelled (with_line_ends text) s
 read_spelled Kind.document text s e = document_spelled (with_line_ends text) s e
@@ -203,8 +203,8 @@ read-append kind u v = ap (λ z. run_on (Some (start (outer_of kind))) z) (lines
 pub read_begins : (kind : Kind) (text : List ℕ) (s : State) → read kind text ≡ Some s → Begins kind text
 read_begins kind text s e =
     let f = state_finishes (read_spelled kind text s e) in
-    let rest = behind (returned false text) f.rest in
-    let last : read kind (text ++ rest) ≡ Some f.last = read-append kind text rest ∙ ap (λ o. run_on o (lines_from (returned false text) rest)) e ∙ ap (λ z. run_on (Some s) z) (lines-behind (returned false text) f.rest f.is_plain) ∙ f.runs.ends in
+    let rest = suffix (returned false text) f.rest in
+    let last : read kind (text ++ rest) ≡ Some f.last = read-append kind text rest ∙ ap (λ o. run_on o (lines_from (returned false text) rest)) e ∙ ap (λ z. run_on (Some s) z) (lines-suffix (returned false text) f.rest f.is_plain) ∙ f.runs.ends in
     (rest, f.nodes, read_spells kind (text ++ rest) f.last f.nodes last f.is_finished)
 
 -- and what it refuses begins none

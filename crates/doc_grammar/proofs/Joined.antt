@@ -16,26 +16,26 @@ pub record Joined (ks : List Node) : Type 0 where
   pub joined : are_joined (nodes ks) ≡ true
   pub ends : ends_with_text ks ≡ false
 
-element_behind : (ks : List Node) (n : Node) → are_joined (nodes ks) ≡ true → is_joined n ≡ true → is_text n ≡ false → are_joined (nodes (ks ++ n ∷ [])) ≡ true
-element_behind [] n h j t = and_from _ _ (and_from _ _ j (ap (λ b. not (b && false)) t)) refl
-element_behind (k ∷ []) n h j t = let two = and_parts _ _ h in and_from _ _ (and_from _ _ (and_parts _ _ two.0).0 (ap (λ b. not (is_text k && b)) t ∙ ap not (and-false (is_text k)))) (element_behind [] n refl j t)
-element_behind (k ∷ l ∷ ks) n h j t = let two = and_parts _ _ h in and_from _ _ two.0 (element_behind (l ∷ ks) n two.1 j t)
+element_following : (ks : List Node) (n : Node) → are_joined (nodes ks) ≡ true → is_joined n ≡ true → is_text n ≡ false → are_joined (nodes (ks ++ n ∷ [])) ≡ true
+element_following [] n h j t = and_from _ _ (and_from _ _ j (ap (λ b. not (b && false)) t)) refl
+element_following (k ∷ []) n h j t = let two = and_parts _ _ h in and_from _ _ (and_from _ _ (and_parts _ _ two.0).0 (ap (λ b. not (is_text k && b)) t ∙ ap not (and-false (is_text k)))) (element_following [] n refl j t)
+element_following (k ∷ l ∷ ks) n h j t = let two = and_parts _ _ h in and_from _ _ two.0 (element_following (l ∷ ks) n two.1 j t)
 
-ends_behind : (ks : List Node) (n : Node) → is_text n ≡ false → ends_with_text (ks ++ n ∷ []) ≡ false
+ends_after : (ks : List Node) (n : Node) → is_text n ≡ false → ends_with_text (ks ++ n ∷ []) ≡ false
 unfolding ends_with_text
-ends_behind [] n t = t
-ends_behind (k ∷ []) n t = t
-ends_behind (k ∷ l ∷ ks) n t = ends_behind (l ∷ ks) n t
+ends_after [] n t = t
+ends_after (k ∷ []) n t = t
+ends_after (k ∷ l ∷ ks) n t = ends_after (l ∷ ks) n t
 
-text_behind : (ks : List Node) (b : ℕ) (bytes : List ℕ) → are_joined (nodes ks) ≡ true → ends_with_text ks ≡ false → are_joined (nodes (ks ++ text (b ∷ bytes) ∷ [])) ≡ true
+text_after : (ks : List Node) (b : ℕ) (bytes : List ℕ) → are_joined (nodes ks) ≡ true → ends_with_text ks ≡ false → are_joined (nodes (ks ++ text (b ∷ bytes) ∷ [])) ≡ true
 unfolding ends_with_text
-text_behind [] b bytes h e = refl
-text_behind (k ∷ []) b bytes h e = let two = and_parts _ _ h in and_from _ _ (and_from _ _ (and_parts _ _ two.0).0 (ap (λ z. not (z && true)) e)) refl
-text_behind (k ∷ l ∷ ks) b bytes h e = let two = and_parts _ _ h in and_from _ _ two.0 (text_behind (l ∷ ks) b bytes two.1 e)
+text_after [] b bytes h e = refl
+text_after (k ∷ []) b bytes h e = let two = and_parts _ _ h in and_from _ _ (and_from _ _ (and_parts _ _ two.0).0 (ap (λ z. not (z && true)) e)) refl
+text_after (k ∷ l ∷ ks) b bytes h e = let two = and_parts _ _ h in and_from _ _ two.0 (text_after (l ∷ ks) b bytes two.1 e)
 
 with_text_node : (ks : List Node) (bytes : List ℕ) → Joined ks → are_joined (nodes (ks ++ text_node bytes)) ≡ true
 with_text_node ks [] j = ap (λ z. are_joined (nodes z)) (append-nil ks) ∙ j.joined
-with_text_node ks (b ∷ bytes) j = text_behind ks b bytes j.joined j.ends
+with_text_node ks (b ∷ bytes) j = text_after ks b bytes j.joined j.ends
 
 none_joined : Joined []
 unfolding ends_with_text
@@ -44,7 +44,7 @@ none_joined = record { joined = refl; ends = refl }
 mutual
   pub element_joined : {u : List ℕ} {n : Node} → Element u n → (is_joined n ≡ true) × (is_text n ≡ false)
   element_joined (Element.empty tag sp) = (refl, refl)
-  element_joined (Element.whole {bytes = bytes} {kids = kids} tag sp content cs e behind) = (with_text_node kids bytes (content_joined content), refl)
+  element_joined (Element.whole {bytes = bytes} {kids = kids} tag sp content cs e suffix) = (with_text_node kids bytes (content_joined content), refl)
 
   pub content_joined : {u bytes : List ℕ} {ks : List Node} → Content u ks bytes → Joined ks
   content_joined Content.nothing = none_joined
@@ -53,7 +53,7 @@ mutual
   content_joined (Content.skipped x s) = content_joined x
   content_joined (Content.child {bytes = bytes} {kids = kids} {node = n} x e) =
       let j = element_joined e in
-      record { joined = element_behind (kids ++ text_node bytes) n (with_text_node kids bytes (content_joined x)) j.0 j.1; ends = ends_behind (kids ++ text_node bytes) n j.1 }
+      record { joined = element_following (kids ++ text_node bytes) n (with_text_node kids bytes (content_joined x)) j.0 j.1; ends = ends_after (kids ++ text_node bytes) n j.1 }
 
 pub document_joined : {w : List ℕ} {n : Node} → Document w n → is_document n ≡ true
 document_joined (Document.document {node = n} x e y) = let j = element_joined e in and_from _ _ (ap not j.1) j.0

@@ -18,7 +18,7 @@ use Rattle.doc_grammar.proofs.Decided.{lines-return, lines-skipped, lines-kept, 
 pub at_read : (kind : Kind) (prefix : List ℕ) (p : Place) → At (with_line_ends prefix) p → bottom p.outer ≡ outer_of kind → read kind prefix ≡ Some (st p m.ready)
 at_read kind prefix p a e = ap (λ o. run_on (Some (start o)) (with_line_ends prefix)) (sym e) ∙ (at_runs a).ends
 
--- equal texts have the same fronts
+-- equal texts have the same prefixes
 pub same_prefix : (f g xs ys : List ℕ) → f ++ xs ≡ g ++ ys → length f ≡ length g → (f ≡ g) × (xs ≡ ys)
 same_prefix [] [] xs ys e h = (refl, e)
 same_prefix [] (y ∷ g) xs ys e h = absurd (omega arith)
@@ -73,7 +73,7 @@ raw_last b (c ∷ f) w e = go (c == 13) ((c == 10) && b) refl refl (raw_last tru
     go false true h k i j = last_skipped b c f w h k (j w (sym (lines-skipped b c f h k) ∙ e))
     go false false h k i j = last_kept b c f w h k j (sym (lines-kept b c f h k) ∙ e)
 
--- no limit was passed before the front; an element is noticed a character later
+-- no limit was passed before the prefix; an element is noticed a character later
 pub record Clean (max_depth max_nodes : ℕ) (kind : Kind) (whole prefix : List ℕ) : Type 0 where
   pub texts : (other : List ℕ) (p : Place) → TextBegins kind whole other p → max_nodes ≤ place_count p → length prefix ≤ length other
   pub elements : (other : List ℕ) (p : Place) → ElementBegins kind whole other p → ((max_depth ≤ depth p.outer) ⊎ (max_nodes ≤ place_count p)) → length prefix ≤ suc (length other)
@@ -87,12 +87,12 @@ pub record Checked (max_depth max_nodes : ℕ) (s : State) (b : Bool) (c : ℕ) 
   pub shallow : element_here s c ≡ true → depth s.place.outer < max_depth
   pub element_fits : element_here s c ≡ true → place_count s.place < max_nodes
 
--- where the machine stands behind a `<` between two items
+-- where the machine stands after a `<` between two items
 pub opened_read : (kind : Kind) (prefix : List ℕ) (p : Place) → read kind prefix ≡ Some (st p m.ready) → read kind (prefix ++ 60 ∷ []) ≡ Some (st p m.opened)
 unfolding step_at m.from_ready
 opened_read kind prefix p e = read-append kind prefix (60 ∷ []) ∙ ap (λ o. run_on o (lines_from (returned false prefix) (60 ∷ []))) e
 
--- a text that begins right behind the front begins where the machine stands
+-- a text that begins right after the prefix begins where the machine stands
 pub text_same : {kind : Kind} {whole other : List ℕ} {p : Place} (prefix : List ℕ) (c : ℕ) (more : List ℕ) (s : State) → whole ≡ prefix ++ c ∷ more → read kind prefix ≡ Some s → TextBegins kind whole other p → length prefix ≡ length other
     → (text_here s (returned false prefix) c ≡ true) × (s.place ≡ p)
 text_same {kind = kind} {other = other} {p = p} prefix c more s e r x h =
@@ -114,20 +114,20 @@ element_same {kind = kind} {other = other} {p = p} prefix c more s e r x h =
 one_longer : (prefix : List ℕ) (c : ℕ) → length (prefix ++ c ∷ []) ≡ suc (length prefix)
 one_longer prefix c = omega (arith, length-append prefix (c ∷ []))
 
-at_or_behind : (m n : ℕ) → m ≤ n → (m ≡ n → ⊥) → suc m ≤ n
-at_or_behind m n h k = omega (arith, k)
+at_or_after : (m n : ℕ) → m ≤ n → (m ≡ n → ⊥) → suc m ≤ n
+at_or_after m n h k = omega (arith, k)
 
--- a character behind a prefix up to which no limit is passed
+-- a character after a prefix up to which no limit is passed
 module _ (max_depth max_nodes : ℕ) (kind : Kind) (whole prefix : List ℕ) (c : ℕ) (more : List ℕ) (s : State) (clean : Clean max_depth max_nodes kind whole prefix) (e : whole ≡ prefix ++ c ∷ more) (r : read kind prefix ≡ Some s) where
   -- where it passes none, none is passed
   pub clean_further : Checked max_depth max_nodes s (returned false prefix) c → Clean max_depth max_nodes kind whole (prefix ++ c ∷ [])
   clean_further checked = record {
-    texts = λ other p x h. subst (λ (n : ℕ). n ≤ length other) (sym (one_longer prefix c)) (at_or_behind (length prefix) (length other) (clean.texts other p x h) (λ l.
+    texts = λ other p x h. subst (λ (n : ℕ). n ≤ length other) (sym (one_longer prefix c)) (at_or_after (length prefix) (length other) (clean.texts other p x h) (λ l.
         let same = text_same prefix c more s e r x l in
         let fits : place_count s.place < max_nodes = checked.text_fits same.0 in
         let full : max_nodes ≤ place_count s.place = subst (λ (q : Place). max_nodes ≤ place_count q) (sym same.1) h in
         absurd (omega arith)));
-    elements = λ other p x h. subst (λ (n : ℕ). n ≤ suc (length other)) (sym (one_longer prefix c)) (at_or_behind (length prefix) (suc (length other)) (clean.elements other p x h) (λ l.
+    elements = λ other p x h. subst (λ (n : ℕ). n ≤ suc (length other)) (sym (one_longer prefix c)) (at_or_after (length prefix) (suc (length other)) (clean.elements other p x h) (λ l.
         element_stops p h (element_same prefix c more s e r x l)));
   }
     where
@@ -146,7 +146,7 @@ module _ (max_depth max_nodes : ℕ) (kind : Kind) (whole prefix : List ℕ) (c 
   clean_keeps h other limit x = go x
     where
       later : (p : Place) → ElementBegins kind whole other p → ((max_depth ≤ depth p.outer) ⊎ (max_nodes ≤ place_count p)) → length prefix ≤ length other
-      later p y k = let lower = at_or_behind (length prefix) (suc (length other)) (clean.elements other p y k) (λ l. let same = element_same prefix c more s e r y l in let two : true ≡ false = sym same.0 ∙ h in cc) in omega arith
+      later p y k = let lower = at_or_after (length prefix) (suc (length other)) (clean.elements other p y k) (λ l. let same = element_same prefix c more s e r y l in let two : true ≡ false = sym same.0 ∙ h in cc) in omega arith
 
       go : {l : Limit} → Passes max_depth max_nodes kind whole other l → length prefix ≤ length other
       go (too_deep p y k) = later p y (inl k)

@@ -48,7 +48,7 @@ kind_is kind prefix s r = run_bottom (start (outer_of kind)) s (with_line_ends p
     same Kind.document = refl
     same Kind.fragment = refl
 
--- the front before a `<` that is under way
+-- the prefix before a `<` that is under way
 pub record Before (kind : Kind) (whole prefix : List ℕ) (s : State) : Type 0 where
   pub before : List ℕ
   pub spelled : prefix ≡ before ++ 60 ∷ []
@@ -192,7 +192,7 @@ taken_adds s t b c e = go (c == 13) ((c == 10) && b) refl refl
         let one : step s c ≡ Some t = sym (run_on-nil (step s c)) ∙ sym (ap (λ (cs : List ℕ). run_on (Some s) cs) (lines-kept b c [] h k)) ∙ e in
         step_adds s t c one ∙ ap (λ (x : Bool). begun s + one_if x) (kept_here s b c k)
 
--- between two items and behind a `<` every node that has begun is in its place
+-- between two items and after a `<` every node that has begun is in its place
 pub here_count : (s : State) (b : Bool) (c : ℕ) → node_here s b c ≡ true → begun s ≡ place_count s.place
 here_count s b c h = go (or_cases (text_here s b c) (element_here s c) h)
   where

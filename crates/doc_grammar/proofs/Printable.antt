@@ -48,21 +48,21 @@ are_chars {bytes = bytes} x =
 no_chars : Chars []
 no_chars = record { cs = []; spelled = refl; all = refl }
 
-all_behind : (p : ℕ → Bool) (cs : List ℕ) (c : ℕ) → list_all p cs ≡ true → p c ≡ true → list_all p (cs ++ c ∷ []) ≡ true
-all_behind p [] c h k = and_from _ _ k refl
-all_behind p (d ∷ cs) c h k = let two = and_parts _ _ h in and_from _ _ two.0 (all_behind p cs c two.1 k)
+all_after : (p : ℕ → Bool) (cs : List ℕ) (c : ℕ) → list_all p cs ≡ true → p c ≡ true → list_all p (cs ++ c ∷ []) ≡ true
+all_after p [] c h k = and_from _ _ k refl
+all_after p (d ∷ cs) c h k = let two = and_parts _ _ h in and_from _ _ two.0 (all_after p cs c two.1 k)
 
 one_more : {bytes : List ℕ} → Chars bytes → (c : ℕ) → is_char c ≡ true → Chars (bytes ++ encode_utf8 c)
-one_more x c h = record { cs = x.cs ++ c ∷ []; spelled = encodes-last x.cs c ∙ ap (λ z. z ++ encode_utf8 c) x.spelled; all = all_behind is_char x.cs c x.all h }
+one_more x c h = record { cs = x.cs ++ c ∷ []; spelled = encodes-last x.cs c ∙ ap (λ z. z ++ encode_utf8 c) x.spelled; all = all_after is_char x.cs c x.all h }
 
 -- names
 name_all : {u bytes : List ℕ} → Name u bytes → scalars u ≡ true
 name_all (Name.first c h) = and_from _ _ (start_scalar c h) refl
-name_all (Name.further {u = u} x c h) = scalars_behind u c (name_all x) (name_scalar c h)
+name_all (Name.further {u = u} x c h) = scalars_after u c (name_all x) (name_scalar c h)
   where
-    scalars_behind : (cs : List ℕ) (c : ℕ) → scalars cs ≡ true → scalar c ≡ true → scalars (cs ++ c ∷ []) ≡ true
-    scalars_behind [] c h k = and_from _ _ k refl
-    scalars_behind (d ∷ cs) c h k = let two = and_parts _ _ h in and_from _ _ two.0 (scalars_behind cs c two.1 k)
+    scalars_after : (cs : List ℕ) (c : ℕ) → scalars cs ≡ true → scalar c ≡ true → scalars (cs ++ c ∷ []) ≡ true
+    scalars_after [] c h k = and_from _ _ k refl
+    scalars_after (d ∷ cs) c h k = let two = and_parts _ _ h in and_from _ _ two.0 (scalars_after cs c two.1 k)
 
 is_name : {u bytes : List ℕ} → Name u bytes → IsName bytes
 is_name {u = u} {bytes = bytes} x = subst (λ z. Name z bytes) (sym (chars-encodes u (name_all x)) ∙ ap chars (name_bytes x)) x
@@ -94,16 +94,16 @@ value_chars (Value.reference {c = c} x r) = one_more (value_chars x) c (referenc
 attribute_is : {v : List ℕ} {a : Attr} → Attribute v a → IsName a.name × AreChars a.value
 attribute_is (Attribute.attribute n s t q h v) = (is_name n, are_chars (value_chars v))
 
-attribute_behind : (before attrs : List Attr) (a : Attr) → AreAttributes before attrs → IsName a.name → AreChars a.value → has_name a.name (before ++ attrs) ≡ false → AreAttributes before (attrs ++ a ∷ [])
-attribute_behind before [] a ok name value new = (name, value, ap (has_name a.name) (sym (append-nil before)) ∙ new, tt)
-attribute_behind before (b ∷ attrs) a ok name value new = (ok.0, ok.1, ok.2, attribute_behind (before ++ b ∷ []) attrs a ok.3 name value (ap (has_name a.name) (append_assoc before (b ∷ []) attrs) ∙ new))
+attribute_after : (before attrs : List Attr) (a : Attr) → AreAttributes before attrs → IsName a.name → AreChars a.value → has_name a.name (before ++ attrs) ≡ false → AreAttributes before (attrs ++ a ∷ [])
+attribute_after before [] a ok name value new = (name, value, ap (has_name a.name) (sym (append-nil before)) ∙ new, tt)
+attribute_after before (b ∷ attrs) a ok name value new = (ok.0, ok.1, ok.2, attribute_after (before ++ b ∷ []) attrs a ok.3 name value (ap (has_name a.name) (append_assoc before (b ∷ []) attrs) ∙ new))
 
 tag_is : {u name : List ℕ} {attrs : List Attr} → Tag u name attrs → IsName name × AreAttributes [] attrs
 tag_is (Tag.named n) = (is_name n, tt)
 tag_is (Tag.attribute {attrs = attrs} {a = a} tag s c h x new) =
     let before = tag_is tag in
     let one = attribute_is x in
-    (before.0, attribute_behind [] attrs a before.1 one.0 one.1 new)
+    (before.0, attribute_after [] attrs a before.1 one.0 one.1 new)
 
 -- content
 all_printable : (ks ls : List Node) → ArePrintable (nodes ks) → ArePrintable (nodes ls) → ArePrintable (nodes (ks ++ ls))

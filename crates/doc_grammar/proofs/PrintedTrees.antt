@@ -75,9 +75,9 @@ empty_regrouped u = ap (λ z. z ++ codes "/>") (append-nil u)
 whole_regrouped : (u v cs : List ℕ) → ((((((u ++ []) ++ codes ">") ++ v) ++ codes "</") ++ cs) ++ []) ++ codes ">" ≡ ((((u ++ codes ">") ++ v) ++ codes "</") ++ cs) ++ codes ">"
 whole_regrouped u v cs = simp append-nil
 
-behind_text : (b : Bool) → not (true && b) ≡ true → b ≡ false
-behind_text true h = cc
-behind_text false h = refl
+after_text : (b : Bool) → not (true && b) ≡ true → b ≡ false
+after_text true h = cc
+after_text false h = refl
 
 -- the parts of the test that texts are joined
 first_joined : (n : Node) (ns : Nodes) → are_joined (node_then n ns) ≡ true → (is_joined n ≡ true) × (not (is_text n && begins_with_text ns) ≡ true) × (are_joined ns ≡ true)
@@ -116,7 +116,7 @@ mutual
       let none = no_text bytes h in
       let spelled = text_printed (chars bs) ok.0.1 x in
       let is_text_bytes : bytes ++ encode_utf8_all (chars bs) ≡ bs = ap (λ z. z ++ encode_utf8_all (chars bs)) none ∙ encodes-chars bs ok.0.0 in
-      let rest = content_printed ns ok.1 parts.2 (subst (λ z. Content (u ++ printed (text bs)) kids z) is_text_bytes spelled) (inr (behind_text (begins_with_text ns) parts.1)) in
+      let rest = content_printed ns ok.1 parts.2 (subst (λ z. Content (u ++ printed (text bs)) kids z) is_text_bytes spelled) (inr (after_text (begins_with_text ns) parts.1)) in
       moved rest (append_assoc u (printed (text bs)) (printed_all ns)) (text_regrouped kids bs bytes (list_of ns) (text_node-some bs parts.0) none)
 
 pub document_printed : (n : Node) → IsPrintable n → is_document n ≡ true → Document (printed n) n

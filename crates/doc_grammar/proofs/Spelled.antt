@@ -53,13 +53,13 @@ pub record NamedPart (name : List ℕ) (attrs : List Attr) (attr : List ℕ) (u 
 pub record QuotePart (name : List ℕ) (attrs : List Attr) (attr : List ℕ) (quote : ℕ) (u : List ℕ) : Type 0 where
   pub named : List ℕ
   pub spaces : List ℕ
-  pub behind : List ℕ
+  pub suffix : List ℕ
   pub is_named : NamedPart name attrs attr named
   pub are_spaces : Spaces spaces
-  pub are_behind : Spaces behind
+  pub are_after : Spaces suffix
   pub is_new : has_name attr attrs ≡ false
   pub is_quoted : IsTrue (is_quote quote)
-  pub spelled : u ≡ (((named ++ spaces) ++ codes "=") ++ behind) ++ quote ∷ []
+  pub spelled : u ≡ (((named ++ spaces) ++ codes "=") ++ suffix) ++ quote ∷ []
 
 -- how the part of the markup that is under way is spelled so far
 abbrev pub Part : Place → Phase → List ℕ → Type 0

@@ -17,7 +17,7 @@ use Rattle.doc_grammar.proofs.Steps.{Reading, choose, stay, done, grown, literal
 enter_regrouped : (v t s : List ℕ) → ((((v ++ t) ++ s) ++ codes ">") ++ []) ≡ v ++ ((t ++ s) ++ codes ">")
 enter_regrouped v t s = simp (append-nil, append_assoc)
 
--- behind a name or an attribute, and white space
+-- after a name or an attribute, and white space
 tag_step : {p : Place} {v u w name : List ℕ} {attrs : List Attr} → Reading p v u w → (c : ℕ) → IsTrue (takes_element p) → (t s : List ℕ) → Tag t name attrs → Spaces s → u ≡ t ++ s → Next (w ++ c ∷ []) (m.from_tag p name attrs c)
 unfolding m.from_tag
 tag_step {p = p} {v = v} {name = name} {attrs = attrs} r c takes t s tag sp e =
@@ -60,9 +60,9 @@ attr_name_step {u = u} r name attrs attr c (takes, part) =
 
 pub equals_step : {p : Place} {v u w : List ℕ} → Reading p v u w → (name : List ℕ) (attrs : List Attr) (attr : List ℕ) (c : ℕ) → Part p (m.equals name attrs attr) u → Next (w ++ c ∷ []) (m.from_equals p name attrs attr c)
 unfolding m.from_equals
-equals_step r name attrs attr c (x, s, t, takes, part, sp, behind, new, e) =
-    choose (is_quote c) (λ h. stay r c (m.quoted name attrs attr c []) ((((x ++ s) ++ codes "=") ++ t) ++ c ∷ [], [], takes, record { named = x; spaces = s; behind = t; is_named = part; are_spaces = sp; are_behind = behind; is_new = new; is_quoted = h; spelled = refl }, Value.nothing, ap (λ z. z ++ c ∷ []) e ∙ sym (append-nil ((((x ++ s) ++ codes "=") ++ t) ++ c ∷ []))))
-    (λ _. choose (is_space c) (λ h. stay r c (m.equals name attrs attr) (x, s, t ++ c ∷ [], takes, part, sp, Spaces.space behind c h, new, grown ((x ++ s) ++ codes "=") t c e)) (λ _. stop))
+equals_step r name attrs attr c (x, s, t, takes, part, sp, suffix, new, e) =
+    choose (is_quote c) (λ h. stay r c (m.quoted name attrs attr c []) ((((x ++ s) ++ codes "=") ++ t) ++ c ∷ [], [], takes, record { named = x; spaces = s; suffix = t; is_named = part; are_spaces = sp; are_after = suffix; is_new = new; is_quoted = h; spelled = refl }, Value.nothing, ap (λ z. z ++ c ∷ []) e ∙ sym (append-nil ((((x ++ s) ++ codes "=") ++ t) ++ c ∷ []))))
+    (λ _. choose (is_space c) (λ h. stay r c (m.equals name attrs attr) (x, s, t ++ c ∷ [], takes, part, sp, Spaces.space suffix c h, new, grown ((x ++ s) ++ codes "=") t c e)) (λ _. stop))
 
 attribute_regrouped : (tag sps spelling s t v : List ℕ) (l q : ℕ) → (((((((tag ++ (sps ++ l ∷ [])) ++ spelling) ++ s) ++ codes "=") ++ t) ++ q ∷ []) ++ v) ++ q ∷ [] ≡ (tag ++ (sps ++ l ∷ [])) ++ ((((((spelling ++ s) ++ codes "=") ++ t) ++ q ∷ []) ++ v) ++ q ∷ [])
 attribute_regrouped tag sps spelling s t v l q = simp append_assoc
@@ -74,9 +74,9 @@ tag_further {name = name} {attr = attr} {v = v} {value = value} {attrs = attrs} 
     let gap = named.is_gap in
     subst (λ z. Tag z name (attrs ++ record { name = attr; value = value } ∷ [])) (sym (e
     ∙ ap (λ z. (z ++ v) ++ q ∷ []) quote.spelled
-    ∙ ap (λ z. (((((z ++ quote.spaces) ++ codes "=") ++ quote.behind) ++ q ∷ []) ++ v) ++ q ∷ []) (named.spelled ∙ ap (λ z. (named.tag ++ z) ++ named.spelling) gap.spelled)
-    ∙ attribute_regrouped named.tag gap.spaces named.spelling quote.spaces quote.behind v gap.last q))
-    (Tag.attribute named.is_tag gap.are_spaces gap.last gap.is_last (Attribute.attribute named.is_name quote.are_spaces quote.are_behind q quote.is_quoted val) quote.is_new)
+    ∙ ap (λ z. (((((z ++ quote.spaces) ++ codes "=") ++ quote.suffix) ++ q ∷ []) ++ v) ++ q ∷ []) (named.spelled ∙ ap (λ z. (named.tag ++ z) ++ named.spelling) gap.spelled)
+    ∙ attribute_regrouped named.tag gap.spaces named.spelling quote.spaces quote.suffix v gap.last q))
+    (Tag.attribute named.is_tag gap.are_spaces gap.last gap.is_last (Attribute.attribute named.is_name quote.are_spaces quote.are_after q quote.is_quoted val) quote.is_new)
 
 pub quoted_step : {p : Place} {v u w : List ℕ} → Reading p v u w → (name : List ℕ) (attrs : List Attr) (attr : List ℕ) (quote : ℕ) (value : List ℕ) (c : ℕ) → Part p (m.quoted name attrs attr quote value) u → Next (w ++ c ∷ []) (m.from_quoted p name attrs attr quote value c)
 unfolding m.from_quoted

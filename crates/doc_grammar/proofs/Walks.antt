@@ -151,24 +151,24 @@ pub digits_end : (b : Bool) (n : ℕ) → is_char n ≡ true → Gives (m.refer 
 unfolding m.refer
 digits_end b n h = here _ h same
 
--- what stands behind a reference's `&`
+-- what stands after a reference's `&`
 pub record IsReference (u : List ℕ) (c : ℕ) : Type 0 where
-  pub behind : List ℕ
-  pub spelled : u ≡ 38 ∷ behind
-  pub is_read : Refers (m.going m.begun) behind (m.gives c)
+  pub suffix : List ℕ
+  pub spelled : u ≡ 38 ∷ suffix
+  pub is_read : Refers (m.going m.begun) suffix (m.gives c)
 
 numeric_read : (b : Bool) (c : ℕ) (ds : List ℕ) (f : List ℕ) → Refers (m.going m.begun) f (m.going (first_digit b)) → Digits (base b) ds c → is_char c ≡ true → Refers (m.going m.begun) ((f ++ ds) ++ codes ";") (m.gives c)
 numeric_read b c ds f e d h = refers_then 59 (refers_join e (digits_read b d (char_le c h))) (digits_end b c h)
 
 pub reference_read : {u : List ℕ} {c : ℕ} → Reference u c → IsReference u c
 unfolding m.refer first_digit
-reference_read g.Reference.less = record { behind = codes "lt;"; spelled = refl; is_read = record { ends = refl } }
-reference_read g.Reference.greater = record { behind = codes "gt;"; spelled = refl; is_read = record { ends = refl } }
-reference_read g.Reference.ampersand = record { behind = codes "amp;"; spelled = refl; is_read = record { ends = refl } }
-reference_read g.Reference.quotation = record { behind = codes "quot;"; spelled = refl; is_read = record { ends = refl } }
-reference_read g.Reference.apostrophe = record { behind = codes "apos;"; spelled = refl; is_read = record { ends = refl } }
-reference_read (g.Reference.decimal {u = ds} {n = n} d h) = record { behind = (codes "#" ++ ds) ++ codes ";"; spelled = refl; is_read = numeric_read false n ds (codes "#") (record { ends = refl }) d h }
-reference_read (g.Reference.hexadecimal {u = ds} {n = n} d h) = record { behind = (codes "#x" ++ ds) ++ codes ";"; spelled = refl; is_read = numeric_read true n ds (codes "#x") (record { ends = refl }) d h }
+reference_read g.Reference.less = record { suffix = codes "lt;"; spelled = refl; is_read = record { ends = refl } }
+reference_read g.Reference.greater = record { suffix = codes "gt;"; spelled = refl; is_read = record { ends = refl } }
+reference_read g.Reference.ampersand = record { suffix = codes "amp;"; spelled = refl; is_read = record { ends = refl } }
+reference_read g.Reference.quotation = record { suffix = codes "quot;"; spelled = refl; is_read = record { ends = refl } }
+reference_read g.Reference.apostrophe = record { suffix = codes "apos;"; spelled = refl; is_read = record { ends = refl } }
+reference_read (g.Reference.decimal {u = ds} {n = n} d h) = record { suffix = (codes "#" ++ ds) ++ codes ";"; spelled = refl; is_read = numeric_read false n ds (codes "#") (record { ends = refl }) d h }
+reference_read (g.Reference.hexadecimal {u = ds} {n = n} d h) = record { suffix = (codes "#x" ++ ds) ++ codes ";"; spelled = refl; is_read = numeric_read true n ds (codes "#x") (record { ends = refl }) d h }
 
 -- in content
 pub refer_ends : (p : Place) (j : Judged) (u : List ℕ) (c : ℕ) → refers j u ≡ m.gives c → run_on (m.judged p j) u ≡ Some (st (with_text p c) m.ready)
@@ -187,7 +187,7 @@ pub reference_runs : (p : Place) → is_content p.outer ≡ true → {u : List �
 reference_runs p h {u = u} {c = c} ref =
     let x = reference_read ref in
     let t = with_text p c in
-    subst (λ z. Runs (st p m.ready) z (st t m.ready)) (sym x.spelled) (first_then (ready_ampersand p h) (record { ends = refer_ends p (m.going m.begun) x.behind c x.is_read.ends }))
+    subst (λ z. Runs (st p m.ready) z (st t m.ready)) (sym x.spelled) (first_then (ready_ampersand p h) (record { ends = refer_ends p (m.going m.begun) x.suffix c x.is_read.ends }))
 
 -- in a value
 pub quoted_ends : (p : Place) (name : List ℕ) (attrs : List Attr) (attr : List ℕ) (quote : ℕ) (value : List ℕ) (j : Judged) (u : List ℕ) (c : ℕ) → refers j u ≡ m.gives c → run_on (m.judged_quoted p name attrs attr quote value j) u ≡ Some (st p (m.quoted name attrs attr quote (value ++ encode_utf8 c)))
@@ -220,7 +220,7 @@ value_runs p name attrs attr quote h (Value.reference {v = v} {bytes = bytes} {c
     let r = reference_read ref in
     let s : State = st p (m.quoted name attrs attr quote bytes) in
     let t : State = st p (m.quoted name attrs attr quote (bytes ++ encode_utf8 c)) in
-    join (value_runs p name attrs attr quote h x) (subst (λ z. Runs s z t) (sym r.spelled) (first_then (quoted_ampersand p name attrs attr quote bytes h) (record { ends = quoted_ends p name attrs attr quote bytes (m.going m.begun) r.behind c r.is_read.ends })))
+    join (value_runs p name attrs attr quote h x) (subst (λ z. Runs s z t) (sym r.spelled) (first_then (quoted_ampersand p name attrs attr quote bytes h) (record { ends = quoted_ends p name attrs attr quote bytes (m.going m.begun) r.suffix c r.is_read.ends })))
 
 -- comments and instructions
 comment_dash : (p : Place) (n : ℕ) → Steps (st p (m.comment n)) 45 (st p (m.comment (one_dash_more n)))

@@ -60,7 +60,7 @@ attribute_runs p name attrs (Attribute.attribute {u = u} {s = s} {t = t} {v = v}
     spaces_then _ _ _ q (equals_space p name attrs attr) (equals_space p name attrs attr) (equals_quote p name attrs attr q is_q) (equals_quote p name attrs attr q is_q) rest in
     then (join (regroup ((u ++ s) ++ codes "=") t (q ∷ []) (join (regroup u s (codes "=") (join (attr_name_runs p name attrs is_name) equal_sign)) opening)) (value_runs p name attrs attr q is_q val)) (quoted_quote p name attrs attr q value (eq-eqb q q refl))
 
--- behind a tag's name, or an attribute
+-- after a tag's name, or an attribute
 after_tag : List ℕ → List Attr → Phase
 after_tag name [] = m.start_name name
 after_tag name (a ∷ attrs) = m.valued name (a ∷ attrs)
@@ -83,7 +83,7 @@ spaced_space : (p : Place) (name : List ℕ) (attrs : List Attr) (c : ℕ) → i
 unfolding step_at m.from_spaced
 spaced_space p name attrs c h = record { gives = past _ (space-start c h) (tag_space p name attrs c h) }
 
--- `>` and `/`, at once or behind white space
+-- `>` and `/`, at once or after white space
 after_tag_close : (p : Place) (name : List ℕ) (attrs : List Attr) → Steps (st p (after_tag name attrs)) 62 (st (entered p name attrs) m.ready)
 unfolding after_tag step_at m.from_start_name m.from_tag is_name_char is_name_start
 after_tag_close p name [] = record { gives = same }
@@ -195,7 +195,7 @@ mutual
 pub document_runs : {u : List ℕ} {node : Node} → Document u node → Runs (start document) u (st (content_of (node ∷ []) [] document) m.ready)
 document_runs (Document.document {node = node} x e y) = join (join (misc_runs (content_of [] [] document) refl x) (element_runs e (content_of [] [] document) refl)) (misc_runs (content_of (node ∷ []) [] document) refl y)
 
--- the machine stands at the place that the grammar gives a front
+-- the machine stands at the place that the grammar gives a prefix
 pub at_runs : {w : List ℕ} {p : Place} → At w p → Runs (start (bottom p.outer)) w (st p m.ready)
 at_runs (before x) = misc_runs (content_of [] [] document) refl x
 at_runs (after {node = node} x e y) = join (join (misc_runs (content_of [] [] document) refl x) (element_runs e (content_of [] [] document) refl)) (misc_runs (content_of (node ∷ []) [] document) refl y)

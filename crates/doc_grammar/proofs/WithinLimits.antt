@@ -65,19 +65,19 @@ parts kind u v s e = go (read kind u) refl (sym (read-append kind u v) ∙ e)
     go None h r = cc
     go (Some t) h r = record { middle = t; first = h; rest = r }
 
--- the character behind a front takes the machine on, and the rest does
+-- the character after a prefix takes the machine on, and the rest does
 record Taken (s : State) (b : Bool) (c : ℕ) (last : State) : Type 0 where
-  pub behind : State
-  pub is_taken : run_on (Some s) (lines_from b (c ∷ [])) ≡ Some behind
-  pub reaches : reached behind ≤ reached last
-  pub begins : begun behind ≤ begun last
+  pub suffix : State
+  pub is_taken : run_on (Some s) (lines_from b (c ∷ [])) ≡ Some suffix
+  pub reaches : reached suffix ≤ reached last
+  pub begins : begun suffix ≤ begun last
 
 taken_in : (kind : Kind) (u rest : List ℕ) (c : ℕ) (s last : State) → read kind u ≡ Some s → read kind (u ++ c ∷ rest) ≡ Some last → Taken s (returned false u) c last
 taken_in kind u rest c s last r e =
     let two = parts kind (u ++ c ∷ []) rest last (ap (read kind) (append_assoc u (c ∷ []) rest) ∙ e) in
     let grows = run_grows (lines_from (returned false (u ++ c ∷ [])) rest) two.middle last two.rest in
     record {
-      behind = two.middle;
+      suffix = two.middle;
       is_taken = ap (λ (o : Option State). run_on o (lines_from (returned false u) (c ∷ []))) (sym r) ∙ sym (read-append kind u (c ∷ [])) ∙ two.first;
       reaches = grows.0;
       begins = grows.1;
@@ -110,14 +110,14 @@ element_grows kind whole prefix p last x e =
     let opened = opened_read kind prefix p (at_read kind prefix p x.is_at x.is_kind) in
     let there : whole ≡ (prefix ++ 60 ∷ []) ++ x.c ∷ x.rest = x.spelled ∙ sym (append_assoc prefix (60 ∷ []) (x.c ∷ x.rest)) in
     let t = taken_in kind (prefix ++ 60 ∷ []) x.rest x.c (st p m.opened) last opened (ap (read kind) (sym there) ∙ e) in
-    let reaches = taken_reaches (st p m.opened) t.behind _ x.c t.is_taken in
-    let adds = taken_adds (st p m.opened) t.behind _ x.c t.is_taken in
+    let reaches = taken_reaches (st p m.opened) t.suffix _ x.c t.is_taken in
+    let adds = taken_adds (st p m.opened) t.suffix _ x.c t.is_taken in
     (omega (arith, t.reaches, reaches, ap (λ (b : Bool). one_level_if b (depth p.outer)) x.begins), omega (arith, t.begins, adds, ap one_if x.begins))
 
 text_grows : (kind : Kind) (whole prefix : List ℕ) (p : Place) (last : State) → TextBegins kind whole prefix p → read kind whole ≡ Some last → 1 + place_count p ≤ begun last
 text_grows kind whole prefix p last x e =
     let t = taken_in kind prefix x.rest x.c (st p m.ready) last (at_read kind prefix p x.is_at x.is_kind) (ap (read kind) (sym x.spelled) ∙ e) in
-    let adds = taken_adds (st p m.ready) t.behind (returned false prefix) x.c t.is_taken in
+    let adds = taken_adds (st p m.ready) t.suffix (returned false prefix) x.c t.is_taken in
     omega (arith, t.begins, adds, ap (λ (b : Bool). one_if (b || false)) x.begins)
 
 pub passes_none : (max_depth max_nodes : ℕ) (kind : Kind) (whole : List ℕ) (kids : List Node) → Spells kind whole kids → heights (nodes kids) ≤ max_depth → nodes_count (nodes kids) ≤ max_nodes

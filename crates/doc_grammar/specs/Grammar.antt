@@ -86,7 +86,7 @@ pub data Attribute : List ℕ → Attr → Type 0 where
 abbrev pub has_name : List ℕ → List Attr → Bool
 has_name name attrs = list_any (λ a. pointwise nat_eq a.name name) attrs
 
--- a start tag up to where white space may stand before `>` or `/>`: attributes with different names, each behind white space (productions 40 and 44)
+-- a start tag up to where white space may stand before `>` or `/>`: attributes with different names, each after white space (productions 40 and 44)
 pub data Tag : List ℕ → List ℕ → List Attr → Type 0 where
   named : {u name : List ℕ} → Name u name → Tag (codes "<" ++ u) name []
   attribute : {u s v name : List ℕ} {attrs : List Attr} {a : Attr} → Tag u name attrs → Spaces s → (c : ℕ) → IsTrue (is_space c)
@@ -106,7 +106,7 @@ mutual
         → (cs : List ℕ) → encode_utf8_all cs ≡ name → Spaces t
         → Element ((((((((u ++ s) ++ codes ">") ++ v) ++ codes "</") ++ cs) ++ t) ++ codes ">")) (element name attrs (nodes (kids ++ text_node bytes)))
 
-  -- content: its nodes, and the bytes of the text that stands behind the last of them (production 43)
+  -- content: its nodes, and the bytes of the text that stands after the last of them (production 43)
   pub data Content : List ℕ → List Node → List ℕ → Type 0 where
     nothing : Content [] [] []
     character : {u bytes : List ℕ} {kids : List Node} → Content u kids bytes → (c : ℕ) → IsTrue (is_char c) → (c == 60) ≡ false
@@ -126,9 +126,9 @@ pub data Fragment : List ℕ → List Node → Type 0 where
 
 -- line ends as one LF each: CR LF, and a CR that stands alone (section 2.11)
 abbrev pub lines_from : Bool → List ℕ → List ℕ
-lines_from behind_return [] = []
-lines_from behind_return (c ∷ cs) = if c == 13 then 10 ∷ lines_from true cs
-    else if (c == 10) && behind_return then lines_from false cs
+lines_from after_return [] = []
+lines_from after_return (c ∷ cs) = if c == 13 then 10 ∷ lines_from true cs
+    else if (c == 10) && after_return then lines_from false cs
     else c ∷ lines_from false cs
 
 abbrev pub with_line_ends : List ℕ → List ℕ

@@ -52,9 +52,9 @@ depth m.document = 0
 depth m.fragment = 0
 depth (m.level name attrs kids bytes outer) = 1 + depth outer
 
--- A text begins with this character, or its reference, unless one stands there; an LF behind a CR is none.
+-- A text begins with this character, or its reference, unless one stands there; an LF after a CR is none.
 abbrev pub begins_text : Place → Bool → ℕ → Bool
-begins_text p behind_return c = not ((c == 10) && behind_return) && (not (c == 60) && (is_content p.outer && (is_empty p.text && is_char c)))
+begins_text p after_return c = not ((c == 10) && after_return) && (not (c == 60) && (is_content p.outer && (is_empty p.text && is_char c)))
 
 -- an element begins with a `<` and this character
 abbrev pub begins_element : Place → ℕ → Bool
@@ -82,7 +82,7 @@ is_opened (m.slashed name attrs) = false
 
 -- whether a node begins with the next character, where the machine stands
 abbrev pub text_here : State → Bool → ℕ → Bool
-text_here s behind_return c = m.is_ready s.phase && begins_text s.place behind_return c
+text_here s after_return c = m.is_ready s.phase && begins_text s.place after_return c
 
 abbrev pub element_here : State → ℕ → Bool
 element_here s c = is_opened s.phase && begins_element s.place c
@@ -93,7 +93,7 @@ node_here s b c = text_here s b c || element_here s c
 abbrev pub one_if : Bool → ℕ
 one_if b = if b then 1 else 0
 
--- behind the front, where this is open, a text begins
+-- after the prefix, where this is open, a text begins
 pub record TextBegins (kind : Kind) (whole prefix : List ℕ) (p : Place) : Type 0 where
   pub c : ℕ
   pub rest : List ℕ
@@ -115,13 +115,13 @@ pub data Limit : Type 0 where
   depth_limit : Limit
   node_limit : Limit
 
--- The text passes a limit behind the front: an element begins in as many others as are allowed, or a node behind as many.
+-- The text passes a limit after the prefix: an element begins in as many others as are allowed, or a node after as many.
 pub data Passes (max_depth max_nodes : ℕ) (kind : Kind) (whole prefix : List ℕ) : Limit → Type 0 where
   too_deep : (p : Place) → ElementBegins kind whole prefix p → max_depth ≤ depth p.outer → Passes max_depth max_nodes kind whole prefix depth_limit
   element_too_many : (p : Place) → ElementBegins kind whole prefix p → max_nodes ≤ place_count p → Passes max_depth max_nodes kind whole prefix node_limit
   text_too_many : (p : Place) → TextBegins kind whole prefix p → max_nodes ≤ place_count p → Passes max_depth max_nodes kind whole prefix node_limit
 
--- no limit is passed before the front
+-- no limit is passed before the prefix
 abbrev pub KeepsLimits : ℕ → ℕ → Kind → List ℕ → List ℕ → Type 0
 KeepsLimits max_depth max_nodes kind whole prefix =
     (other : List ℕ) (limit : Limit) → Passes max_depth max_nodes kind whole other limit → length prefix ≤ length other

@@ -1,11 +1,11 @@
--- What is open behind a front of a text.
+-- What is open after a prefix of a text.
 use Rattle.std.specs.Prelude.{ℕ, List, [], ◌∷◌, ◌++◌, IsTrue, codes}
 use Rattle.plain_tree.specs.Document.{Node}
 use Rattle.plain_tree.specs.declared.tree.Attr.{Attr}
 use Rattle.doc_grammar.specs.Grammar.{Spaces, Misc, Tag, Element, Content}
 use Rattle.doc_grammar.specs.steps.Machine.{Outer, document, fragment, level, Place, takes_element}
 
--- The front is whole items of what is open, and the place is what they make.
+-- The prefix is whole items of what is open, and the place is what they make.
 pub data At : List ℕ → Place → Type 0 where
   before : {u : List ℕ} → Misc u → At u (record { kids = []; text = []; outer = document })
   after : {u v w : List ℕ} {node : Node} → Misc u → Element v node → Misc w → At ((u ++ v) ++ w) (record { kids = node ∷ []; text = []; outer = document })

@@ -58,7 +58,7 @@ IsName bytes = Name (chars bytes) bytes
 abbrev pub AreChars : List ℕ → Type 0
 AreChars bytes = IsUtf8 bytes × IsTrue (list_all is_char (chars bytes))
 
--- attributes behind others, all with different names
+-- attributes after others, all with different names
 abbrev pub AreAttributes : List Attr → List Attr → Type 0
 AreAttributes before [] = Unit {0}
 AreAttributes before (a ∷ attrs) = IsName a.name × AreChars a.value × (has_name a.name before ≡ false) × AreAttributes (before ++ a ∷ []) attrs

@@ -16,7 +16,7 @@ Spells fragment text kids = Fragment (with_line_ends text) kids
 abbrev pub Begins : Kind → List ℕ → Type 0
 Begins kind text = (rest : List ℕ) × (kids : List Node) × Spells kind (text ++ rest) kids
 
--- a text behind a byte order mark, and how many bytes that has
+-- a text after a byte order mark, and how many bytes that has
 abbrev pub without_mark : List ℕ → List ℕ
 without_mark [] = []
 without_mark (c ∷ cs) = if c == 0xFEFF then cs else c ∷ cs
@@ -25,7 +25,7 @@ abbrev pub mark_len : List ℕ → ℕ
 mark_len [] = 0
 mark_len (c ∷ cs) = if c == 0xFEFF then 3 else 0
 
--- The front is the longest one of the text that begins a document, and the text isn't one.
+-- The prefix is the longest one of the text that begins a document, and the text isn't one.
 pub record GoesWrong (kind : Kind) (text prefix : List ℕ) : Type 0 where
   pub rest : List ℕ
   pub spelled : text ≡ prefix ++ rest

@@ -9,8 +9,8 @@ use Rattle.doc_index.specs.steps.Directory.{slot_of, next_slot, words_before, Is
 use Rattle.doc_index.proofs.TermLemmas.{has-at, has-head, has-other}
 
 -- a number as an opened or a closed gap moves it
-abbrev pub raised : ℕ → ℕ → ℕ
-raised at slot = cond (nat_lt at slot) (slot + 1) slot
+abbrev pub shifted : ℕ → ℕ → ℕ
+shifted at slot = cond (nat_lt at slot) (slot + 1) slot
 
 abbrev pub lowered : ℕ → ℕ → ℕ
 lowered at slot = cond (nat_lt (at + 1) slot) (slot - 1) slot
@@ -25,11 +25,11 @@ pub next-some : (slot : ℕ) → 0 < slot → next_slot slot ≡ slot + 1
 next-some zero some = absurd (omega arith)
 next-some (suc slot) some = omega arith
 
-next-raised : (slot : ℕ) → next_slot slot ≡ raised 0 slot
-next-raised zero = refl
-next-raised (suc slot) = grind (arith, nat_tests)
+next-shifted : (slot : ℕ) → next_slot slot ≡ shifted 0 slot
+next-shifted zero = refl
+next-shifted (suc slot) = grind (arith, nat_tests)
 
-next-raise : (at slot : ℕ) → next_slot (raised at slot) ≡ raised (suc at) (next_slot slot)
+next-raise : (at slot : ℕ) → next_slot (shifted at slot) ≡ shifted (suc at) (next_slot slot)
 next-raise at zero =
     ap next_slot (cond-false (nat_lt at 0) (0 + 1) 0 (le-ltb at 0 (omega arith))) ∙ sym (cond-false (nat_lt (suc at) 0) (0 + 1) 0 (le-ltb (suc at) 0 (omega arith)))
 next-raise at (suc slot) = elim (cases_lt at (suc slot)) [
@@ -81,22 +81,22 @@ slot-found (x ∷ ids) id there = elim (cases_eq x id) [
 ]
 
 -- a number that comes to a place
-pub slot-insert : (ids : List ℕ) (at new id : ℕ) → at ≤ length ids → has new ids ≡ false → slot_of (insert ids at new) id ≡ cond (new == id) (at + 1) (raised at (slot_of ids id))
-slot-insert ids zero new id within none = ap (cond (new == id) 1) (next-raised (slot_of ids id))
+pub slot-insert : (ids : List ℕ) (at new id : ℕ) → at ≤ length ids → has new ids ≡ false → slot_of (insert ids at new) id ≡ cond (new == id) (at + 1) (shifted at (slot_of ids id))
+slot-insert ids zero new id within none = ap (cond (new == id) 1) (next-shifted (slot_of ids id))
 slot-insert [] (suc at) new id within none = absurd (omega arith)
 slot-insert (x ∷ ids) (suc at) new id within none =
     let parts = or_parts (x == new) (has new ids) none in
     let apart : (x ≡ new) → ⊥ = eqb-false x new parts.0 in
     elim (cases_eq x id) [
       | inl same ↦ slot-head x id (insert ids at new) same
-          ∙ sym (cond-false (new == id) (suc at + 1) (raised (suc at) (slot_of (x ∷ ids) id)) (ne_eqb new id (λ is. apart (omega (arith, same, is))))
-          ∙ ap (raised (suc at)) (slot-head x id ids same) ∙ cond-false (nat_lt (suc at) 1) (1 + 1) 1 (le-ltb (suc at) 1 (omega arith)))
+          ∙ sym (cond-false (new == id) (suc at + 1) (shifted (suc at) (slot_of (x ∷ ids) id)) (ne_eqb new id (λ is. apart (omega (arith, same, is))))
+          ∙ ap (shifted (suc at)) (slot-head x id ids same) ∙ cond-false (nat_lt (suc at) 1) (1 + 1) 1 (le-ltb (suc at) 1 (omega arith)))
       | inr other ↦ slot-other x id (insert ids at new) other ∙ ap next_slot (slot-insert ids at new id (omega (arith, within)) parts.1)
           ∙ elim (cases_eq new id) [
-            | inl same ↦ ap next_slot (cond-true (new == id) (at + 1) (raised at (slot_of ids id)) (eq-eqb new id same)) ∙ next-some (at + 1) (omega arith)
-                ∙ sym (cond-true (new == id) (suc at + 1) (raised (suc at) (slot_of (x ∷ ids) id)) (eq-eqb new id same) ∙ omega arith)
-            | inr not_new ↦ ap next_slot (cond-false (new == id) (at + 1) (raised at (slot_of ids id)) (ne_eqb new id not_new)) ∙ next-raise at (slot_of ids id)
-                ∙ sym (cond-false (new == id) (suc at + 1) (raised (suc at) (slot_of (x ∷ ids) id)) (ne_eqb new id not_new) ∙ ap (raised (suc at)) (slot-other x id ids other))
+            | inl same ↦ ap next_slot (cond-true (new == id) (at + 1) (shifted at (slot_of ids id)) (eq-eqb new id same)) ∙ next-some (at + 1) (omega arith)
+                ∙ sym (cond-true (new == id) (suc at + 1) (shifted (suc at) (slot_of (x ∷ ids) id)) (eq-eqb new id same) ∙ omega arith)
+            | inr not_new ↦ ap next_slot (cond-false (new == id) (at + 1) (shifted at (slot_of ids id)) (ne_eqb new id not_new)) ∙ next-raise at (slot_of ids id)
+                ∙ sym (cond-false (new == id) (suc at + 1) (shifted (suc at) (slot_of (x ∷ ids) id)) (ne_eqb new id not_new) ∙ ap (shifted (suc at)) (slot-other x id ids other))
           ]
     ]
 
@@ -134,7 +134,7 @@ slot-zero ids id is = false_from_ne_true (has id ids) (λ there. omega (arith, s
 pub slot-there : (ids : List ℕ) (id : ℕ) → 0 < slot_of ids id → has id ids ≡ true
 slot-there ids id some = true_from_ne_false (has id ids) (λ none. omega (arith, slot-none ids id none))
 
--- how many words stand in front of a leaf
+-- how many words stand before a leaf
 before-head : (l : Leaf) (id : ℕ) (leaves : List Leaf) → l.id ≡ id → words_before (l ∷ leaves) id ≡ 0
 before-head l id leaves same = cond-true (l.id == id) 0 (length l.words + words_before leaves id) (eq-eqb l.id id same)
 
@@ -176,7 +176,7 @@ before-insert (x ∷ leaves) (suc at) l id within there none =
           )
     ]
 
--- the leaf that comes has in front of it the words of the leaves in front of the place
+-- the leaf that comes has before it the words of the leaves before the place
 before-new : (leaves : List Leaf) (at : ℕ) (l : Leaf) → at ≤ length leaves → has l.id (leaf_ids leaves) ≡ false → words_before (insert leaves at l) l.id ≡ length (words_of (take at leaves))
 before-new leaves zero l within none = before-head l l.id leaves refl
 before-new [] (suc at) l within none = absurd (omega arith)
@@ -304,10 +304,10 @@ words-remove (x ∷ leaves) zero there = omega (arith, length-append x.words (wo
 words-remove (x ∷ leaves) (suc at) there = omega (arith, length-append x.words (words_of leaves), length-append x.words (words_of (remove leaves at)), words-remove leaves at (omega (arith, there)))
 
 -- a number that is past the end is 0, and so is what it becomes
-past-opened : (at by : ℕ) (slots befores new_slots new_befores : List ℕ) → IsOpened at by slots befores new_slots new_befores → (k : ℕ) → get_or new_slots k 0 ≡ raised at (get_or slots k 0)
+past-opened : (at by : ℕ) (slots befores new_slots new_befores : List ℕ) → IsOpened at by slots befores new_slots new_befores → (k : ℕ) → get_or new_slots k 0 ≡ shifted at (get_or slots k 0)
 past-opened at by slots befores new_slots new_befores opened k = elim (cases_lt k (length slots)) [
   | inl there ↦ opened.slots_are k there
-  | inr past ↦ get_or_past new_slots k 0 (omega (arith, past, opened.slots_length)) ∙ sym (ap (raised at) (get_or_past slots k 0 past) ∙ cond-false (nat_lt at 0) (0 + 1) 0 (le-ltb at 0 (omega arith)))
+  | inr past ↦ get_or_past new_slots k 0 (omega (arith, past, opened.slots_length)) ∙ sym (ap (shifted at) (get_or_past slots k 0 past) ∙ cond-false (nat_lt at 0) (0 + 1) 0 (le-ltb at 0 (omega arith)))
 ]
 
 -- the directory with a leaf that came
@@ -320,10 +320,10 @@ directory-with leaves slots befores words at l s₁ b₁ s₂ b₂ before sum ol
     record {
       slots_are = λ id. slot_set id ∙ elim (cases_eq id l.id) [
         | inl is ↦ cond-true (id == l.id) (at + 1) (get_or s₁ id 0) (eq-eqb id l.id is)
-            ∙ sym (ap (λ xs. slot_of xs id) (ids-insert leaves at l) ∙ slot-insert ids at l.id id within' none ∙ cond-true (l.id == id) (at + 1) (raised at (slot_of ids id)) (eq-eqb l.id id (sym is)))
+            ∙ sym (ap (λ xs. slot_of xs id) (ids-insert leaves at l) ∙ slot-insert ids at l.id id within' none ∙ cond-true (l.id == id) (at + 1) (shifted at (slot_of ids id)) (eq-eqb l.id id (sym is)))
         | inr other ↦ cond-false (id == l.id) (at + 1) (get_or s₁ id 0) (ne_eqb id l.id other)
-            ∙ past-opened at (length l.words) slots befores s₁ b₁ opened id ∙ ap (raised at) (old.slots_are id)
-            ∙ sym (ap (λ xs. slot_of xs id) (ids-insert leaves at l) ∙ slot-insert ids at l.id id within' none ∙ cond-false (l.id == id) (at + 1) (raised at (slot_of ids id)) (ne_eqb l.id id (λ is. other (sym is))))
+            ∙ past-opened at (length l.words) slots befores s₁ b₁ opened id ∙ ap (shifted at) (old.slots_are id)
+            ∙ sym (ap (λ xs. slot_of xs id) (ids-insert leaves at l) ∙ slot-insert ids at l.id id within' none ∙ cond-false (l.id == id) (at + 1) (shifted at (slot_of ids id)) (ne_eqb l.id id (λ is. other (sym is))))
       ];
       befores_are = λ id there. before_set id ∙ elim (cases_eq id l.id) [
         | inl is ↦ cond-true (id == l.id) before (get_or b₁ id 0) (eq-eqb id l.id is) ∙ before_is ∙ sym (ap (λ z. words_before (insert leaves at l) z) is ∙ before-new leaves at l within none)

@@ -11,7 +11,8 @@ use Rattle.doc_index.specs.declared.entry.Entry.{Entry}
 use Rattle.doc_index.specs.Terms.{Leaf, has, words_of}
 use Rattle.doc_index.specs.Rows.{entries, entries_from, leaf_entries, has_rows, of_term, row_of, rows_of}
 use Rattle.doc_index.specs.steps.Groups.{term_of, group, grouped}
-use Rattle.doc_index.proofs.TermLemmas.{has-head, has-other, first-below, rest-ascending, not-in-rest}
+use Rattle.ft_base.proofs.PlacesLemmas.{rest-ascending}
+use Rattle.doc_index.proofs.TermLemmas.{has-head, has-other, first-below, not-in-rest}
 
 pub of_term-append : (t : ℕ) (a b : List Entry) → of_term t (a ++ b) ≡ of_term t a ++ of_term t b
 of_term-append t a b = filter-append (λ (e : Entry). e.term == t) a b
@@ -55,7 +56,7 @@ words-are (l ∷ leaves) =
 pub split-entries : (leaves : List Leaf) (at : ℕ) → entries leaves ≡ entries (take at leaves) ++ entries (drop at leaves)
 split-entries leaves at = ap (λ ls. entries ls) (sym (take-append-drop at leaves)) ∙ flat_map-append leaf_entries (take at leaves) (drop at leaves)
 
--- an entry in front of others that is of none of these terms
+-- an entry before others that is of none of these terms
 pub grouped-other : (ids : List ℕ) (e : Entry) (es : List Entry) → has e.term ids ≡ false → grouped ids (e ∷ es) ≡ grouped ids es
 grouped-other [] e es fails = refl
 grouped-other (u ∷ ids) e es fails =
@@ -63,7 +64,7 @@ grouped-other (u ∷ ids) e es fails =
     ap (λ xs. xs ++ grouped ids (e ∷ es)) (of_term-other u e es other)
     ∙ ap (λ xs. of_term u es ++ xs) (grouped-other ids e es (sym (has-other u e.term ids (λ same. other (sym same))) ∙ fails))
 
--- an entry in front of others none of which is of a smaller term
+-- an entry before others none of which is of a smaller term
 pub grouped-first : (ids : List ℕ) (e : Entry) (es : List Entry) → is_ascending ids ≡ true → has e.term ids ≡ true →
     ((u : ℕ) → u < e.term → of_term u es ≡ []) → grouped ids (e ∷ es) ≡ e ∷ grouped ids es
 grouped-first [] e es up there least = absurd (true≢false (sym there))
@@ -98,11 +99,11 @@ grouped-sorted ids (e ∷ es) up order there =
     ∙ sym (grouped-first ids e es up (there e.term (has-head e.term e.term (map term_of es) refl)) least)
 
 -- the entries of a term are its group where they come first
-group-front : (t : ℕ) (es rest : List Entry) → list_all (λ (e : Entry). e.term == t) es ≡ true → group t rest ≡ [] → group t (es ++ rest) ≡ es
-group-front t [] rest all none = none
-group-front t (e ∷ es) rest all none =
+group-prefix : (t : ℕ) (es rest : List Entry) → list_all (λ (e : Entry). e.term == t) es ≡ true → group t rest ≡ [] → group t (es ++ rest) ≡ es
+group-prefix t [] rest all none = none
+group-prefix t (e ∷ es) rest all none =
     let parts = and_parts (e.term == t) (list_all (λ (e : Entry). e.term == t) es) all in
-    cond-true (e.term == t) (e ∷ group t (es ++ rest)) [] parts.0 ∙ ap (λ xs. e ∷ xs) (group-front t es rest parts.1 none)
+    cond-true (e.term == t) (e ∷ group t (es ++ rest)) [] parts.0 ∙ ap (λ xs. e ∷ xs) (group-prefix t es rest parts.1 none)
 
 all-of_term : (t : ℕ) (es : List Entry) → list_all (λ (e : Entry). e.term == t) (of_term t es) ≡ true
 all-of_term t [] = refl
@@ -125,8 +126,8 @@ group-none t (u ∷ ids) es fails =
 
 -- the group at the front of grouped entries is the first term's
 pub group-first : (t : ℕ) (ids : List ℕ) (es : List Entry) → is_ascending (t ∷ ids) ≡ true → group t (grouped (t ∷ ids) es) ≡ of_term t es
-group-first t ids es up = group-front t (of_term t es) (grouped ids es) (all-of_term t es) (group-none t ids es (not-in-rest t t ids up (omega arith)))
+group-first t ids es up = group-prefix t (of_term t es) (grouped ids es) (all-of_term t es) (group-none t ids es (not-in-rest t t ids up (omega arith)))
 
-pub drop-front : {T : Type 0} (a b : List T) → drop (length a) (a ++ b) ≡ b
-drop-front [] b = refl
-drop-front (x ∷ a) b = drop-front a b
+pub drop-prefix : {T : Type 0} (a b : List T) → drop (length a) (a ++ b) ≡ b
+drop-prefix [] b = refl
+drop-prefix (x ∷ a) b = drop-prefix a b

@@ -50,7 +50,7 @@ words-read leaves at l there read = ap (λ (x : Leaf). x.words) read ∙ sym (ge
 pub has-id : (leaves : List Leaf) (at : ℕ) → at < length leaves → has (get_or (leaf_ids leaves) at 0) (leaf_ids leaves) ≡ true
 has-id leaves at there = has-at (leaf_ids leaves) at (omega (arith, there, length-map leaves (λ (l : Leaf). l.id)))
 
--- the next of leaves with different numbers isn't one of those in front of it
+-- the next of leaves with different numbers isn't one of those before it
 pub next-apart : (leaves : List Leaf) (k : ℕ) (l : Leaf) → k < length leaves → l ≡ get_or leaves k l → are_distinct (leaf_ids leaves) ≡ true → has l.id (leaf_ids (take k leaves)) ≡ false
 next-apart [] k l there read apart = absurd (omega arith)
 next-apart (x ∷ leaves) zero l there read apart = refl

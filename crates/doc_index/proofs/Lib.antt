@@ -1,6 +1,6 @@
 pub mod DirectoryLemmas
 pub mod EntryLemmas
-pub mod FrontLemmas
+pub mod PrefixLemmas
 pub mod GroupLemmas
 pub mod LeafLemmas
 pub mod PlaceLemmas

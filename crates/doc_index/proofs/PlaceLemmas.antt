@@ -4,7 +4,7 @@ use Rattle.std.proofs.lemmas.Bool.{or_right, cases_eq, cases_lt, eq-eqb, ne_eqb,
 use Rattle.std.proofs.lemmas.List.{length-map, map-append, get_or-map, length-take-le, take-append-drop}
 use Rattle.std.proofs.lemmas.List.Concat.{flat_map-append}
 use Rattle.shared_list.specs.Blocks.{joined, start_of}
-use Rattle.doc_index.proofs.GroupLemmas.{read-front, read-back}
+use Rattle.doc_index.proofs.GroupLemmas.{read-prefix, read-back}
 use Rattle.doc_index.proofs.RunLemmas.{next-run, start-is}
 use Rattle.doc_index.proofs.PutLemmas.{all_rows}
 use Rattle.doc_index.proofs.StepLemmas.{run-end}
@@ -14,8 +14,8 @@ use Rattle.doc_index.specs.Terms.{Leaf, TermDocument, has, are_distinct, leaf_id
 use Rattle.doc_index.specs.Rows.{HasTerms, IsIndexed, IsRunOf, runs_of, entries, entries_from, entries_of, leaf_entries, row_at, entry_at, row_of, rows_of}
 use Rattle.doc_index.specs.steps.Directory.{place_of, words_before}
 use Rattle.doc_index.proofs.TermLemmas.{has-head, has-other, ascending-cons, has-at}
-use Rattle.doc_index.proofs.EntryLemmas.{drop-front, no-rows, of_term-here, of_term-other, rows_of-append}
-use Rattle.doc_index.proofs.FrontLemmas.{apart-from}
+use Rattle.doc_index.proofs.EntryLemmas.{drop-prefix, no-rows, of_term-here, of_term-other, rows_of-append}
+use Rattle.doc_index.proofs.PrefixLemmas.{apart-from}
 
 places-here : (t place w : ℕ) (ws : List ℕ) → w ≡ t → places_from t place (w ∷ ws) ≡ place ∷ places_from t (place + 1) ws
 places-here t place w ws same = cond-true (w == t) (place ∷ places_from t (place + 1) ws) (places_from t (place + 1) ws) (eq-eqb w t same)
@@ -34,7 +34,7 @@ places-append t place (w ∷ a) b =
       | inr other ↦ places-other t place w (a ++ b) other ∙ rest ∙ ap (λ ps. ps ++ places_from t (place + length (w ∷ a)) b) (sym (places-other t place w a other))
     ]
 
--- the rows of one leaf, behind so many words
+-- the rows of one leaf, after so many words
 leaf-places : (leaves : List Leaf) (id t before offset : ℕ) (ws : List ℕ) → words_before leaves id ≡ before →
     map (place_of leaves) (rows_of t (entries_from id offset ws)) ≡ places_from t (before + offset + 1) ws
 leaf-places leaves id t before offset [] is = refl
@@ -49,18 +49,18 @@ leaf-places leaves id t before offset (w ∷ ws) is =
           ∙ rest ∙ sym (places-other t (before + offset + 1) w ws other)
     ]
 
-before-behind : (a : List Leaf) (l : Leaf) (b : List Leaf) → has l.id (leaf_ids a) ≡ false → words_before (a ++ l ∷ b) l.id ≡ length (words_of a)
-before-behind [] l b none = cond-true (l.id == l.id) 0 (length l.words + words_before b l.id) (eq-eqb l.id l.id refl)
-before-behind (x ∷ a) l b none =
+before-suffix : (a : List Leaf) (l : Leaf) (b : List Leaf) → has l.id (leaf_ids a) ≡ false → words_before (a ++ l ∷ b) l.id ≡ length (words_of a)
+before-suffix [] l b none = cond-true (l.id == l.id) 0 (length l.words + words_before b l.id) (eq-eqb l.id l.id refl)
+before-suffix (x ∷ a) l b none =
     let other : (x.id ≡ l.id) → ⊥ = λ same. true≢false (sym (has-head x.id l.id (leaf_ids a) same) ∙ none) in
     cond-false (x.id == l.id) 0 (length x.words + words_before (a ++ l ∷ b) l.id) (ne_eqb x.id l.id other)
-    ∙ ap (λ n. length x.words + n) (before-behind a l b (sym (has-other x.id l.id (leaf_ids a) other) ∙ none)) ∙ sym (length-append x.words (words_of a))
+    ∙ ap (λ n. length x.words + n) (before-suffix a l b (sym (has-other x.id l.id (leaf_ids a) other) ∙ none)) ∙ sym (length-append x.words (words_of a))
 
 words-append : (a b : List Leaf) → words_of (a ++ b) ≡ words_of a ++ words_of b
 words-append [] b = refl
 words-append (x ∷ a) b = ap (λ ws. x.words ++ ws) (words-append a b) ∙ sym (append_assoc x.words (words_of a) (words_of b))
 
--- the rows of the leaves behind others
+-- the rows of the leaves after others
 rest-places : (t : ℕ) (a b : List Leaf) → are_distinct (leaf_ids (a ++ b)) ≡ true → map (place_of (a ++ b)) (rows_of t (entries b)) ≡ places_from t (length (words_of a) + 1) (words_of b)
 rest-places t a [] apart = refl
 rest-places t a (l ∷ b) apart =
@@ -71,7 +71,7 @@ rest-places t a (l ∷ b) apart =
     let m : length (words_of (a ++ l ∷ [])) + 1 ≡ length (words_of a) + 1 + length l.words = omega (arith, ap length (words-append a (l ∷ [])), length-append (words_of a) (l.words ++ []), ap length (append-nil l.words)) in
     ap (map (place_of all)) (rows_of-append t (leaf_entries l) (entries b))
     ∙ map-append (place_of all) (rows_of t (leaf_entries l)) (rows_of t (entries b))
-    ∙ ap (λ ps. ps ++ map (place_of all) (rows_of t (entries b))) (leaf-places all l.id t (length (words_of a)) 0 l.words (before-behind a l b none) ∙ ap (λ p. places_from t p l.words) n)
+    ∙ ap (λ ps. ps ++ map (place_of all) (rows_of t (entries b))) (leaf-places all l.id t (length (words_of a)) 0 l.words (before-suffix a l b none) ∙ ap (λ p. places_from t p l.words) n)
     ∙ ap (λ ps. places_from t (length (words_of a) + 1) l.words ++ ps) (
     ap (λ ls. map (place_of ls) (rows_of t (entries b))) (sym more)
     ∙ rest-places t (a ++ l ∷ []) b (ap (λ ls. are_distinct (leaf_ids ls)) more ∙ apart) ∙ ap (λ p. places_from t p (words_of b)) m)
@@ -81,7 +81,7 @@ rest-places t a (l ∷ b) apart =
 pub places-are : (document : TermDocument) (t : ℕ) → are_distinct (leaf_ids document.leaves) ≡ true → map (place_of document.leaves) (rows_of t (entries_of document)) ≡ places_of t document.leaves
 places-are document t apart = rest-places t [] document.leaves apart
 
--- places ascend from the first on, and none is behind the last word
+-- places ascend from the first on, and none is after the last word
 above : (t place : ℕ) (ws : List ℕ) (p : ℕ) → has p (places_from t place ws) ≡ true → (place ≤ p) × (p < place + length ws)
 above t place [] p there = absurd (true≢false (sym there))
 above t place (w ∷ ws) p there = elim (cases_eq w t) [
@@ -120,9 +120,9 @@ get-drop zero xs k d = let n : k ≡ 0 + k = omega arith in ap (λ i. get_or xs 
 get-drop (suc n) [] k d = refl
 get-drop (suc n) (x ∷ xs) k d = let m : suc (n + k) ≡ suc n + k = omega arith in get-drop n xs k d ∙ ap (λ i. get_or (x ∷ xs) i d) m
 
-take-front : {T : Type 0} (a b : List T) → take (length a) (a ++ b) ≡ a
-take-front [] b = refl
-take-front (x ∷ a) b = ap (λ xs. x ∷ xs) (take-front a b)
+take-prefix : {T : Type 0} (a b : List T) → take (length a) (a ++ b) ≡ a
+take-prefix [] b = refl
+take-prefix (x ∷ a) b = ap (λ xs. x ∷ xs) (take-prefix a b)
 
 -- every row of a leaf is of it
 row-leaf : (id t offset : ℕ) (ws : List ℕ) (k : ℕ) (d : Row) → k < length (rows_of t (entries_from id offset ws)) → (get_or (rows_of t (entries_from id offset ws)) k d).leaf.0 ≡ id
@@ -138,19 +138,19 @@ row-leaf id t offset (w ∷ ws) k d there = elim (cases_eq w t) [
 pub row-there : (t : ℕ) (leaves : List Leaf) (k : ℕ) (d : Row) → k < length (rows_of t (entries leaves)) → has ((get_or (rows_of t (entries leaves)) k d).leaf.0) (leaf_ids leaves) ≡ true
 row-there t [] k d there = absurd (omega arith)
 row-there t (l ∷ leaves) k d there =
-    let front = rows_of t (leaf_entries l) in
+    let prefix = rows_of t (leaf_entries l) in
     let back = rows_of t (entries leaves) in
     let is = rows_of-append t (leaf_entries l) (entries leaves) in
-    elim (cases_lt k (length front)) [
+    elim (cases_lt k (length prefix)) [
       | inl inside ↦ ap (λ rs. has ((get_or rs k d).leaf.0) (leaf_ids (l ∷ leaves))) is
-          ∙ ap (λ (r : Row). has (r.leaf.0) (leaf_ids (l ∷ leaves))) (read-front front back k d inside)
+          ∙ ap (λ (r : Row). has (r.leaf.0) (leaf_ids (l ∷ leaves))) (read-prefix prefix back k d inside)
           ∙ ap (λ i. has i (leaf_ids (l ∷ leaves))) (row-leaf l.id t 0 l.words k d inside) ∙ has-head l.id l.id (leaf_ids leaves) refl
-      | inr behind ↦
-          let n : length front + (k - length front) ≡ k = omega (arith, behind) in
-          let more : k - length front < length back = omega (arith, there, behind, ap length is, length-append front back) in
-          ap (λ rs. has ((get_or rs k d).leaf.0) (leaf_ids (l ∷ leaves))) is ∙ ap (λ i. has ((get_or (front ++ back) i d).leaf.0) (leaf_ids (l ∷ leaves))) (sym n)
-          ∙ ap (λ (r : Row). has (r.leaf.0) (leaf_ids (l ∷ leaves))) (read-back front back (k - length front) d)
-          ∙ or_right (l.id == (get_or back (k - length front) d).leaf.0) (has ((get_or back (k - length front) d).leaf.0) (leaf_ids leaves)) (row-there t leaves (k - length front) d more)
+      | inr suffix ↦
+          let n : length prefix + (k - length prefix) ≡ k = omega (arith, suffix) in
+          let more : k - length prefix < length back = omega (arith, there, suffix, ap length is, length-append prefix back) in
+          ap (λ rs. has ((get_or rs k d).leaf.0) (leaf_ids (l ∷ leaves))) is ∙ ap (λ i. has ((get_or (prefix ++ back) i d).leaf.0) (leaf_ids (l ∷ leaves))) (sym n)
+          ∙ ap (λ (r : Row). has (r.leaf.0) (leaf_ids (l ∷ leaves))) (read-back prefix back (k - length prefix) d)
+          ∙ or_right (l.id == (get_or back (k - length prefix) d).leaf.0) (has ((get_or back (k - length prefix) d).leaf.0) (leaf_ids leaves)) (row-there t leaves (k - length prefix) d more)
     ]
 
 -- a run of rows, and what is read of it
@@ -181,20 +181,20 @@ pub run-found : (document : TermDocument) (rows : List Row) (ids starts : List �
 run-found document rows ids starts term number first end indexed apart there term_is first_is end_is fits =
     let old = all_rows (entries_of document) in
     let before = joined (map old (take number ids)) in
-    let behind = joined (map old (drop (number + 1) ids)) in
+    let suffix = joined (map old (drop (number + 1) ids)) in
     let run = rows_of term (entries_of document) in
     let at_first : first ≡ length before = first_is ∙ start-is old ids number in
     let at_end : end ≡ length before + length run = run-end (entries_of document) ids number end there end_is ∙ ap (λ t. length before + length (old t)) term_is in
-    let parts : rows ≡ before ++ (run ++ behind) =
+    let parts : rows ≡ before ++ (run ++ suffix) =
     indexed.rows_are ∙ ap (λ ts. joined (map old ts)) (sym (take-append-drop number ids)) ∙ ap joined (map-append old (take number ids) (drop number ids))
-    ∙ flat_map-append (λ (b : List Row). b) (map old (take number ids)) (map old (drop number ids)) ∙ next-run old old ids number there ∙ ap (λ t. before ++ (old t ++ behind)) term_is in
+    ∙ flat_map-append (λ (b : List Row). b) (map old (take number ids)) (map old (drop number ids)) ∙ next-run old old ids number there ∙ ap (λ t. before ++ (old t ++ suffix)) term_is in
     let count : end - first ≡ length run = omega (arith, at_first, at_end) in
     record {
       order = omega (arith, at_first, at_end);
-      within = omega (arith, at_end, ap length parts, length-append before (run ++ behind), length-append run behind);
+      within = omega (arith, at_end, ap length parts, length-append before (run ++ suffix), length-append run suffix);
       fits = fits;
-      run = ap (λ n. take n (drop first rows)) count ∙ ap (λ rs. take (length run) (drop first rs)) parts ∙ ap (λ n. take (length run) (drop n (before ++ (run ++ behind)))) at_first
-          ∙ ap (take (length run)) (drop-front before (run ++ behind)) ∙ take-front run behind;
+      run = ap (λ n. take n (drop first rows)) count ∙ ap (λ rs. take (length run) (drop first rs)) parts ∙ ap (λ n. take (length run) (drop n (before ++ (run ++ suffix)))) at_first
+          ∙ ap (take (length run)) (drop-prefix before (run ++ suffix)) ∙ take-prefix run suffix;
       distinct = apart;
     }
 

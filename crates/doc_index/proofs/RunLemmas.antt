@@ -9,7 +9,7 @@ use Rattle.shared_list.proofs.StartLemmas.{push-starts}
 pub joined-push : {T : Type 0} (blocks : List (List T)) (new : List T) → joined (blocks ++ new ∷ []) ≡ joined blocks ++ new
 joined-push {T = T} blocks new = flat_map-append (λ (b : List T). b) blocks (new ∷ []) ∙ ap (λ xs. joined blocks ++ xs) (append-nil new)
 
--- the rows of the terms in front of a place, as one function gives them, and of those from the place on, as another does
+-- the rows of the terms before a place, as one function gives them, and of those from the place on, as another does
 abbrev pub half_done : (ℕ → List Row) → (ℕ → List Row) → List ℕ → ℕ → List Row
 half_done new old ids k = joined (map new (take k ids)) ++ joined (map old (drop k ids))
 

@@ -11,7 +11,7 @@ use Rattle.doc_index.specs.declared.entry.Entry.{Entry}
 use Rattle.doc_index.specs.Terms.{Leaf, TermDocument, document_of, with_leaf, without_leaf, has, terms_of, words_of}
 use Rattle.doc_index.specs.declared.parts.Parts.{Parts}
 use Rattle.doc_index.specs.Rows.{HasTerms, IsIndexed, IsSound, entries, entries_of, has_rows, leaf_entries, of_term, row_of, rows_of, runs_of}
-use Rattle.doc_index.specs.steps.Groups.{IsSortedFrom, back_entries, entries_at, entries_with, entries_without, front_entries, grouped, term_of}
+use Rattle.doc_index.specs.steps.Groups.{IsSortedFrom, back_entries, entries_at, entries_with, entries_without, prefix_entries, grouped, term_of}
 use Rattle.doc_index.proofs.TermLemmas.{has-append, are-terms}
 use Rattle.doc_index.proofs.EntryLemmas.{grouped-sorted, has-rows, of_term-append, split-entries, words-are, words-from}
 use Rattle.doc_index.proofs.WideningLemmas.{ascending-filter, has-filter}
@@ -51,11 +51,11 @@ pub with-terms : (document : TermDocument) (at : ℕ) (new : List Entry) (old_id
 with-terms document at new old_ids ids old up members = record {
   rising = up;
   members = λ t.
-      let front = front_entries document at in
+      let prefix = prefix_entries document at in
       let back = back_entries document at in
-      members t ∙ ap (λ z. z || has t (map term_of new)) (old.members t ∙ ap (λ es. has_rows es t) (split-entries document.leaves at) ∙ has-terms t front back)
-      ∙ ap (λ z. (has_rows front t || has_rows back t) || z) (sym (has-rows t new)) ∙ or-turn (has_rows front t) (has_rows back t) (has_rows new t)
-      ∙ ap (λ z. has_rows front t || z) (sym (has-terms t new back)) ∙ sym (has-terms t front (new ++ back));
+      members t ∙ ap (λ z. z || has t (map term_of new)) (old.members t ∙ ap (λ es. has_rows es t) (split-entries document.leaves at) ∙ has-terms t prefix back)
+      ∙ ap (λ z. (has_rows prefix t || has_rows back t) || z) (sym (has-rows t new)) ∙ or-turn (has_rows prefix t) (has_rows back t) (has_rows new t)
+      ∙ ap (λ z. has_rows prefix t || z) (sym (has-terms t new back)) ∙ sym (has-terms t prefix (new ++ back));
 }
 
 pub new-grouped : (new : List Entry) (old_ids ids : List ℕ) → is_ascending ids ≡ true → IsNonDecreasingBy term_of new →
@@ -63,31 +63,31 @@ pub new-grouped : (new : List Entry) (old_ids ids : List ℕ) → is_ascending i
 new-grouped new old_ids ids up order members =
     grouped-sorted ids new up order (λ t there. members t ∙ or_right (has t old_ids) (has t (map term_of new)) there)
 
--- all entries are those in front of a leaf, its own and those behind it
-pub three-parts : (document : TermDocument) (at : ℕ) → entries_of document ≡ front_entries document at ++ (entries_at document at ++ entries (drop (suc at) document.leaves))
+-- all entries are those before a leaf, its own and those after it
+pub three-parts : (document : TermDocument) (at : ℕ) → entries_of document ≡ prefix_entries document at ++ (entries_at document at ++ entries (drop (suc at) document.leaves))
 three-parts document at =
     let n : at + 1 ≡ suc at = omega arith in
     split-entries document.leaves at
-    ∙ ap (λ es. front_entries document at ++ es) (split-entries (drop at document.leaves) 1
+    ∙ ap (λ es. prefix_entries document at ++ es) (split-entries (drop at document.leaves) 1
     ∙ ap (λ ls. entries_at document at ++ entries ls) (drop-drop 1 at document.leaves ∙ ap (λ i. drop i document.leaves) n))
 
 pub old-grouped : (document : TermDocument) (at : ℕ) (old : List Entry) (ids : List ℕ) → HasTerms (entries_of document) ids → IsSortedFrom (entries_at document at) old → old ≡ grouped ids old
 old-grouped document at old ids terms sorted =
     grouped-sorted ids old terms.rising sorted.in_order (λ t there.
-    let front = front_entries document at in
+    let prefix = prefix_entries document at in
     let back = entries (drop (suc at) document.leaves) in
     let inside : has_rows (entries_at document at) t ≡ true = ap (λ es. nat_lt 0 (length es)) (sym (sorted.same t)) ∙ has-rows t old ∙ there in
-    terms.members t ∙ ap (λ es. has_rows es t) (three-parts document at) ∙ has-terms t front (entries_at document at ++ back)
-    ∙ or_right (has_rows front t) (has_rows (entries_at document at ++ back) t) (has-terms t (entries_at document at) back ∙ or_left (has_rows (entries_at document at) t) (has_rows back t) inside))
+    terms.members t ∙ ap (λ es. has_rows es t) (three-parts document at) ∙ has-terms t prefix (entries_at document at ++ back)
+    ∙ or_right (has_rows prefix t) (has_rows (entries_at document at ++ back) t) (has-terms t (entries_at document at) back ∙ or_left (has_rows (entries_at document at) t) (has_rows back t) inside))
 
 -- the entries with a new leaf's, in the order of the text or of their terms
 pub with-same : (document : TermDocument) (at : ℕ) (l : Leaf) (new : List Entry) → IsSortedFrom (leaf_entries l) new →
     (t : ℕ) → of_term t (entries_with document at new) ≡ of_term t (entries_of (with_leaf document at l))
 with-same document at l new sorted t =
-    let front = front_entries document at in
+    let prefix = prefix_entries document at in
     let back = back_entries document at in
-    of_term-append t front (new ++ back) ∙ ap (λ es. of_term t front ++ es) (of_term-append t new back ∙ ap (λ es. es ++ of_term t back) (sorted.same t) ∙ sym (of_term-append t (leaf_entries l) back))
-    ∙ sym (of_term-append t front (leaf_entries l ++ back))
+    of_term-append t prefix (new ++ back) ∙ ap (λ es. of_term t prefix ++ es) (of_term-append t new back ∙ ap (λ es. es ++ of_term t back) (sorted.same t) ∙ sym (of_term-append t (leaf_entries l) back))
+    ∙ sym (of_term-append t prefix (leaf_entries l ++ back))
     ∙ ap (of_term t) (sym (flat_map-append leaf_entries (take at document.leaves) (l ∷ drop at document.leaves)))
 
 -- the same for all leaves of a document
@@ -109,11 +109,11 @@ or-more false false c there = there
 
 still-there : (document : TermDocument) (at t : ℕ) → has_rows (entries_without document at) t ≡ true → has_rows (entries_of document) t ≡ true
 still-there document at t there =
-    let front = front_entries document at in
+    let prefix = prefix_entries document at in
     let leaf = entries_at document at in
     let back = entries (drop (suc at) document.leaves) in
-    ap (λ es. has_rows es t) (three-parts document at) ∙ has-terms t front (leaf ++ back) ∙ ap (λ z. has_rows front t || z) (has-terms t leaf back)
-    ∙ or-more (has_rows front t) (has_rows leaf t) (has_rows back t) (sym (has-terms t front back) ∙ there)
+    ap (λ es. has_rows es t) (three-parts document at) ∙ has-terms t prefix (leaf ++ back) ∙ ap (λ z. has_rows prefix t || z) (has-terms t leaf back)
+    ∙ or-more (has_rows prefix t) (has_rows leaf t) (has_rows back t) (sym (has-terms t prefix back) ∙ there)
 
 -- the terms without those that went with a leaf
 pub without-terms : (document : TermDocument) (at : ℕ) (ids : List ℕ) → HasTerms (entries_of document) ids → HasTerms (entries_of (without_leaf document at)) (filter (has_rows (entries_of (without_leaf document at))) ids)

@@ -8,7 +8,7 @@ use Rattle.shared_list.proofs.StartLemmas.{same-length}
 use Rattle.doc_index.specs.declared.entry.Entry.{Entry}
 use Rattle.doc_index.specs.Terms.{TermDocument, are_distinct, leaf_ids}
 use Rattle.doc_index.specs.Rows.{IsIndexed, entries_of, of_term, row_of, rows_of, runs_of}
-use Rattle.doc_index.specs.steps.Groups.{group, grouped, front_entries, back_entries, entries_at, entries_with, entries_without}
+use Rattle.doc_index.specs.steps.Groups.{group, grouped, prefix_entries, back_entries, entries_at, entries_with, entries_without}
 use Rattle.doc_index.specs.steps.Directory.{IsAround}
 use Rattle.doc_index.proofs.RunLemmas.{half_done, done-run, starts-more, start-is}
 use Rattle.doc_index.proofs.PutLemmas.{rest_entries, all_rows, group-is, left-more, group-within, old-rows, new-rows, put-run, put-done, all-split, rest-split, take-run, take-done}
@@ -92,8 +92,8 @@ module _ (document : TermDocument) (at : ℕ) (new : List Entry) (ids : List ℕ
     (end_is : end ≡ length (joined (map (all_rows (entries_of document)) (take k ids))) + length (rows_of (get_or ids k 0) (entries_of document)) + next) where
   pub putting-more : is_ascending ids ≡ true → at ≤ length document.leaves → are_distinct (leaf_ids document.leaves) ≡ true →
       (seen : TermDocument) → seen ≡ document → (term : ℕ) → term ≡ get_or ids k 0 → (rows_new : List Row) (next_new : ℕ) →
-      ((before front back behind : List Row) → IsAround (leaf_ids seen.leaves) at first end rows before front back behind →
-      rows_new ≡ before ++ (front ++ (map row_of (group term (drop next new)) ++ (back ++ behind)))) →
+      ((before prefix back suffix : List Row) → IsAround (leaf_ids seen.leaves) at first end rows before prefix back suffix →
+      rows_new ≡ before ++ (prefix ++ (map row_of (group term (drop next new)) ++ (back ++ suffix)))) →
       next_new ≡ next + length (group term (drop next new)) →
       IsPutting document at new ids (k + 1) next_new rows_new (starts ++ first ∷ [])
   putting-more up place apart seen seen_is term term_is rows_new next_new call next_is =
@@ -101,8 +101,8 @@ module _ (document : TermDocument) (at : ℕ) (new : List Entry) (ids : List ℕ
       let all = all_rows (entries_with document at new) in
       let old = all_rows (entries_of document) in
       let before = joined (map all (take k ids)) in
-      let behind = joined (map old (drop (k + 1) ids)) in
-      let front = rows_of t (front_entries document at) in
+      let suffix = joined (map old (drop (k + 1) ids)) in
+      let prefix = rows_of t (prefix_entries document at) in
       let back = rows_of t (back_entries document at) in
       let is_first : first ≡ length before = omega (arith, first_is, state.lengths) in
       let is_end : end ≡ length before + length (old t) = omega (arith, end_is, state.lengths) in
@@ -112,16 +112,16 @@ module _ (document : TermDocument) (at : ℕ) (new : List Entry) (ids : List ℕ
       omega (
         arith,
         ap length (new-rows document at new t),
-        length-append front (rows_of t new ++ back),
+        length-append prefix (rows_of t new ++ back),
         length-append (rows_of t new) back,
         ap length (old-rows document at new t),
-        length-append front back,
+        length-append prefix back,
         length-map (of_term t new) row_of,
       ) in
       half-more state there up term first next_new rows_new term_is is_first next_is sum
       (put-done document at new ids k there rows state.rows_are rows_new
-      (call before front back behind (subst (λ (d : TermDocument). IsAround (leaf_ids d.leaves) at first end rows before front back behind) (sym seen_is) around)
-      ∙ ap (λ es. before ++ (front ++ (map row_of es ++ (back ++ behind)))) groups))
+      (call before prefix back suffix (subst (λ (d : TermDocument). IsAround (leaf_ids d.leaves) at first end rows before prefix back suffix) (sym seen_is) around)
+      ∙ ap (λ es. before ++ (prefix ++ (map row_of es ++ (back ++ suffix)))) groups))
 
 -- the rows of a leaf go from among the others
 abbrev pub IsTaking : TermDocument → ℕ → List Entry → List ℕ → ℕ → ℕ → List Row → List ℕ → Type 0
@@ -135,8 +135,8 @@ module _ (document : TermDocument) (at : ℕ) (old : List Entry) (ids : List ℕ
   pub taking-more : is_ascending ids ≡ true → at < length document.leaves → are_distinct (leaf_ids document.leaves) ≡ true →
       ((t : ℕ) → of_term t old ≡ of_term t (entries_at document at)) →
       (seen : TermDocument) → seen ≡ document → (term : ℕ) → term ≡ get_or ids k 0 → (rows_new : List Row) (next_new : ℕ) →
-      ((before front back behind : List Row) → IsAround (leaf_ids seen.leaves) at first end rows before front (map row_of (group term (drop next old)) ++ back) behind →
-      rows_new ≡ before ++ (front ++ (back ++ behind))) →
+      ((before prefix back suffix : List Row) → IsAround (leaf_ids seen.leaves) at first end rows before prefix (map row_of (group term (drop next old)) ++ back) suffix →
+      rows_new ≡ before ++ (prefix ++ (back ++ suffix))) →
       next_new ≡ next + length (group term (drop next old)) →
       IsTaking document at old ids (k + 1) next_new rows_new (starts ++ first ∷ [])
   taking-more up place apart same seen seen_is term term_is rows_new next_new call next_is =
@@ -144,24 +144,24 @@ module _ (document : TermDocument) (at : ℕ) (old : List Entry) (ids : List ℕ
       let rest = all_rows (entries_without document at) in
       let all = all_rows (entries_of document) in
       let before = joined (map rest (take k ids)) in
-      let behind = joined (map all (drop (k + 1) ids)) in
-      let front = rows_of t (front_entries document at) in
+      let suffix = joined (map all (drop (k + 1) ids)) in
+      let prefix = rows_of t (prefix_entries document at) in
       let back = rows_of t (rest_entries document at old same) in
       let is_first : first ≡ length before = omega (arith, first_is, state.lengths) in
       let is_end : end ≡ length before + length (all t) = omega (arith, end_is, state.lengths) in
       let around = take-run document at old same ids k there rows state.rows_are first end (omega (arith, place)) apart is_first is_end in
       let groups : group term (drop next old) ≡ of_term t old = ap (λ u. group u (drop next old)) term_is ∙ group-is ids k next old there up state.left in
-      let seen_around = subst (λ (d : TermDocument). IsAround (leaf_ids d.leaves) at first end rows before front (rows_of t old ++ back) behind) (sym seen_is) around in
+      let seen_around = subst (λ (d : TermDocument). IsAround (leaf_ids d.leaves) at first end rows before prefix (rows_of t old ++ back) suffix) (sym seen_is) around in
       let sum : length (all t) ≡ length (rest t) + length (of_term t old) =
       omega (
         arith,
         ap length (all-split document at old same t),
-        length-append front (rows_of t old ++ back),
+        length-append prefix (rows_of t old ++ back),
         length-append (rows_of t old) back,
         ap length (rest-split document at old same t),
-        length-append front back,
+        length-append prefix back,
         length-map (of_term t old) row_of,
       ) in
       half-more state there up term first next_new rows_new term_is is_first next_is sum
       (take-done document at old same ids k there rows state.rows_are rows_new
-      (call before front back behind (subst (λ (es : List Entry). IsAround (leaf_ids seen.leaves) at first end rows before front (map row_of es ++ back) behind) (sym groups) seen_around)))
+      (call before prefix back suffix (subst (λ (es : List Entry). IsAround (leaf_ids seen.leaves) at first end rows before prefix (map row_of es ++ back) suffix) (sym groups) seen_around)))

@@ -3,6 +3,7 @@ use Rattle.std.proofs.Common.{◌≡◌, ℕ, ◌<◌, ◌≤◌, suc, zero, tru
 use Rattle.std.proofs.lemmas.Bool.{and_parts, and_from, or_cases, or_right, or_left, ltb-true, lt-ltb, eqb-true, eq-eqb, ne_eqb, cases_eq, cond_both, false_from_ne_true, eqb-false, ltb-false}
 use Rattle.std.proofs.lemmas.List.Folds.{list_any-append}
 use Rattle.ft_base.specs.Places.{is_ascending}
+use Rattle.ft_base.proofs.PlacesLemmas.{rest-ascending}
 use Rattle.ft_base.proofs.Truth.{or_swap, or_again, or_other}
 use Rattle.doc_index.specs.Terms.{has, with_term, terms_of}
 
@@ -14,15 +15,6 @@ has-head x t xs same = or_left (x == t) (has t xs) (eq-eqb x t same)
 
 pub has-other : (x t : ℕ) (xs : List ℕ) → (x ≡ t → ⊥) → has t (x ∷ xs) ≡ has t xs
 has-other x t xs other = or_other (x == t) (has t xs) (ne_eqb x t other)
-
-pub rest-ascending : (x : ℕ) (xs : List ℕ) → is_ascending (x ∷ xs) ≡ true → is_ascending xs ≡ true
-rest-ascending x [] up = refl
-rest-ascending x (y ∷ xs) up = (and_parts (nat_lt x y) (is_ascending (y ∷ xs)) up).1
-
-pub ascending-drop : (k : ℕ) (xs : List ℕ) → is_ascending xs ≡ true → is_ascending (drop k xs) ≡ true
-ascending-drop zero xs up = up
-ascending-drop (suc k) [] up = refl
-ascending-drop (suc k) (x ∷ xs) up = ascending-drop k xs (rest-ascending x xs up)
 
 -- the first is less than each of the others
 pub first-below : (x : ℕ) (xs : List ℕ) → is_ascending (x ∷ xs) ≡ true → (t : ℕ) → has t xs ≡ true → x < t

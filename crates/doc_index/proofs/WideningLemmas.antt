@@ -11,7 +11,9 @@ use Rattle.doc_index.specs.declared.entry.Entry.{Entry}
 use Rattle.doc_index.specs.Terms.{has}
 use Rattle.doc_index.specs.Rows.{IsIndexed, has_rows, of_term, row_of, rows_of, runs_of}
 use Rattle.doc_index.specs.steps.Widening.{AreUpTo, IsWidening}
-use Rattle.doc_index.proofs.TermLemmas.{has-append, has-head, has-other, find-at, ascending-at, ascending-cons, first-below, rest-ascending}
+use Rattle.doc_index.proofs.TermLemmas.{has-append, has-head, has-other, find-at, ascending-at, ascending-cons, first-below}
+use Rattle.ft_base.proofs.PlacesLemmas.{rest-ascending}
+use Rattle.ft_base.proofs.Truth.{or_swap_last}
 use Rattle.doc_index.proofs.EntryLemmas.{no-rows}
 use Rattle.doc_index.proofs.RunLemmas.{joined-push, done-run, start-is}
 use Rattle.doc_index.proofs.PutLemmas.{all_rows}
@@ -19,7 +21,7 @@ use Rattle.doc_index.proofs.PutLemmas.{all_rows}
 has-single : (t x : ℕ) → has t (x ∷ []) ≡ (x == t)
 has-single t x = or-false (x == t)
 
--- an ascending list with a greater term behind it
+-- an ascending list with a greater term after it
 pub ascending-push : (xs : List ℕ) (x : ℕ) → is_ascending xs ≡ true → ((t : ℕ) → has t xs ≡ true → t < x) → is_ascending (xs ++ x ∷ []) ≡ true
 ascending-push [] x up below = refl
 ascending-push (y ∷ xs) x up below =
@@ -42,22 +44,14 @@ or_group : (a b c : Bool) → ((a || b) || c) ≡ (a || (b || c))
 or_group true b c = refl
 or_group false b c = refl
 
-or-middle : (a b c : Bool) → ((a || b) || c) ≡ ((a || c) || b)
-or-middle true b true = refl
-or-middle true b false = refl
-or-middle false true true = refl
-or-middle false true false = refl
-or-middle false false true = refl
-or-middle false false false = refl
-
 same-place : (n k : ℕ) → n ≤ k → k ≤ n → n ≡ k
 same-place n k le ge = omega arith
 
-has-front : (xs : List ℕ) (n k : ℕ) → k < n → k < length xs → has (get_or xs k 0) (take n xs) ≡ true
-has-front [] n k before there = absurd (omega arith)
-has-front (x ∷ xs) zero k before there = absurd (omega arith)
-has-front (x ∷ xs) (suc n) zero before there = has-head x x (take n xs) refl
-has-front (x ∷ xs) (suc n) (suc k) before there = or_right (x == get_or xs k 0) (has (get_or xs k 0) (take n xs)) (has-front xs n k (omega (arith, before)) (omega (arith, there)))
+has-prefix : (xs : List ℕ) (n k : ℕ) → k < n → k < length xs → has (get_or xs k 0) (take n xs) ≡ true
+has-prefix [] n k before there = absurd (omega arith)
+has-prefix (x ∷ xs) zero k before there = absurd (omega arith)
+has-prefix (x ∷ xs) (suc n) zero before there = has-head x x (take n xs) refl
+has-prefix (x ∷ xs) (suc n) (suc k) before there = or_right (x == get_or xs k 0) (has (get_or xs k 0) (take n xs)) (has-prefix xs n k (omega (arith, before)) (omega (arith, there)))
 
 module _ (all : List Entry) (ids : List ℕ) where
   -- the next of the terms that were there
@@ -75,7 +69,7 @@ module _ (all : List Entry) (ids : List ℕ) where
         joined_are = ap joined (map_push (all_rows all) made id) ∙ joined-push (runs_of all made) (rows_of id all) ∙ ap (λ rows. rows ++ rows_of id all) state.joined_are
             ∙ sym (ap (λ ts. joined (runs_of all ts)) more ∙ ap joined (map_push (all_rows all) (take number ids) id) ∙ joined-push (runs_of all (take number ids)) (rows_of id all));
         rising = ascending-push made id state.rising (λ t inside. omega (arith, state.below t inside number (omega arith) there, id_is));
-        members = λ t. has-append t made (id ∷ []) ∙ ap (λ b. b || has t (id ∷ [])) (state.members t) ∙ or-middle (has t (take number ids)) (has t done) (has t (id ∷ []))
+        members = λ t. has-append t made (id ∷ []) ∙ ap (λ b. b || has t (id ∷ [])) (state.members t) ∙ or_swap_last (has t (take number ids)) (has t done) (has t (id ∷ []))
             ∙ ap (λ b. b || has t done) (sym (ap (has t) more ∙ has-append t (take number ids) (id ∷ [])));
         below = λ t inside k from to. elim (or_cases (has t made) (has t (id ∷ [])) (sym (has-append t made (id ∷ [])) ∙ inside)) [
           | inl old ↦ state.below t old k (omega (arith, from)) to
@@ -110,12 +104,12 @@ module _ (all : List Entry) (ids : List ℕ) where
   absent-term number done made made_starts term state up greater next = false_from_ne_true (has term ids) (λ there.
       let found = find-at ids term there in
       elim (cases_lt found.0 number) [
-        | inl front ↦
-            let inside : has term (take number ids) ≡ true = ap (λ z. has z (take number ids)) (sym found.2) ∙ has-front ids number found.0 front found.1 in
+        | inl prefix ↦
+            let inside : has term (take number ids) ≡ true = ap (λ z. has z (take number ids)) (sym found.2) ∙ has-prefix ids number found.0 prefix found.1 in
             omega (arith, greater term (state.members term ∙ or_left (has term (take number ids)) (has term done) inside))
-        | inr behind ↦ elim (cases_lt number found.0) [
-          | inl further ↦ omega (arith, found.2, next (omega (arith, found.1, behind)), ascending-at ids number found.0 up further found.1)
-          | inr here ↦ omega (arith, found.2, next (omega (arith, found.1, behind)), ap (λ i. get_or ids i 0) (same-place number found.0 behind here))
+        | inr suffix ↦ elim (cases_lt number found.0) [
+          | inl further ↦ omega (arith, found.2, next (omega (arith, found.1, suffix)), ascending-at ids number found.0 up further found.1)
+          | inr here ↦ omega (arith, found.2, next (omega (arith, found.1, suffix)), ap (λ i. get_or ids i 0) (same-place number found.0 suffix here))
         ]
       ])
 

@@ -14,7 +14,7 @@ row_at leaf offset = record { leaf = record { 0 = leaf }; offset = offset }
 abbrev pub entry_at : ℕ → ℕ → ℕ → Entry
 entry_at leaf offset term = record { term = term; row = row_at leaf offset }
 
--- words of a leaf with their rows, where so many of its words stand in front of the first
+-- words of a leaf with their rows, where so many of its words stand before the first
 abbrev pub entries_from : ℕ → ℕ → List ℕ → List Entry
 entries_from leaf offset [] = []
 entries_from leaf offset (word ∷ rest) = entry_at leaf offset word ∷ entries_from leaf (offset + 1) rest
@@ -46,7 +46,7 @@ has_rows all term = nat_lt 0 (length (of_term term all))
 abbrev pub runs_of : List Entry → List ℕ → List (List Row)
 runs_of all ids = map (λ (term : ℕ). rows_of term all) ids
 
--- the rows are those of the terms, one term behind the other, and the starts say where each begins
+-- the rows are those of the terms, one term after the other, and the starts say where each begins
 pub record IsIndexed (all : List Entry) (ids starts : List ℕ) (rows : List Row) : Type 0 where
   pub rows_are : rows ≡ joined (runs_of all ids)
   pub starts_are : starts ≡ starts_from 0 (runs_of all ids)

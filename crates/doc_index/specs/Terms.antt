@@ -18,7 +18,7 @@ pub record TermDocument : Type 0 where
 abbrev pub document_of : ℕ → List Leaf → TermDocument
 document_of doc leaves = record { doc = doc; leaves = leaves }
 
--- the document with one more leaf, in front of the one that is at the place, and without the one that is there
+-- the document with one more leaf, before the one that is at the place, and without the one that is there
 abbrev pub with_leaf : TermDocument → ℕ → Leaf → TermDocument
 with_leaf document at leaf = document_of document.doc (insert document.leaves at leaf)
 

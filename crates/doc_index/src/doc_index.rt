@@ -71,7 +71,7 @@ impl DocIndex {
         Ok(DocIndex { parts })
     }
 
-    /// Puts a leaf with these words at that place, counted from 0, in front of the leaf that is there. Its number is
+    /// Puts a leaf with these words at that place, counted from 0, before the leaf that is there. Its number is
     /// a new one. Counts a row for each word; where memory runs out, no more than that.
     pub fn put_leaf<L: Ledger>(
         self,

@@ -19,7 +19,7 @@ pub fn place_examples()
     ensures nowhere { places_of 4 (leaf_of 9 (3 ∷ 8 ∷ []) ∷ leaf_of 4 (5 ∷ 3 ∷ []) ∷ []) ≡ [] }
 {}
 
-/// A leaf comes in front of the one that is at the place, and goes from its place.
+/// A leaf comes before the one that is at the place, and goes from its place.
 pub fn leaf_examples()
     ensures between { leaf_ids ((with_leaf (document_of 7 (leaf_of 9 [] ∷ leaf_of 4 [] ∷ [])) 1 (leaf_of 2 [])).leaves) ≡ 9 ∷ 2 ∷ 4 ∷ [] }
     ensures at_the_end { leaf_ids ((with_leaf (document_of 7 (leaf_of 9 [] ∷ [])) 1 (leaf_of 2 [])).leaves) ≡ 9 ∷ 2 ∷ [] }

@@ -22,7 +22,7 @@ pub struct Run {
     pub end: usize,
 }
 
-/// The place of the first row of the term of that number, or that behind the last row.
+/// The place of the first row of the term of that number, or that after the last row.
 pub(crate) fn start_at(starts: &Vec<u32>, total: usize, number: usize) -> usize
     ensures { (runs : List (List Row)) → starts.now.items ≡ starts_from 0 runs → total ≡ length (joined runs) → result ≡ start_of runs number }
 {
@@ -62,17 +62,17 @@ fn is_next(entries: &Vec<Entry>, next: usize, term: u32) -> bool
     entries[next].term == term
 }
 
-/// The place behind those rows of a run that are of leaves in front of that place.
-fn front_end(leaves: &Leaves, rows: &PostingList, at: usize, run: Run) -> usize
+/// The place after those rows of a run that are of leaves before that place.
+fn prefix_end(leaves: &Leaves, rows: &PostingList, at: usize, run: Run) -> usize
     ensures within { result ≤ length rows.now }
-    ensures place { (before front back behind : List Row)
-        → IsAround (leaf_ids leaves.now.leaves) at run.first run.end rows.now before front back behind → result ≡ length before + length front }
+    ensures place { (before prefix back suffix : List Row)
+        → IsAround (leaf_ids leaves.now.leaves) at run.first run.end rows.now before prefix back suffix → result ≡ length before + length prefix }
 {
     let mut high = run.end.min(rows.len());
     let mut low = run.first.min(high);
     while low < high {
         let middle = low + (high - low) / 2;
-        if leaves.is_front(rows.get(middle).leaf, at) {
+        if leaves.is_before(rows.get(middle).leaf, at) {
             low = middle + 1;
         } else {
             high = middle;
@@ -81,7 +81,7 @@ fn front_end(leaves: &Leaves, rows: &PostingList, at: usize, run: Run) -> usize
     low
 }
 
-/// Puts the rows of the next entries, as many as are of the term, one behind the other, the first of them at the
+/// Puts the rows of the next entries, as many as are of the term, one after the other, the first of them at the
 /// place. Answers which entry comes next.
 fn put_group<L: Ledger>(
     rows: &mut PostingList,
@@ -143,8 +143,8 @@ fn take_group<L: Ledger>(
     Ok(end)
 }
 
-/// Puts the rows of the next entries, as many as are of the term, among those of its run: behind the rows of leaves in
-/// front of that place. Answers which entry comes next.
+/// Puts the rows of the next entries, as many as are of the term, among those of its run: after the rows of leaves
+/// before that place. Answers which entry comes next.
 pub(crate) fn put_term<L: Ledger>(
     leaves: &Leaves,
     rows: &mut PostingList,
@@ -155,20 +155,20 @@ pub(crate) fn put_term<L: Ledger>(
     steps: &mut Steps<L>,
 ) -> Result<usize, Memory>
     ensures next { IfOk result (λ end. end ≡ next + length (group run.term (drop next entries.now.items))) }
-    ensures rows { OnOk result ((before front back behind : List Row)
-        → IsAround (leaf_ids leaves.now.leaves) at run.first run.end rows.old before front back behind →
-        rows.new ≡ before ++ (front ++ (map row_of (group run.term (drop next entries.now.items)) ++ (back ++ behind)))) }
+    ensures rows { OnOk result ((before prefix back suffix : List Row)
+        → IsAround (leaf_ids leaves.now.leaves) at run.first run.end rows.old before prefix back suffix →
+        rows.new ≡ before ++ (prefix ++ (map row_of (group run.term (drop next entries.now.items)) ++ (back ++ suffix)))) }
     ensures counted { OnOk result (steps.new ≡ steps.old + length (group run.term (drop next entries.now.items))) }
     ensures at_most { steps.new ≤ steps.old + length (group run.term (drop next entries.now.items)) }
 {
     if !is_next(entries, next, run.term) {
         return Ok(next);
     }
-    let place = front_end(leaves, rows, at, run);
+    let place = prefix_end(leaves, rows, at, run);
     put_group(rows, entries, next, run.term, place, steps)
 }
 
-/// Takes the rows of the next entries, as many as are of the term, out of its run, behind the rows of leaves in front
+/// Takes the rows of the next entries, as many as are of the term, out of its run, after the rows of leaves before
 /// of that place. Answers which entry comes next.
 pub(crate) fn take_term<L: Ledger>(
     leaves: &Leaves,
@@ -180,16 +180,16 @@ pub(crate) fn take_term<L: Ledger>(
     steps: &mut Steps<L>,
 ) -> Result<usize, Memory>
     ensures next { IfOk result (λ end. end ≡ next + length (group run.term (drop next entries.now.items))) }
-    ensures rows { OnOk result ((before front back behind : List Row) →
-        IsAround (leaf_ids leaves.now.leaves) at run.first run.end rows.old before front
-        (map row_of (group run.term (drop next entries.now.items)) ++ back) behind →
-        rows.new ≡ before ++ (front ++ (back ++ behind))) }
+    ensures rows { OnOk result ((before prefix back suffix : List Row) →
+        IsAround (leaf_ids leaves.now.leaves) at run.first run.end rows.old before prefix
+        (map row_of (group run.term (drop next entries.now.items)) ++ back) suffix →
+        rows.new ≡ before ++ (prefix ++ (back ++ suffix))) }
     ensures counted { OnOk result (steps.new ≡ steps.old + length (group run.term (drop next entries.now.items))) }
     ensures at_most { steps.new ≤ steps.old + length (group run.term (drop next entries.now.items)) }
 {
     if !is_next(entries, next, run.term) {
         return Ok(next);
     }
-    let place = front_end(leaves, rows, at, run);
+    let place = prefix_end(leaves, rows, at, run);
     take_group(rows, entries, next, run.term, place, steps)
 }

@@ -23,7 +23,7 @@ pub struct Leaves {
     doc: DocId,
     leaves: SharedList<TermLeaf, BLOCK_LEAVES>,
     // By the number of a leaf, which is that of its node, so that there are no more than nodes: the leaf's place,
-    // counted from 1, and how many words stand in front of it.
+    // counted from 1, and how many words stand before it.
     slots: Vec<u32>,
     befores: Vec<u32>,
     words: usize,
@@ -83,7 +83,7 @@ impl Leaves {
         Ok(made)
     }
 
-    /// The leaves with one more behind the last.
+    /// The leaves with one more after the last.
     fn with_last(self, leaf: &TermLeaf) -> Result<Leaves, Memory>
         requires { has leaf.now.id (leaf_ids self.leaves) ≡ false }
         ensures { IfOk result (λ made. made ≡ document_of self.doc (self.leaves ++ leaf.now ∷ [])) }
@@ -137,8 +137,8 @@ impl Leaves {
         number_at(&self.slots, leaf.0 as usize).checked_sub(1)
     }
 
-    /// Whether the leaf stands in front of that place.
-    pub(crate) fn is_front(&self, leaf: LeafId, at: usize) -> bool
+    /// Whether the leaf stands before that place.
+    pub(crate) fn is_before(&self, leaf: LeafId, at: usize) -> bool
         ensures { result ≡ nat_le (slot_of (leaf_ids self.now.leaves) leaf.0) at }
     {
         number_at(&self.slots, leaf.0 as usize) <= at
@@ -155,8 +155,8 @@ impl Leaves {
         before + row.offset + 1
     }
 
-    /// How many words stand in front of that place.
-    fn words_in_front(&self, at: usize) -> usize
+    /// How many words stand before that place.
+    fn words_before(&self, at: usize) -> usize
         requires { at ≤ length self.now.leaves }
         ensures { result ≡ length (words_of (take at self.now.leaves)) }
     {
@@ -166,7 +166,7 @@ impl Leaves {
         number_at(&self.befores, self.leaves.get(at).leaf().0 as usize)
     }
 
-    /// The leaves with one more at that place, in front of the one that is there.
+    /// The leaves with one more at that place, before the one that is there.
     pub(crate) fn with_leaf(self, at: usize, leaf: TermLeaf) -> Result<Leaves, Memory>
         requires place { at ≤ length self.leaves }
         requires new { has leaf.id (leaf_ids self.leaves) ≡ false }
@@ -174,7 +174,7 @@ impl Leaves {
     {
         let number = leaf.leaf().0 as usize;
         let count = leaf.terms().len();
-        let before = self.words_in_front(at);
+        let before = self.words_before(at);
         let words = words_with(self.words, count)?;
         let doc = self.doc;
         let mut leaves = self.leaves;

@@ -13,7 +13,7 @@ pub(crate) fn in_32_bits(number: usize) -> Result<u32, Memory>
     }
 }
 
-/// Puts the number behind the last one.
+/// Puts the number after the last one.
 pub(crate) fn push_number(numbers: &mut Vec<u32>, number: usize) -> Result<(), Memory>
     ensures { OnOk result (numbers.new.items ≡ numbers.old.items ++ number ∷ []) }
 {

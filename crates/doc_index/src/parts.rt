@@ -7,7 +7,7 @@ use postings::PostingList;
 use std::alloc::Global;
 
 /// What the index of a document is made of: its leaves; its terms, ascending; the place of the first row of each; and
-/// all rows, one term behind the other, and with one term in the order of the text.
+/// all rows, one term after the other, and with one term in the order of the text.
 #[derive(Drop)]
 pub struct Parts {
     pub leaves: Leaves,

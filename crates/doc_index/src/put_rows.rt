@@ -50,7 +50,7 @@ pub(crate) fn put_rows<L: Ledger>(
     Ok(())
 }
 
-/// The run behind so many more rows.
+/// The run after so many more rows.
 fn moved_back(run: Run, by: usize) -> Result<Run, Memory>
     ensures term { IfOk result (λ moved. moved.term ≡ run.term) }
     ensures first { IfOk result (λ moved. moved.first ≡ run.first + by) }

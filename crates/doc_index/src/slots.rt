@@ -4,7 +4,7 @@ ghost use Rattle.doc_index.specs.steps.Directory.{IsChanged, IsClosed, IsOpened}
 use crate::numbers::in_32_bits;
 use ft_base::Memory;
 
-/// The number at the place, and 0 behind the last one.
+/// The number at the place, and 0 after the last one.
 pub(crate) fn number_at(numbers: &Vec<u32>, at: usize) -> usize
     ensures { result ≡ slice_index numbers.now.items at }
 {
@@ -14,7 +14,7 @@ pub(crate) fn number_at(numbers: &Vec<u32>, at: usize) -> usize
     numbers[at] as usize
 }
 
-/// Sees to it that the place is one of the vector's, by zeros behind the last number.
+/// Sees to it that the place is one of the vector's, by zeros after the last number.
 fn cover(numbers: &mut Vec<u32>, at: usize) -> Result<(), Memory>
     ensures there { OnOk result (at < length numbers.new.items) }
     ensures same { OnOk result ((k : _) → slice_index numbers.new.items k ≡ slice_index numbers.old.items k) }
@@ -31,7 +31,7 @@ fn cover(numbers: &mut Vec<u32>, at: usize) -> Result<(), Memory>
 }
 
 /// The number, raised where it is to be.
-fn raised(number: u32, moves: bool, by: usize) -> Result<u32, Memory>
+fn shifted(number: u32, moves: bool, by: usize) -> Result<u32, Memory>
     ensures { IfOk result (λ sum. sum ≡ cond moves (number + by) number) }
 {
     if !moves {
@@ -53,13 +53,8 @@ fn lowered(number: u32, moves: bool, by: usize) -> u32
     (number as usize).saturating_sub(by) as u32
 }
 
-/// Raises the numbers whose slots are behind the place.
-fn raise_behind(
-    numbers: &mut Vec<u32>,
-    slots: &Vec<u32>,
-    at: usize,
-    by: usize,
-) -> Result<(), Memory>
+/// Raises the numbers whose slots are after the place.
+fn raise_after(numbers: &mut Vec<u32>, slots: &Vec<u32>, at: usize, by: usize) -> Result<(), Memory>
     requires { length numbers.old.items ≡ length slots.now.items }
     ensures length { OnOk result (length numbers.new.items ≡ length slots.now.items) }
     ensures moved { OnOk result ((k : _) → k < length slots.now.items →
@@ -67,25 +62,25 @@ fn raise_behind(
         ≡ cond (nat_lt at (slice_index slots.now.items k)) (slice_index numbers.old.items k + by) (slice_index numbers.old.items k)) }
 {
     for k in 0..slots.len() {
-        numbers[k] = raised(numbers[k], at < slots[k] as usize, by)?;
+        numbers[k] = shifted(numbers[k], at < slots[k] as usize, by)?;
     }
     Ok(())
 }
 
-/// Raises the slots behind the place by one.
+/// Raises the slots after the place by one.
 fn raise_slots(slots: &mut Vec<u32>, at: usize) -> Result<(), Memory>
     ensures length { OnOk result (length slots.new.items ≡ length slots.old.items) }
     ensures moved { OnOk result ((k : _) → k < length slots.old.items →
         slice_index slots.new.items k ≡ cond (nat_lt at (slice_index slots.old.items k)) (slice_index slots.old.items k + 1) (slice_index slots.old.items k)) }
 {
     for k in 0..slots.len() {
-        slots[k] = raised(slots[k], at < slots[k] as usize, 1)?;
+        slots[k] = shifted(slots[k], at < slots[k] as usize, 1)?;
     }
     Ok(())
 }
 
-/// Lowers the numbers whose slots are behind the place.
-fn lower_behind(numbers: &mut Vec<u32>, slots: &Vec<u32>, at: usize, by: usize)
+/// Lowers the numbers whose slots are after the place.
+fn lower_after(numbers: &mut Vec<u32>, slots: &Vec<u32>, at: usize, by: usize)
     requires { length numbers.old.items ≡ length slots.now.items }
     ensures length { length numbers.new.items ≡ length slots.now.items }
     ensures moved { (k : _) → k < length slots.now.items →
@@ -97,7 +92,7 @@ fn lower_behind(numbers: &mut Vec<u32>, slots: &Vec<u32>, at: usize, by: usize)
     }
 }
 
-/// Lowers the slots behind the place by one.
+/// Lowers the slots after the place by one.
 fn lower_slots(slots: &mut Vec<u32>, at: usize)
     ensures length { length slots.new.items ≡ length slots.old.items }
     ensures moved { (k : _) → k < length slots.old.items →
@@ -120,11 +115,11 @@ pub(crate) fn open_gap(
     requires within { (k : _) → slice_index slots.old.items k ≤ count }
     ensures { OnOk result (IsOpened at by slots.old.items befores.old.items slots.new.items befores.new.items) }
 {
-    // Behind the last leaf nothing moves.
+    // After the last leaf nothing moves.
     if at >= count {
         return Ok(());
     }
-    raise_behind(befores, slots, at, by)?;
+    raise_after(befores, slots, at, by)?;
     raise_slots(slots, at)
 }
 
@@ -142,12 +137,12 @@ pub(crate) fn close_gap(
     ensures { IsClosed at by number slots.old.items befores.old.items slots.new.items befores.new.items }
 {
     let slot = slots[number] as usize;
-    lower_behind(befores, slots, slot, by);
+    lower_after(befores, slots, slot, by);
     lower_slots(slots, slot);
     slots[number] = 0;
 }
 
-/// Puts a number at that place, by zeros behind the last one where it is behind that.
+/// Puts a number at that place, by zeros after the last one where it is after that.
 pub(crate) fn put_number(numbers: &mut Vec<u32>, at: usize, number: usize) -> Result<(), Memory>
     ensures changed { OnOk result (IsChanged at number numbers.old.items numbers.new.items) }
     ensures length { OnOk result (length numbers.new.items ≡ cond (nat_lt at (length numbers.old.items)) (length numbers.old.items) (at + 1)) }

@@ -34,7 +34,7 @@ pub(crate) fn take_rows<L: Ledger>(
     let mut starts = Vec::with_capacity(*parts.ids.allocator(), parts.ids.len())?;
     let mut next = 0;
     for number in 0..parts.ids.len() {
-        let run = moved_front(run_at(parts, total, number), next);
+        let run = moved_prefix(run_at(parts, total, number), next);
         push_number(&mut starts, run.first)?;
         next = take_term(
             &parts.leaves,
@@ -50,8 +50,8 @@ pub(crate) fn take_rows<L: Ledger>(
     Ok(())
 }
 
-/// The run behind so many fewer rows.
-fn moved_front(run: Run, by: usize) -> Run
+/// The run after so many fewer rows.
+fn moved_prefix(run: Run, by: usize) -> Run
     ensures term { result.term ≡ run.term }
     ensures first { result.first ≡ run.first - by }
     ensures end { result.end ≡ run.end - by }

@@ -97,7 +97,7 @@ fn near_rows(rows: &PostingList, run: Run) -> &[Row]
     rows.rows_from(run.first)
 }
 
-/// The row so many places behind the first: mostly it is one of those that stand near it.
+/// The row so many places after the first: mostly it is one of those that stand near it.
 fn row_at(rows: &PostingList, near: &[Row], first: usize, number: usize) -> Row
     requires near { IsRun rows.now first near.now }
     requires there { first + number < length rows.now }

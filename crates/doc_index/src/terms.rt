@@ -124,7 +124,7 @@ fn is_last(ids: &Vec<u32>, term: u32) -> bool
     ids[last] == term
 }
 
-/// Puts a term with the place of its first row behind the last one.
+/// Puts a term with the place of its first row after the last one.
 fn push_term(made: &mut Made, term: u32, start: usize) -> Result<(), Memory>
     ensures ids { OnOk result (made.new.ids.items ≡ made.old.ids.items ++ term ∷ []) }
     ensures starts { OnOk result (made.new.starts.items ≡ made.old.starts.items ++ start ∷ []) }
@@ -158,7 +158,7 @@ pub(crate) fn narrow(parts: &mut Parts) -> Result<(), Memory>
     Ok(())
 }
 
-/// Puts a number behind the last one where it stays.
+/// Puts a number after the last one where it stays.
 fn push_if(numbers: &mut Vec<u32>, number: u32, stays: bool) -> Result<(), Memory>
     ensures { OnOk result (numbers.new.items ≡ numbers.old.items ++ cond stays (number ∷ []) []) }
 {

@@ -86,7 +86,7 @@ fn is_found(index: &DocIndex, leaf: LeafId, at: usize) -> bool {
     }
 }
 
-// Whether leaf 4 with the words 5, 3, 5 behind leaf 9 with the words 3, 8 is what the index shows.
+// Whether leaf 4 with the words 5, 3, 5 after leaf 9 with the words 3, 8 is what the index shows.
 fn shows_two(index: &DocIndex) -> bool {
     if !all_stand(index, &[(3, &[1, 4]), (5, &[3, 5]), (8, &[2]), (4, &[])]) {
         return false;

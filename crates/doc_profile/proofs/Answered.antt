@@ -19,7 +19,7 @@ use Rattle.doc_profile.specs.declared.fault.DocFault.{DocFault}
 use Rattle.doc_profile.specs.declared.fault.DocFault.TheVariants as faults
 use Rattle.doc_profile.proofs.Readers.{popped}
 use Rattle.doc_profile.proofs.Readings.{root_of, at_end-root, text_read, IsReading}
-use Rattle.doc_profile.proofs.BytesRead.{behind_mark}
+use Rattle.doc_profile.proofs.BytesRead.{after_mark}
 
 -- what the law says of the answer holds of the fault that is said
 pub fault_right : {A : Type 0} (kind : Kind) (bytes text : List ℕ) (from : ℕ) (answer : Result A DocFault) (fault : DocFault) → ((f : DocFault) → answer ≡ Err f → IsFaultOf kind bytes text from f) → Faults answer fault → FaultOf kind bytes text from fault
@@ -64,36 +64,36 @@ root_faults answer end faults.Memory e = tt
 same_nodes : (kind : Kind) (bytes text other : List ℕ) (from place end : ℕ) → other ≡ text → place ≡ from → end ≡ length bytes → nodes_in kind other place end ≡ nodes_in kind text from (length bytes)
 same_nodes kind bytes text other from place end e f g = ap (λ z. nodes_in kind z place end) e ∙ ap (λ n. nodes_in kind text n end) f ∙ ap (λ n. nodes_in kind text from n) g
 
--- the text behind a mark, in a document's bytes
-pub record Behind (bytes text : List ℕ) (from end : ℕ) : Type 0 where
+-- the text after a mark, in a document's bytes
+pub record After (bytes text : List ℕ) (from end : ℕ) : Type 0 where
   pub utf8 : IsUtf8 bytes
   pub is_text : text ≡ without_mark (chars bytes)
   pub begins : from ≡ mark_len (chars bytes)
   pub ends : end ≡ length bytes
 
-pub behind_in : (bytes whole text : List ℕ) (from end : ℕ) → (whole ≡ bytes) × IsUtf8 bytes → text ≡ without_mark (chars whole) → from ≡ mark_len (chars whole) → end ≡ length whole → Behind bytes text from end
-behind_in bytes whole text from end w t f e = record { utf8 = w.1; is_text = t ∙ ap (λ z. without_mark (chars z)) w.0; begins = f ∙ ap (λ z. mark_len (chars z)) w.0; ends = e ∙ ap length w.0 }
+pub after_in : (bytes whole text : List ℕ) (from end : ℕ) → (whole ≡ bytes) × IsUtf8 bytes → text ≡ without_mark (chars whole) → from ≡ mark_len (chars whole) → end ≡ length whole → After bytes text from end
+after_in bytes whole text from end w t f e = record { utf8 = w.1; is_text = t ∙ ap (λ z. without_mark (chars z)) w.0; begins = f ∙ ap (λ z. mark_len (chars z)) w.0; ends = e ∙ ap length w.0 }
 
-same_document : {bytes text : List ℕ} {from end : ℕ} → Behind bytes text from end → nodes_in Kind.document text from end ≡ nodes_in Kind.document (without_mark (chars bytes)) (mark_len (chars bytes)) (length bytes)
+same_document : {bytes text : List ℕ} {from end : ℕ} → After bytes text from end → nodes_in Kind.document text from end ≡ nodes_in Kind.document (without_mark (chars bytes)) (mark_len (chars bytes)) (length bytes)
 same_document {bytes = bytes} {text = text} {from = from} {end = end} b = same_nodes Kind.document bytes (without_mark (chars bytes)) text (mark_len (chars bytes)) from end b.is_text b.begins b.ends
 
-pub document_faults : {bytes text : List ℕ} {from end : ℕ} (fault : DocFault) → Behind bytes text from end → Faults (nodes_in Kind.document text from end) fault → Faults (document_of bytes) fault
+pub document_faults : {bytes text : List ℕ} {from end : ℕ} (fault : DocFault) → After bytes text from end → Faults (nodes_in Kind.document text from end) fault → Faults (document_of bytes) fault
 document_faults {bytes = bytes} fault b h =
     subst (λ r. Faults r fault) (sym (document_root bytes b.utf8)) (root_faults _ (length bytes) fault (subst (λ r. Faults r fault) (same_document b) h))
 
 -- the only node of a document is its root
-one_node : {bytes text : List ℕ} {from end : ℕ} (kids : List Node) → Behind bytes text from end → nodes_in Kind.document text from end ≡ Ok kids → (n : Node) × (kids ≡ n ∷ []) × (document_of bytes ≡ Ok n)
+one_node : {bytes text : List ℕ} {from end : ℕ} (kids : List Node) → After bytes text from end → nodes_in Kind.document text from end ≡ Ok kids → (n : Node) × (kids ≡ n ∷ []) × (document_of bytes ≡ Ok n)
 one_node {bytes = bytes} kids b h =
     let answer : nodes_in Kind.document (without_mark (chars bytes)) (mark_len (chars bytes)) (length bytes) ≡ Ok kids = sym (same_document b) ∙ h in
-    let right = subst (IsReading Kind.document (without_mark (chars bytes)) (mark_len (chars bytes))) answer (text_read Kind.document (without_mark (chars bytes)) (mark_len (chars bytes)) (length bytes) (behind_mark bytes b.utf8)) in
+    let right = subst (IsReading Kind.document (without_mark (chars bytes)) (mark_len (chars bytes))) answer (text_read Kind.document (without_mark (chars bytes)) (mark_len (chars bytes)) (length bytes) (after_mark bytes b.utf8)) in
     (right.0.0, right.0.1, document_root bytes b.utf8 ∙ ap (λ r. root_of r (length bytes)) (answer ∙ ap Ok right.0.1))
 
-pub document_popped : {bytes text : List ℕ} {from end : ℕ} (rest all : List Tree) (root : Tree) → Behind bytes text from end → nodes_in Kind.document text from end ≡ Ok (map node all) → all ≡ rest ++ root ∷ [] → document_of bytes ≡ Ok (node root)
+pub document_popped : {bytes text : List ℕ} {from end : ℕ} (rest all : List Tree) (root : Tree) → After bytes text from end → nodes_in Kind.document text from end ≡ Ok (map node all) → all ≡ rest ++ root ∷ [] → document_of bytes ≡ Ok (node root)
 document_popped rest all root b h i =
     let one = one_node (map node all) b h in
     one.2 ∙ ap Ok (sym (popped rest root one.0 (ap (map node) (sym i) ∙ one.1)))
 
-pub document_pops : {bytes text : List ℕ} {from end : ℕ} (all : List Tree) → Behind bytes text from end → nodes_in Kind.document text from end ≡ Ok (map node all) → all ≡ [] → ⊥
+pub document_pops : {bytes text : List ℕ} {from end : ℕ} (all : List Tree) → After bytes text from end → nodes_in Kind.document text from end ≡ Ok (map node all) → all ≡ [] → ⊥
 document_pops all b h i =
     let one = one_node (map node all) b h in
     let impossible : [] ≡ one.0 ∷ [] = sym (ap (map node) i) ∙ one.1 in cc

@@ -22,7 +22,7 @@ use Rattle.doc_profile.specs.declared.fault.DocFault.TheVariants as faults
 use Rattle.doc_profile.proofs.Walked.{Faulty}
 use Rattle.doc_profile.proofs.Readings.{IsReading, IsDocument, text_read, document_read}
 
--- bytes that aren't UTF-8 stop to be it where their longest front that is ends
+-- bytes that aren't UTF-8 stop to be it where their longest prefix that is ends
 abbrev Longest : List ℕ → ℕ → ℕ → Type 0
 Longest bs m n = IsUtf8 (take n bs) × ((k : ℕ) → n < k → k ≤ m → ¬ (IsUtf8 (take k bs)))
 
@@ -58,16 +58,16 @@ valid_up_to bs e =
     }
 
 -- the place of a text's end
-mark_behind : (cs : List ℕ) → length (encode_utf8_all cs) ≡ mark_len cs + length (encode_utf8_all (without_mark cs))
-mark_behind [] = omega arith
-mark_behind (c ∷ cs) = go (c == 0xFEFF) refl
+mark_after : (cs : List ℕ) → length (encode_utf8_all cs) ≡ mark_len cs + length (encode_utf8_all (without_mark cs))
+mark_after [] = omega arith
+mark_after (c ∷ cs) = go (c == 0xFEFF) refl
   where
     go : (b : Bool) → (c == 0xFEFF) ≡ b → length (encode_utf8_all (c ∷ cs)) ≡ cond b 3 0 + length (encode_utf8_all (cond b cs (c ∷ cs)))
     go true e = omega (arith, length-append (encode_utf8 c) (encode_utf8_all cs), ap (λ z. length (encode_utf8 z)) (eqb-true c 0xFEFF e), length-encode 0xFEFF)
     go false e = omega arith
 
-pub behind_mark : (bytes : List ℕ) → IsUtf8 bytes → length bytes ≡ mark_len (chars bytes) + length (encode_utf8_all (without_mark (chars bytes)))
-behind_mark bytes u = ap length (sym (encodes-chars bytes u)) ∙ mark_behind (chars bytes)
+pub after_mark : (bytes : List ℕ) → IsUtf8 bytes → length bytes ≡ mark_len (chars bytes) + length (encode_utf8_all (without_mark (chars bytes)))
+after_mark bytes u = ap length (sym (encodes-chars bytes u)) ∙ mark_after (chars bytes)
 
 of_bytes : (kind : Kind) (bytes text : List ℕ) (from : ℕ) (fault : DocFault) → IsUtf8 bytes → Faulty kind text from fault → IsFaultOf kind bytes text from fault
 of_bytes kind bytes text from fault u f = record { is_fault = go fault f.is_fault; no_memory = f.no_memory }
@@ -92,7 +92,7 @@ document_is : (bytes : List ℕ) → IsUtf8 bytes → IsDocument (without_mark (
 unfolding document_of document_answer
 document_is bytes u =
     subst (IsDocument (without_mark (chars bytes)) (mark_len (chars bytes))) (sym (cond-true _ _ _ (is_utf8-from_IsUtf8 bytes u)))
-    (document_read (without_mark (chars bytes)) (mark_len (chars bytes)) (length bytes) (behind_mark bytes u))
+    (document_read (without_mark (chars bytes)) (mark_len (chars bytes)) (length bytes) (after_mark bytes u))
 
 document_refused : (bytes : List ℕ) → is_utf8 bytes ≡ false → document_of bytes ≡ Err (faults.NotUtf8 (utf8_valid_len bytes))
 unfolding document_of

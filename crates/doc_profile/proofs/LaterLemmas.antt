@@ -28,7 +28,7 @@ either true false = refl
 either false true = refl
 either false false = refl
 
--- an attribute behind them adds its own
+-- an attribute after them adds its own
 pub one_later : {Y S : Type 0} (name : List ℕ) (names : HashSet (String Y) S) (text : String Y) (attrs more : List Attr) (attr : Attr)
     → few ≤ length attrs → more ≡ attrs ++ attr ∷ [] → string_bytes text ≡ attr.name → contains_text names name ≡ has_name name (drop few attrs)
     → cond (bytes_eq (string_bytes text) name) true (contains_text names name) ≡ has_name name (drop few more)

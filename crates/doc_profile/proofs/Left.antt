@@ -45,10 +45,10 @@ pub left_counted : {rest : List ℕ} {s : State} {b : Bool} {at nodes : ℕ} {al
 left_counted {s = s} {b = b} c l h = l.counted ∙ here_count s b c h
 
 -- the next character, where the walk goes on and where it stops
-pub left_further : {rest : List ℕ} {s : State} {b : Bool} {at nodes : ℕ} {all : Result State DocFault} (c : ℕ) (behind : List ℕ) (t : State) (more further : ℕ) → Left rest s b at nodes all → rest ≡ encode_utf8 c ++ behind
-    → passes s b c at ≡ None → taken s b c ≡ Some t → more ≡ nodes + one_if (node_here s b c) → further ≡ at + length (encode_utf8 c) → Left behind t (c == 13) further more all
-left_further {s = s} {b = b} {at = at} {nodes = nodes} c behind t more further l e p r m f =
-    let next = cons_from_encodes l.left behind c (l.spelled ∙ e) in
+pub left_further : {rest : List ℕ} {s : State} {b : Bool} {at nodes : ℕ} {all : Result State DocFault} (c : ℕ) (suffix : List ℕ) (t : State) (more further : ℕ) → Left rest s b at nodes all → rest ≡ encode_utf8 c ++ suffix
+    → passes s b c at ≡ None → taken s b c ≡ Some t → more ≡ nodes + one_if (node_here s b c) → further ≡ at + length (encode_utf8 c) → Left suffix t (c == 13) further more all
+left_further {s = s} {b = b} {at = at} {nodes = nodes} c suffix t more further l e p r m f =
+    let next = cons_from_encodes l.left suffix c (l.spelled ∙ e) in
     record {
       left = next.0;
       spelled = next.2;
@@ -56,14 +56,14 @@ left_further {s = s} {b = b} {at = at} {nodes = nodes} c behind t more further l
       counted = m ∙ ap (λ n. n + one_if (node_here s b c)) l.counted ∙ sym (taken_adds s t b c r);
     }
 
-pub left_refused : {rest : List ℕ} {s : State} {b : Bool} {at nodes : ℕ} {all : Result State DocFault} (c : ℕ) (behind : List ℕ) → Left rest s b at nodes all → rest ≡ encode_utf8 c ++ behind → passes s b c at ≡ None → taken s b c ≡ None → all ≡ Err (faults.Syntax at)
-left_refused {s = s} {b = b} {at = at} c behind l e p r =
-    let next = cons_from_encodes l.left behind c (l.spelled ∙ e) in
+pub left_refused : {rest : List ℕ} {s : State} {b : Bool} {at nodes : ℕ} {all : Result State DocFault} (c : ℕ) (suffix : List ℕ) → Left rest s b at nodes all → rest ≡ encode_utf8 c ++ suffix → passes s b c at ≡ None → taken s b c ≡ None → all ≡ Err (faults.Syntax at)
+left_refused {s = s} {b = b} {at = at} c suffix l e p r =
+    let next = cons_from_encodes l.left suffix c (l.spelled ∙ e) in
     sym l.same ∙ ap (λ z. walk z s b at) next.1 ∙ walk-refused c next.0 s b at p r
 
-pub left_stopped : {rest : List ℕ} {s : State} {b : Bool} {at nodes : ℕ} {all : Result State DocFault} (c : ℕ) (behind : List ℕ) (fault : DocFault) → Left rest s b at nodes all → rest ≡ encode_utf8 c ++ behind → passes s b c at ≡ Some fault → all ≡ Err fault
-left_stopped {s = s} {b = b} {at = at} c behind fault l e p =
-    let next = cons_from_encodes l.left behind c (l.spelled ∙ e) in
+pub left_stopped : {rest : List ℕ} {s : State} {b : Bool} {at nodes : ℕ} {all : Result State DocFault} (c : ℕ) (suffix : List ℕ) (fault : DocFault) → Left rest s b at nodes all → rest ≡ encode_utf8 c ++ suffix → passes s b c at ≡ Some fault → all ≡ Err fault
+left_stopped {s = s} {b = b} {at = at} c suffix fault l e p =
+    let next = cons_from_encodes l.left suffix c (l.spelled ∙ e) in
     sym l.same ∙ ap (λ z. walk z s b at) next.1 ∙ walk-stopped c next.0 s b at fault p
 
 -- nothing is left

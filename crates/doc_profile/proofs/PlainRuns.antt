@@ -63,9 +63,9 @@ plain_taken p c x h = ap (λ cs. run_on (Some (st p m.ready)) cs) (lines-kept fa
 plain_passes : (p : Place) (c at : ℕ) → is_empty p.text ≡ false → passes (st p m.ready) false c at ≡ None
 plain_passes p c at h = ap (λ b. cond b (text_passes (st p m.ready) at) None) (no_room p c h)
 
-some_behind : (bytes : List ℕ) (c : ℕ) → c < 128 → is_empty (bytes ++ encode_utf8 c) ≡ false
-some_behind [] c h = ap is_empty (encode_ascii c h)
-some_behind (b ∷ bytes) c h = refl
+some_after : (bytes : List ℕ) (c : ℕ) → c < 128 → is_empty (bytes ++ encode_utf8 c) ≡ false
+some_after [] c h = ap is_empty (encode_ascii c h)
+some_after (b ∷ bytes) c h = refl
 
 -- a run of them
 grown : Place → List ℕ → Place
@@ -79,7 +79,7 @@ run_walks (c ∷ cs) rest p at h e ok =
     let x = plain_is c two.0 in
     walk-further c (cs ++ rest) (st p m.ready) (st (with_text p c) m.ready) false at (plain_passes p c at e) (plain_taken p c x h)
     ∙ ap (λ b. walk (cs ++ rest) (st (with_text p c) m.ready) b (at + length (encode_utf8 c))) x.no_return
-    ∙ run_walks cs rest (with_text p c) (at + length (encode_utf8 c)) h (some_behind p.text c x.ascii) two.1
+    ∙ run_walks cs rest (with_text p c) (at + length (encode_utf8 c)) h (some_after p.text c x.ascii) two.1
     ∙ ap (λ z. walk rest (st (record { kids = p.kids; text = z; outer = p.outer }) m.ready) false ((at + length (encode_utf8 c)) + length cs)) (append_assoc p.text (encode_utf8 c) cs ∙ ap (λ z. p.text ++ (z ++ cs)) (encode_ascii c x.ascii))
     ∙ ap (λ n. walk rest (st (grown p (c ∷ cs)) m.ready) false n) (omega (arith, ap length (encode_ascii c x.ascii)))
 
@@ -92,11 +92,11 @@ some_count : (bytes cs : List ℕ) → is_empty bytes ≡ false → text_count (
 some_count [] cs h = cc
 some_count (b ∷ bytes) cs h = refl
 
-left_run : (cs behind : List ℕ) (p : Place) (at nodes : ℕ) (all : Result State DocFault) → is_content p.outer ≡ true → is_empty p.text ≡ false → list_all is_plain cs ≡ true → Left (cs ++ behind) (st p m.ready) false at nodes all
-    → Left behind (st (grown p cs) m.ready) false (at + length cs) nodes all
+left_run : (cs suffix : List ℕ) (p : Place) (at nodes : ℕ) (all : Result State DocFault) → is_content p.outer ≡ true → is_empty p.text ≡ false → list_all is_plain cs ≡ true → Left (cs ++ suffix) (st p m.ready) false at nodes all
+    → Left suffix (st (grown p cs) m.ready) false (at + length cs) nodes all
 unfolding grown
-left_run cs behind p at nodes all h e ok l =
-    let next = rest_of cs l.left behind (ap (λ z. z ++ behind) (run_bytes cs ok) ∙ sym l.spelled) in
+left_run cs suffix p at nodes all h e ok l =
+    let next = rest_of cs l.left suffix (ap (λ z. z ++ suffix) (run_bytes cs ok) ∙ sym l.spelled) in
     record {
       left = next.0;
       spelled = next.1;
@@ -104,23 +104,23 @@ left_run cs behind p at nodes all h e ok l =
       counted = l.counted ∙ omega (arith, some_count p.text cs e);
     }
 
-pub left_passed : (rest behind : List ℕ) (s t : State) (b : Bool) (at place nodes : ℕ) (all : Result State DocFault) → Left rest s b at nodes all → Passed b s rest behind t → place + length behind ≡ at + length rest → Left behind t b place nodes all
+pub left_passed : (rest suffix : List ℕ) (s t : State) (b : Bool) (at place nodes : ℕ) (all : Result State DocFault) → Left rest s b at nodes all → Passed b s rest suffix t → place + length suffix ≡ at + length rest → Left suffix t b place nodes all
 unfolding grown
-left_passed rest behind s t b at place nodes all l (Passed.nothing none still) e =
-    subst (λ n. Left behind t b n nodes all) (omega (arith, ap length none)) (subst (λ z. Left behind z b at nodes all) (sym still) (subst (λ z. Left z s b at nodes all) none l))
-left_passed rest behind s t b at place nodes all l (Passed.run cs behind_none h ok split is) e =
+left_passed rest suffix s t b at place nodes all l (Passed.nothing none still) e =
+    subst (λ n. Left suffix t b n nodes all) (omega (arith, ap length none)) (subst (λ z. Left suffix z b at nodes all) (sym still) (subst (λ z. Left z s b at nodes all) none l))
+left_passed rest suffix s t b at place nodes all l (Passed.run cs after_none h ok split is) e =
     let x = in_text s h in
     let ready : s ≡ st s.place m.ready = ap (λ f. st s.place f) x.is_ready in
-    let there = left_run cs behind s.place at nodes all x.in_content x.some_text ok (subst (λ z. Left (cs ++ behind) z false at nodes all) ready (subst (λ d. Left (cs ++ behind) s d at nodes all) behind_none (subst (λ z. Left z s b at nodes all) split l))) in
-    let ends : at + length cs ≡ place = omega (arith, ap length split, length-append cs behind) in
+    let there = left_run cs suffix s.place at nodes all x.in_content x.some_text ok (subst (λ z. Left (cs ++ suffix) z false at nodes all) ready (subst (λ d. Left (cs ++ suffix) s d at nodes all) after_none (subst (λ z. Left z s b at nodes all) split l))) in
+    let ends : at + length cs ≡ place = omega (arith, ap length split, length-append cs suffix) in
     let goes : st (grown s.place cs) m.ready ≡ t = ap (λ f. st (grown s.place cs) f) (sym x.is_ready) ∙ sym is in
-    subst (λ n. Left behind t b n nodes all) ends (subst (λ d. Left behind t d (at + length cs) nodes all) (sym behind_none) (subst (λ z. Left behind z false (at + length cs) nodes all) goes there))
+    subst (λ n. Left suffix t b n nodes all) ends (subst (λ d. Left suffix t d (at + length cs) nodes all) (sym after_none) (subst (λ z. Left suffix z false (at + length cs) nodes all) goes there))
 
-pub passed_length : (rest behind : List ℕ) (s t : State) (b : Bool) → Passed b s rest behind t → length behind ≤ length rest
-passed_length rest behind s t b (Passed.nothing none still) = omega (arith, ap length none)
-passed_length rest behind s t b (Passed.run cs behind_none h ok split is) = omega (arith, ap length split, length-append cs behind)
+pub passed_length : (rest suffix : List ℕ) (s t : State) (b : Bool) → Passed b s rest suffix t → length suffix ≤ length rest
+passed_length rest suffix s t b (Passed.nothing none still) = omega (arith, ap length none)
+passed_length rest suffix s t b (Passed.run cs after_none h ok split is) = omega (arith, ap length split, length-append cs suffix)
 
--- the front of a text grows by a plain character
+-- the prefix of a text grows by a plain character
 prefix_extended : (cs : List ℕ) (c : ℕ) → list_all is_plain cs ≡ true → is_plain c ≡ true → list_all is_plain (cs ++ c ∷ []) ≡ true
 prefix_extended [] c h k = and_from _ _ k refl
 prefix_extended (d ∷ cs) c h k = let two = and_parts _ _ h in and_from _ _ two.0 (prefix_extended cs c two.1 k)

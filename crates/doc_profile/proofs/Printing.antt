@@ -21,9 +21,9 @@ pub record Escapes (escape : ℕ → List ℕ) (out rest all : List ℕ) : Type 
 pub escapes_all : (escape : ℕ → List ℕ) (out text : List ℕ) → IsUtf8 text → Escapes escape out text (out ++ encode_utf8_all (flat_map escape (chars text)))
 escapes_all escape out text u = record { left = chars text; spelled = encodes-chars text u; same = refl }
 
-pub escapes_further : (escape : ℕ → List ℕ) (out more rest behind all : List ℕ) (c : ℕ) → Escapes escape out rest all → rest ≡ encode_utf8 c ++ behind → more ≡ out ++ encode_utf8_all (escape c) → Escapes escape more behind all
-escapes_further escape out more rest behind all c e next w =
-    let cons = cons_from_encodes e.left behind c (e.spelled ∙ next) in
+pub escapes_further : (escape : ℕ → List ℕ) (out more rest suffix all : List ℕ) (c : ℕ) → Escapes escape out rest all → rest ≡ encode_utf8 c ++ suffix → more ≡ out ++ encode_utf8_all (escape c) → Escapes escape more suffix all
+escapes_further escape out more rest suffix all c e next w =
+    let cons = cons_from_encodes e.left suffix c (e.spelled ∙ next) in
     record {
       left = cons.0;
       spelled = cons.2;
@@ -39,7 +39,7 @@ escapes_end escape out rest all e none =
     let nothing = encodes_same e.left [] (e.spelled ∙ nil_from_length rest none) in
     sym (append-nil out) ∙ ap (λ z. out ++ encode_utf8_all (flat_map escape z)) (sym nothing) ∙ e.same
 
--- what is written behind all that stood there: as characters, and by one more piece
+-- what is written after all that stood there: as characters, and by one more piece
 pub record Put (all u out : List ℕ) : Type 0 where
   pub is : out ≡ all ++ encode_utf8_all u
 

@@ -1,4 +1,4 @@
--- How far a text is read: the characters of the front, where the machine stands behind them, and that no limit is passed.
+-- How far a text is read: the characters of the prefix, where the machine stands after them, and that no limit is passed.
 use Rattle.std.proofs.Common.{◌≡◌, ℕ, ◌+◌, ◌-◌, ◌≤◌, ◌<◌, ◌⊎◌, inl, inr, Bool, true, false, cond, List, [], ◌∷◌, ◌++◌, length, Option, Some, None, refl, sym, ◌∙◌, ap, subst, append_assoc, arith}
 use Rattle.std.proofs.lemmas.List.{append-nil, length-append}
 use Rattle.std.proofs.lemmas.Str.{length-encode}
@@ -27,13 +27,13 @@ pub record Walked (kind : Kind) (text rest : List ℕ) (from at : ℕ) (s : Stat
   pub split : text ≡ prefix ++ rest
   pub is_place : IsPlace from prefix at
   pub is_read : read kind prefix ≡ Some s
-  pub behind : returned false prefix ≡ b
+  pub suffix : returned false prefix ≡ b
   pub clean : Clean max_depth max_nodes kind text prefix
   pub low : reached s ≤ max_depth
   pub few : begun s ≤ max_nodes
 
 pub walked_start : (kind : Kind) (text : List ℕ) (from : ℕ) → Walked kind text text from from (start (outer_of kind)) false
-walked_start kind text from = record { prefix = []; split = refl; is_place = omega arith; is_read = refl; behind = refl; clean = clean_start max_depth max_nodes kind text; low = none_reached kind; few = none_begun kind }
+walked_start kind text from = record { prefix = []; split = refl; is_place = omega arith; is_read = refl; suffix = refl; clean = clean_start max_depth max_nodes kind text; low = none_reached kind; few = none_begun kind }
   where
     none_reached : (k : Kind) → reached (start (outer_of k)) ≤ max_depth
     none_reached Kind.document = omega arith
@@ -49,7 +49,7 @@ returned-append b (d ∷ u) c = returned-append (d == 13) u c
 
 read_one : {kind : Kind} {text rest : List ℕ} {from at : ℕ} {s : State} {b : Bool} (w : Walked kind text rest from at s b) (c : ℕ) (t : Option State) → taken s b c ≡ t → read kind (w.prefix ++ c ∷ []) ≡ t
 read_one {kind = kind} {s = s} {b = b} w c t e =
-    read-append kind w.prefix (c ∷ []) ∙ ap (λ o. run_on o (lines_from (returned false w.prefix) (c ∷ []))) w.is_read ∙ ap (λ x. run_on (Some s) (lines_from x (c ∷ []))) w.behind ∙ e
+    read-append kind w.prefix (c ∷ []) ∙ ap (λ o. run_on o (lines_from (returned false w.prefix) (c ∷ []))) w.is_read ∙ ap (λ x. run_on (Some s) (lines_from x (c ∷ []))) w.suffix ∙ e
 
 -- a character that passes no limit
 if_none : {A : Type 0} (b : Bool) (x y : Option A) → cond b x y ≡ None → ((b ≡ true) × (x ≡ None)) ⊎ ((b ≡ false) × (y ≡ None))
@@ -102,8 +102,8 @@ walked_further kind text rest from at s t b c w e r = record {
   split = w.split ∙ sym (append_assoc w.prefix (c ∷ []) rest);
   is_place = omega (arith, w.is_place, length-append (encode_utf8_all w.prefix) (encode_utf8 c), ap length (encodes-last w.prefix c));
   is_read = read_one w c (Some t) r;
-  behind = returned-append false w.prefix c;
-  clean = clean_further max_depth max_nodes kind text w.prefix c rest s w.clean w.split w.is_read (subst (λ x. Checked max_depth max_nodes s x c) (sym w.behind) (checked s b c at e));
+  suffix = returned-append false w.prefix c;
+  clean = clean_further max_depth max_nodes kind text w.prefix c rest s w.clean w.split w.is_read (subst (λ x. Checked max_depth max_nodes s x c) (sym w.suffix) (checked s b c at e));
   low = still_low s t b c w.low (checked s b c at e) r;
   few = still_few s t b c w.few (checked s b c at e) r;
 }
@@ -144,7 +144,7 @@ element_stops kind text rest from at s b c w h shallow full =
 
 text_stops : (kind : Kind) (text rest : List ℕ) (from at : ℕ) (s : State) (b : Bool) (c : ℕ) → Walked kind text (c ∷ rest) from at s b → text_here s b c ≡ true → nat_le max_nodes (place_count s.place) ≡ true → NodesAt kind text from at
 text_stops kind text rest from at s b c w h full =
-    let here : text_here s (returned false w.prefix) c ≡ true = subst (λ x. text_here s x c ≡ true) (sym w.behind) h in
+    let here : text_here s (returned false w.prefix) c ≡ true = subst (λ x. text_here s x c ≡ true) (sym w.suffix) h in
     record {
       prefix = w.prefix;
       passes = text_too_many s.place (text_begins kind text w.prefix c rest s w.split w.is_read here) (leb-true max_nodes (place_count s.place) full);

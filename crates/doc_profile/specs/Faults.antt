@@ -19,7 +19,7 @@ IsWithin n = (height n ≤ max_depth) × (node_count n ≤ max_nodes)
 abbrev pub AreWithin : Nodes → Type 0
 AreWithin ns = (heights ns ≤ max_depth) × (nodes_count ns ≤ max_nodes)
 
--- the place behind a front of a text that begins at the place `from`
+-- the place after a prefix of a text that begins at the place `from`
 abbrev pub IsPlace : ℕ → List ℕ → ℕ → Type 0
 IsPlace from prefix at = at ≡ from + length (encode_utf8_all prefix)
 
@@ -61,7 +61,7 @@ IsNotUtf8 bytes (faults.Depth at) = ⊥
 IsNotUtf8 bytes (faults.Nodes at) = ⊥
 IsNotUtf8 bytes faults.Memory = ⊥
 
--- a fault of bytes, whose text stands behind the place `from`
+-- a fault of bytes, whose text stands after the place `from`
 abbrev pub FaultOf : Kind → List ℕ → List ℕ → ℕ → DocFault → Type 0
 FaultOf kind bytes text from (faults.NotUtf8 at) = ¬ (IsUtf8 bytes) × IsValidUpTo bytes at
 FaultOf kind bytes text from (faults.Syntax at) = IsUtf8 bytes × SyntaxAt kind text from at

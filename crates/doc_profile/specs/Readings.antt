@@ -23,11 +23,11 @@ abbrev pub text_passes : State → ℕ → Option DocFault
 text_passes s at = if nat_le max_nodes (place_count s.place) then Some (faults.Nodes at) else None
 
 abbrev pub passes : State → Bool → ℕ → ℕ → Option DocFault
-passes s behind_return c at = if element_here s c then element_passes s at else if text_here s behind_return c then text_passes s at else None
+passes s after_return c at = if element_here s c then element_passes s at else if text_here s after_return c then text_passes s at else None
 
--- where the machine stands behind the next character, whose line end it normalizes
+-- where the machine stands after the next character, whose line end it normalizes
 abbrev pub taken : State → Bool → ℕ → Option State
-taken s behind_return c = run_on (Some s) (lines_from behind_return (c ∷ []))
+taken s after_return c = run_on (Some s) (lines_from after_return (c ∷ []))
 
 -- A limit comes first, and then a character that may not stand here.
 abbrev pub or_fault : Option DocFault → Option State → ℕ → (State → Result State DocFault) → Result State DocFault
@@ -35,10 +35,10 @@ or_fault (Some fault) next at further = Err fault
 or_fault None None at further = Err (faults.Syntax at)
 or_fault None (Some s) at further = further s
 
--- where the machine stands behind characters, the first of which has the place `at`
+-- where the machine stands after characters, the first of which has the place `at`
 unfoldable pub walk : List ℕ → State → Bool → ℕ → Result State DocFault
-walk [] s behind_return at = Ok s
-walk (c ∷ cs) s behind_return at = or_fault (passes s behind_return c at) (taken s behind_return c) at (λ t. walk cs t (c == 13) (at + length (encode_utf8 c)))
+walk [] s after_return at = Ok s
+walk (c ∷ cs) s after_return at = or_fault (passes s after_return c at) (taken s after_return c) at (λ t. walk cs t (c == 13) (at + length (encode_utf8 c)))
 
 -- what is read where the text ends at the place, or it ends too soon
 abbrev pub or_too_soon : {A : Type 0} → Option A → ℕ → Result A DocFault

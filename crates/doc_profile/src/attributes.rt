@@ -11,7 +11,7 @@ use std::mem;
 /// How many attributes are looked at one by one: the names of the others stand in a set.
 pub(crate) const FEW: usize = 16;
 
-/// The attributes of a start tag under way, which contracts see as the list of them. The names of those behind the first few
+/// The attributes of a start tag under way, which contracts see as the list of them. The names of those after the first few
 /// stand in a set too, so that whether a name is there takes no longer the more there are.
 #[derive(Drop)]
 pub struct TagAttributes {
@@ -61,7 +61,7 @@ impl TagAttributes {
         is_among(&self.attrs[..FEW], name) || self.later.contains(name)
     }
 
-    /// The attributes with one more behind them.
+    /// The attributes with one more after them.
     pub fn with(mut self, alloc: Global, attr: Attr) -> Result<TagAttributes, Memory>
         ensures { IfOk result (λ more. more ≡ self ++ attr ∷ []) }
     {

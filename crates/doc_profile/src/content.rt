@@ -116,7 +116,7 @@ impl Reader {
 }
 
 impl Reader {
-    /// Whether an element begins with the character, behind its `<`.
+    /// Whether an element begins with the character, after its `<`.
     pub fn begins_element(&self, c: char) -> bool
         ensures { result ≡ element_here (state_of self.now) c }
     {
@@ -127,21 +127,21 @@ impl Reader {
     }
 
     /// Whether a text begins with the character.
-    pub fn begins_text(&self, behind_return: bool, c: char) -> bool
-        ensures { result ≡ text_here (state_of self.now) behind_return c }
+    pub fn begins_text(&self, after_return: bool, c: char) -> bool
+        ensures { result ≡ text_here (state_of self.now) after_return c }
     {
         match self.phase {
-            Phase::Ready => self.may_begin_text(behind_return, c),
+            Phase::Ready => self.may_begin_text(after_return, c),
             _ => false,
         }
     }
 
     /// Whether a text begins with the character, between two items.
     #[tactic(auto, using(std::proofs::lemmas::Bool::Decides::nat_tests, crate::proofs::Readers::empty_is))]
-    fn may_begin_text(&self, behind_return: bool, c: char) -> bool
-        ensures { result ≡ begins_text (place_of self.now) behind_return c }
+    fn may_begin_text(&self, after_return: bool, c: char) -> bool
+        ensures { result ≡ begins_text (place_of self.now) after_return c }
     {
-        if c == '\n' && behind_return {
+        if c == '\n' && after_return {
             return false;
         }
         if c == '<' {

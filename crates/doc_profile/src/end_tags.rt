@@ -23,7 +23,7 @@ fn stands_at(bytes: &[u8], from: usize, c: char) -> bool
     rest.starts_with(encoded)
 }
 
-/// Puts a text that isn't empty behind the nodes.
+/// Puts a text that isn't empty after the nodes.
 fn with_text(mut kids: Vec<Tree>, text: String) -> Result<Vec<Tree>, Memory>
     ensures { IfOk result (λ all. nodes_of all ≡ nodes_of kids ++ text_node (string_bytes text)) }
 {
@@ -36,7 +36,7 @@ fn with_text(mut kids: Vec<Tree>, text: String) -> Result<Vec<Tree>, Memory>
     Ok(kids)
 }
 
-/// Puts a text that isn't empty, and then a node, behind the nodes.
+/// Puts a text that isn't empty, and then a node, after the nodes.
 pub fn with_node(kids: Vec<Tree>, text: String, last: Tree) -> Result<Vec<Tree>, Memory>
     ensures { IfOk result (λ all. nodes_of all ≡ (nodes_of kids ++ text_node (string_bytes text)) ++ nodes.node last ∷ []) }
 {

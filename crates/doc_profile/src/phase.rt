@@ -11,17 +11,17 @@ pub enum Entity {
 /// How far a reference has come.
 #[derive(Clone, Copy, PartialEq, Eq)]
 pub enum Refer {
-    /// Behind the `&`.
+    /// After the `&`.
     Begun,
-    /// Behind `&a`.
+    /// After `&a`.
     BegunA,
     /// In a name, of which this many characters are read.
     Named { entity: Entity, read: usize },
-    /// Behind `&#`.
+    /// After `&#`.
     Numbered,
-    /// Behind `&#x`.
+    /// After `&#x`.
     Hexed,
-    /// Behind a digit, with the number so far.
+    /// After a digit, with the number so far.
     Digits { hexadecimal: bool, number: u32 },
 }
 
@@ -30,38 +30,38 @@ pub enum Refer {
 pub enum Phase {
     /// Between two items.
     Ready,
-    /// Behind a `<`.
+    /// After a `<`.
     Opened,
-    /// Behind `<!`.
+    /// After `<!`.
     Bang,
-    /// Behind `<!-`.
+    /// After `<!-`.
     BangDash,
-    /// In a comment, with as many dashes behind one another, two at most.
+    /// In a comment, with as many dashes after one another, two at most.
     Comment { dashes: u8 },
-    /// In a processing instruction, directly behind a question mark or not.
+    /// In a processing instruction, directly after a question mark or not.
     Instruction { mark: bool },
     /// In a reference of a text.
     Reference { refer: Refer },
     /// In an end tag, of whose name as many bytes are read.
     EndName { read: usize },
-    /// Behind the name of an end tag.
+    /// After the name of an end tag.
     EndSpaced,
     /// In the name of a start tag.
     StartName,
-    /// Behind white space of a start tag.
+    /// After white space of a start tag.
     Spaced,
     /// In the name of an attribute.
     AttrName,
-    /// Behind the name of an attribute and white space.
+    /// After the name of an attribute and white space.
     AttrNamed,
-    /// Behind the `=` of an attribute.
+    /// After the `=` of an attribute.
     Equals,
     /// In a value between two of these quotes.
     Quoted { quote: char },
     /// In a reference of such a value.
     QuotedReference { quote: char, refer: Refer },
-    /// Behind a value.
+    /// After a value.
     Valued,
-    /// Behind the `/` of an empty element.
+    /// After the `/` of an empty element.
     Slashed,
 }

@@ -8,7 +8,7 @@ use crate::phase::Phase;
 use crate::reader::Reader;
 use ft_base::Memory;
 
-/// The first character, and what stands behind it.
+/// The first character, and what stands after it.
 pub fn split_first(text: &str) -> Option<(char, &str)>
     ensures some { IfSome result (λ parts. text.now ≡ encode_utf8 parts.0 ++ parts.1.now) }
     ensures none { IfNone result (length text.now ≡ 0) }
@@ -55,18 +55,18 @@ impl Reader {
     }
 }
 
-/// Takes the plain characters at the front, if a text is under way; what is left stands behind them.
+/// Takes the plain characters at the front, if a text is under way; what is left stands after them.
 pub fn pass_plain<'a>(
     reader: &mut Reader,
-    behind_return: bool,
+    after_return: bool,
     rest: &'a str,
 ) -> Result<&'a str, Memory>
-    ensures { IfOk result (λ behind. plain.Passed behind_return (state_of reader.old) rest.now behind.now (state_of reader.new)) }
+    ensures { IfOk result (λ suffix. plain.Passed after_return (state_of reader.old) rest.now suffix.now (state_of reader.new)) }
 {
-    if behind_return || !reader.is_in_text() {
+    if after_return || !reader.is_in_text() {
         return Ok(rest);
     }
-    let (run, behind) = rest.split_at(plain_len(rest));
+    let (run, suffix) = rest.split_at(plain_len(rest));
     reader.text.push_str(run)?;
-    Ok(behind)
+    Ok(suffix)
 }

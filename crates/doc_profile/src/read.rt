@@ -33,12 +33,12 @@ fn text_of(bytes: &[u8]) -> Result<&str, DocFault>
 }
 
 /// Takes one character of the text as it is written; says whether it may stand here.
-fn take(reader: &mut Reader, behind_return: bool, c: char) -> Result<bool, Memory>
-    ensures { Goes result (taken (state_of reader.old) behind_return c) (state_of reader.new) }
+fn take(reader: &mut Reader, after_return: bool, c: char) -> Result<bool, Memory>
+    ensures { Goes result (taken (state_of reader.old) after_return c) (state_of reader.new) }
 {
     if c == '\r' {
         reader.step('\n')
-    } else if c == '\n' && behind_return {
+    } else if c == '\n' && after_return {
         Ok(true)
     } else {
         reader.step(c)
@@ -51,20 +51,20 @@ fn read_text(reader: &mut Reader, text: &str, from: usize) -> Result<(), DocFaul
     requires fits { from + length text.now < 2 ^ 64 }
     ensures { Walks result (walk (chars text.now) (state_of reader.old) false from) (state_of reader.new) }
 {
-    let mut behind_return = false;
+    let mut after_return = false;
     let mut nodes = 0;
     let mut rest = text;
-    while let Some((c, behind)) = split_first(rest) {
+    while let Some((c, suffix)) = split_first(rest) {
         let at = from + (text.len() - rest.len());
-        nodes = match count(reader, nodes, at, behind_return, c) {
+        nodes = match count(reader, nodes, at, after_return, c) {
             Ok(more) => more,
             Err(fault) => return Err(fault),
         };
-        if !take(reader, behind_return, c)? {
+        if !take(reader, after_return, c)? {
             return Err(DocFault::Syntax { at });
         }
-        behind_return = c == '\r';
-        rest = pass_plain(reader, behind_return, behind)?;
+        after_return = c == '\r';
+        rest = pass_plain(reader, after_return, suffix)?;
     }
     Ok(())
 }
@@ -75,13 +75,13 @@ fn count(
     reader: &Reader,
     nodes: usize,
     at: usize,
-    behind_return: bool,
+    after_return: bool,
     c: char,
 ) -> Result<usize, DocFault>
-    requires { node_here (state_of reader.now) behind_return c ≡ true → nodes ≡ place_count (state_of reader.now).place }
-    ensures count { IfOk result (λ more. more ≡ nodes + one_if (node_here (state_of reader.now) behind_return c)) }
-    ensures ok { OnOk result (passes (state_of reader.now) behind_return c at ≡ None) }
-    ensures err { IfErr result (λ fault. passes (state_of reader.now) behind_return c at ≡ Some fault) }
+    requires { node_here (state_of reader.now) after_return c ≡ true → nodes ≡ place_count (state_of reader.now).place }
+    ensures count { IfOk result (λ more. more ≡ nodes + one_if (node_here (state_of reader.now) after_return c)) }
+    ensures ok { OnOk result (passes (state_of reader.now) after_return c at ≡ None) }
+    ensures err { IfErr result (λ fault. passes (state_of reader.now) after_return c at ≡ Some fault) }
 {
     if reader.begins_element(c) {
         if reader.levels.len() >= MAX_DEPTH {
@@ -96,7 +96,7 @@ fn count(
         }
         return Ok(nodes + 1);
     }
-    if !reader.begins_text(behind_return, c) {
+    if !reader.begins_text(after_return, c) {
         return Ok(nodes);
     }
     if nodes >= MAX_NODES {
@@ -105,8 +105,8 @@ fn count(
     Ok(nodes + 1)
 }
 
-/// The text behind a byte order mark, if one stands at the front, and the place where it begins.
-fn behind_mark(text: &str) -> (&str, usize)
+/// The text after a byte order mark, if one stands at the front, and the place where it begins.
+fn after_mark(text: &str) -> (&str, usize)
     ensures rest { chars result.0.now ≡ without_mark (chars text.now) }
     ensures place { result.1 ≡ mark_len (chars text.now) }
     ensures room { result.1 + length result.0.now ≡ length text.now }
@@ -154,7 +154,7 @@ fn root_of(alloc: Global, bytes: &[u8]) -> Result<Tree, DocFault>
     ensures err { IfErr result (λ fault. Faults (document_of bytes.now) fault) }
 {
     let text = text_of(bytes)?;
-    let (text, from) = behind_mark(text);
+    let (text, from) = after_mark(text);
     let mut kids = nodes_in(alloc, false, text, from)?;
     match kids.pop() {
         Some(root) => Ok(root),

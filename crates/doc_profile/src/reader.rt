@@ -26,7 +26,7 @@ pub struct Reader {
     pub fragment: bool,
     /// The open elements, the innermost last.
     pub levels: Vec<Level>,
-    /// The nodes of the content under way, and the text behind the last of them.
+    /// The nodes of the content under way, and the text after the last of them.
     pub kids: Vec<Tree>,
     pub text: String,
     pub phase: Phase,

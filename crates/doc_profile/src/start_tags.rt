@@ -25,7 +25,7 @@ impl Reader {
         }
     }
 
-    /// Behind a tag's name or one of its attributes, and perhaps white space.
+    /// After a tag's name or one of its attributes, and perhaps white space.
     #[tactic(auto, using(std::proofs::lemmas::Bool::Decides::nat_tests), unfolding(doc_grammar::specs::steps::Machine::from_tag))]
     pub fn from_tag(&mut self, c: char) -> Result<bool, Memory>
         ensures { Goes result (m.from_tag (place_of self.old) (name_of self.old) self.old.attrs c) (state_of self.new) }

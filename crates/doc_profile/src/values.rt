@@ -47,7 +47,7 @@ impl Reader {
         }
     }
 
-    /// Puts the attribute, whose value ends, behind the others.
+    /// Puts the attribute, whose value ends, after the others.
     #[tactic(auto, using(std::proofs::lemmas::Bool::Decides::nat_tests))]
     fn put_attribute(&mut self) -> Result<(), Memory>
         ensures { OnOk result (state_of self.new

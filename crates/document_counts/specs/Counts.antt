@@ -2,7 +2,7 @@
 use Rattle.std.specs.Prelude.{ℕ, ◌+◌, ◌-◌, ◌==◌, cond, List, filter, slice_index_or}
 use Rattle.doc_index.specs.Terms.{has, terms_of}
 
--- the count of a term, by its number; a term behind the last one has none
+-- the count of a term, by its number; a term after the last one has none
 abbrev pub count_of : List ℕ → ℕ → ℕ
 count_of counts term = slice_index_or counts term 0
 

@@ -14,7 +14,7 @@ const BLOCK_COUNTS: usize = 512;
 /// Counts by the numbers of the terms.
 type Counts = SharedList<u32, BLOCK_COUNTS>;
 
-/// How many documents have each term, by the term's number; a number behind the last one counts 0. A copy shares the
+/// How many documents have each term, by the term's number; a number after the last one counts 0. A copy shares the
 /// blocks of the counts that it was made of; neither sees a change to the other.
 #[derive(Drop)]
 pub struct DocumentCounts {
@@ -61,8 +61,8 @@ impl DocumentCounts {
 
     /// The counts with one document more: each of its terms counts one more, however often it stands there. Answers
     /// `Memory` also where a count is too great.
-    pub fn raised(self, index: &DocIndex) -> Result<DocumentCounts, Memory>
-        ensures counts { IfOk result (λ raised. (term : ℕ) → count_of raised term ≡ count_with self (words_of index.now.leaves) term) }
+    pub fn shifted(self, index: &DocIndex) -> Result<DocumentCounts, Memory>
+        ensures counts { IfOk result (λ shifted. (term : ℕ) → count_of shifted term ≡ count_with self (words_of index.now.leaves) term) }
     {
         let alloc = self.alloc;
         let mut counts = self.counts;
@@ -121,7 +121,7 @@ fn raise(counts: &mut Counts, term: u32) -> Result<(), Memory>
     Ok(())
 }
 
-/// Sees to it that the place is one of the list's, by zeros behind the last count.
+/// Sees to it that the place is one of the list's, by zeros after the last count.
 fn cover(counts: &mut Counts, at: usize) -> Result<(), Memory>
     ensures there { OnOk result (at < length counts.new) }
     ensures same { OnOk result ((term : ℕ) → count_of counts.new term ≡ count_of counts.old term) }
@@ -132,7 +132,7 @@ fn cover(counts: &mut Counts, at: usize) -> Result<(), Memory>
     Ok(())
 }
 
-/// Lowers the count of each of the document's terms by one, and puts those whose count is 0 then behind the last of
+/// Lowers the count of each of the document's terms by one, and puts those whose count is 0 then after the last of
 /// the others, ascending.
 fn lower_all(counts: &mut Counts, index: &DocIndex, gone: &mut Vec<u32>) -> Result<(), Memory>
     requires { (term : ℕ) → has term (words_of index.now.leaves) ≡ true → 0 < count_of counts.old term }
@@ -159,7 +159,7 @@ fn lower(counts: &mut Counts, term: u32) -> Result<u32, Memory>
     Ok(count)
 }
 
-/// Puts a term behind the last one, where it has fallen.
+/// Puts a term after the last one, where it has fallen.
 fn push_if(gone: &mut Vec<u32>, term: u32, falls: bool) -> Result<(), Memory>
     ensures { OnOk result (gone.new.items ≡ gone.old.items ++ cond falls (term ∷ []) []) }
 {

@@ -2,11 +2,11 @@
 ghost use Rattle.std.specs.Prelude.{◌≡◌, ◌∷◌, []};
 ghost use Rattle.document_counts.specs.Counts.{count_of, count_with, count_without, fallen};
 
-/// A term's count stands at its number, and is 0 behind the last one.
+/// A term's count stands at its number, and is 0 after the last one.
 pub fn counts_by_number()
     ensures first { count_of (2 ∷ 0 ∷ 1 ∷ []) 0 ≡ 2 }
     ensures last { count_of (2 ∷ 0 ∷ 1 ∷ []) 2 ≡ 1 }
-    ensures behind { count_of (2 ∷ 0 ∷ 1 ∷ []) 3 ≡ 0 }
+    ensures after { count_of (2 ∷ 0 ∷ 1 ∷ []) 3 ≡ 0 }
 {}
 
 /// A document counts once for a term, however often it has it.
@@ -22,5 +22,5 @@ pub fn changed_counts()
 pub fn fallen_terms()
     ensures some { fallen (0 ∷ 2 ∷ 0 ∷ []) (2 ∷ 1 ∷ 0 ∷ 2 ∷ []) ≡ 0 ∷ 2 ∷ [] }
     ensures not_had { fallen (0 ∷ 2 ∷ 0 ∷ []) (1 ∷ []) ≡ [] }
-    ensures behind { fallen [] (4 ∷ []) ≡ 4 ∷ [] }
+    ensures after { fallen [] (4 ∷ []) ≡ 4 ∷ [] }
 {}

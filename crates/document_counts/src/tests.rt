@@ -34,7 +34,7 @@ fn come_and_go(
     counts: DocumentCounts,
     index: &DocIndex,
 ) -> Result<(DocumentCounts, Vec<u32>), Memory> {
-    counts.raised(index)?.lowered(index)
+    counts.shifted(index)?.lowered(index)
 }
 
 // Whether a document that comes to another one and goes leaves the counts of that one, and its own terms fall.
@@ -48,7 +48,7 @@ fn shows_one(counts: &DocumentCounts, second: &DocIndex) -> Result<bool, Memory>
 
 // Whether both documents count, each once for a term.
 fn shows_both(counts: &DocumentCounts, second: &DocIndex) -> Result<bool, Memory> {
-    let both = counts.copy()?.raised(second)?;
+    let both = counts.copy()?.shifted(second)?;
     Ok(are_counted(
         &both,
         &[(0, 0), (2, 1), (3, 1), (600, 2), (1700, 1), (1701, 0)],
@@ -61,7 +61,7 @@ fn counts_of_first<L: Ledger>(
     rows: &mut Steps<L>,
 ) -> Result<DocumentCounts, Memory> {
     let first = index_of(alloc, 4, &[600, 2, 600], rows)?;
-    DocumentCounts::empty(alloc).raised(&first)
+    DocumentCounts::empty(alloc).shifted(&first)
 }
 
 // Whether a second one counts beside it, and goes.

@@ -19,7 +19,7 @@ use Rattle.tree_edits.specs.Fresh.{all_fresh, fresh}
 use Rattle.tree_edits.specs.steps.Acts.{act_on}
 use Rattle.tree_edits.proofs.EditLemmas.{references-are}
 use Rattle.tree_edits.proofs.References.{Distinct, distinct_from, times, times-append}
-use Rattle.document_edits.specs.Targets.{first_numbered, places_of, reference_at, reference_of, references_behind, touched_by}
+use Rattle.document_edits.specs.Targets.{first_numbered, places_of, reference_at, reference_of, references_after, touched_by}
 use Rattle.document_edits.proofs.NumberingLemmas.{Kept, drop-from, fresh-numbered, fresh-own, from, kept-numbers, length-references, numbering, numbers}
 use Rattle.document_edits.proofs.RenamedLemmas.{all_renamed, at_place-renamed, reference-renamed, renamed, renamed-all_fresh, renamed-edit, renamed-fresh, touched-renamed}
 
@@ -66,26 +66,26 @@ module _ (root : Numbered) (own : List NodeRef) (content : Nodes) (apart : AllPa
       ∙ ap (λ rs. fresh rs (plain root)) moved
       ∙ fresh-numbered (plain root) 0 (length own)
 
-  own-moved : map move own ≡ references_behind (plain root) content
+  own-moved : map move own ≡ references_after (plain root) content
   own-moved =
-      let front : length (map move (references_in root)) ≡ node_count (plain root) = length-map (references_in root) move ∙ length-references root in
+      let prefix : length (map move (references_in root)) ≡ node_count (plain root) = length-map (references_in root) move ∙ length-references root in
       let start : 0 + node_count (plain root) ≡ node_count (plain root) = omega arith in
-      sym (drop_at (map move (references_in root)) (map move own) (node_count (plain root)) front)
+      sym (drop_at (map move (references_in root)) (map move own) (node_count (plain root)) prefix)
       ∙ ap (drop (node_count (plain root))) (sym (map-append move (references_in root) own) ∙ moved)
       ∙ drop-from (node_count (plain root)) (length own) 0
       ∙ ap₂ from start count
 
-  content-moved : all_renamed move (all_fresh own content) ≡ all_fresh (references_behind (plain root) content) content
+  content-moved : all_renamed move (all_fresh own content) ≡ all_fresh (references_after (plain root) content) content
   content-moved = renamed-all_fresh move content own (omega (arith, count)) ∙ ap (λ rs. all_fresh rs content) own-moved
 
   module _ (refs : List NodeRef) (there : All (IsElement root) refs) (how : Option How) (new : Numbered) (is : only new ≡ act_on refs how (all_fresh own content) root) where
     found : flat_map (reference_at (numbered 0 (plain root))) (places_of root refs) ≡ map move refs
     found = ap (λ n. flat_map (reference_at n) (places_of root refs)) (sym root-moved) ∙ all-found move root refs there
 
-    edit-moved : act_on (flat_map (reference_at (numbered 0 (plain root))) (places_of root refs)) how (all_fresh (references_behind (plain root) content) content) (numbered 0 (plain root))
+    edit-moved : act_on (flat_map (reference_at (numbered 0 (plain root))) (places_of root refs)) how (all_fresh (references_after (plain root) content) content) (numbered 0 (plain root))
         ≡ only (renamed move new)
     edit-moved =
-        ap₂ (λ rs n. act_on rs how (all_fresh (references_behind (plain root) content) content) n) found (sym root-moved)
+        ap₂ (λ rs n. act_on rs how (all_fresh (references_after (plain root) content) content) n) found (sym root-moved)
         ∙ ap (λ ns. act_on (map move refs) how ns (renamed move root)) (sym content-moved)
         ∙ sym (renamed-edit move refs how (all_fresh own content) root kept)
         ∙ ap (all_renamed move) (sym is)

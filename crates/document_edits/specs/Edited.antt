@@ -28,7 +28,7 @@ abbrev pub act : Option How → Nodes → Node → Nodes
 act None content n = content
 act (Some how) content n = inserted how content n
 
--- what stands where the root stood, behind the edit of the elements at these places, once neighbouring texts are joined and empty ones dropped
+-- what stands where the root stood, after the edit of the elements at these places, once neighbouring texts are joined and empty ones dropped
 abbrev pub edited_nodes : Option How → Nodes → List (List ℕ) → Node → Nodes
 edited_nodes how content places root = joined (changed_at (is_one_of places) (act how content) [] root)
 
@@ -37,6 +37,6 @@ abbrev pub first_or : Node → Nodes → Node
 first_or other no_nodes = other
 first_or other (node_then n ns) = n
 
--- the document behind an edit that leaves its root in its place
+-- the document after an edit that leaves its root in its place
 abbrev pub edited : Option How → Nodes → List (List ℕ) → Node → Node
 edited how content places root = first_or root (edited_nodes how content places root)

@@ -31,15 +31,15 @@ abbrev pub first_numbered : Numbered → Children → Numbered
 first_numbered other no_children = other
 first_numbered other (child_then n ns) = n
 
--- the references behind those of a document whose nodes were numbered in document order
-abbrev pub references_behind : Node → Nodes → List NodeRef
-references_behind root content = map (λ k. record { 0 = k }) (range_with_len (node_count root) (nodes_count content))
+-- the references after those of a document whose nodes were numbered in document order
+abbrev pub references_after : Node → Nodes → List NodeRef
+references_after root content = map (λ k. record { 0 = k }) (range_with_len (node_count root) (nodes_count content))
 
--- a document whose nodes are numbered in document order, behind the edit of the elements at these places; the content has numbers behind them
+-- a document whose nodes are numbered in document order, after the edit of the elements at these places; the content has numbers after them
 abbrev pub numbered_edit : Option How → Nodes → List (List ℕ) → Node → Numbered
 numbered_edit how content places root =
     first_numbered (numbered 0 root)
-    (act_on (flat_map (reference_at (numbered 0 root)) places) how (all_fresh (references_behind root content) content) (numbered 0 root))
+    (act_on (flat_map (reference_at (numbered 0 root)) places) how (all_fresh (references_after root content) content) (numbered 0 root))
 
 -- The words of the texts that don't stay: those that the edit takes, puts, or joins with others.
 unfoldable pub touched_by : Option How → Nodes → List (List ℕ) → Node → ℕ

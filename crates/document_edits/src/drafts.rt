@@ -56,7 +56,7 @@ pub fn draft_edit(
     draft(alloc, tree, chosen, how, content)
 }
 
-/// A document behind an edit: its tree, and the version of the index with it.
+/// A document after an edit: its tree, and the version of the index with it.
 #[derive(Drop)]
 pub struct EditedDoc {
     pub tree: DocTree,

@@ -9,9 +9,9 @@ ghost use Rattle.tree_edits.specs.Examples as tree;
 ghost use Rattle.tree_edits.specs.Examples.{ref};
 ghost use Rattle.document_edits.specs.Edited.{edited, edited_nodes, is_one_of};
 ghost use Rattle.document_edits.specs.Examples.{colours, d, foobar, p, paragraphs};
-ghost use Rattle.document_edits.specs.Targets.{numbered_edit, places_of, reference_at, references_behind, touched_by};
+ghost use Rattle.document_edits.specs.Targets.{numbered_edit, places_of, reference_at, references_after, touched_by};
 
-/// Where content is inserted: in front of the children of the element at the place, behind them, in front of it or behind it.
+/// Where content is inserted: before the children of the element at the place, after them, before it or after it.
 pub fn inserted_at_places()
     ensures first { edited (Some H.First) (nodes (c ∷ [])) ((2 ∷ []) ∷ []) letters ≡ between (b (c ∷ text (codes "y") ∷ []) ∷ []) }
     ensures last { edited (Some H.Last) (nodes (c ∷ [])) ((2 ∷ []) ∷ []) letters ≡ between (b (text (codes "y") ∷ c ∷ []) ∷ []) }
@@ -63,7 +63,7 @@ pub fn places_and_references()
     ensures with_texts { places_of tree.letters (ref 2 ∷ []) ≡ (2 ∷ []) ∷ [] }
     ensures at { reference_at tree.nested (1 ∷ 1 ∷ []) ≡ ref 2 ∷ [] }
     ensures nothing_there { reference_at tree.nested (3 ∷ []) ≡ [] }
-    ensures behind { references_behind letters (nodes (b (c ∷ []) ∷ text (codes "v") ∷ [])) ≡ ref 5 ∷ ref 6 ∷ ref 7 ∷ [] }
+    ensures later { references_after letters (nodes (b (c ∷ []) ∷ text (codes "v") ∷ [])) ≡ ref 5 ∷ ref 6 ∷ ref 7 ∷ [] }
     ensures numbers { numbered 0 letters ≡ tree.letters }
     ensures edited { numbered_edit None no_nodes ((2 ∷ []) ∷ []) letters ≡ tree.without_b }
     ensures content { numbered_edit (Some H.Before) (nodes (c ∷ [])) ((2 ∷ []) ∷ []) letters

@@ -1,4 +1,4 @@
--- The next child behind those that were counted.
+-- The next child after those that were counted.
 use Rattle.std.proofs.Common.{◌≡◌, ◌+◌, ◌-◌, ℕ, suc, List, [], ◌∷◌, ◌++◌, length, take, get_or, Option, Some, None, refl, sym, ap, ap₂, ◌∙◌, subst, arith, append_assoc, append-nil}
 use Rattle.std.specs.List.{All, Contains}
 use Rattle.std.specs.Prelude.{count_by}
@@ -15,7 +15,7 @@ use Rattle.path_nodes.specs.References.{Spot, spots, child_spots, spots_in, spot
 use Rattle.path_nodes.proofs.PlaceLemmas.{element-is}
 use Rattle.path_nodes.proofs.SpotLemmas.{inside, element_of-is, spot-stand}
 use Rattle.path_nodes.proofs.WayLemmas.{Parent}
-use Rattle.path_nodes.proofs.ChildrenLemmas.{All-behind, head-spot}
+use Rattle.path_nodes.proofs.ChildrenLemmas.{All-after, head-spot}
 use Rattle.element_lines.specs.steps.Numbers.{number_of}
 use Rattle.element_lines.specs.LocationSteps.{listed, children, child, name_of, is_named}
 use Rattle.element_lines.specs.steps.Children.{Parted}
@@ -66,7 +66,7 @@ module _ (root : Numbered) (parent : NodeRef) (prefix : List Node) where
     pub child-named : element_of root c ≡ spot_element spot
     child-named = ap (element_of root) (sym h.refers) ∙ element_of-is root spot spot-among x.apart
 
-    -- behind the child
+    -- after the child
     pub parted-next : (link : Option NodeRef) → link ≡ first_of h.ns → Parted root parent link (prefix ++ plain h.n ∷ [])
     unfolding child_spots
     parted-next link is =
@@ -76,7 +76,7 @@ module _ (root : Numbered) (parent : NodeRef) (prefix : List Node) where
           rest = h.ns;
           first = is;
           inside = subst (λ k. All (Contains (spots_in root)) (child_spots (element_of root parent).place k (round_next h.around h.n) h.ns)) e
-              (All-behind (Contains (spots_in root)) (spots spot.place spot.stand.around h.n) _ h.inside);
+              (All-after (Contains (spots_in root)) (spots spot.place spot.stand.around h.n) _ h.inside);
           split = h.split ∙ sym (append_assoc prefix (plain h.n ∷ []) (listed (plain_children h.ns)));
         }
 
@@ -90,7 +90,7 @@ module _ (root : Numbered) (parent : NodeRef) (prefix : List Node) where
         let e : suc (length prefix) - 1 ≡ length prefix = omega arith in
         ap₂ (λ i l. take i l) e h.split ∙ take-append_seam prefix (plain h.n ∷ listed (plain_children h.ns))
 
-    -- its number is that of the children of its name in front of it, and one
+    -- its number is that of the children of its name before it, and one
     pub child-numbered : number_of root c ≡ count_by (is_named (name_of (plain h.n))) prefix + 1
     child-numbered =
         let p : Parent root c parent = record { there = x; number = suc (length prefix); place = ap (λ e. e.place) child-named } in

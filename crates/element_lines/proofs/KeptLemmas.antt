@@ -1,4 +1,4 @@
--- Where no more lines come, those that were there stay in front.
+-- Where no more lines come, those that were there stay first.
 use Rattle.std.proofs.Common.{◌≡◌, ◌++◌, ℕ, List, Ok, Err, ◌∙◌}
 use Rattle.std.specs.Prelude.{Result, OnErr}
 

@@ -120,7 +120,7 @@ have-text root parent c numbers prefix h x text have r k z at some within =
 
 -- ---- a loop over the children
 
--- The children in front of a link are counted, and those that are elements have their numbers.
+-- The children before a link are counted, and those that are elements have their numbers.
 pub record Numbering (root : Numbered) (parent : NodeRef) (link : Option NodeRef) (counts : Counts) (numbers : List ℕ) : Type 0 where
   pub done : List NodeRef
   pub reading : Reading root (element_of root parent) link done

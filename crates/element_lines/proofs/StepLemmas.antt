@@ -45,10 +45,10 @@ pub child-some : (k : ℕ) (ns : Children) (n : Numbered) → places.child k ns 
 child-some zero ns n is = absurd (child-zero ns n is)
 child-some (suc k) ns n is = omega arith
 
-child-behind : (k : ℕ) (ns : Children) (n : Numbered) (d : Node) → places.child (suc k) ns ≡ Some n → get_or (listed (plain_children ns)) k d ≡ plain n
-child-behind k no_children n d is = cc
-child-behind zero (child_then m ms) n d is = let same : m ≡ n = cc in ap plain same
-child-behind (suc k) (child_then m ms) n d is = child-behind k ms n d is
+child-after : (k : ℕ) (ns : Children) (n : Numbered) (d : Node) → places.child (suc k) ns ≡ Some n → get_or (listed (plain_children ns)) k d ≡ plain n
+child-after k no_children n d is = cc
+child-after zero (child_then m ms) n d is = let same : m ≡ n = cc in ap plain same
+child-after (suc k) (child_then m ms) n d is = child-after k ms n d is
 
 child-within : (k : ℕ) (ns : Children) (n : Numbered) → places.child (suc k) ns ≡ Some n → k < length (listed (plain_children ns))
 child-within k no_children n is = cc
@@ -63,7 +63,7 @@ pub child-is : (k : ℕ) (n m : Numbered) → places.child k (numbered.children 
 child-is zero n m is = absurd (child-zero (numbered.children n) m is)
 child-is (suc k) n m is =
     let e : suc k - 1 ≡ k = omega arith in
-    ap₂ (λ l i. get_or l i (text [])) (children-plain n) e ∙ child-behind k (numbered.children n) m (text []) is
+    ap₂ (λ l i. get_or l i (text [])) (children-plain n) e ∙ child-after k (numbered.children n) m (text []) is
 
 pub child-number : (k : ℕ) (n m : Numbered) → places.child k (numbered.children n) ≡ Some m → k ≤ length (children (plain n))
 child-number zero n m is = omega arith

@@ -37,9 +37,9 @@ pub line-further : (document : List ℕ) (root : Numbered) (node parent : NodeRe
     → name ≡ name_of (element_of root node).node → number ≡ number_of root node
     → element_line document (plain root) (element_of root parent) ++ step_text (step name number) ≡ element_line document (plain root) (element_of root node)
 line-further document root node parent p x name number called is =
-    let front = codes "doc(\"" ++ document ++ codes "\")" in
-    append_assoc front (flat_map step_text (steps_to (plain root) (element_of root parent).place)) (step_text (step name number))
-    ∙ ap (λ l. front ++ l) (text-further root node parent p x name number called is)
+    let prefix = codes "doc(\"" ++ document ++ codes "\")" in
+    append_assoc prefix (flat_map step_text (steps_to (plain root) (element_of root parent).place)) (step_text (step name number))
+    ∙ ap (λ l. prefix ++ l) (text-further root node parent p x name number called is)
 
 pub line-root : (document : List ℕ) (root : Numbered) (node : NodeRef) → IsElement root node → (element_of root node).place ≡ [] → (name : List ℕ)
     → name ≡ name_of (element_of root node).node → place_line document (step name 1 ∷ []) ≡ element_line document (plain root) (element_of root node)

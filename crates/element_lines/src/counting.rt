@@ -11,7 +11,7 @@ pub(crate) struct Counting<'t> {
     pub(crate) ready: ElementName<'t>,
     /// The first child that isn't counted yet
     pub(crate) link: Option<NodeRef>,
-    /// One more than the number of children in front of it that have the name
+    /// One more than the number of children before it that have the name
     pub(crate) number: u32,
     ghost same: { ready.name.now ≡ name.now },
 }

@@ -8,14 +8,14 @@ use crate::counting::Counting;
 use crate::leading::{Leading, lead_to};
 use crate::numbers::{Numbers, number_of};
 use crate::siblings::count_to;
-use crate::step_texts::{push_behind, push_root};
+use crate::step_texts::{push_after, push_root};
 use ft_base::Memory;
 use ordered_tree::{DocTree, NodeRef};
 use std::alloc::Global;
 use text_list::TextList;
 
 /// Puts the lines that name elements of a document to the end, in the order of the elements. Where memory runs out, some lines may
-/// stand behind those that were there.
+/// stand after those that were there.
 pub fn push_names(
     alloc: Global,
     document: &str,
@@ -67,7 +67,7 @@ fn name_line<'t>(
     if let Some(counting) = &mut known.counting {
         if known.leading.is_of(counting.parent) {
             if let Some(number) = count_to(tree, counting, node) {
-                return push_behind(known.leading.text(), counting.name, number, line);
+                return push_after(known.leading.text(), counting.name, number, line);
             }
         }
     }
@@ -98,7 +98,7 @@ fn name_anew<'t>(
             } = known;
             lead_to(alloc, document, tree, parent, leading, numbers)?;
             let number = number_of(alloc, tree, parent, node, numbers, counting)?;
-            push_behind(leading.text(), tree.name(node), number, line)
+            push_after(leading.text(), tree.name(node), number, line)
         }
         None => push_root(document, tree.name(node), line),
     }

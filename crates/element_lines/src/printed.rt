@@ -8,7 +8,7 @@ use ordered_tree::{DocTree, NodeRef};
 use std::alloc::Global;
 use text_list::TextList;
 
-/// Puts the printed forms of elements to the end, a line each. Where memory runs out, some lines may stand behind those that were there.
+/// Puts the printed forms of elements to the end, a line each. Where memory runs out, some lines may stand after those that were there.
 pub fn push_printed(
     alloc: Global,
     tree: &DocTree,

@@ -30,7 +30,7 @@ pub(crate) fn before_children<'t>(tree: &DocTree, parent: NodeRef, name: &'t str
     }
 }
 
-/// The number of an element, where it is one of the next children and has the name. What is in front of it is counted then.
+/// The number of an element, where it is one of the next children and has the name. What is before it is counted then.
 pub(crate) fn count_to(tree: &DocTree, counting: &mut Counting<'_>, node: NodeRef) -> Option<u32>
     requires node { IsElement tree.now.root node }
     requires counting { IsCounting tree.now.root counting.old }

@@ -31,8 +31,8 @@ pub(crate) fn push_step(name: &str, number: u32, text: &mut String) -> Result<()
     Ok(())
 }
 
-/// Puts a text to the end, and a step behind it.
-pub(crate) fn push_behind(
+/// Puts a text to the end, and a step after it.
+pub(crate) fn push_after(
     before: &str,
     name: &str,
     number: u32,

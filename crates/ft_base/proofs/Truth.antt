@@ -1,4 +1,4 @@
--- What tests answer: a disjunct that is false, three disjuncts or conjuncts in another order, two tests of which each follows from the other, an equality of bytes, an option that is asked whether it has something.
+-- What tests answer: a disjunct that is false, three disjuncts or conjuncts in another order, tests of which one follows from the other or each does, an equality of bytes, an option that is asked whether it has something.
 use Rattle.std.proofs.Common.{◌≡◌, ℕ, Bool, true, false, ◌||◌, ◌&&◌, List, [], ◌∷◌, Option, Some, None, refl, sym, ap, ◌∙◌}
 use Rattle.std.proofs.lemmas.Bool.{eq-eqb}
 use Rattle.std.proofs.lemmas.Slice.Eq.{bytes_eq-Decides}
@@ -28,6 +28,13 @@ or_turned true false c = refl
 or_turned false true c = refl
 or_turned false false c = refl
 
+pub or_swap_last : (a b c : Bool) → ((a || b) || c) ≡ ((a || c) || b)
+or_swap_last true b c = refl
+or_swap_last false true true = refl
+or_swap_last false true false = refl
+or_swap_last false false true = refl
+or_swap_last false false false = refl
+
 pub or_again : (a b : Bool) → (a || b) ≡ (a || (a || b))
 or_again true b = refl
 or_again false b = refl
@@ -36,6 +43,11 @@ pub same_tests : (a b : Bool) → (a ≡ true → b ≡ true) → (b ≡ true �
 same_tests true b f g = sym (f refl)
 same_tests false true f g = g refl
 same_tests false false f g = refl
+
+-- what follows from a test fails, so the test does
+pub fails_below : (a b : Bool) → (a ≡ true → b ≡ true) → b ≡ false → a ≡ false
+fails_below true b more h = sym (more refl) ∙ h
+fails_below false b more h = refl
 
 pub pointwise_refl : (xs : List ℕ) → pointwise nat_eq xs xs ≡ true
 pointwise_refl [] = refl

@@ -22,7 +22,7 @@ walk_further text prefix rest left place further c walk next on = record {
       ∙ (sym (length-append (encode_utf8_all prefix) (encode_utf8 c)) ∙ ap length (sym (encodes-last prefix c))));
 }
 
--- with nothing to come, the front is the whole text
+-- with nothing to come, the prefix is the whole text
 pub walk_end : (text prefix rest : List ℕ) (place : ℕ) → Walk text prefix place rest → length rest ≡ 0 → IsUtf8 text → prefix ≡ chars text
 walk_end text prefix rest place walk none utf8 =
     chars_from_encodes prefix text utf8

@@ -17,7 +17,7 @@ comes_before a b = nat_lt a.from b.from || ((a.from == b.from) && (nat_lt a.to b
 abbrev pub is_sorted : List Hit → Bool
 is_sorted hits = every_two comes_before hits
 
--- a list of hits, and how many of them stand in front of the place
+-- a list of hits, and how many of them stand before the place
 pub record HitPlace : Type 0 where
   pub hits : List Hit
   pub place : ℕ
@@ -33,11 +33,11 @@ hit_at at = slice_get at.hits at.place
 abbrev pub one_further : HitPlace → HitPlace
 one_further at = hit_place at.hits (at.place + 1)
 
--- how many hits, from the place on, begin in front of this word before the first that doesn't
+-- how many hits, from the place on, begin before this word before the first that doesn't
 abbrev pub hits_passed : ℕ → HitPlace → ℕ
 hits_passed from at = length (take_while (λ hit. nat_lt hit.from from) (drop at.place at.hits))
 
--- the first place from this one on whose hit doesn't begin in front of the word, or the end
+-- the first place from this one on whose hit doesn't begin before the word, or the end
 abbrev pub sought : ℕ → HitPlace → HitPlace
 sought from at = hit_place at.hits (at.place + hits_passed from at)
 

@@ -21,7 +21,7 @@ pub fn places_in_hits()
     ensures end { hit_at (hit_place (word 1 ∷ word 3 ∷ []) 2) ≡ None }
     ensures further { one_further (hit_place (word 1 ∷ word 3 ∷ []) 0) ≡ hit_place (word 1 ∷ word 3 ∷ []) 1 }
     ensures at_the_word { sought 3 (hit_place (word 1 ∷ word 3 ∷ word 6 ∷ []) 0) ≡ hit_place (word 1 ∷ word 3 ∷ word 6 ∷ []) 1 }
-    ensures behind_it { sought 4 (hit_place (word 1 ∷ word 3 ∷ word 6 ∷ []) 0) ≡ hit_place (word 1 ∷ word 3 ∷ word 6 ∷ []) 2 }
+    ensures after_it { sought 4 (hit_place (word 1 ∷ word 3 ∷ word 6 ∷ []) 0) ≡ hit_place (word 1 ∷ word 3 ∷ word 6 ∷ []) 2 }
     ensures not_back { sought 1 (hit_place (word 1 ∷ word 3 ∷ word 6 ∷ []) 1) ≡ hit_place (word 1 ∷ word 3 ∷ word 6 ∷ []) 1 }
     ensures to_the_end { sought 7 (hit_place (word 1 ∷ word 3 ∷ word 6 ∷ []) 1) ≡ hit_place (word 1 ∷ word 3 ∷ word 6 ∷ []) 3 }
     ensures passed { hits_passed 4 (hit_place (word 1 ∷ word 3 ∷ word 6 ∷ []) 1) ≡ 1 }

@@ -26,7 +26,7 @@ pub trait Hits {
         ensures counted { IsTrue (plain self.old) → steps.new ≡ steps.old + 1 }
         ensures grown { steps.old ≤ steps.new };
 
-    /// Moves to the first hit, from the place on, whose first word is at or behind the word `from`, or to the end. A
+    /// Moves to the first hit, from the place on, whose first word is at or after the word `from`, or to the end. A
     /// plain list counts a step for each hit that it compares, at most one more than it passes.
     fn seek<L: Ledger>(&mut self, from: u32, steps: &mut Steps<L>)
         ensures moved { stand self.new ≡ sought from (stand self.old) }

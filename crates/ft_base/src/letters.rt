@@ -48,7 +48,7 @@ pub fn digit_run(letters: &[char]) -> usize
 /// What every number past the greatest one is taken for.
 const PAST_MAX_NUMBER: u32 = MAX_NUMBER + 1;
 
-/// The number that digits stand for; past `MAX_NUMBER` it is the one behind that.
+/// The number that digits stand for; past `MAX_NUMBER` it is the one after that.
 pub fn number_of(digits: &[char]) -> u32
     ensures { result ≡ spec.number_of digits.now }
 {

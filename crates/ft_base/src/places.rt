@@ -33,7 +33,7 @@ impl Places {
         }
     }
 
-    /// Puts a place behind the last one. Where memory runs out, the list stays as it was.
+    /// Puts a place after the last one. Where memory runs out, the list stays as it was.
     pub fn push(&mut self, place: u32) -> Result<(), Memory>
         requires { ForSome (last_place self.old) (λ last. last < place) }
         ensures ok { OnOk result (self.new ≡ self.old ++ place ∷ []) }

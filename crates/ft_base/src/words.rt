@@ -11,11 +11,11 @@ pub enum Mode {
     All,
     /// `all words`: all the words
     AllWords,
-    /// `phrase`: the strings one behind the other
+    /// `phrase`: the strings one after the other
     Phrase,
 }
 
-/// Words of a selection, with what is written behind them (the standard's FTWords and FTTimes).
+/// Words of a selection, with what is written after them (the standard's FTWords and FTTimes).
 #[derive(Drop)]
 pub struct Words {
     pub values: Lines,

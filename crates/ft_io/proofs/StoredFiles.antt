@@ -47,20 +47,20 @@ the_place : (b : Bool) (n place : ℕ) → cond b (Some n) None ≡ Some place �
 the_place true n place at = cc
 the_place false n place at = cc
 
--- a file behind the others, none of which has its name
+-- a file after the others, none of which has its name
 pushed : (files : List StoredFile) (file : StoredFile) → position (has_name file.name) files ≡ None → files_of (files ++ file ∷ []) ≡ insert (files_of files) file.name file.bytes
 pushed files file none = same_files (files ++ file ∷ []) files file (λ q.
-    ap (option_map (λ f. f.bytes)) (find-append (has_name q) files (file ∷ [])) ∙ behind q (pointwise nat_eq q file.name) refl (find (has_name q) files) refl)
+    ap (option_map (λ f. f.bytes)) (find-append (has_name q) files (file ∷ [])) ∙ suffix q (pointwise nat_eq q file.name) refl (find (has_name q) files) refl)
   where
-    behind : (q : List ℕ) (b : Bool) → pointwise nat_eq q file.name ≡ b → (found : Option StoredFile) → find (has_name q) files ≡ found
+    suffix : (q : List ℕ) (b : Bool) → pointwise nat_eq q file.name ≡ b → (found : Option StoredFile) → find (has_name q) files ≡ found
         → option_map (λ f. f.bytes) (option_or found (cond b (Some file) None)) ≡ cond b (Some file.bytes) (option_map (λ f. f.bytes) found)
-    behind q true same None is = refl
-    behind q true same (Some other) is =
+    suffix q true same None is = refl
+    suffix q true same (Some other) is =
         let is_name : q ≡ file.name = same_text q file.name (sym same) in
         let nothing : find (has_name q) files ≡ None = ap (λ n. find (has_name n) files) is_name ∙ not_found (has_name file.name) files none in
         cc
-    behind q false differs None is = refl
-    behind q false differs (Some other) is = refl
+    suffix q false differs None is = refl
+    suffix q false differs (Some other) is = refl
 
 -- a file in the place of the first of its name
 replaced : (files : List StoredFile) (place : ℕ) (file : StoredFile) → position (has_name file.name) files ≡ Some place → files_of (set files place file) ≡ insert (files_of files) file.name file.bytes

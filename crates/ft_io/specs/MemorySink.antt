@@ -17,7 +17,7 @@ empty_sink room = record { bytes = []; room = room; total = 2 ^ 64 - 1; faults =
 abbrev pub space_left : Held → ℕ
 space_left sink = min (sink.room - length sink.bytes) (sink.total - length sink.bytes)
 
--- what a write leaves: the bytes that it took stand behind the others, or the fault is counted
+-- what a write leaves: the bytes that it took stand after the others, or the fault is counted
 abbrev pub sink_after : Held → List ℕ → Result ℕ Failed → Held
 sink_after sink from (Ok count) = record sink { bytes = sink.bytes ++ take count from }
 sink_after sink from (Err _) = record sink { faults = sink.faults + 1 }

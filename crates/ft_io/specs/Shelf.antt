@@ -18,7 +18,7 @@ abbrev pub known_bytes : Option Files → List ℕ → Option (List ℕ)
 known_bytes None name = None
 known_bytes (Some files) name = bytes_of files name
 
--- what a read of a file's bytes at a place puts in front of the buffer: as many of the bytes there as it counts, and none
+-- what a read of a file's bytes at a place puts before the buffer: as many of the bytes there as it counts, and none
 -- exactly where the place is at the file's end or past it
 pub record Reads (bytes : List ℕ) (at count : ℕ) (buffer : List ℕ) : Type 0 where
   pub within : count ≤ length bytes - at

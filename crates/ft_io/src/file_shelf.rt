@@ -17,7 +17,7 @@ struct OpenedFile<F> {
     at: u64,
 }
 
-/// The files of the operating system. The file that was read last stays open, so that reads at places one behind the other
+/// The files of the operating system. The file that was read last stays open, so that reads at places one after the other
 /// serve what can't be read anywhere else, as a pipe. What the files hold isn't known.
 #[derive(Drop)]
 pub struct FileShelf<R: Files> {

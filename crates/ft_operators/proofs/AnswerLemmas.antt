@@ -89,22 +89,22 @@ module _ {P : Type 0} (state : P → PhraseState) (item : Span) (course : Course
 -- ---- the window of a way
 
 -- the choices of a filter are those that it has with what it leaves
-choices_behind : (kind : Filter) (includes : List Hit) → choices kind (after kind includes) ≡ choices kind includes
-choices_behind F.Ordered includes = refl
-choices_behind (F.Window size Words) [] = refl
-choices_behind (F.Window size Words) (hit ∷ rest) = refl
-choices_behind (F.Window size Sentences) [] = refl
-choices_behind (F.Window size Sentences) (hit ∷ rest) = refl
-choices_behind (F.Window size Paragraphs) [] = refl
-choices_behind (F.Window size Paragraphs) (hit ∷ rest) = refl
-choices_behind (F.Distance range kind) includes = refl
-choices_behind F.SameSentence includes = refl
-choices_behind F.SameParagraph includes = refl
-choices_behind F.DifferentSentence includes = refl
-choices_behind F.DifferentParagraph includes = refl
-choices_behind F.AtStart includes = refl
-choices_behind F.AtEnd includes = refl
-choices_behind F.EntireContent includes = refl
+choices_after : (kind : Filter) (includes : List Hit) → choices kind (after kind includes) ≡ choices kind includes
+choices_after F.Ordered includes = refl
+choices_after (F.Window size Words) [] = refl
+choices_after (F.Window size Words) (hit ∷ rest) = refl
+choices_after (F.Window size Sentences) [] = refl
+choices_after (F.Window size Sentences) (hit ∷ rest) = refl
+choices_after (F.Window size Paragraphs) [] = refl
+choices_after (F.Window size Paragraphs) (hit ∷ rest) = refl
+choices_after (F.Distance range kind) includes = refl
+choices_after F.SameSentence includes = refl
+choices_after F.SameParagraph includes = refl
+choices_after F.DifferentSentence includes = refl
+choices_after F.DifferentParagraph includes = refl
+choices_after F.AtStart includes = refl
+choices_after F.AtEnd includes = refl
+choices_after F.EntireContent includes = refl
 
 choice_window : (kind : Filter) (way : Way) (cs : List (Option Window)) (lead : ℕ) (later : List Way) → lead < length cs → window_now (chosen_left kind way (drop lead cs) later) ≡ get_or cs lead None
 choice_window kind way cs lead later below = ap (λ ds. window_now (chosen_left kind way ds later)) (drop-cons cs lead None below)
@@ -131,13 +131,13 @@ module _ (kind : Filter) (item : Span) (lead : ℕ) (ways : List Way) (there : B
   pub window_below : lead < length (choices kind held)
   window_below =
       let now = held_now there (sieve_left kind (every item) lead ways) held holds is in
-      let same = ap (choices kind) (now.1 ∙ sieve_includes kind (every item) lead ways now.0) ∙ choices_behind kind (includes_now ways) in
+      let same = ap (choices kind) (now.1 ∙ sieve_includes kind (every item) lead ways now.0) ∙ choices_after kind (includes_now ways) in
       subst (λ cs. lead < length cs) (sym same) (lead_chosen kind (every item) lead ways now.0)
 
   pub window_same : get_or (choices kind held) lead None ≡ window_now (cond there (sieve_left kind (every item) lead ways) [])
   window_same =
       let now = held_now there (sieve_left kind (every item) lead ways) held holds is in
       ap (λ hits. get_or (choices kind hits) lead None) (now.1 ∙ sieve_includes kind (every item) lead ways now.0)
-      ∙ ap (λ cs. get_or cs lead None) (choices_behind kind (includes_now ways))
+      ∙ ap (λ cs. get_or cs lead None) (choices_after kind (includes_now ways))
       ∙ sym (sieve_window kind item lead ways now.0)
       ∙ ap (λ b. window_now (cond b (sieve_left kind (every item) lead ways) [])) (sym holds)

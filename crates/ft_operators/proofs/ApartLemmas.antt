@@ -11,7 +11,7 @@ use Rattle.all_matches.specs.Ways.{Way, apart, way_includes, standing_out}
 use Rattle.ft_operators.specs.declared.course.Course.{Course}
 use Rattle.ft_operators.specs.Course.{ways_on}
 use Rattle.ft_operators.specs.declared.standing_out.Tried.{Tried}
-use Rattle.ft_operators.specs.Standing.{Frame, Standing, frame, two_aims, at_front, one_on, includes_now}
+use Rattle.ft_operators.specs.Standing.{Frame, Standing, frame, two_aims, at_prefix, one_on, includes_now}
 use Rattle.ft_operators.specs.steps.Apart.{with_includes, none_tried, tried_ways, admitted, IsTried, MayTry, Trying, Sifting}
 use Rattle.ft_operators.specs.steps.Forms.{apart_of, apart_left, apart_shape, apart_sifted}
 use Rattle.ft_operators.specs.steps.Walking.{Gathered, Moved, MayGoOn}
@@ -88,8 +88,8 @@ rest_there : Standing → Bool
 rest_there s = is_not_empty s.rest
 
 module _ (course : Course) (left left_now right now : Standing) (room mid_room new_room start mid end : ℕ) (answer second_answer : Bool) where
-  pub apart_first : Moved (at_front course left) left_now room mid_room start mid answer → Moved (apart_sifted course left_now right) now mid_room new_room mid end second_answer
-      → Moved (at_front course (apart_of course left right)) now room new_room start end second_answer
+  pub apart_first : Moved (at_prefix course left) left_now room mid_room start mid answer → Moved (apart_sifted course left_now right) now mid_room new_room mid end second_answer
+      → Moved (at_prefix course (apart_of course left right)) now room new_room start end second_answer
   unfolding ways_on
   apart_first m n = record {
     stand = n.stand ∙ ap (λ s. apart_sifted course s right) m.stand;
@@ -234,7 +234,7 @@ module _ (course : Course) (left right left_now right_now : Standing) (room now_
     grown = l.grown;
   }
 
--- the includes of both sides, one behind the other
+-- the includes of both sides, one after the other
 pub tried_pair : (left right : Standing) (room cleared_room left_room new_room : ℕ) (cleared held new : List Hit) (tried : Tried) (middle : ℕ) → cleared ≡ [] → cleared_room ≡ room → MayTry left right room
     → Gathered left cleared_room left_room cleared held → Gathered right left_room new_room held new → middle ≡ length held
     → with_includes (take middle new) (drop middle new) tried ≡ with_includes (includes_now left.rest) (includes_now right.rest) tried

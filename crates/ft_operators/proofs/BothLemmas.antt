@@ -5,7 +5,7 @@ use Rattle.ft_base.specs.Lists.{is_not_empty}
 use Rattle.all_matches.specs.Ways.{Way, two_ways}
 use Rattle.ft_operators.specs.declared.course.Course.{Course}
 use Rattle.ft_operators.specs.Course.{ways_on}
-use Rattle.ft_operators.specs.Standing.{Standing, at_front, one_on}
+use Rattle.ft_operators.specs.Standing.{Standing, at_prefix, one_on}
 use Rattle.ft_operators.specs.steps.Forms.{both_of, pairs_left}
 
 with_rest : Standing → List Way → Standing
@@ -50,14 +50,14 @@ pairs_sides (x ∷ xs) [] all there = cc
 pairs_sides (x ∷ xs) (y ∷ ys) all there = (refl, refl)
 
 module _ (course : Course) (left right : Standing) where
-  pub both_front : both_of course (at_front course left) (at_front course right) ≡ at_front course (both_of course left right)
+  pub both_prefix : both_of course (at_prefix course left) (at_prefix course right) ≡ at_prefix course (both_of course left right)
   unfolding ways_on with_rest
-  both_front = ap (with_rest (both_of course left right)) (pairs_all (ways_on course left.operator) (ways_on course right.operator))
+  both_prefix = ap (with_rest (both_of course left right)) (pairs_all (ways_on course left.operator) (ways_on course right.operator))
 
-  pub both_front_none : is_not_empty ((at_front course left).rest) ≡ false → both_of course (at_front course left) right ≡ at_front course (both_of course left right)
+  pub both_prefix_none : is_not_empty ((at_prefix course left).rest) ≡ false → both_of course (at_prefix course left) right ≡ at_prefix course (both_of course left right)
   unfolding ways_on with_rest
-  both_front_none none = ap (with_rest (both_of course left right)) (none_left (ways_on course left.operator) right.rest (ways_on course right.operator) (ways_on course right.operator) none)
+  both_prefix_none none = ap (with_rest (both_of course left right)) (none_left (ways_on course left.operator) right.rest (ways_on course right.operator) (ways_on course right.operator) none)
 
-  pub both_on_left : is_not_empty left.rest ≡ true → is_not_empty right.rest ≡ true → is_not_empty ((one_on right).rest) ≡ false → both_of course (one_on left) (at_front course right) ≡ one_on (both_of course left right)
+  pub both_on_left : is_not_empty left.rest ≡ true → is_not_empty right.rest ≡ true → is_not_empty ((one_on right).rest) ≡ false → both_of course (one_on left) (at_prefix course right) ≡ one_on (both_of course left right)
   unfolding with_rest
   both_on_left there second over = ap (with_rest (both_of course left right)) (pairs_over left.rest right.rest (ways_on course right.operator) there second over)

@@ -52,12 +52,12 @@ kept_last links hits hit number link below is =
 
 -- the part of the last filter was cut off, and it was asked
 module _ (links : List ChainLink) (hits outer own : List Hit) (hit : Hit) (number mid : ℕ) (link : ChainLink) (some : 0 < number) (below : number ≤ length links) (is : link ≡ get_or links (number - 1) link)
-    (at : mid ≡ min link.start (length hits)) (front : outer ≡ take mid hits) (back : own ≡ drop mid hits) where
+    (at : mid ≡ min link.start (length hits)) (prefix : outer ≡ take mid hits) (back : own ≡ drop mid hits) where
   kept_step : kept_by (links_from hits (reverse (take number links))) hit ≡ (keeps link.kind own link.window hit && kept_by (links_from outer (reverse (take (number - 1) links))) hit)
   kept_step =
       let one : number ≡ (number - 1) + 1 = omega (arith, some) in
       let own_is = ap (λ n. drop n hits) (sym at) ∙ sym back in
-      let outer_is = ap (λ n. take n hits) (sym at) ∙ sym front in
+      let outer_is = ap (λ n. take n hits) (sym at) ∙ sym prefix in
       ap (λ n. kept_by (links_from hits (reverse (take n links))) hit) one
       ∙ kept_last links hits hit (number - 1) link (omega (arith, some, below)) is
       ∙ (λ i. keeps link.kind (own_is i) link.window hit && kept_by (links_from (outer_is i) (reverse (take (number - 1) links))) hit)

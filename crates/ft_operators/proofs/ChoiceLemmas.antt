@@ -4,7 +4,7 @@ use Rattle.ft_base.specs.Lists.{is_not_empty}
 use Rattle.all_matches.specs.Ways.{Way}
 use Rattle.ft_operators.specs.declared.course.Course.{Course}
 use Rattle.ft_operators.specs.Course.{ways_on}
-use Rattle.ft_operators.specs.Standing.{Standing, at_front}
+use Rattle.ft_operators.specs.Standing.{Standing, at_prefix}
 use Rattle.ft_operators.specs.steps.Forms.{choice_of, first_left}
 
 with_rest : Standing → List Way → Standing
@@ -24,10 +24,10 @@ left_there [] ys = refl
 left_there (x ∷ xs) ys = refl
 
 module _ (course : Course) (second : Bool) (left right : Standing) where
-  pub choice_front_left : is_not_empty ((at_front course left).rest) ≡ true → choice_of course false (at_front course left) right ≡ at_front course (choice_of course second left right)
+  pub choice_prefix_left : is_not_empty ((at_prefix course left).rest) ≡ true → choice_of course false (at_prefix course left) right ≡ at_prefix course (choice_of course second left right)
   unfolding ways_on with_rest
-  choice_front_left there = ap (with_rest (choice_of course second left right)) (all_first (ways_on course left.operator) (ways_on course right.operator) there)
+  choice_prefix_left there = ap (with_rest (choice_of course second left right)) (all_first (ways_on course left.operator) (ways_on course right.operator) there)
 
-  pub choice_front_right : is_not_empty ((at_front course left).rest) ≡ false → choice_of course true (at_front course left) (at_front course right) ≡ at_front course (choice_of course second left right)
+  pub choice_prefix_right : is_not_empty ((at_prefix course left).rest) ≡ false → choice_of course true (at_prefix course left) (at_prefix course right) ≡ at_prefix course (choice_of course second left right)
   unfolding ways_on with_rest
-  choice_front_right none = ap (with_rest (choice_of course second left right)) (none_first (ways_on course left.operator) (ways_on course right.operator) none)
+  choice_prefix_right none = ap (with_rest (choice_of course second left right)) (none_first (ways_on course left.operator) (ways_on course right.operator) none)

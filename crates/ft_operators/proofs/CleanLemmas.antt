@@ -20,7 +20,7 @@ use Rattle.ft_operators.specs.Course.{asked_for, firsts, filtered_on, ways_on}
 use Rattle.ft_operators.specs.declared.chain.Chain.{Chain}
 use Rattle.ft_operators.specs.Chains.{all_kept, passes_now, clean_now, links_of, spare_filters, spare_hits, IsKept}
 use Rattle.ft_operators.specs.Phrases.{PhraseState}
-use Rattle.ft_operators.specs.Standing.{Frame, Standing, frame, at_front, one_on, includes_now, one_aims}
+use Rattle.ft_operators.specs.Standing.{Frame, Standing, frame, at_prefix, one_on, includes_now, one_aims}
 use Rattle.ft_operators.specs.steps.Cleaning.{Searched, Searching, MayAsk, Asked, Deciding, Decided}
 use Rattle.ft_operators.specs.steps.Forms.{phrase_of, apart_of, apart_left, negation_of, negated_shape, sieve_of, sieve_left, chosen_left, choices_of, choices_at}
 use Rattle.ft_operators.specs.steps.Walking.{Gathered, IsHeld, Moved, MayGoOn}
@@ -34,15 +34,15 @@ found_here : (test : Way → Bool) (ways : List Way) → is_not_empty ways ≡ t
 found_here test [] there passes = cc
 found_here test (way ∷ rest) there passes = ap (λ b. b || list_any test rest) (sym passes)
 
-found_behind : (test : Way → Bool) (ways : List Way) → is_not_empty ways ≡ true → passes_now test ways ≡ false → list_any test (drop 1 ways) ≡ list_any test ways
-found_behind test [] there fails = cc
-found_behind test (way ∷ rest) there fails = ap (λ b. b || list_any test rest) (sym fails)
+found_after : (test : Way → Bool) (ways : List Way) → is_not_empty ways ≡ true → passes_now test ways ≡ false → list_any test (drop 1 ways) ≡ list_any test ways
+found_after test [] there fails = cc
+found_after test (way ∷ rest) there fails = ap (λ b. b || list_any test rest) (sym fails)
 
 found_nowhere : (test : Way → Bool) (ways : List Way) → is_not_empty ways ≡ false → false ≡ list_any test ways
 found_nowhere test [] none = refl
 found_nowhere test (way ∷ rest) none = cc
 
-pub search_starts : (course : Course) (known : Type 0) (test : Way → Bool) (old now : Standing) (room now_room start end : ℕ) (answer : Bool) → Moved (at_front course old) now room now_room start end answer
+pub search_starts : (course : Course) (known : Type 0) (test : Way → Bool) (old now : Standing) (room now_room start end : ℕ) (answer : Bool) → Moved (at_prefix course old) now room now_room start end answer
     → Searching course known test old now room now_room start end answer
 search_starts course known test old now room now_room start end answer m = record {
   same = ap frame m.stand;
@@ -83,7 +83,7 @@ module _ (course : Course) (known : Type 0) (test : Way → Bool) (old now : Sta
       search_on is fails =
           let to = m.stand ∙ ap one_on same in record {
             same = ap frame to ∙ l.same;
-            passed = λ k. ap (λ s. list_any test s.rest) to ∙ found_behind test now.rest (sym l.there_now ∙ is) (fails k) ∙ l.passed k;
+            passed = λ k. ap (λ s. list_any test s.rest) to ∙ found_after test now.rest (sym l.there_now ∙ is) (fails k) ∙ l.passed k;
             there_now = m.there;
             kept_room = omega (arith, grew, l.kept_room, m.kept_room);
             grown = omega (arith, later, l.grown, m.grown);
@@ -217,7 +217,7 @@ lead_chosen kind course lead (way ∷ more) there =
     let below = lead_below kind course lead (way ∷ more) there in
     subst (λ cs. lead < length cs) (kept_choices kind course (way_includes way) lead below) below
 
--- the includes in front of a filter, when nothing was held before them
+-- the includes before a filter, when nothing was held before them
 module _ (course : Course) (kind : Filter) (lead : ℕ) (operand : Standing) (room filters hits cleared_room new_room : ℕ) (cleared held : List Hit) (may : MayAsk (sieve_of course kind lead operand) room filters hits)
     (none : cleared ≡ []) (same : cleared_room ≡ room) (g : Gathered operand cleared_room new_room cleared held) where
   operand_there : is_not_empty operand.rest ≡ true
@@ -251,7 +251,7 @@ pub may_go_on : (now tried : Standing) (before after : Chain) (room filters hits
 may_go_on now tried before after room filters hits new_room start end verdict may a =
     subst (λ s. MayGoOn s new_room) (sym a.same) record { there = may.there; fits = omega (arith, may.fits, a.kept_room) }
 
-pub deciding_starts : (course : Course) (test : Way → Bool) (old now : Standing) (chain : Chain) (room now_room start end : ℕ) (answer : Bool) → Moved (at_front course old) now room now_room start end answer
+pub deciding_starts : (course : Course) (test : Way → Bool) (old now : Standing) (chain : Chain) (room now_room start end : ℕ) (answer : Bool) → Moved (at_prefix course old) now room now_room start end answer
     → Deciding course test old now chain chain room now_room start end answer
 deciding_starts course test old now chain room now_room start end answer m = record {
   search = search_starts course (is_plain old.operator ≡ true) test old now room now_room start end answer m;

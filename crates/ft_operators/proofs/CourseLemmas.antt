@@ -100,23 +100,23 @@ module _ (asked : Type 0) (test : Way → Bool) (respects : Respects asked test)
       (first_window_gap size (end_in kind joined))
       (λ n early h. respects _ _ (serves_window asked way size kind (end_in kind joined) n early) h)
 
-  told : (kind : Filter) (includes : List Hit)
+  known : (kind : Filter) (includes : List Hit)
       → list_any (λ c. test (by_filter way kind c)) (asked_for Telling (choices kind includes)) ≡ list_any (λ c. test (by_filter way kind c)) (choices kind includes)
-  told F.Ordered includes = refl
-  told (F.Window size kind) includes = told_round size kind (join includes)
-  told (F.Distance range kind) includes = refl
-  told F.SameSentence includes = refl
-  told F.SameParagraph includes = refl
-  told F.DifferentSentence includes = refl
-  told F.DifferentParagraph includes = refl
-  told F.AtStart includes = refl
-  told F.AtEnd includes = refl
-  told F.EntireContent includes = refl
+  known F.Ordered includes = refl
+  known (F.Window size kind) includes = told_round size kind (join includes)
+  known (F.Distance range kind) includes = refl
+  known F.SameSentence includes = refl
+  known F.SameParagraph includes = refl
+  known F.DifferentSentence includes = refl
+  known F.DifferentParagraph includes = refl
+  known F.AtStart includes = refl
+  known F.AtEnd includes = refl
+  known F.EntireContent includes = refl
 
 choices_tell : (windows : Windows) (test : Way → Bool) → Respects (Asks windows) test → (way : Way) (kind : Filter) (includes : List Hit)
     → list_any (λ c. test (by_filter way kind c)) (asked_for windows (choices kind includes)) ≡ list_any (λ c. test (by_filter way kind c)) (choices kind includes)
 choices_tell Each test respects way kind includes = refl
-choices_tell Telling test respects way kind includes = told ⊤ test respects way kind includes
+choices_tell Telling test respects way kind includes = known ⊤ test respects way kind includes
 choices_tell First test respects way kind includes =
     first_decides (λ c. test (by_filter way kind c)) (choices kind includes) (λ a b h. respects (by_filter way kind b) (by_filter way kind a) (serves_any ⊥ (λ none. none) way kind b a) h)
 

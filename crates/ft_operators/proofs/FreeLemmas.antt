@@ -14,8 +14,8 @@ module _ (p : ℕ → Bool) (from to : ℕ) where
   pub any_here : from < to → p from ≡ true → list_any p (range_with_len from (to - from)) ≡ true
   any_here less passes = any_from less ∙ ap (λ b. b || list_any p (range_with_len (from + 1) (to - (from + 1)))) passes
 
-  pub any_behind : from < to → p from ≡ false → list_any p (range_with_len from (to - from)) ≡ list_any p (range_with_len (from + 1) (to - (from + 1)))
-  any_behind less bars = any_from less ∙ ap (λ b. b || list_any p (range_with_len (from + 1) (to - (from + 1)))) bars
+  pub any_after : from < to → p from ≡ false → list_any p (range_with_len from (to - from)) ≡ list_any p (range_with_len (from + 1) (to - (from + 1)))
+  any_after less bars = any_from less ∙ ap (λ b. b || list_any p (range_with_len (from + 1) (to - (from + 1)))) bars
 
   pub any_none : to ≤ from → list_any p (range_with_len from (to - from)) ≡ false
   any_none over = let none : to - from ≡ 0 = omega arith in ap (λ n. list_any p (range_with_len from n)) none

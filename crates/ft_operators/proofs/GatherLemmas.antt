@@ -96,7 +96,7 @@ joined_few : (hits : List Hit) → length (option_to_list (join hits)) ≤ lengt
 joined_few [] = omega arith
 joined_few (hit ∷ rest) = omega arith
 
--- a filter leaves no more includes than there are in front of it
+-- a filter leaves no more includes than there are before it
 pub after_few : (kind : Filter) (hits : List Hit) → length (after kind hits) ≤ length hits
 after_few F.Ordered hits = omega arith
 after_few (F.Window size kind) hits = joined_few hits
@@ -124,11 +124,11 @@ gathered_filtered course kind lead operand room mid_room new_room old mid new g 
       hits = λ there fits.
           let few = g.few (inner there) in
           let held = g.hits (inner there) (omega (arith, fits)) in
-          let behind = ap (drop (length old)) held ∙ drop_at old (includes_now operand.rest) (length old) refl in
-          let front = ap (take (length old)) held ∙ take_at old (includes_now operand.rest) (length old) refl in
-          let others = ap (λ hits. length (after kind hits)) behind in
+          let past = ap (drop (length old)) held ∙ drop_at old (includes_now operand.rest) (length old) refl in
+          let prefix = ap (take (length old)) held ∙ take_at old (includes_now operand.rest) (length old) refl in
+          let others = ap (λ hits. length (after kind hits)) past in
           r.hits (omega (arith, fits, few, others, g.kept_room, after_few kind (includes_now operand.rest)))
-          ∙ (λ i. front i ++ after kind (behind i))
+          ∙ (λ i. prefix i ++ after kind (past i))
           ∙ ap (λ hits. old ++ hits) (sym (includes there));
     }
 

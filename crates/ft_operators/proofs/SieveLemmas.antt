@@ -9,7 +9,7 @@ use Rattle.all_matches.specs.Filters.{passes, choices}
 use Rattle.all_matches.specs.Ways.{Way, by_filter, way_includes}
 use Rattle.ft_operators.specs.declared.course.Course.{Course}
 use Rattle.ft_operators.specs.Course.{asked_for, filtered_on, ways_on}
-use Rattle.ft_operators.specs.Standing.{Standing, at_front, one_on}
+use Rattle.ft_operators.specs.Standing.{Standing, at_prefix, one_on}
 use Rattle.ft_operators.specs.steps.Forms.{sieve_of, sieve_left, chosen_left, choices_at, count_now, sifted}
 
 with_rest : Standing → List Way → Standing
@@ -50,7 +50,7 @@ at_end : (kind : Filter) (course : Course) (lead : ℕ) (ways : List Way) → is
 at_end kind course lead [] h = refl
 at_end kind course lead (way ∷ more) h = cc
 
--- from one choice to the next, and from the last one to the ways behind
+-- from one choice to the next, and from the last one to the ways after
 chosen_on : (kind : Filter) (way : Way) (cs : List (Option Window)) (later : List Way) → 1 < length cs → chosen_left kind way (drop 1 cs) later ≡ drop 1 (chosen_left kind way cs later)
 chosen_on kind way [] later h = absurd (omega (arith, h))
 chosen_on kind way (c ∷ []) later h = absurd (omega (arith, h))
@@ -110,9 +110,9 @@ none_there kind course lead [] h = refl
 none_there kind course lead (way ∷ more) h = cc
 
 module _ (course : Course) (kind : Filter) (operand : Standing) where
-  pub sieve_front : (lead : ℕ) → sifted course kind (at_front course operand) ≡ at_front course (sieve_of course kind lead operand)
+  pub sieve_prefix : (lead : ℕ) → sifted course kind (at_prefix course operand) ≡ at_prefix course (sieve_of course kind lead operand)
   unfolding ways_on
-  sieve_front lead = refl
+  sieve_prefix lead = refl
 
   pub sieve_settled : 0 < count_now kind course operand.rest → sieve_of course kind 0 operand ≡ sifted course kind operand
   unfolding with_rest

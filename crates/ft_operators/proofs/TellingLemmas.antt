@@ -4,6 +4,7 @@ use Rattle.std.specs.Prelude.{ℤ, pos, negsuc, ◌+ℤ◌, ◌-ℤ◌, int_le, 
 use Rattle.std.specs.List.{list_any, list_all, range_with_len}
 use Rattle.std.proofs.lemmas.Bool.{and_parts}
 use Rattle.std.proofs.lemmas.Int.{ints}
+use Rattle.ft_base.proofs.Truth.{fails_below}
 use Rattle.ft_base.specs.declared.hit.Hit.{Hit}
 use Rattle.ft_base.specs.declared.unit.TextUnit.{TextUnit}
 use Rattle.all_matches.specs.declared.window.Window.{Window}
@@ -29,10 +30,6 @@ fails_more true true more h = h
 fails_more true false more h = more refl
 fails_more false b more h = refl
 
-fails_below : (a b : Bool) → (a ≡ true → b ≡ true) → b ≡ false → a ≡ false
-fails_below true b more h = sym (more refl) ∙ h
-fails_below false b more h = refl
-
 -- where the first element passes if any does
 pub first_decides : {X : Type 0} (q : X → Bool) (xs : List X) → ((a b : X) → q a ≡ true → q b ≡ true) → list_any q (take 1 xs) ≡ list_any q xs
 first_decides q [] same = refl
@@ -46,7 +43,7 @@ first_decides {X = X} q (x ∷ xs) same = by_first (q x) refl
     by_first true is = refl
     by_first false is = sym (none xs is)
 
--- ---- windows one behind the other
+-- ---- windows one after the other
 
 module _ (q : Option Window → Bool) (window : ℕ → Window) where
   passed : (start count skip : ℕ) → ((n : ℕ) → start ≤ n → n < start + skip → q (Some (window n)) ≡ false)
@@ -83,7 +80,7 @@ first_window_gap size last = zero_gap (pos (suc last + 0) -ℤ pos size) (suc la
     less : size - (suc last + 0) ≡ size - suc last
     less = omega arith
 
--- a window that begins at 0 or in front of it holds what the first one holds
+-- a window that begins at 0 or before it holds what the first one holds
 in_later : (size last n from to : ℕ) → n ≤ size - suc last
     → (int_le (pos (suc last + 0) -ℤ pos size) (pos from) && int_le (pos to) (((pos (suc last + 0) -ℤ pos size) +ℤ pos size) -ℤ pos 1)) ≡ true
     → (int_le (pos (suc last + n) -ℤ pos size) (pos from) && int_le (pos to) (((pos (suc last + n) -ℤ pos size) +ℤ pos size) -ℤ pos 1)) ≡ true

@@ -9,7 +9,7 @@ use Rattle.ft_operators.specs.declared.course.Course.{Course}
 use Rattle.ft_operators.specs.declared.node.Node.{Node}
 use Rattle.ft_operators.specs.Course.{every, ways_on}
 use Rattle.ft_operators.specs.Phrases.{PhraseState}
-use Rattle.ft_operators.specs.Standing.{Frame, Standing, frame, at_front, one_on, includes_now}
+use Rattle.ft_operators.specs.Standing.{Frame, Standing, frame, at_prefix, one_on, includes_now}
 use Rattle.ft_operators.specs.Walk.{Walk, tuple_of}
 use Rattle.ft_operators.specs.steps.Nodes.{standing, frame_of, shape_of}
 use Rattle.ft_operators.specs.steps.Walking.{Moved, MayGoOn, IsAimed, IsHeld}
@@ -60,12 +60,12 @@ module _ {P : Type 0} (state : P → PhraseState) (course : Course) (old new : N
         h.hits there (sym m.there ∙ there) (omega (arith, same_room, start_room, standing_room, fits, m.kept_room)))
         ∙ (λ i. shown course.item (moved_frame i) (m.stand i).rest (tuple_of (m.stand i).rest))
 
-  pub first_shown : (room mid_room new_room start end : ℕ) (answer : Bool) (held : List Hit) → Moved (at_front course (standing state course old)) (standing state course new) room mid_room start end answer
+  pub first_shown : (room mid_room new_room start end : ℕ) (answer : Bool) (held : List Hit) → Moved (at_prefix course (standing state course old)) (standing state course new) room mid_room start end answer
       → IsHeld answer (standing state course new) mid_room new_room held → (shape_of old).room ≤ room
       → shown course.item (frame_of state new) (cond answer (standing state course new).rest []) (cond answer (Some held) None)
       ≡ shown course.item (frame_of state old) (ways_on course (frame_of state old).operator) (tuple_of (ways_on course (frame_of state old).operator))
   first_shown room mid_room new_room start end answer held m h fits =
-      moved_shown (at_front course (standing state course old)) refl room mid_room new_room start end answer held m h fits
+      moved_shown (at_prefix course (standing state course old)) refl room mid_room new_room start end answer held m h fits
       ∙ ap (λ f. shown course.item (frame_of state old) (ways_on course f.operator) (tuple_of (ways_on course f.operator))) (frame_same state course old)
 
   -- a walk that is at a way

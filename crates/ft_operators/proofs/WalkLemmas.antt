@@ -4,12 +4,12 @@ use Rattle.ft_base.specs.Lists.{is_not_empty}
 use Rattle.ft_base.specs.declared.filter.Filter.{Filter}
 use Rattle.ft_operators.specs.declared.course.Course.{Course}
 use Rattle.ft_operators.specs.Course.{ways_on}
-use Rattle.ft_operators.specs.Standing.{Standing, at_front, one_on}
+use Rattle.ft_operators.specs.Standing.{Standing, at_prefix, one_on}
 use Rattle.ft_operators.specs.steps.Forms.{choice_of, both_of, negation_of, sieve_of, sifted, count_now}
 use Rattle.ft_operators.specs.steps.Walking.{Moved, MayGoOn, Settling}
-use Rattle.ft_operators.proofs.ChoiceLemmas.{choice_front_left, choice_front_right, left_there}
-use Rattle.ft_operators.proofs.BothLemmas.{both_front, both_front_none, both_on_left, pairs_there, pairs_none, pairs_sides}
-use Rattle.ft_operators.proofs.SieveLemmas.{sieve_front, sieve_settled, sieve_skip, sieve_end, sieve_on, sieve_over, sieve_there_first, sieve_there_next, sieve_none, fewer}
+use Rattle.ft_operators.proofs.ChoiceLemmas.{choice_prefix_left, choice_prefix_right, left_there}
+use Rattle.ft_operators.proofs.BothLemmas.{both_prefix, both_prefix_none, both_on_left, pairs_there, pairs_none, pairs_sides}
+use Rattle.ft_operators.proofs.SieveLemmas.{sieve_prefix, sieve_settled, sieve_skip, sieve_end, sieve_on, sieve_over, sieve_there_first, sieve_there_next, sieve_none, fewer}
 
 rest_there : Standing → Bool
 rest_there s = is_not_empty s.rest
@@ -20,41 +20,41 @@ unfolding rest_there
 arrived wanted now room new_room start end answer m = ap rest_there (sym m.stand) ∙ sym m.there
 
 module _ (course : Course) (second : Bool) (left left_now right right_now : Standing) (room mid_room new_room start mid end : ℕ) (answer second_answer : Bool) where
-  pub choice_first_left : Moved (at_front course left) left_now room mid_room start mid answer → answer ≡ true
-      → Moved (at_front course (choice_of course second left right)) (choice_of course false left_now right) room mid_room start mid true
+  pub choice_first_left : Moved (at_prefix course left) left_now room mid_room start mid answer → answer ≡ true
+      → Moved (at_prefix course (choice_of course second left right)) (choice_of course false left_now right) room mid_room start mid true
   choice_first_left m there = record {
     stand = ap (λ s. choice_of course false s right) m.stand
-        ∙ choice_front_left course second left right (arrived (at_front course left) left_now room mid_room start mid answer m ∙ there);
+        ∙ choice_prefix_left course second left right (arrived (at_prefix course left) left_now room mid_room start mid answer m ∙ there);
     there = sym there ∙ m.there ∙ sym (left_there left_now.rest (ways_on course right.operator));
     kept_room = m.kept_room;
     grown = m.grown;
   }
 
-  pub choice_first_right : Moved (at_front course left) left_now room mid_room start mid answer → answer ≡ false
-      → Moved (at_front course right) right_now mid_room new_room mid end second_answer
-      → Moved (at_front course (choice_of course second left right)) (choice_of course true left_now right_now) room new_room start end second_answer
+  pub choice_first_right : Moved (at_prefix course left) left_now room mid_room start mid answer → answer ≡ false
+      → Moved (at_prefix course right) right_now mid_room new_room mid end second_answer
+      → Moved (at_prefix course (choice_of course second left right)) (choice_of course true left_now right_now) room new_room start end second_answer
   choice_first_right m none n = record {
     stand = (λ i. choice_of course true (m.stand i) (n.stand i))
-        ∙ choice_front_right course second left right (arrived (at_front course left) left_now room mid_room start mid answer m ∙ none);
+        ∙ choice_prefix_right course second left right (arrived (at_prefix course left) left_now room mid_room start mid answer m ∙ none);
     there = n.there;
     kept_room = omega (arith, m.kept_room, n.kept_room);
     grown = omega (arith, m.grown, n.grown);
   }
 
-  pub both_first : Moved (at_front course left) left_now room mid_room start mid answer → answer ≡ true
-      → Moved (at_front course right) right_now mid_room new_room mid end second_answer
-      → Moved (at_front course (both_of course left right)) (both_of course left_now right_now) room new_room start end second_answer
+  pub both_first : Moved (at_prefix course left) left_now room mid_room start mid answer → answer ≡ true
+      → Moved (at_prefix course right) right_now mid_room new_room mid end second_answer
+      → Moved (at_prefix course (both_of course left right)) (both_of course left_now right_now) room new_room start end second_answer
   both_first m there n = record {
-    stand = (λ i. both_of course (m.stand i) (n.stand i)) ∙ both_front course left right;
+    stand = (λ i. both_of course (m.stand i) (n.stand i)) ∙ both_prefix course left right;
     there = n.there ∙ sym (pairs_there left_now.rest right_now.rest (ways_on course right_now.operator) (sym m.there ∙ there));
     kept_room = omega (arith, m.kept_room, n.kept_room);
     grown = omega (arith, m.grown, n.grown);
   }
 
-  pub both_first_none : Moved (at_front course left) left_now room mid_room start mid answer → answer ≡ false
-      → Moved (at_front course (both_of course left right)) (both_of course left_now right) room mid_room start mid answer
+  pub both_first_none : Moved (at_prefix course left) left_now room mid_room start mid answer → answer ≡ false
+      → Moved (at_prefix course (both_of course left right)) (both_of course left_now right) room mid_room start mid answer
   both_first_none m none = record {
-    stand = ap (λ s. both_of course s right) m.stand ∙ both_front_none course left right (arrived (at_front course left) left_now room mid_room start mid answer m ∙ none);
+    stand = ap (λ s. both_of course s right) m.stand ∙ both_prefix_none course left right (arrived (at_prefix course left) left_now room mid_room start mid answer m ∙ none);
     there = none ∙ sym (pairs_none left_now.rest right.rest (ways_on course right.operator) (sym m.there ∙ none));
     kept_room = m.kept_room;
     grown = m.grown;
@@ -63,11 +63,11 @@ module _ (course : Course) (second : Bool) (left left_now right right_now : Stan
 module _ (course : Course) (left left_now right right_now right_first : Standing) (room mid_room next_room new_room start mid next end : ℕ) (answer second_answer third_answer : Bool) where
   pub both_next_left : MayGoOn (both_of course left right) room → Moved (one_on right) right_now room mid_room start mid answer → answer ≡ false
       → Moved (one_on left) left_now mid_room next_room mid next second_answer → second_answer ≡ true
-      → Moved (at_front course right_now) right_first next_room new_room next end third_answer
+      → Moved (at_prefix course right_now) right_first next_room new_room next end third_answer
       → Moved (one_on (both_of course left right)) (both_of course left_now right_first) room new_room start end third_answer
   both_next_left may m over n there f =
       let sides = pairs_sides left.rest right.rest (ways_on course right.operator) may.there in record {
-        stand = (λ i. both_of course (n.stand i) ((f.stand ∙ ap (at_front course) m.stand) i))
+        stand = (λ i. both_of course (n.stand i) ((f.stand ∙ ap (at_prefix course) m.stand) i))
             ∙ both_on_left course left right sides.0 sides.1 (arrived (one_on right) right_now room mid_room start mid answer m ∙ over);
         there = f.there ∙ sym (pairs_there left_now.rest right_first.rest (ways_on course right_first.operator) (sym n.there ∙ there));
         kept_room = omega (arith, m.kept_room, n.kept_room, f.kept_room);
@@ -75,7 +75,7 @@ module _ (course : Course) (left left_now right right_now right_first : Standing
       }
 
 pub negation_first : (course : Course) (there : Bool) (operand : Standing) (room start : ℕ)
-    → Moved (at_front course (negation_of course there operand)) (negation_of course true operand) room room start start true
+    → Moved (at_prefix course (negation_of course there operand)) (negation_of course true operand) room room start start true
 unfolding ways_on
 negation_first course there operand room start = record { stand = refl; there = refl; kept_room = omega arith; grown = omega arith }
 
@@ -85,10 +85,10 @@ negation_next course true operand room start = record { stand = refl; there = re
 negation_next course false operand room start = record { stand = refl; there = refl; kept_room = omega arith; grown = omega arith }
 
 module _ (course : Course) (kind : Filter) (lead : ℕ) (operand operand_now now : Standing) (room mid_room new_room start mid end : ℕ) (answer second_answer : Bool) where
-  pub sieve_first : Moved (at_front course operand) operand_now room mid_room start mid answer → Moved (sifted course kind operand_now) now mid_room new_room mid end second_answer
-      → Moved (at_front course (sieve_of course kind lead operand)) now room new_room start end second_answer
+  pub sieve_first : Moved (at_prefix course operand) operand_now room mid_room start mid answer → Moved (sifted course kind operand_now) now mid_room new_room mid end second_answer
+      → Moved (at_prefix course (sieve_of course kind lead operand)) now room new_room start end second_answer
   sieve_first m n = record {
-    stand = n.stand ∙ ap (sifted course kind) m.stand ∙ sieve_front course kind operand lead;
+    stand = n.stand ∙ ap (sifted course kind) m.stand ∙ sieve_prefix course kind operand lead;
     there = n.there;
     kept_room = omega (arith, m.kept_room, n.kept_room);
     grown = omega (arith, m.grown, n.grown);

@@ -46,8 +46,8 @@ asked_got First size last zero lead few below = absurd (omega (arith, below))
 asked_got First size last (suc all) zero few below = (omega arith, refl)
 asked_got First size last (suc all) (suc lead) few below = absurd (omega (arith, below))
 
-few_in_front : (start size last : ℕ) → 0 < (start + size) - last → size - suc last < (start + size) - last
-few_in_front start size last some = omega (arith, some)
+few_before : (start size last : ℕ) → 0 < (start + size) - last → size - suc last < (start + size) - last
+few_before start size last some = omega (arith, some)
 
 module _ (windows : Windows) (size : ℕ) (kind : TextUnit) (hits : List Hit) (joined : Hit) (lead : ℕ) (is : Some joined ≡ join hits)
     (below : lead < length (asked_for windows (choices (F.Window size kind) hits))) where
@@ -55,7 +55,7 @@ module _ (windows : Windows) (size : ℕ) (kind : TextUnit) (hits : List Hit) (j
       × (get_or (asked_for windows (map Some (windows_round size kind (Some joined)))) lead None
       ≡ get_or (map Some (windows_round size kind (Some joined))) (number_among windows size (end_in kind joined) lead) None)
   got =
-      asked_got windows size (end_in kind joined) ((start_in kind joined + size) - end_in kind joined) lead (few_in_front (start_in kind joined) size (end_in kind joined))
+      asked_got windows size (end_in kind joined) ((start_in kind joined + size) - end_in kind joined) lead (few_before (start_in kind joined) size (end_in kind joined))
       (subst (λ j. lead < length (asked_for windows (map Some (windows_round size kind j)))) (sym is) below)
 
   pub window_below : number_among windows size (end_in kind joined) lead < (start_in kind joined + size) - end_in kind joined
@@ -103,17 +103,17 @@ counted First size last (suc all) few = omega arith
 pub count_asked : (windows : Windows) (size : ℕ) (kind : TextUnit) (hits : List Hit) (joined : Hit) → Some joined ≡ join hits
     → count_among windows size (end_in kind joined) ((start_in kind joined + size) - end_in kind joined) ≡ length (asked_for windows (choices (F.Window size kind) hits))
 count_asked windows size kind hits joined is =
-    counted windows size (end_in kind joined) ((start_in kind joined + size) - end_in kind joined) (few_in_front (start_in kind joined) size (end_in kind joined))
+    counted windows size (end_in kind joined) ((start_in kind joined + size) - end_in kind joined) (few_before (start_in kind joined) size (end_in kind joined))
     ∙ ap (λ j. length (asked_for windows (map Some (windows_round size kind j)))) is
 
 -- a window by its last number
 last_again : (last size : ℕ) → pos last ≡ ((pos (suc last) -ℤ pos size) +ℤ pos size) -ℤ pos 1
 last_again last size = omega (arith, ints)
 
-pub window_shown : (size behind lead : ℕ) (window : Window) (last : ℕ) → window.from ≡ pos (suc last) -ℤ pos size → window.to ≡ pos last → last ≡ behind + lead
-    → window ≡ window_at size (pos (suc behind + lead) -ℤ pos size)
-window_shown size behind lead window last from to is =
-    let number : suc last ≡ suc behind + lead = omega (arith, is) in
-    let first : pos (suc last) -ℤ pos size ≡ pos (suc behind + lead) -ℤ pos size = ap (λ n. pos n -ℤ pos size) number in
+pub window_shown : (size after lead : ℕ) (window : Window) (last : ℕ) → window.from ≡ pos (suc last) -ℤ pos size → window.to ≡ pos last → last ≡ after + lead
+    → window ≡ window_at size (pos (suc after + lead) -ℤ pos size)
+window_shown size after lead window last from to is =
+    let number : suc last ≡ suc after + lead = omega (arith, is) in
+    let first : pos (suc last) -ℤ pos size ≡ pos (suc after + lead) -ℤ pos size = ap (λ n. pos n -ℤ pos size) number in
     let end = to ∙ last_again last size ∙ ap (λ z. (z +ℤ pos size) -ℤ pos 1) first in
     λ i. record { from = (from ∙ first) i; to = end i }

@@ -10,13 +10,13 @@ use Rattle.ft_operators.specs.declared.course.Course.{Course}
 use Rattle.ft_operators.specs.declared.course.Windows.{Windows}
 use Rattle.ft_operators.specs.declared.course.Windows.TheVariants.{Each, Telling, First}
 
--- how many numbers stand behind this one, up to 0
+-- how many numbers stand after this one, up to 0
 abbrev pub up_to_zero : ℤ → ℕ
 up_to_zero (pos n) = 0
 up_to_zero (negsuc n) = suc n
 
--- the first of some windows, each of which begins one number behind the one before it, and those that begin with a word: of
--- the windows that begin in front of the first word, the first one keeps no hit that another of them doesn't keep
+-- the first of some windows, each of which begins one number after the one before it, and those that begin with a word: of
+-- the windows that begin before the first word, the first one keeps no hit that another of them doesn't keep
 abbrev pub telling : List (Option Window) → List (Option Window)
 telling [] = []
 telling (None ∷ more) = None ∷ more

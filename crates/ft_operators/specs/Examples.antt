@@ -31,7 +31,7 @@ a_and_b = two_ways a (one_hit (at 2))
 abbrev pub ordered : Way → Way
 ordered way = by_filter way F.Ordered None
 
--- in front of the first way of a phrase that has no hit
+-- before the first way of a phrase that has no hit
 abbrev pub unmoved : Walk
 unmoved = before_first (span 1 3) (phrase_aims (record { may = λ doc place. true; hits = λ doc place. [] })) (phrase [])
 
@@ -43,9 +43,9 @@ moved = walk_at (a ∷ ordered a_and_b ∷ []) unmoved
 abbrev pub not_a : Way
 not_a = turned_about (match_of_hit (at 1) ∷ [])
 
--- whether a hit begins behind the first word
-abbrev pub is_behind : Hit → Bool
-is_behind hit = nat_lt 1 hit.from
+-- whether a hit begins after the first word
+abbrev pub is_after : Hit → Bool
+is_after hit = nat_lt 1 hit.from
 
 -- two words from that one on, as a window, and chosen by a window filter
 abbrev pub two_from : ℤ → Window
@@ -58,7 +58,7 @@ within way number = by_filter way (F.Window 2 Words) (Some (two_from number))
 abbrev pub round_from : ℕ → ℤ → Option Window
 round_from size number = Some (window_at size number)
 
--- a filter of a chain, with so many includes in front of its own, and with these
+-- a filter of a chain, with so many includes before its own, and with these
 abbrev pub put : Filter → Option Window → ℕ → ChainLink
 put kind window start = record { kind = kind; window = window; start = start }
 

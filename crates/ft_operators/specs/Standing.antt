@@ -26,7 +26,7 @@ two_aims joined left right = record {
 }
 
 -- what an operator is made of: how many hits the walk has to hold at once; how large it is; and how many filters a chain has
--- to hold where it is asked whether a way is clean, and how many hits in front of them
+-- to hold where it is asked whether a way is clean, and how many hits before them
 pub record Shape : Type 0 where
   pub room : ℕ
   pub weight : ℕ
@@ -54,8 +54,8 @@ abbrev pub frame : Standing → Frame
 frame s = record { aims = s.aims; shape = s.shape; operator = s.operator }
 
 -- before the first way of the course
-abbrev pub at_front : Course → Standing → Standing
-at_front course s = record { aims = s.aims; shape = s.shape; operator = s.operator; rest = ways_on course s.operator }
+abbrev pub at_prefix : Course → Standing → Standing
+at_prefix course s = record { aims = s.aims; shape = s.shape; operator = s.operator; rest = ways_on course s.operator }
 
 -- one way further on
 abbrev pub one_on : Standing → Standing

@@ -20,7 +20,7 @@ abbrev pub tuple_of : List Way → Option (List Hit)
 tuple_of [] = None
 tuple_of (way ∷ rest) = Some (way_includes way)
 
--- in front of the first way
+-- before the first way
 abbrev pub before_first : Span → Aims → Operator → Walk
 before_first item aims operator = record { item = item; aims = aims; operator = operator; rest = []; tuple = None }
 
@@ -44,7 +44,7 @@ own_span span = record { from = span.from - (span.from - 1); to = span.to - (spa
 abbrev pub nowhere : Span
 nowhere = record { from = 1; to = 1 }
 
--- aimed at a span of a document, in front of the first way there
+-- aimed at a span of a document, before the first way there
 abbrev pub aimed_walk : ℕ → Span → Walk → Walk
 aimed_walk doc span walk = before_first (own_span span) walk.aims (walk.aims.operators doc span)
 

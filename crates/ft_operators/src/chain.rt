@@ -15,7 +15,7 @@ use window_distance::{Includes, keeps};
 #[derive(Drop)]
 pub struct Chain {
     links: Vec<ChainLink>,
-    /// The includes of all filters, one behind the other.
+    /// The includes of all filters, one after the other.
     hits: Vec<Hit>,
 }
 
@@ -24,7 +24,7 @@ pub struct Chain {
 pub(crate) struct ChainLink {
     pub(crate) kind: Filter,
     pub(crate) window: Option<Window>,
-    /// How many includes stand in front of its own.
+    /// How many includes stand before its own.
     pub(crate) start: usize,
 }
 
@@ -92,7 +92,7 @@ impl Chain {
     }
 }
 
-/// Puts hits behind the others, for which there is room.
+/// Puts hits after the others, for which there is room.
 fn put_all(hits: &[Hit], held: &mut Vec<Hit>)
     requires { length held.old.items + length hits.now ≤ vec_capacity held.old }
     ensures hits { held.new.items ≡ held.old.items ++ hits.now }

@@ -2,7 +2,7 @@ ghost use Rattle.std.specs.Prelude.{◌≡◌, ◌≤◌, ◌+◌, max, vec_capa
 
 use ft_base::Hit;
 
-/// For how many filters, and for how many includes in front of them, a chain must have room where it is asked whether a
+/// For how many filters, and for how many includes before them, a chain must have room where it is asked whether a
 /// way is clean.
 #[derive(Clone, Copy)]
 pub(crate) struct ChainRoom {
@@ -31,7 +31,7 @@ pub(crate) fn wider(left: ChainRoom, right: ChainRoom) -> ChainRoom
     }
 }
 
-/// That of an operand behind one more filter, where its includes find room in this memory.
+/// That of an operand after one more filter, where its includes find room in this memory.
 pub(crate) fn with_filter(operand: ChainRoom, held: &Vec<Hit>) -> Option<ChainRoom>
     ensures { IfSome result (λ room. (operand.filters + 1 ≤ room.filters) × (operand.hits + vec_capacity held.now ≤ room.hits)) }
 {

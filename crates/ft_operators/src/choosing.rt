@@ -65,8 +65,8 @@ fn window_count(size: u32, unit: Unit, windows: Windows, hits: &[Hit]) -> u64
     match join(&Includes::of(hits)) {
         None => 0,
         Some(joined) => {
-            let behind = u64::from(start_in(unit, &joined)) + u64::from(size);
-            let all = behind.saturating_sub(u64::from(end_in(unit, &joined)));
+            let after = u64::from(start_in(unit, &joined)) + u64::from(size);
+            let all = after.saturating_sub(u64::from(end_in(unit, &joined)));
             match windows {
                 Windows::Each => all,
                 Windows::Telling => all - passed_over(size, unit, &joined),
@@ -76,7 +76,7 @@ fn window_count(size: u32, unit: Unit, windows: Windows, hits: &[Hit]) -> u64
     }
 }
 
-/// How many windows of the size round the hit begin in front of the first word, without the first of them.
+/// How many windows of the size round the hit begin before the first word, without the first of them.
 fn passed_over(size: u32, unit: Unit, hit: &Hit) -> u64
     ensures { result ≡ size - suc (end_in unit hit.now) }
 {

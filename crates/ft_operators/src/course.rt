@@ -12,9 +12,9 @@ pub(crate) struct Course {
 pub(crate) enum Windows {
     /// Each.
     Each,
-    /// Those that can tell whether some window leaves no exclude. One that begins in front of the first word keeps no
+    /// Those that can tell whether some window leaves no exclude. One that begins before the first word keeps no
     /// less than the first one does, so that this stands for all of them.
     Telling,
-    /// The first one. The includes behind the filter are the same through each.
+    /// The first one. The includes after the filter are the same through each.
     First,
 }

@@ -6,7 +6,7 @@ ghost use Rattle.ft_base.specs.declared.unit.TextUnit.TheVariants.{Words};
 ghost use Rattle.all_matches.specs.Filters.{choices};
 ghost use Rattle.all_matches.specs.Ways.{apart, either, negated, one_hit, phrase, through_filter, together, two_ways};
 ghost use Rattle.ft_operators.specs.Chains.{all_kept, clean_now, first_includes, links_from, outer_window, passes_now, way_window, window_now};
-ghost use Rattle.ft_operators.specs.Examples.{a, a_and_b, at, is_behind, link, moved, not_a, ordered, put, round_from, span, two_from, unmoved, within};
+ghost use Rattle.ft_operators.specs.Examples.{a, a_and_b, at, is_after, link, moved, not_a, ordered, put, round_from, span, two_from, unmoved, within};
 ghost use Rattle.ft_operators.specs.Course.{asked_for, number_among, telling};
 ghost use Rattle.ft_operators.specs.declared.course.Windows.TheVariants.{Each, First, Telling};
 ghost use Rattle.ft_operators.specs.Walk.{at_next_way, own_span};
@@ -19,16 +19,16 @@ pub fn spans()
     ensures empty { own_span (span 4 4) ≡ span 1 1 }
 {}
 
-/// The includes are those of the first way that is left; there are none in front of the first way and behind the last.
+/// The includes are those of the first way that is left; there are none before the first way and after the last.
 pub fn walks()
-    ensures in_front { unmoved.tuple ≡ None }
+    ensures before { unmoved.tuple ≡ None }
     ensures at_the_first { moved.tuple ≡ Some (at 1 ∷ []) }
     ensures at_the_next { (at_next_way moved).tuple ≡ Some (at 1 ∷ at 2 ∷ []) }
-    ensures behind { (at_next_way (at_next_way moved)).tuple ≡ None }
-    ensures behind_the_end { (at_next_way (at_next_way (at_next_way moved))).rest ≡ [] }
+    ensures after { (at_next_way (at_next_way moved)).tuple ≡ None }
+    ensures after_the_end { (at_next_way (at_next_way (at_next_way moved))).rest ≡ [] }
 {}
 
-/// A chain names the innermost filter first, and each filter has the includes that stand behind those of the outer ones.
+/// A chain names the innermost filter first, and each filter has the includes that stand after those of the outer ones.
 pub fn chains()
     ensures without_filters { links_from (at 1 ∷ []) [] ≡ [] }
     ensures one_inside_the_other { links_from (at 1 ∷ at 2 ∷ at 3 ∷ []) (put F.Ordered (Some (two_from (pos 1))) 1 ∷ put F.AtStart None 0 ∷ [])
@@ -39,12 +39,12 @@ pub fn chains()
 
 /// Only the first of the ways is asked.
 pub fn first_ways()
-    ensures passes { passes_now (all_kept is_behind) (one_hit (at 2) ∷ a ∷ []) ≡ true }
-    ensures fails { passes_now (all_kept is_behind) (a ∷ one_hit (at 2) ∷ []) ≡ false }
+    ensures passes { passes_now (all_kept is_after) (one_hit (at 2) ∷ a ∷ []) ≡ true }
+    ensures fails { passes_now (all_kept is_after) (a ∷ one_hit (at 2) ∷ []) ≡ false }
     ensures none { passes_now (λ way. false) [] ≡ true }
-    ensures all_are_kept { all_kept is_behind (two_ways (one_hit (at 2)) (one_hit (at 3))) ≡ true }
-    ensures one_is_not_kept { all_kept is_behind a_and_b ≡ false }
-    ensures clean { clean_now is_behind (not_a ∷ a ∷ []) ≡ true }
+    ensures all_are_kept { all_kept is_after (two_ways (one_hit (at 2)) (one_hit (at 3))) ≡ true }
+    ensures one_is_not_kept { all_kept is_after a_and_b ≡ false }
+    ensures clean { clean_now is_after (not_a ∷ a ∷ []) ≡ true }
     ensures not_clean { clean_now (λ hit. true) (not_a ∷ a ∷ []) ≡ false }
 {}
 
@@ -69,12 +69,12 @@ pub fn outermost_windows()
     ensures of_a_filter { outer_window (through_filter (phrase []) F.Ordered) (within a (pos 1) ∷ []) ≡ Some (two_from (pos 1)) }
 {}
 
-/// Of the windows that begin in front of the first word, the first one stands for all of them.
+/// Of the windows that begin before the first word, the first one stands for all of them.
 pub fn telling_windows()
-    ensures some_in_front { telling (choices (F.Window 5 Words) (at 2 ∷ at 3 ∷ []))
+    ensures some_before { telling (choices (F.Window 5 Words) (at 2 ∷ at 3 ∷ []))
         ≡ round_from 5 (negsuc 0) ∷ round_from 5 (pos 1) ∷ round_from 5 (pos 2) ∷ [] }
     ensures one_at_zero { telling (choices (F.Window 2 Words) (at 1 ∷ [])) ≡ round_from 2 (pos 0) ∷ round_from 2 (pos 1) ∷ [] }
-    ensures one_behind_another { telling (choices (F.Window 3 Words) (at 1 ∷ [])) ≡ round_from 3 (negsuc 0) ∷ round_from 3 (pos 1) ∷ [] }
+    ensures one_after_another { telling (choices (F.Window 3 Words) (at 1 ∷ [])) ≡ round_from 3 (negsuc 0) ∷ round_from 3 (pos 1) ∷ [] }
     ensures each_with_a_word { telling (choices (F.Window 2 Words) (at 2 ∷ [])) ≡ round_from 2 (pos 1) ∷ round_from 2 (pos 2) ∷ [] }
     ensures no_window { telling (None ∷ []) ≡ None ∷ [] }
     ensures none { telling [] ≡ [] }

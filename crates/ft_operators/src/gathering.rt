@@ -13,7 +13,7 @@ use crate::node::Node;
 use ft_base::{Filter, Hit};
 use window_distance::{Includes, join};
 
-/// Puts the includes of the present way of the node behind the hits that are held, where there is room for them.
+/// Puts the includes of the present way of the node after the hits that are held, where there is room for them.
 pub(crate) fn gather<P: PhraseHits>(node: &Node<P>, held: &mut Vec<Hit>)
     ensures { (course : Course) → Gathered (standing P.state course node.now)
         (vec_capacity held.old) (vec_capacity held.new) held.old.items held.new.items }
@@ -36,7 +36,7 @@ pub(crate) fn gather<P: PhraseHits>(node: &Node<P>, held: &mut Vec<Hit>)
         Node::Filtered(sieve) => {
             let place = held.len();
             gather(&sieve.operand, held);
-            replace_behind(&sieve.kind, place, held);
+            replace_after(&sieve.kind, place, held);
         }
     }
 }
@@ -70,7 +70,7 @@ fn put(hit: Hit, held: &mut Vec<Hit>)
 }
 
 /// Puts what a filter makes of the hits from a place on in their place.
-fn replace_behind(kind: &Filter, place: usize, held: &mut Vec<Hit>)
+fn replace_after(kind: &Filter, place: usize, held: &mut Vec<Hit>)
     requires { place ≤ length held.old.items }
     ensures { Replaced place (after kind.now (drop place held.old.items))
         (vec_capacity held.old) (vec_capacity held.new) held.old.items held.new.items }

@@ -14,7 +14,7 @@ use ft_base::Steps;
 use std::sync::ledger::Ledger;
 
 /// Whether some Match of a negated selection has all its hits kept by the chain. No negated selection stands inside; else
-/// nothing is said of the answer. The walk is left in front of its first way.
+/// nothing is said of the answer. The walk is left before its first way.
 pub fn probe<P: PhraseHits + Drop, L: Ledger>(
     negated: &mut Tuples<P>,
     chain: &Chain,

@@ -36,7 +36,7 @@ pub(crate) fn with_way<P: PhraseHits>(tried: Tried, pair: &Pair<P>, held: &mut V
     with_sides(tried, middle, held)
 }
 
-/// The same of the includes of both sides, those of the left one in front of the middle.
+/// The same of the includes of both sides, those of the left one before the middle.
 fn with_sides(tried: Tried, middle: usize, held: &Vec<Hit>) -> Tried
     requires { middle ≤ length held.now.items }
     ensures { result ≡ with_includes (take middle held.now.items) (drop middle held.now.items) tried }

@@ -120,7 +120,7 @@ impl<P: PhraseHits + Drop> Tuples<P> {
         Ok(Tuples::unaimed(node, operand.held, room))
     }
 
-    /// The node with memory for its hits, in front of the first way.
+    /// The node with memory for its hits, before the first way.
     fn unaimed(node: Node<P>, held: Vec<Hit>, room: ChainRoom) -> Tuples<P>
         requires fits { (shape_of node).room ≤ vec_capacity held }
         requires filters { (shape_of node).filters ≤ room.filters }
@@ -136,7 +136,7 @@ impl<P: PhraseHits + Drop> Tuples<P> {
         }
     }
 
-    /// For how many filters, and for how many includes in front of them, a chain must have room where it is asked whether
+    /// For how many filters, and for how many includes before them, a chain must have room where it is asked whether
     /// a way is clean. No call changes it.
     pub fn room(&self) -> (usize, usize)
         ensures filters { result.0 ≡ (room_of self.now).filters }
@@ -145,7 +145,7 @@ impl<P: PhraseHits + Drop> Tuples<P> {
         (self.room.filters, self.room.hits)
     }
 
-    /// Aims the phrases at the span of the document, and stands in front of the first way there. The item of filters is
+    /// Aims the phrases at the span of the document, and stands before the first way there. The item of filters is
     /// the span, told in its own numbers.
     pub fn aim<L: Ledger>(&mut self, doc: DocId, span: Span, steps: &mut Steps<L>)
         requires { (walk_of P.state self.old).aims.may doc.0 span ≡ true }
@@ -191,7 +191,7 @@ impl<P: PhraseHits + Drop> Tuples<P> {
         self.there
     }
 
-    /// The includes of the way, and `None` exactly in front of the first one and at the end.
+    /// The includes of the way, and `None` exactly before the first one and at the end.
     pub fn here(&self) -> Option<Includes<'_>>
         ensures { result ≡ (walk_of P.state self.now).tuple }
     {
@@ -202,7 +202,7 @@ impl<P: PhraseHits + Drop> Tuples<P> {
         }
     }
 
-    /// The window of the way, where the outermost operator is a window filter; `None` too in front of the first way and
+    /// The window of the way, where the outermost operator is a window filter; `None` too before the first way and
     /// at the end.
     pub fn window(&self) -> Option<Window>
         requires { (walk_of P.state self.now).tuple ≡ tuple_of ((walk_of P.state self.now).rest) }

@@ -2,7 +2,7 @@
 
 ghost use Rattle.std.specs.Prelude.{◌≡◌, ◌≤◌, ℕ, vec_capacity};
 ghost use Rattle.ft_operators.specs.declared.course.Course.{Course};
-ghost use Rattle.ft_operators.specs.Standing.{at_front, one_on};
+ghost use Rattle.ft_operators.specs.Standing.{at_prefix, one_on};
 ghost use Rattle.ft_base.specs.Lists.{is_not_empty};
 ghost use Rattle.ft_operators.specs.steps.Apart.{IsTried};
 ghost use Rattle.ft_operators.specs.steps.Forms.{apart_sifted, phrase_of, sifted};
@@ -26,7 +26,7 @@ pub(crate) fn first<P: PhraseHits, L: Ledger>(
     steps: &mut Steps<L>,
 ) -> bool
     requires { (standing P.state course node.old).shape.room ≤ vec_capacity held.old }
-    ensures { Moved (at_front course (standing P.state course node.old)) (standing P.state course node.new)
+    ensures { Moved (at_prefix course (standing P.state course node.old)) (standing P.state course node.new)
         (vec_capacity held.old) (vec_capacity held.new) steps.old steps.new result }
 {
     match node {
@@ -69,7 +69,7 @@ pub(crate) fn go_on<P: PhraseHits, L: Ledger>(
 
 fn first_of_phrase<P: PhraseHits, L: Ledger>(phrase: &mut P, steps: &mut Steps<L>) -> bool
     ensures { (course : Course) (room : ℕ)
-        → Moved (at_front course (phrase_of (P.state phrase.old))) (phrase_of (P.state phrase.new)) room room steps.old steps.new result }
+        → Moved (at_prefix course (phrase_of (P.state phrase.old))) (phrase_of (P.state phrase.new)) room room steps.old steps.new result }
 {
     phrase.first(steps);
     phrase.here().is_some()
@@ -90,7 +90,7 @@ fn first_of_fork<P: PhraseHits, L: Ledger>(
     steps: &mut Steps<L>,
 ) -> bool
     requires { (fork_standing P.state course fork.old).shape.room ≤ vec_capacity held.old }
-    ensures { Moved (at_front course (fork_standing P.state course fork.old)) (fork_standing P.state course fork.new)
+    ensures { Moved (at_prefix course (fork_standing P.state course fork.old)) (fork_standing P.state course fork.new)
         (vec_capacity held.old) (vec_capacity held.new) steps.old steps.new result }
 {
     if first(&mut fork.left, course, held, steps) {
@@ -130,7 +130,7 @@ fn first_of_pair<P: PhraseHits, L: Ledger>(
     steps: &mut Steps<L>,
 ) -> bool
     requires { (pair_standing P.state course pair.old).shape.room ≤ vec_capacity held.old }
-    ensures { Moved (at_front course (pair_standing P.state course pair.old)) (pair_standing P.state course pair.new)
+    ensures { Moved (at_prefix course (pair_standing P.state course pair.old)) (pair_standing P.state course pair.new)
         (vec_capacity held.old) (vec_capacity held.new) steps.old steps.new result }
 {
     first(&mut pair.left, course, held, steps) && first(&mut pair.right, course, held, steps)
@@ -162,7 +162,7 @@ fn first_of_sieve<P: PhraseHits, L: Ledger>(
     steps: &mut Steps<L>,
 ) -> bool
     requires { (sieve_standing P.state course sieve.old).shape.room ≤ vec_capacity held.old }
-    ensures { Moved (at_front course (sieve_standing P.state course sieve.old)) (sieve_standing P.state course sieve.new)
+    ensures { Moved (at_prefix course (sieve_standing P.state course sieve.old)) (sieve_standing P.state course sieve.new)
         (vec_capacity held.old) (vec_capacity held.new) steps.old steps.new result }
 {
     let there = first(&mut sieve.operand, course, held, steps);
@@ -223,7 +223,7 @@ fn first_apart<P: PhraseHits, L: Ledger>(
     steps: &mut Steps<L>,
 ) -> bool
     requires { (apart_standing P.state course pair.old).shape.room ≤ vec_capacity held.old }
-    ensures { Moved (at_front course (apart_standing P.state course pair.old)) (apart_standing P.state course pair.new)
+    ensures { Moved (at_prefix course (apart_standing P.state course pair.old)) (apart_standing P.state course pair.new)
         (vec_capacity held.old) (vec_capacity held.new) steps.old steps.new result }
 {
     let there = first(&mut pair.left, course, held, steps);

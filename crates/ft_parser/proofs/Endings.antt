@@ -46,7 +46,7 @@ leads_takes (number to rest) p = by_number to (step rest p) (number_of p.symbol)
 leads_takes (text to rest) p = by_text (to p.from) (step rest p) (text_of p.symbol) ∙ ap (λ b. is_some (text_of p.symbol) || b) (leads_takes rest p)
 leads_takes (mark k to rest) p = by_test (is_mark k p.symbol) to (step rest p) ∙ ap (λ b. is_mark k p.symbol || b) (leads_takes rest p)
 
--- tests one behind the other, gathered
+-- tests one after the other, gathered
 three : (a b c r : Bool) → (a || (b || (c || r))) ≡ (a || b || c || r)
 three true b c r = refl
 three false b c r = sym (or_assoc b c r)
@@ -79,19 +79,19 @@ at_later false false true o r = refl
 at_later false false false true r = refl
 at_later false false false false r = refl
 
--- what may stand behind whole options, but for filters
+-- what may stand after whole options, but for filters
 abbrev has : List ℕ → Placed → Bool
 has key p = is_word key p.symbol
 
-abbrev behind_filters : Placed → Bool
-behind_filters p = has (codes "using") p || (has (codes "ftor") p || (has (codes "ftand") p || (has (codes "not") p || false)))
+abbrev after_filters : Placed → Bool
+after_filters p = has (codes "using") p || (has (codes "ftor") p || (has (codes "ftand") p || (has (codes "not") p || false)))
 
-gathered : (p : Placed) (z : List Placed) → (begins_filter (p ∷ z) || behind_filters p) ≡ follows_options (p ∷ z)
+gathered : (p : Placed) (z : List Placed) → (begins_filter (p ∷ z) || after_filters p) ≡ follows_options (p ∷ z)
 gathered p z = last_three (begins_filter (p ∷ z)) (has (codes "using") p) (has (codes "ftor") p) (has (codes "ftand") p) (has (codes "not") p)
 
 options_takes : (left : Left) (n : Option ℕ) (x : Primary) (os : List PlacedOption) (p : Placed) (z : List Placed) → takes (m.options_next [] left n x os) p ≡ follows_options (p ∷ z)
 options_takes left n x os p z =
-    seven (has (codes "ordered") p) (has (codes "window") p) (has (codes "distance") p) (has (codes "same") p) (has (codes "different") p) (has (codes "entire") p) (has (codes "at") p) (behind_filters p) ∙ gathered p z
+    seven (has (codes "ordered") p) (has (codes "window") p) (has (codes "distance") p) (has (codes "same") p) (has (codes "different") p) (has (codes "entire") p) (has (codes "at") p) (after_filters p) ∙ gathered p z
 
 mode_takes : (left : Left) (n : Option ℕ) (x : Primary) (p : Placed) (z : List Placed) → (has (codes "occurs") p || takes (m.options_next [] left n x []) p) ≡ follows_mode (p ∷ z)
 mode_takes left n x p z = ap (λ b. has (codes "occurs") p || b) (options_takes left n x [] p z)
@@ -100,8 +100,8 @@ rest_takes : (left : Left) (n : Option ℕ) (x : Primary) (os : List PlacedOptio
     → takes (m.thesaurus_rest [] left n x os i s r) p ≡ (begins_range_without_at (p ∷ z) || follows_options (p ∷ z))
 rest_takes left n x os i s r p z =
     ap (λ b. has (codes "at") p || (has (codes "exactly") p || (has (codes "from") p || b)))
-    (six (has (codes "ordered") p) (has (codes "window") p) (has (codes "distance") p) (has (codes "same") p) (has (codes "different") p) (has (codes "entire") p) (behind_filters p))
-    ∙ at_later (has (codes "at") p) (has (codes "exactly") p) (has (codes "from") p) (begins_other_filter (p ∷ z)) (behind_filters p)
+    (six (has (codes "ordered") p) (has (codes "window") p) (has (codes "distance") p) (has (codes "same") p) (has (codes "different") p) (has (codes "entire") p) (after_filters p))
+    ∙ at_later (has (codes "at") p) (has (codes "exactly") p) (has (codes "from") p) (begins_other_filter (p ∷ z)) (after_filters p)
     ∙ ap (λ b. begins_range_without_at (p ∷ z) || b) (gathered p z)
 
 name_takes : (left : Left) (n : Option ℕ) (x : Primary) (os : List PlacedOption) (i : ℕ) (s : List ℕ) (r : Option (List ℕ)) (p : Placed) (z : List Placed) → takes (m.thesaurus_next [] left n x os i s r) p ≡ follows_name (is_none r) (p ∷ z)

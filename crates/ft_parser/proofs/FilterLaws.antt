@@ -17,16 +17,16 @@ use Rattle.ft_parser.specs.declared.state.Stage.{Stage}
 use Rattle.ft_parser.specs.declared.state.Stage.TheVariants.{Wanted, InBraces, Valued, AnyOf, AllOf, Moded, Given, StopTerms, StopStrings, Thesaurus, ThesaurusIn, ThesauriIn, WithFilter}
 
 -- something to the left of an operand stands round it
-behind : (ors ands : List Tree) (mild : Option Tree) (x : Tree) → has_all_filters (Some (selection_with (record { ors = ors; ands = ands; mild = mild }) x)) ≡ (is_empty ors && is_empty ands && is_none mild) && has_all_filters (Some x)
-behind [] [] None x = refl
-behind [] [] (Some y) x = refl
-behind [] (y ∷ []) m x = refl
-behind [] (y ∷ z ∷ ys) m x = refl
-behind (y ∷ []) ands m x = refl
-behind (y ∷ z ∷ ys) ands m x = refl
+suffix : (ors ands : List Tree) (mild : Option Tree) (x : Tree) → has_all_filters (Some (selection_with (record { ors = ors; ands = ands; mild = mild }) x)) ≡ (is_empty ors && is_empty ands && is_none mild) && has_all_filters (Some x)
+suffix [] [] None x = refl
+suffix [] [] (Some y) x = refl
+suffix [] (y ∷ []) m x = refl
+suffix [] (y ∷ z ∷ ys) m x = refl
+suffix (y ∷ []) ands m x = refl
+suffix (y ∷ z ∷ ys) ands m x = refl
 
 selection_all : (left : Left) (x : Tree) → has_all_filters (Some (selection_with left x)) ≡ stands_first left && has_all_filters (Some x)
-selection_all left x = behind left.ors left.ands left.mild x
+selection_all left x = suffix left.ors left.ands left.mild x
 
 none_of : (b : Bool) → b && false ≡ false
 none_of true = refl

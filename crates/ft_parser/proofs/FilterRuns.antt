@@ -17,7 +17,7 @@ use Rattle.selection_grammar.proofs.Standing.{Outer, Stands}
 use Rattle.ft_parser.specs.FilterLimit.{are_filters_within}
 use Rattle.ft_parser.specs.FilterPlaces.{NoneIsDeep, Opened, HasAllFilters}
 use Rattle.ft_parser.specs.Limits.{has_all_filters, is_filter_word, is_deep_filter}
-use Rattle.ft_parser.specs.Selected.{is_deep_there, is_deep_behind}
+use Rattle.ft_parser.specs.Selected.{is_deep_there, is_deep_after}
 use Rattle.ft_parser.proofs.FilterShapes.{AllEnds, all_step, first_step}
 use Rattle.ft_parser.proofs.FilterStages.{stage_first}
 use Rattle.ft_parser.proofs.FilterStates.{old, frames_within, under_within, state_within, whole_within}
@@ -102,25 +102,25 @@ never : (b : Bool) → (b && not true) ≡ false
 never true = refl
 never false = refl
 
-read_deep : (before : List Placed) (symbol : Symbol) (C : Type 0) → is_deep_behind before symbol ≡ true → ((t : Shape State) → read before ≡ Some t → is_deep_filter t symbol ≡ true → C) → C
+read_deep : (before : List Placed) (symbol : Symbol) (C : Type 0) → is_deep_after before symbol ≡ true → ((t : Shape State) → read before ≡ Some t → is_deep_filter t symbol ≡ true → C) → C
 read_deep before symbol C d there = go (read before) refl d
   where
     go : (o : Option (Shape State)) → read before ≡ o → is_deep_there o symbol ≡ true → C
     go None e d = cc
     go (Some t) e d = there t e d
 
-deep_lost : (symbols before : List Placed) (p : Placed) (rest : List Placed) (x : Tree) → Selection symbols x → symbols ≡ before ++ p ∷ rest → is_deep_behind before p.symbol ≡ true → are_filters_within x ≡ false
+deep_lost : (symbols before : List Placed) (p : Placed) (rest : List Placed) (x : Tree) → Selection symbols x → symbols ≡ before ++ p ∷ rest → is_deep_after before p.symbol ≡ true → are_filters_within x ≡ false
 deep_lost symbols before p rest x a e d = read_whole symbols x a _ (λ t r f. read_deep before p.symbol _ d (λ t0 r0 d0.
     let on : run_on (advance t0 p) rest ≡ Some t = sym (ap read e ∙ read-append before (p ∷ rest) ∙ ap (λ o. run_on o (p ∷ rest)) r0) ∙ r in
     led (advance t0 p) rest t _ on (λ n k.
     let there = some_all before true (whole start) t0 refl r0 in
-    let behind : AllEnds (Is false) n = subst (λ b. AllEnds (Is b) n) (ap (λ b. there.0 && not b) d0 ∙ never there.0) (advance_all there.0 t0 n p there.1 k) in
-    ends_within t x false f (lost rest n t behind (sym (ap (λ o. run_on o rest) k) ∙ on)))))
+    let suffix : AllEnds (Is false) n = subst (λ b. AllEnds (Is b) n) (ap (λ b. there.0 && not b) d0 ∙ never there.0) (advance_all there.0 t0 n p there.1 k) in
+    ends_within t x false f (lost rest n t suffix (sym (ap (λ o. run_on o rest) k) ∙ on)))))
 
 pub within_none_deep : (symbols : List Placed) (x : Tree) → Selection symbols x → are_filters_within x ≡ true → NoneIsDeep symbols
-within_none_deep symbols x a w before p rest e = go (is_deep_behind before p.symbol) refl
+within_none_deep symbols x a w before p rest e = go (is_deep_after before p.symbol) refl
   where
-    go : (b : Bool) → is_deep_behind before p.symbol ≡ b → is_deep_behind before p.symbol ≡ false
+    go : (b : Bool) → is_deep_after before p.symbol ≡ b → is_deep_after before p.symbol ≡ false
     go false d = d
     go true d = let two : true ≡ false = sym w ∙ deep_lost symbols before p rest x a e d in cc
 
@@ -130,7 +130,7 @@ regrouped u v w q = simp append_assoc
 
 outer_opened : {u : List Placed} {outer : List Frame} → Outer u outer → Opened u
 outer_opened Outer.none = Opened.nothing
-outer_opened (Outer.open_one {u = u} {v = v} {w = w} o l n p) = subst Opened (regrouped u v w (at p S.OpenParenthesis ∷ [])) (Opened.behind ((u ++ v) ++ w) p)
+outer_opened (Outer.open_one {u = u} {v = v} {w = w} o l n p) = subst Opened (regrouped u v w (at p S.OpenParenthesis ∷ [])) (Opened.suffix ((u ++ v) ++ w) p)
 
 stands_deep : {u : List Placed} {s : State} → Stands u s → has_all_filters (selection_at s.left s.stage) ≡ true → HasAllFilters u
 stands_deep {u = u} {s = s} x f = go (selection_at s.left s.stage) refl f
@@ -147,5 +147,5 @@ deep_at before (number to rest) symbol r d = cc
 deep_at before (text to rest) symbol r d = cc
 deep_at before (mark k to rest) symbol r d = cc
 
-pub deep_stands : (before : List Placed) (symbol : Symbol) → is_deep_behind before symbol ≡ true → (is_filter_word symbol ≡ true) × HasAllFilters before
+pub deep_stands : (before : List Placed) (symbol : Symbol) → is_deep_after before symbol ≡ true → (is_filter_word symbol ≡ true) × HasAllFilters before
 deep_stands before symbol d = read_deep before symbol _ d (λ t r k. deep_at before t symbol r k)

@@ -47,7 +47,7 @@ all_step P (number to rest) r p h e = by_number (number_of p.symbol) to (step re
 all_step P (text to rest) r p h e = by_text (text_of p.symbol) (to p.from) (step rest p) r (AllEnds P r) (λ n k l. subst (AllEnds P) l (h.0 p.from n)) (λ k. all_step P rest r p h.1 k) e
 all_step P (mark m to rest) r p h e = by_test (is_mark m p.symbol) (Some to) (step rest p) r (AllEnds P r) (λ k l. let same : to ≡ r = cc in subst (AllEnds P) same h.0) (λ k. all_step P rest r p h.1 k) e
 
--- The ends behind a first symbol have a value: one behind a keyword of a filter, the other behind other symbols.
+-- The ends after a first symbol have a value: one after a keyword of a filter, the other after other symbols.
 abbrev pub After : {A : Type 0} → (A → Bool) → Bool → Bool → Shape A → Type 0
 After value old full t = AllEnds (λ a. value a ≡ (old && not full)) t
 

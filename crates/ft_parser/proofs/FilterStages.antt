@@ -1,4 +1,4 @@
--- Whether filters are within their limit behind the next symbol.
+-- Whether filters are within their limit after the next symbol.
 use Rattle.std.proofs.Common.{◌≡◌, ℕ, Bool, true, false, ◌&&◌, List, [], ◌∷◌, ◌++◌, Option, Some, None, refl, sym, ◌∙◌, ap, subst}
 use Rattle.std.specs.Prelude.{not, nat_le, codes}
 use Rattle.ft_base.specs.Limits.{max_filters}
@@ -68,7 +68,7 @@ moded_first outer left n xs mode = first_or_else state_within (frames_within out
     timed : PlacedTimes → Shape State
     timed t = whole (stands outer left (m.given_options n (phrases xs mode (Some t)) []))
 
--- behind options no filter stands directly round another
+-- after options no filter stands directly round another
 joined_round : (join : Trees → Tree) → ((ts : Trees) → filters_round (join ts) ≡ 0) → (xs : List Tree) (y : Tree) → filters_round y ≡ 0 → filters_round (joined join (xs ++ y ∷ [])) ≡ 0
 joined_round join j [] y h = h
 joined_round join j (x ∷ []) y h = j _

@@ -124,7 +124,7 @@ close_first (frame ∷ outer) x full b e = (ap (λ a. frames_within outer && (le
     reorder false true d = refl
     reorder false false d = refl
 
--- behind an operand
+-- after an operand
 regroup_or : (f o a c d : Bool) → (f && (((o && (a && (c && d))) && true) && true)) ≡ ((f && ((o && (a && c)) && d)) && true)
 regroup_or false o a c d = refl
 regroup_or true false a c d = refl

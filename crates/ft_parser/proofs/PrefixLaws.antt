@@ -1,4 +1,4 @@
--- The run is the longest front that begins a selection.
+-- The run is the longest prefix that begins a selection.
 use Rattle.std.proofs.Common.{◌≡◌, ◌≤◌, ℕ, List, [], ◌∷◌, length, take, Option, Some, None, refl, ◌∙◌, ap, arith}
 use Rattle.selection_grammar.specs.declared.symbol.Placed.{Placed}
 use Rattle.selection_grammar.specs.steps.Machine.{State, start, advance, run_on, read}

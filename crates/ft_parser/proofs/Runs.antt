@@ -21,8 +21,8 @@ leading_along [] b x r e =
     omega (arith, leads)
 leading_along (p ∷ f) b x r e = led (advance x p) f r (leading_from x (p ∷ f ++ b) ≡ length (p ∷ f) + leading_from r b) e (λ next a.
     let leads : leading_from x (p ∷ f ++ b) ≡ suc (leading_from next (f ++ b)) = ap (λ o. one_and o (λ s. leading_from s (f ++ b))) a in
-    let behind : leading_from next (f ++ b) ≡ length f + leading_from r b = leading_along f b next r (sym (ap (λ o. run_on o f) a) ∙ e) in
-    omega (arith, leads, behind))
+    let suffix : leading_from next (f ++ b) ≡ length f + leading_from r b = leading_along f b next r (sym (ap (λ o. run_on o f) a) ∙ e) in
+    omega (arith, leads, suffix))
 
 -- as many as it reads and one symbol no more
 none_leads : (b : List Placed) (x : Shape State) → ((p : Placed) (rest : List Placed) → b ≡ p ∷ rest → advance x p ≡ None) → leading_from x b ≡ 0
@@ -52,7 +52,7 @@ pub run_suffices : (w : List Placed) (n : ℕ) (all : Bool) → run_length w ≡
 unfolding run_read
 run_suffices w n all h k = record { comes = λ bad size. ap (λ m. counted (is_whole (take m w)) m w bad size) h ∙ ap (λ b. counted b n w bad size) k }
 
--- Symbols that are in the run, or in it with the first one behind it, and have a fault whatever stands behind them
+-- Symbols that are in the run, or in it with the first one after it, and have a fault whatever stands after them
 module _ (w : List Placed) (n : ℕ) (fault : QueryFault) (all : (v : List Placed) (bad : Option ℕ) (size : ℕ) → rest_read 0 (whole start) (take n w ++ v) bad size ≡ Err fault) where
   taken_fails : (m k : ℕ) (bad : Option ℕ) (size : ℕ) → k ≡ n + m → symbols_read (symbols_with (take k w) bad) size ≡ Err fault
   taken_fails m k bad size e = ap (λ k. rest_read 0 (whole start) (take k w) bad size) e ∙ ap (λ u. rest_read 0 (whole start) u bad size) (take-add n m w) ∙ all (take m (drop n w)) bad size

@@ -17,7 +17,7 @@ use Rattle.selection_grammar.proofs.Decided.{read-append}
 use Rattle.selection_grammar.proofs.Readings.{Stopped, is_whole}
 use Rattle.ft_parser.specs.Answer.{scanned_from, ended}
 use Rattle.ft_parser.specs.steps.Ending.{ends_before}
-use Rattle.ft_parser.specs.Limits.{has_all_filters, open_behind, open_within, exceeds, limit_fault, is_deep_filter}
+use Rattle.ft_parser.specs.Limits.{has_all_filters, depth_after, open_within, exceeds, limit_fault, is_deep_filter}
 use Rattle.ft_parser.specs.steps.Parts.{begins_filter}
 use Rattle.ft_parser.specs.Prefix as prefix
 use Rattle.ft_parser.specs.Prefix.{counted, numbered_form, run_length, with_number}
@@ -30,7 +30,7 @@ use Rattle.ft_parser.proofs.SelectedExact.{passed, at_limit, at_filter, at_symbo
 use Rattle.ft_parser.proofs.SelectedLaws.{rest_read}
 use Rattle.ft_parser.proofs.Steps.{Goes, back_is, goes, outcome_at, further, taken_there, read_there}
 
--- Between two constructs, what stands behind the symbols so far decides what all are read as.
+-- Between two constructs, what stands after the symbols so far decides what all are read as.
 pub record Stands (w : List Placed) (s : State) (i depth : ℕ) : Type 0 where
   pub within : i ≤ length w
   pub small : depth ≤ i
@@ -41,8 +41,8 @@ pub start_stands : (w : List Placed) (s : State) → s ≡ start → Stands w s 
 start_stands w s e = record { within = omega arith; small = omega arith; reads = ap (λ t. Some (whole t)) (sym e); comes = λ v bad size. ap (λ t. rest_read 0 (whole t) v bad size) (sym e) }
 
 -- no more parentheses are open than there are symbols
-behind_small : (depth : ℕ) (symbol : Symbol) → open_behind depth symbol ≤ depth + 1
-behind_small depth symbol = go (is_mark open_parenthesis symbol) (is_mark close_parenthesis symbol)
+after_small : (depth : ℕ) (symbol : Symbol) → depth_after depth symbol ≤ depth + 1
+after_small depth symbol = go (is_mark open_parenthesis symbol) (is_mark close_parenthesis symbol)
   where
     go : (b c : Bool) → cond b (depth + 1) (cond c (depth - 1) depth) ≤ depth + 1
     go true c = omega arith
@@ -51,11 +51,11 @@ behind_small depth symbol = go (is_mark open_parenthesis symbol) (is_mark close_
 
 within_small : (u : List Placed) (depth d : ℕ) → open_within depth u ≡ Ok d → d ≤ depth + length u
 within_small [] depth d e = let same : depth ≡ d = cc in omega (arith, same)
-within_small (p ∷ u) depth d e = go (exceeds depth p.symbol) (λ k. within_small u (open_behind depth p.symbol) d k) e
+within_small (p ∷ u) depth d e = go (exceeds depth p.symbol) (λ k. within_small u (depth_after depth p.symbol) d k) e
   where
-    go : (b : Bool) → (open_within (open_behind depth p.symbol) u ≡ Ok d → d ≤ open_behind depth p.symbol + length u) → cond b (Err (limit_fault p)) (open_within (open_behind depth p.symbol) u) ≡ Ok d → d ≤ depth + length (p ∷ u)
+    go : (b : Bool) → (open_within (depth_after depth p.symbol) u ≡ Ok d → d ≤ depth_after depth p.symbol + length u) → cond b (Err (limit_fault p)) (open_within (depth_after depth p.symbol) u) ≡ Ok d → d ≤ depth + length (p ∷ u)
     go true on e = cc
-    go false on e = let small = on e in let one = behind_small depth p.symbol in omega (arith, small, one)
+    go false on e = let small = on e in let one = after_small depth p.symbol in omega (arith, small, one)
 
 end_small : (w : List Placed) (i n depth d : ℕ) → i ≤ n → depth ≤ i → open_within depth (take (n - i) (drop i w)) ≡ Ok d → d ≤ n
 end_small w i n depth d h k e =
@@ -68,12 +68,12 @@ on_within (Ok depth) rest = rest depth
 on_within (Err fault) rest = Err fault
 
 one_along : (bad : Option ℕ) (size : ℕ) (p : Placed) (f v : List Placed) (depth : ℕ) (x r : Shape State) (o : Option (Shape State)) → is_deep_filter x p.symbol ≡ false → advance x p ≡ o → run o f ≡ Some r
-    → ((y : Shape State) → run (Some y) f ≡ Some r → rest_read (open_behind depth p.symbol) y (f ++ v) bad size ≡ on_within (open_within (open_behind depth p.symbol) f) (λ d. rest_read d r v bad size))
+    → ((y : Shape State) → run (Some y) f ≡ Some r → rest_read (depth_after depth p.symbol) y (f ++ v) bad size ≡ on_within (open_within (depth_after depth p.symbol) f) (λ d. rest_read d r v bad size))
     → rest_read depth x (p ∷ f ++ v) bad size ≡ on_within (open_within depth (p ∷ f)) (λ d. rest_read d r v bad size)
 one_along bad size p f v depth x r None d a e on = cc
 one_along bad size p f v depth x r (Some y) d a e on = go (exceeds depth p.symbol) refl
   where
-    go : (b : Bool) → exceeds depth p.symbol ≡ b → rest_read depth x (p ∷ f ++ v) bad size ≡ on_within (cond b (Err (limit_fault p)) (open_within (open_behind depth p.symbol) f)) (λ d. rest_read d r v bad size)
+    go : (b : Bool) → exceeds depth p.symbol ≡ b → rest_read depth x (p ∷ f ++ v) bad size ≡ on_within (cond b (Err (limit_fault p)) (open_within (depth_after depth p.symbol) f)) (λ d. rest_read d r v bad size)
     go true l = at_limit bad size depth p (f ++ v) x l
     go false l = passed bad size depth p (f ++ v) x y l d a ∙ on y e
 
@@ -81,23 +81,23 @@ along : (bad : Option ℕ) (size : ℕ) (f v : List Placed) (depth : ℕ) (x r :
 along bad size [] v depth x r e = let same : x ≡ r = cc in ap (λ t. rest_read depth t v bad size) same
 along bad size (p ∷ f) v depth (whole a) r e = cc
 along bad size (p ∷ f) v depth nothing r e = cc
-along bad size (p ∷ f) v depth (word key to rest) r e = one_along bad size p f v depth (word key to rest) r (step (word key to rest) p) refl refl e (λ y h. along bad size f v (open_behind depth p.symbol) y r h)
-along bad size (p ∷ f) v depth (number to rest) r e = one_along bad size p f v depth (number to rest) r (step (number to rest) p) refl refl e (λ y h. along bad size f v (open_behind depth p.symbol) y r h)
-along bad size (p ∷ f) v depth (text to rest) r e = one_along bad size p f v depth (text to rest) r (step (text to rest) p) refl refl e (λ y h. along bad size f v (open_behind depth p.symbol) y r h)
-along bad size (p ∷ f) v depth (mark k to rest) r e = one_along bad size p f v depth (mark k to rest) r (step (mark k to rest) p) refl refl e (λ y h. along bad size f v (open_behind depth p.symbol) y r h)
+along bad size (p ∷ f) v depth (word key to rest) r e = one_along bad size p f v depth (word key to rest) r (step (word key to rest) p) refl refl e (λ y h. along bad size f v (depth_after depth p.symbol) y r h)
+along bad size (p ∷ f) v depth (number to rest) r e = one_along bad size p f v depth (number to rest) r (step (number to rest) p) refl refl e (λ y h. along bad size f v (depth_after depth p.symbol) y r h)
+along bad size (p ∷ f) v depth (text to rest) r e = one_along bad size p f v depth (text to rest) r (step (text to rest) p) refl refl e (λ y h. along bad size f v (depth_after depth p.symbol) y r h)
+along bad size (p ∷ f) v depth (mark k to rest) r e = one_along bad size p f v depth (mark k to rest) r (step (mark k to rest) p) refl refl e (λ y h. along bad size f v (depth_after depth p.symbol) y r h)
 
-along_front : (w : List Placed) (i n depth : ℕ) (s : State) (r : Shape State) → Stands w s i depth → begins_deep_filter s (drop i w) ≡ false → Goes w i n s r → i < n
+along_prefix : (w : List Placed) (i n depth : ℕ) (s : State) (r : Shape State) → Stands w s i depth → begins_deep_filter s (drop i w) ≡ false → Goes w i n s r → i < n
     → (v : List Placed) (bad : Option ℕ) (size : ℕ) → rest_read 0 (whole start) (take n w ++ v) bad size ≡ on_within (open_within depth (take (n - i) (drop i w))) (λ d. rest_read d r v bad size)
-along_front w i n depth s r x deep g h v bad size =
+along_prefix w i n depth s r x deep g h v bad size =
     ap (λ u. rest_read 0 (whole start) (u ++ v) bad size) (taken_there w i n s r g)
-    ∙ ap (λ u. rest_read 0 (whole start) u bad size) (append_assoc (take i w) g.front v)
-    ∙ x.comes (g.front ++ v) bad size
-    ∙ first g.front g.parts g.counted g.runs
+    ∙ ap (λ u. rest_read 0 (whole start) u bad size) (append_assoc (take i w) g.prefix v)
+    ∙ x.comes (g.prefix ++ v) bad size
+    ∙ first g.prefix g.parts g.counted g.runs
     ∙ ap (λ f. on_within (open_within depth f) (λ d. rest_read d r v bad size)) (sym g.taken)
   where
     first : (f : List Placed) → drop i w ≡ f ++ g.back → n ≡ i + length f → run (Some (next s)) f ≡ Some r → rest_read depth (whole s) (f ++ v) bad size ≡ on_within (open_within depth f) (λ d. rest_read d r v bad size)
     first [] k c e = absurd (omega (arith, h, c))
-    first (p ∷ f) k c e = one_along bad size p f v depth (whole s) r (step (next s) p) (ap (begins_deep_filter s) (sym k) ∙ deep) refl e (λ y j. along bad size f v (open_behind depth p.symbol) y r j)
+    first (p ∷ f) k c e = one_along bad size p f v depth (whole s) r (step (next s) p) (ap (begins_deep_filter s) (sym k) ∙ deep) refl e (λ y j. along bad size f v (depth_after depth p.symbol) y r j)
 
 -- symbols with a fault
 failed : (w : List Placed) (n : ℕ) (fault : QueryFault) (x : Shape State) → n ≤ length w → read (take n w) ≡ Some x → ((v : List Placed) (bad : Option ℕ) (size : ℕ) → rest_read 0 (whole start) (take n w ++ v) bad size ≡ Err fault) → Fails w fault
@@ -118,7 +118,7 @@ module _ (w : List Placed) (i n depth : ℕ) (s t : State) (x : Stands w s i dep
   turn_reads = read_there w i n s (whole t) x.reads turn_goes turn_further
 
   turn_along : (v : List Placed) (bad : Option ℕ) (size : ℕ) → rest_read 0 (whole start) (take n w ++ v) bad size ≡ on_within (open_within depth (take (n - i) (drop i w))) (λ d. rest_read d (whole t) v bad size)
-  turn_along = along_front w i n depth s (whole t) x deep turn_goes turn_further
+  turn_along = along_prefix w i n depth s (whole t) x deep turn_goes turn_further
 
   pub turn_stands : (d : ℕ) → open_within depth (take (n - i) (drop i w)) ≡ Ok d → Stands w t n d
   turn_stands d k = let g = turn_goes in let more = turn_further in record {
@@ -178,7 +178,7 @@ halts_stops w n depth r x = record {
     run_here : run_length w ≡ n
     run_here = run_is w n r x.within x.reads (λ p rest k. read-append (take n w) (p ∷ []) ∙ ap (λ o. run_on o (p ∷ [])) x.reads ∙ ap (λ o. run_on o []) (x.stops p rest k))
 
--- behind a whole selection
+-- after a whole selection
 pub end_stops : (w : List Placed) (i depth : ℕ) (s : State) → Stands w s i depth → ends_before s (drop i w) ≡ true → Stops w i depth (finished_at (whole s))
 end_stops w i depth s x h = let end = endings.ended s (drop i w) h in halts_stops w i depth (whole s) (record {
   within = x.within;
@@ -221,7 +221,7 @@ module _ (w : List Placed) (i n depth : ℕ) (s : State) (x : Stands w s i depth
   stuck_goes = goes w i n s stuck_at.last x.within stuck_at.along
 
   stuck_left : drop n w ≡ stuck_at.along.back
-  stuck_left = let a = stuck_at.along in back_is w a.front a.back i n x.within a.spelled a.counted
+  stuck_left = let a = stuck_at.along in back_is w a.prefix a.back i n x.within a.spelled a.counted
 
   pub stuck_further : i ≤ n
   stuck_further = let g = stuck_goes in omega (arith, g.counted)
@@ -243,7 +243,7 @@ module _ (w : List Placed) (i n depth : ℕ) (s : State) (x : Stands w s i depth
   stuck_reads h = read_there w i n s stuck_at.last x.reads stuck_goes h
 
   stuck_along : i < n → (v : List Placed) (bad : Option ℕ) (size : ℕ) → rest_read 0 (whole start) (take n w ++ v) bad size ≡ on_within (open_within depth (take (n - i) (drop i w))) (λ d. rest_read d stuck_at.last v bad size)
-  stuck_along h = along_front w i n depth s stuck_at.last x deep stuck_goes h
+  stuck_along h = along_prefix w i n depth s stuck_at.last x deep stuck_goes h
 
   later : (d : ℕ) → i < n → open_within depth (take (n - i) (drop i w)) ≡ Ok d → Stops w n d None
   later d h k = let g = stuck_goes in subst (Stops w n d) (unfinished_is stuck_at.last stuck_at.unfinished) (halts_stops w n d stuck_at.last (record {
@@ -255,14 +255,14 @@ module _ (w : List Placed) (i n depth : ℕ) (s : State) (x : Stands w s i depth
   }))
 
   stuck_stops : (d : ℕ) → open_within depth (take (n - i) (drop i w)) ≡ Ok d → Stops w n d None
-  stuck_stops d k = let g = stuck_goes in go g.front g.taken g.counted g.runs
+  stuck_stops d k = let g = stuck_goes in go g.prefix g.taken g.counted g.runs
     where
       go : (f : List Placed) → take (n - i) (drop i w) ≡ f → n ≡ i + length f → run (Some (next s)) f ≡ Some stuck_at.last → Stops w n d None
       go [] t c r = at_once d (omega (arith, c)) (let same : next s ≡ stuck_at.last = cc in same) (ap (open_within depth) (sym t) ∙ k)
       go (p ∷ f) t c r = later d (omega (arith, c)) k
 
   stuck_fails : (fault : QueryFault) → open_within depth (take (n - i) (drop i w)) ≡ Err fault → Fails w fault
-  stuck_fails fault k = let g = stuck_goes in go g.front g.taken g.counted
+  stuck_fails fault k = let g = stuck_goes in go g.prefix g.taken g.counted
     where
       go : (f : List Placed) → take (n - i) (drop i w) ≡ f → n ≡ i + length f → Fails w fault
       go [] t c = let two : Ok depth ≡ Err fault = ap (open_within depth) (sym t) ∙ k in cc

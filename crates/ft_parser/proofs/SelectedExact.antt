@@ -15,8 +15,8 @@ use Rattle.selection_grammar.specs.Texts.{Begins}
 use Rattle.selection_grammar.specs.Tree.{Tree}
 use Rattle.selection_grammar.proofs.Decided.{spells_read, read_spells, read_begins, refused_begins, read-append}
 use Rattle.ft_parser.specs.Answer.{scanned_on, scanned_from, faultless, ended, read_as}
-use Rattle.ft_parser.specs.Limits.{is_great, open_behind, exceeds, before_limit, from_limit, limit_fault, is_deep_filter}
-use Rattle.ft_parser.specs.Selected.{open_in, is_deep_there, is_deep_behind, exceeds_limit, MayStand, IsWhole, Selects, Refuses}
+use Rattle.ft_parser.specs.Limits.{is_great, depth_after, exceeds, before_limit, from_limit, limit_fault, is_deep_filter}
+use Rattle.ft_parser.specs.Selected.{open_in, is_deep_there, is_deep_after, exceeds_limit, MayStand, IsWhole, Selects, Refuses}
 use Rattle.ft_parser.proofs.FilterRuns.{led, within_none_deep}
 use Rattle.ft_parser.proofs.SelectedLaws.{number_no_mark, deep_exceeds_none, open_on, rest_read}
 
@@ -29,12 +29,12 @@ begun u b C there = go (read u) refl
     go (Some shape) e = there shape e
 
 -- a symbol that may stand
-pub passed : (bad : Option ℕ) (size depth : ℕ) (p : Placed) (v : List Placed) (shape next : Shape State) → exceeds depth p.symbol ≡ false → is_deep_filter shape p.symbol ≡ false → advance shape p ≡ Some next → rest_read depth shape (p ∷ v) bad size ≡ rest_read (open_behind depth p.symbol) next v bad size
+pub passed : (bad : Option ℕ) (size depth : ℕ) (p : Placed) (v : List Placed) (shape next : Shape State) → exceeds depth p.symbol ≡ false → is_deep_filter shape p.symbol ≡ false → advance shape p ≡ Some next → rest_read depth shape (p ∷ v) bad size ≡ rest_read (depth_after depth p.symbol) next v bad size
 unfolding scanned_from
 passed bad size depth p v shape next l f a =
-    ap (λ b. read_as (scanned_from shape (cond b [] (p ∷ before_limit (open_behind depth p.symbol) v))) (cond b (p ∷ v) (from_limit (open_behind depth p.symbol) v)) bad size) l
-    ∙ ap (λ b. read_as (cond b (Err (Q.Deep p.from)) (scanned_on p (advance shape p) (λ s. scanned_from s (before_limit (open_behind depth p.symbol) v)))) (from_limit (open_behind depth p.symbol) v) bad size) f
-    ∙ ap (λ o. read_as (scanned_on p o (λ s. scanned_from s (before_limit (open_behind depth p.symbol) v))) (from_limit (open_behind depth p.symbol) v) bad size) a
+    ap (λ b. read_as (scanned_from shape (cond b [] (p ∷ before_limit (depth_after depth p.symbol) v))) (cond b (p ∷ v) (from_limit (depth_after depth p.symbol) v)) bad size) l
+    ∙ ap (λ b. read_as (cond b (Err (Q.Deep p.from)) (scanned_on p (advance shape p) (λ s. scanned_from s (before_limit (depth_after depth p.symbol) v)))) (from_limit (depth_after depth p.symbol) v) bad size) f
+    ∙ ap (λ o. read_as (scanned_on p o (λ s. scanned_from s (before_limit (depth_after depth p.symbol) v))) (from_limit (depth_after depth p.symbol) v) bad size) a
 
 abbrev Limits : List Placed → Type 0
 Limits symbols = (before : List Placed) (p : Placed) (rest : List Placed) → symbols ≡ before ++ p ∷ rest → exceeds_limit before p.symbol ≡ false
@@ -46,7 +46,7 @@ along bad size [] u0 v s0 s r0 r h =
     let same : s0 ≡ s = cc in
     ap (λ z. rest_read (open_in u0) z v bad size) same ∙ ap (λ z. rest_read (open_in z) s v bad size) (sym (append-nil u0))
 along bad size (p ∷ u) u0 v s0 s r0 r h =
-    let limits = or_parts (exceeds (open_in u0) p.symbol) (is_deep_behind u0 p.symbol) (h u0 p u refl) in
+    let limits = or_parts (exceeds (open_in u0) p.symbol) (is_deep_after u0 p.symbol) (h u0 p u refl) in
     let runs : run_on (advance s0 p) u ≡ Some s = sym (read-append u0 (p ∷ u) ∙ ap (λ o. run_on o (p ∷ u)) r0) ∙ r in
     led (advance s0 p) u s _ runs (λ next a.
     let there : read (u0 ++ p ∷ []) ≡ Some next = read-append u0 (p ∷ []) ∙ ap (λ o. run_on o (p ∷ [])) r0 ∙ ap (λ o. run_on o []) a in
@@ -61,20 +61,20 @@ to_there symbols bad size u v s e r h = ap (λ w. rest_read 0 (whole start) w ba
 -- a symbol that may not
 pub at_limit : (bad : Option ℕ) (size depth : ℕ) (p : Placed) (v : List Placed) (shape : Shape State) → exceeds depth p.symbol ≡ true → rest_read depth shape (p ∷ v) bad size ≡ Err (limit_fault p)
 unfolding scanned_from
-at_limit bad size depth p v shape l = ap (λ b. read_as (scanned_from shape (cond b [] (p ∷ before_limit (open_behind depth p.symbol) v))) (cond b (p ∷ v) (from_limit (open_behind depth p.symbol) v)) bad size) l
+at_limit bad size depth p v shape l = ap (λ b. read_as (scanned_from shape (cond b [] (p ∷ before_limit (depth_after depth p.symbol) v))) (cond b (p ∷ v) (from_limit (depth_after depth p.symbol) v)) bad size) l
 
 pub at_filter : (bad : Option ℕ) (size depth : ℕ) (p : Placed) (v : List Placed) (shape : Shape State) → is_deep_filter shape p.symbol ≡ true → rest_read depth shape (p ∷ v) bad size ≡ Err (Q.Deep p.from)
 unfolding scanned_from
 at_filter bad size depth p v shape f =
-    ap (λ b. read_as (scanned_from shape (cond b [] (p ∷ before_limit (open_behind depth p.symbol) v))) (cond b (p ∷ v) (from_limit (open_behind depth p.symbol) v)) bad size) (deep_exceeds_none shape p.symbol depth f)
-    ∙ ap (λ b. read_as (cond b (Err (Q.Deep p.from)) (scanned_on p (advance shape p) (λ s. scanned_from s (before_limit (open_behind depth p.symbol) v)))) (from_limit (open_behind depth p.symbol) v) bad size) f
+    ap (λ b. read_as (scanned_from shape (cond b [] (p ∷ before_limit (depth_after depth p.symbol) v))) (cond b (p ∷ v) (from_limit (depth_after depth p.symbol) v)) bad size) (deep_exceeds_none shape p.symbol depth f)
+    ∙ ap (λ b. read_as (cond b (Err (Q.Deep p.from)) (scanned_on p (advance shape p) (λ s. scanned_from s (before_limit (depth_after depth p.symbol) v)))) (from_limit (depth_after depth p.symbol) v) bad size) f
 
 pub at_symbol : (bad : Option ℕ) (size depth : ℕ) (p : Placed) (v : List Placed) (shape : Shape State) → exceeds depth p.symbol ≡ false → is_deep_filter shape p.symbol ≡ false → advance shape p ≡ None → rest_read depth shape (p ∷ v) bad size ≡ Err (Q.Syntax p.from)
 unfolding scanned_from
 at_symbol bad size depth p v shape l f a =
-    ap (λ b. read_as (scanned_from shape (cond b [] (p ∷ before_limit (open_behind depth p.symbol) v))) (cond b (p ∷ v) (from_limit (open_behind depth p.symbol) v)) bad size) l
-    ∙ ap (λ b. read_as (cond b (Err (Q.Deep p.from)) (scanned_on p (advance shape p) (λ s. scanned_from s (before_limit (open_behind depth p.symbol) v)))) (from_limit (open_behind depth p.symbol) v) bad size) f
-    ∙ ap (λ o. read_as (scanned_on p o (λ s. scanned_from s (before_limit (open_behind depth p.symbol) v))) (from_limit (open_behind depth p.symbol) v) bad size) a
+    ap (λ b. read_as (scanned_from shape (cond b [] (p ∷ before_limit (depth_after depth p.symbol) v))) (cond b (p ∷ v) (from_limit (depth_after depth p.symbol) v)) bad size) l
+    ∙ ap (λ b. read_as (cond b (Err (Q.Deep p.from)) (scanned_on p (advance shape p) (λ s. scanned_from s (before_limit (depth_after depth p.symbol) v)))) (from_limit (depth_after depth p.symbol) v) bad size) f
+    ∙ ap (λ o. read_as (scanned_on p o (λ s. scanned_from s (before_limit (depth_after depth p.symbol) v))) (from_limit (depth_after depth p.symbol) v) bad size) a
 
 -- all symbols
 to_end : (symbols : List Placed) (bad : Option ℕ) (size : ℕ) (s : Shape State) → read symbols ≡ Some s → MayStand symbols → rest_read 0 (whole start) symbols bad size ≡ ended bad size (finished_at s)
@@ -105,7 +105,7 @@ whole_begins {symbols = symbols} {tree = tree} a = ([], tree, subst (λ w. Selec
 whole_stands : {symbols : List Placed} {tree : Tree} → IsWhole symbols tree → MayStand symbols
 whole_stands {symbols = symbols} {tree = tree} h = record {
   begins = whole_begins h.spells;
-  limits = λ before p rest e. ap (λ b. b || is_deep_behind before p.symbol) (h.limits before p rest e) ∙ within_none_deep symbols tree h.spells h.filters before p rest e;
+  limits = λ before p rest e. ap (λ b. b || is_deep_after before p.symbol) (h.limits before p rest e) ∙ within_none_deep symbols tree h.spells h.filters before p rest e;
 }
 
 pub selects_read : (symbols : List Placed) (bad : Option ℕ) (size : ℕ) (form : Form) → Selects symbols bad form → rest_read 0 (whole start) symbols bad size ≡ Ok form
@@ -123,7 +123,7 @@ refuses_read symbols bad size fault (Refuses.parenthesis u p rest e h opens full
 refuses_read symbols bad size fault (Refuses.filter u p rest e h deep) = begun u h.begins _ (λ s r.
     to_there symbols bad size u (p ∷ rest) s e r h ∙ at_filter bad size (open_in u) p rest s (sym (ap (λ o. is_deep_there o p.symbol) r) ∙ deep))
 refuses_read symbols bad size fault (Refuses.symbol u p rest e h l refused) = begun u h.begins _ (λ s r.
-    let limits = or_parts (exceeds (open_in u) p.symbol) (is_deep_behind u p.symbol) l in
+    let limits = or_parts (exceeds (open_in u) p.symbol) (is_deep_after u p.symbol) l in
     to_there symbols bad size u (p ∷ rest) s e r h ∙ at_symbol bad size (open_in u) p rest s limits.0 (sym (ap (λ o. is_deep_there o p.symbol) r) ∙ limits.1) (refused_there u p s r refused))
 refuses_read symbols bad size fault (Refuses.character at e h) = begun symbols h.begins _ (λ s r. to_end symbols bad size s r h ∙ ap (λ b. ended b size (finished_at s)) e)
 refuses_read symbols bad size fault (Refuses.end e h refused) = begun symbols h.begins _ (λ s r. to_end symbols bad size s r h ∙ ap (λ b. ended b size (finished_at s)) e ∙ ap (ended None size) (unfinish symbols s refused r))

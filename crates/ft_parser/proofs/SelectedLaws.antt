@@ -18,9 +18,9 @@ use Rattle.selection_grammar.specs.Tree.{Tree}
 use Rattle.selection_grammar.proofs.Decided.{spells_read, read_spells, read_begins, refused_begins, read-append}
 use Rattle.selection_faults.specs.Faults.{fault_of}
 use Rattle.ft_parser.specs.Answer.{scanned_on, scanned_from, faultless, ended, read_as}
-use Rattle.ft_parser.specs.Limits.{is_great, open_behind, exceeds, before_limit, from_limit, limit_fault, is_deep_filter, is_filter_word}
+use Rattle.ft_parser.specs.Limits.{is_great, depth_after, exceeds, before_limit, from_limit, limit_fault, is_deep_filter, is_filter_word}
 use Rattle.ft_parser.proofs.FilterRuns.{none_deep_within}
-use Rattle.ft_parser.specs.Selected.{open_after, open_in, is_deep_there, is_deep_behind, exceeds_limit, MayStand, IsWhole, Selects, Refuses}
+use Rattle.ft_parser.specs.Selected.{open_after, open_in, is_deep_there, is_deep_after, exceeds_limit, MayStand, IsWhole, Selects, Refuses}
 
 -- the last symbol of a list, or one before it
 last_or_inner : (u : List Placed) (p : Placed) (before : List Placed) (q : Placed) (rest : List Placed) (C : Type 0) → u ++ p ∷ [] ≡ before ++ q ∷ rest → (before ≡ u → q ≡ p → C) → ((inner : List Placed) → u ≡ before ++ q ∷ inner → C) → C
@@ -35,7 +35,7 @@ last_or_inner (a ∷ u) p (b ∷ before) q rest C e last inner =
 
 pub open_on : (u v : List Placed) (depth : ℕ) → open_after depth (u ++ v) ≡ open_after (open_after depth u) v
 open_on [] v depth = refl
-open_on (p ∷ u) v depth = open_on u v (open_behind depth p.symbol)
+open_on (p ∷ u) v depth = open_on u v (depth_after depth p.symbol)
 
 -- which faults the limits have
 pub number_no_mark : (s : Symbol) → is_great (number_of s) ≡ true → is_mark open_parenthesis s ≡ false
@@ -66,12 +66,12 @@ abbrev pub Outcome : List Placed → Option ℕ → ℕ → Result Form QueryFau
 Outcome symbols bad size (Ok form) = Selects symbols bad form
 Outcome symbols bad size (Err fault) = Refuses symbols bad size fault
 
--- behind all symbols
+-- after all symbols
 whole_of : {u : List Placed} {tree : Tree} → MayStand u → Selection u tree → IsWhole u tree
 whole_of {u = u} {tree = tree} h a = record {
   spells = a;
-  limits = λ before p rest e. (or_parts (exceeds (open_in before) p.symbol) (is_deep_behind before p.symbol) (h.limits before p rest e)).0;
-  filters = none_deep_within u tree a (λ before p rest e. (or_parts (exceeds (open_in before) p.symbol) (is_deep_behind before p.symbol) (h.limits before p rest e)).1);
+  limits = λ before p rest e. (or_parts (exceeds (open_in before) p.symbol) (is_deep_after before p.symbol) (h.limits before p rest e)).0;
+  filters = none_deep_within u tree a (λ before p rest e. (or_parts (exceeds (open_in before) p.symbol) (is_deep_after before p.symbol) (h.limits before p rest e)).1);
 }
 
 judged : (u : List Placed) (size : ℕ) (tree : Tree) (o : Option QueryFault) → MayStand u → Selection u tree → fault_of tree ≡ o → Outcome u None size (faultless tree o)
@@ -93,22 +93,22 @@ stands_on u p shape h l r = record {
 read_one : (u : List Placed) (p : Placed) (shape : Shape State) → read u ≡ Some shape → read (u ++ p ∷ []) ≡ run_on (advance shape p) []
 read_one u p shape r = read-append u (p ∷ []) ∙ ap (λ o. run_on o (p ∷ [])) r
 
--- a symbol, where what is behind it is known
+-- a symbol, where what is after it is known
 one_read : (bad : Option ℕ) (size : ℕ) (p : Placed) (v u : List Placed) (shape : Shape State) (depth : ℕ) → read u ≡ Some shape → MayStand u → open_in u ≡ depth
-    → ((next : Shape State) → read (u ++ p ∷ []) ≡ Some next → MayStand (u ++ p ∷ []) → Outcome ((u ++ p ∷ []) ++ v) bad size (rest_read (open_behind depth p.symbol) next v bad size))
+    → ((next : Shape State) → read (u ++ p ∷ []) ≡ Some next → MayStand (u ++ p ∷ []) → Outcome ((u ++ p ∷ []) ++ v) bad size (rest_read (depth_after depth p.symbol) next v bad size))
     → Outcome (u ++ p ∷ v) bad size (rest_read depth shape (p ∷ v) bad size)
 unfolding scanned_from
 one_read bad size p v u shape depth r h e further = by_limit (exceeds depth p.symbol) refl
   where
-    by_advance : (o : Option (Shape State)) → advance shape p ≡ o → exceeds_limit u p.symbol ≡ false → Outcome (u ++ p ∷ v) bad size (read_as (scanned_on p o (λ s. scanned_from s (before_limit (open_behind depth p.symbol) v))) (from_limit (open_behind depth p.symbol) v) bad size)
+    by_advance : (o : Option (Shape State)) → advance shape p ≡ o → exceeds_limit u p.symbol ≡ false → Outcome (u ++ p ∷ v) bad size (read_as (scanned_on p o (λ s. scanned_from s (before_limit (depth_after depth p.symbol) v))) (from_limit (depth_after depth p.symbol) v) bad size)
     by_advance None a l = Refuses.symbol u p v refl h l (refused_begins (u ++ p ∷ []) (read_one u p shape r ∙ ap (λ o. run_on o []) a))
     by_advance (Some next) a l =
         let there : read (u ++ p ∷ []) ≡ Some next = read_one u p shape r ∙ ap (λ o. run_on o []) a in
-        subst (λ w. Outcome w bad size (rest_read (open_behind depth p.symbol) next v bad size)) (append_assoc u (p ∷ []) v) (further next there (stands_on u p next h l there))
+        subst (λ w. Outcome w bad size (rest_read (depth_after depth p.symbol) next v bad size)) (append_assoc u (p ∷ []) v) (further next there (stands_on u p next h l there))
 
-    by_filter : (b : Bool) → is_deep_filter shape p.symbol ≡ b → exceeds depth p.symbol ≡ false → Outcome (u ++ p ∷ v) bad size (read_as (cond b (Err (Q.Deep p.from)) (scanned_on p (advance shape p) (λ s. scanned_from s (before_limit (open_behind depth p.symbol) v)))) (from_limit (open_behind depth p.symbol) v) bad size)
+    by_filter : (b : Bool) → is_deep_filter shape p.symbol ≡ b → exceeds depth p.symbol ≡ false → Outcome (u ++ p ∷ v) bad size (read_as (cond b (Err (Q.Deep p.from)) (scanned_on p (advance shape p) (λ s. scanned_from s (before_limit (depth_after depth p.symbol) v)))) (from_limit (depth_after depth p.symbol) v) bad size)
     by_filter true a l = Refuses.filter u p v refl h (ap (λ o. is_deep_there o p.symbol) r ∙ a)
-    by_filter false a l = by_advance (advance shape p) refl (ap (λ n. exceeds n p.symbol || is_deep_behind u p.symbol) e ∙ ap (λ b. b || is_deep_behind u p.symbol) l ∙ ap (λ o. is_deep_there o p.symbol) r ∙ a)
+    by_filter false a l = by_advance (advance shape p) refl (ap (λ n. exceeds n p.symbol || is_deep_after u p.symbol) e ∙ ap (λ b. b || is_deep_after u p.symbol) l ∙ ap (λ o. is_deep_there o p.symbol) r ∙ a)
 
     by_kind : (b c d : Bool) → is_great (number_of p.symbol) ≡ b → nat_le max_open depth ≡ c → is_mark open_parenthesis p.symbol ≡ d → (b || (c && d)) ≡ true → Outcome (u ++ p ∷ v) bad size (Err (limit_fault p))
     by_kind true c d a k m l = subst (λ b. Refuses (u ++ p ∷ v) bad size (cond b (Q.Deep p.from) (Q.Number p.from))) (sym (number_no_mark p.symbol a)) (Refuses.number u p v refl h a)
@@ -116,7 +116,7 @@ one_read bad size p v u shape depth r h e further = by_limit (exceeds depth p.sy
     by_kind false true false a k m l = cc
     by_kind false false d a k m l = cc
 
-    by_limit : (b : Bool) → exceeds depth p.symbol ≡ b → Outcome (u ++ p ∷ v) bad size (read_as (scanned_from shape (cond b [] (p ∷ before_limit (open_behind depth p.symbol) v))) (cond b (p ∷ v) (from_limit (open_behind depth p.symbol) v)) bad size)
+    by_limit : (b : Bool) → exceeds depth p.symbol ≡ b → Outcome (u ++ p ∷ v) bad size (read_as (scanned_from shape (cond b [] (p ∷ before_limit (depth_after depth p.symbol) v))) (cond b (p ∷ v) (from_limit (depth_after depth p.symbol) v)) bad size)
     by_limit true l = by_kind (is_great (number_of p.symbol)) (nat_le max_open depth) (is_mark open_parenthesis p.symbol) refl refl refl l
     by_limit false l = by_filter (is_deep_filter shape p.symbol) refl l
 
@@ -124,7 +124,7 @@ forward : (bad : Option ℕ) (size : ℕ) (v u : List Placed) (shape : Shape Sta
 unfolding scanned_from
 forward bad size [] u shape depth r h e = subst (λ w. Outcome w bad size (ended bad size (finished_at shape))) (sym (append-nil u)) (at_end u shape bad size (finished_at shape) r h refl)
 forward bad size (p ∷ v) u shape depth r h e = one_read bad size p v u shape depth r h e
-    (λ next there k. forward bad size v (u ++ p ∷ []) next (open_behind depth p.symbol) there k (open_on u (p ∷ []) 0 ∙ ap (λ n. open_behind n p.symbol) e))
+    (λ next there k. forward bad size v (u ++ p ∷ []) next (depth_after depth p.symbol) there k (open_on u (p ∷ []) 0 ∙ ap (λ n. depth_after n p.symbol) e))
 
 nothing_read : MayStand []
 nothing_read = record { begins = read_begins [] (whole start) refl; limits = λ before p rest e. no before p rest e }

@@ -22,25 +22,25 @@ back_is w f b i n h k c = ap (λ m. drop m w) (c ∙ length-append (take i w) f 
 
 -- The symbols from one number to another lead along what may stand next.
 pub record Goes (w : List Placed) (i n : ℕ) (s : State) (r : Shape State) : Type 0 where
-  pub front : List Placed
+  pub prefix : List Placed
   pub back : List Placed
-  pub parts : drop i w ≡ front ++ back
-  pub taken : take (n - i) (drop i w) ≡ front
-  pub counted : n ≡ i + length front
+  pub parts : drop i w ≡ prefix ++ back
+  pub taken : take (n - i) (drop i w) ≡ prefix
+  pub counted : n ≡ i + length prefix
   pub within : n ≤ length w
-  pub runs : run (Some (next s)) front ≡ Some r
+  pub runs : run (Some (next s)) prefix ≡ Some r
 
 pub goes : (w : List Placed) (i n : ℕ) (s : State) (r : Shape State) → i ≤ length w → Along (next s) (take i w) (drop i w) n r → Goes w i n s r
 goes w i n s r h a =
-    let counted : n ≡ i + length a.front = a.counted ∙ length-append (take i w) a.front ∙ ap (λ m. m + length a.front) (length-take-le i w h) in
-    let many : n - i ≡ length a.front = omega (arith, counted) in
+    let counted : n ≡ i + length a.prefix = a.counted ∙ length-append (take i w) a.prefix ∙ ap (λ m. m + length a.prefix) (length-take-le i w h) in
+    let many : n - i ≡ length a.prefix = omega (arith, counted) in
     record {
-      front = a.front;
+      prefix = a.prefix;
       back = a.back;
       parts = a.spelled;
-      taken = ap (λ z. take (n - i) z) a.spelled ∙ ap (λ m. take m (a.front ++ a.back)) many ∙ take-append_seam a.front a.back;
+      taken = ap (λ z. take (n - i) z) a.spelled ∙ ap (λ m. take m (a.prefix ++ a.back)) many ∙ take-append_seam a.prefix a.back;
       counted = counted;
-      within = omega (arith, counted, ap length a.spelled, ap length (take-append-drop i w), length-append (take i w) (drop i w), length-append a.front a.back, length-take-le i w h);
+      within = omega (arith, counted, ap length a.spelled, ap length (take-append-drop i w), length-append (take i w) (drop i w), length-append a.prefix a.back, length-take-le i w h);
       runs = a.runs;
     }
 
@@ -51,19 +51,19 @@ outcome_at w i s r h e = outcome true (next s) (next_ends s) (take i w) (drop i 
 
 -- a whole construct has a symbol
 pub further : (w : List Placed) (i n : ℕ) (s t : State) → Goes w i n s (whole t) → i < n
-further w i n s t g = go g.front g.counted g.runs
+further w i n s t g = go g.prefix g.counted g.runs
   where
     go : (f : List Placed) → n ≡ i + length f → run (Some (next s)) f ≡ Some (whole t) → i < n
     go [] c e = let is_end : next s ≡ whole t = cc in absurd (subst (Ends true) is_end (next_ends s))
     go (p ∷ f) c e = omega (arith, c)
 
 -- all symbols up to there
-pub taken_there : (w : List Placed) (i n : ℕ) (s : State) (r : Shape State) (g : Goes w i n s r) → take n w ≡ take i w ++ g.front
+pub taken_there : (w : List Placed) (i n : ℕ) (s : State) (r : Shape State) (g : Goes w i n s r) → take n w ≡ take i w ++ g.prefix
 taken_there w i n s r g = taken_on w i n (omega (arith, g.counted)) ∙ ap (λ z. take i w ++ z) g.taken
 
--- behind a first symbol the machine follows the shape of what may stand next
+-- after a first symbol the machine follows the shape of what may stand next
 pub read_there : (w : List Placed) (i n : ℕ) (s : State) (r : Shape State) → read (take i w) ≡ Some (whole s) → Goes w i n s r → i < n → read (take n w) ≡ Some r
-read_there w i n s r e g h = go g.front (taken_there w i n s r g) g.counted g.runs
+read_there w i n s r e g h = go g.prefix (taken_there w i n s r g) g.counted g.runs
   where
     go : (f : List Placed) → take n w ≡ take i w ++ f → n ≡ i + length f → run (Some (next s)) f ≡ Some r → read (take n w) ≡ Some r
     go [] k c j = absurd (omega (arith, h, c))

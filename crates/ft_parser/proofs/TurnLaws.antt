@@ -21,9 +21,9 @@ use Rattle.selection_grammar.specs.steps.Reading.{reading, further, first_is, fi
 use Rattle.selection_grammar.proofs.Words.{word_is}
 use Rattle.selection_grammar.proofs.Readings.{reading-and_then, same_further, same_number, same_cond}
 use Rattle.ft_parser.specs.steps.Parts.{times_reading, distance_reading, window_reading, other_filter_reading, filter_reading, begins_filter, begins_other_filter}
-use Rattle.ft_parser.specs.steps.Turns.{Turn, stands, using_turn, unfiltered_turn, options_turn, moded_turn, levels_turn, with_levels, behind_at_turn, behind_thesaurus_turn, thesaurus_rest_turn, thesaurus_in_rest_turn, in_levels, thesaurus_in_turn, thesaurus_turn, valued_turn, any_of_turn, all_of_turn, stop_terms_turn, with_filter_turn, state_turn, stage_turn}
+use Rattle.ft_parser.specs.steps.Turns.{Turn, stands, using_turn, unfiltered_turn, options_turn, moded_turn, levels_turn, with_levels, after_at_turn, after_thesaurus_turn, thesaurus_rest_turn, thesaurus_in_rest_turn, in_levels, thesaurus_in_turn, thesaurus_turn, valued_turn, any_of_turn, all_of_turn, stop_terms_turn, with_filter_turn, state_turn, stage_turn}
 
--- tests one behind the other, gathered
+-- tests one after the other, gathered
 six : {A B : Type 0} (f : A → B) (a b c d e g : Bool) (x y z u v w end : A) (rest : B) → cond a (f x) (cond b (f y) (cond c (f z) (cond d (f u) (cond e (f v) (cond g (f w) rest))))) ≡ cond (a || b || c || d || e || g) (f (cond a x (cond b y (cond c z (cond d u (cond e v (cond g w end))))))) rest
 six f true b c d e g x y z u v w end rest = refl
 six f false true c d e g x y z u v w end rest = refl
@@ -109,26 +109,26 @@ moded_law outer left n xs mode w i = same_cond (first_is (codes "occurs") (drop 
 levels_law : (made : Option Range → State) (t : Shape Range) (w : List Placed) (i : ℕ) → reading (and_then t (m.levels_end made)) w i ≡ levels_turn made w (reading t w i)
 levels_law made t w i = reading-and_then t (m.levels_end made) w i
 
-behind_at_law : (outer : List Frame) (left : Left) (n : Option ℕ) (x : Primary) (os : List PlacedOption) (at : ℕ) (s : List ℕ) (r : Option (List ℕ)) (w : List Placed) (i : ℕ)
-    → behind_at_turn outer left n x os at s r w i ≡ reading (or_else (and_then bound (m.levels_end (with_levels outer left n x os at s r))) (and_then side (λ f. whole (filtered_state outer (thesaurus_selection left n x os at s r) f)))) w i
-unfolding behind_at_turn
-behind_at_law outer left n x os at s r w i = sym (
+after_at_law : (outer : List Frame) (left : Left) (n : Option ℕ) (x : Primary) (os : List PlacedOption) (at : ℕ) (s : List ℕ) (r : Option (List ℕ)) (w : List Placed) (i : ℕ)
+    → after_at_turn outer left n x os at s r w i ≡ reading (or_else (and_then bound (m.levels_end (with_levels outer left n x os at s r))) (and_then side (λ f. whole (filtered_state outer (thesaurus_selection left n x os at s r) f)))) w i
+unfolding after_at_turn
+after_at_law outer left n x os at s r w i = sym (
     same_cond (first_is (codes "least") (drop i w)) _ _ _ _ (levels_law made (one_number R.AtLeast) w (i + 1)) (same_cond (first_is (codes "most") (drop i w)) _ _ _ _ (levels_law made (one_number R.AtMost) w (i + 1)) (reading-and_then side (λ f. whole (filtered_state outer (thesaurus_selection left n x os at s r) f)) w i))
     ∙ two (levels_turn made w) (first_is (codes "least") (drop i w)) (first_is (codes "most") (drop i w)) _ _ (Err i) _)
   where
     made : Option Range → State
     made = with_levels outer left n x os at s r
 
-behind_thesaurus_law : (outer : List Frame) (left : Left) (n : Option ℕ) (x : Primary) (os : List PlacedOption) (at : ℕ) (s : List ℕ) (r : Option (List ℕ)) (w : List Placed) (i : ℕ)
-    → behind_thesaurus_turn outer left n x os at s r w i ≡ reading (or_else (and_then filters_without_at (λ f. whole (filtered_state outer (thesaurus_selection left n x os at s r) f))) (m.unfiltered_next outer left n x (thesaurus_ended os at s r None))) w i
-unfolding behind_thesaurus_turn
-behind_thesaurus_law outer left n x os at s r w i = same_cond (begins_other_filter (drop i w)) _ _ _ _ refl (unfiltered_law outer left n x (thesaurus_ended os at s r None) w i)
+after_thesaurus_law : (outer : List Frame) (left : Left) (n : Option ℕ) (x : Primary) (os : List PlacedOption) (at : ℕ) (s : List ℕ) (r : Option (List ℕ)) (w : List Placed) (i : ℕ)
+    → after_thesaurus_turn outer left n x os at s r w i ≡ reading (or_else (and_then filters_without_at (λ f. whole (filtered_state outer (thesaurus_selection left n x os at s r) f))) (m.unfiltered_next outer left n x (thesaurus_ended os at s r None))) w i
+unfolding after_thesaurus_turn
+after_thesaurus_law outer left n x os at s r w i = same_cond (begins_other_filter (drop i w)) _ _ _ _ refl (unfiltered_law outer left n x (thesaurus_ended os at s r None) w i)
     ∙ sym (other_filters_law (filtered_state outer (thesaurus_selection left n x os at s r)) (m.unfiltered_next outer left n x (thesaurus_ended os at s r None)) w i)
 
 rest_law : (outer : List Frame) (left : Left) (n : Option ℕ) (x : Primary) (os : List PlacedOption) (at : ℕ) (s : List ℕ) (r : Option (List ℕ)) (w : List Placed) (i : ℕ) → thesaurus_rest_turn outer left n x os at s r w i ≡ reading (m.thesaurus_rest outer left n x os at s r) w i
 unfolding thesaurus_rest_turn
-rest_law outer left n x os at s r w i = same_cond (first_is (codes "at") (drop i w)) _ _ _ _ (behind_at_law outer left n x os at s r w (i + 1)) (sym (
-    same_cond (first_is (codes "exactly") (drop i w)) _ _ _ _ (levels_law made (one_number R.Exactly) w (i + 1)) (same_cond (first_is (codes "from") (drop i w)) _ _ _ _ (levels_law made two_bounds w (i + 1)) (sym (behind_thesaurus_law outer left n x os at s r w i)))
+rest_law outer left n x os at s r w i = same_cond (first_is (codes "at") (drop i w)) _ _ _ _ (after_at_law outer left n x os at s r w (i + 1)) (sym (
+    same_cond (first_is (codes "exactly") (drop i w)) _ _ _ _ (levels_law made (one_number R.Exactly) w (i + 1)) (same_cond (first_is (codes "from") (drop i w)) _ _ _ _ (levels_law made two_bounds w (i + 1)) (sym (after_thesaurus_law outer left n x os at s r w i)))
     ∙ two (levels_turn made w) (first_is (codes "exactly") (drop i w)) (first_is (codes "from") (drop i w)) _ _ (Err i) _))
   where
     made : Option Range → State

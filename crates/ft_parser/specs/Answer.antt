@@ -32,13 +32,13 @@ abbrev pub faultless : Tree → Option QueryFault → Result Form QueryFault
 faultless tree None = Ok (form_of tree)
 faultless tree (Some fault) = Err fault
 
--- behind all symbols: a character that begins none, or the end of the text, which is too soon for a selection that isn't whole
+-- after all symbols: a character that begins none, or the end of the text, which is too soon for a selection that isn't whole
 abbrev pub ended : Option ℕ → ℕ → Option Tree → Result Form QueryFault
 ended (Some bad) size x = Err (Q.Syntax bad)
 ended None size None = Err (Q.Syntax size)
 ended None size (Some tree) = faultless tree (fault_of tree)
 
--- behind the symbols before the first that exceeds a limit
+-- after the symbols before the first that exceeds a limit
 abbrev pub limited : List Placed → Option ℕ → ℕ → Option Tree → Result Form QueryFault
 limited [] bad size x = ended bad size x
 limited (p ∷ rest) bad size x = Err (limit_fault p)

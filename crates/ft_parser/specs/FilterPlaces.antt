@@ -6,16 +6,16 @@ use Rattle.selection_grammar.specs.declared.symbol.Placed.{Placed}
 use Rattle.selection_grammar.specs.Grammar.{Selection, Spot, at}
 use Rattle.selection_grammar.specs.Tree.{Tree}
 use Rattle.ft_parser.specs.Limits.{filters_round}
-use Rattle.ft_parser.specs.Selected.{is_deep_behind}
+use Rattle.ft_parser.specs.Selected.{is_deep_after}
 
 -- no symbol begins a filter too many
 abbrev pub NoneIsDeep : List Placed → Type 0
-NoneIsDeep symbols = (before : List Placed) (p : Placed) (rest : List Placed) → symbols ≡ before ++ p ∷ rest → is_deep_behind before p.symbol ≡ false
+NoneIsDeep symbols = (before : List Placed) (p : Placed) (rest : List Placed) → symbols ≡ before ++ p ∷ rest → is_deep_after before p.symbol ≡ false
 
 -- what stands before a selection, up to the last parenthesis that is open
 pub data Opened : List Placed → Type 0 where
   nothing : Opened []
-  behind : (u : List Placed) (p : Spot) → Opened (u ++ at p OpenParenthesis ∷ [])
+  suffix : (u : List Placed) (p : Spot) → Opened (u ++ at p OpenParenthesis ∷ [])
 
 -- The symbols from the last open parenthesis on, or all of them, spell a selection with as many filters directly round one another as may stand so.
 pub record HasAllFilters (symbols : List Placed) : Type 0 where

@@ -16,30 +16,30 @@ abbrev pub is_great : Option ℕ → Bool
 is_great None = false
 is_great (Some n) = nat_lt max_number n
 
--- how many parentheses are open behind a symbol
-abbrev pub open_behind : ℕ → Symbol → ℕ
-open_behind depth symbol = if is_mark open_parenthesis symbol then depth + 1 else if is_mark close_parenthesis symbol then depth - 1 else depth
+-- how many parentheses are open after a symbol
+abbrev pub depth_after : ℕ → Symbol → ℕ
+depth_after depth symbol = if is_mark open_parenthesis symbol then depth + 1 else if is_mark close_parenthesis symbol then depth - 1 else depth
 
 -- whether a symbol exceeds a limit where so many parentheses are open: it opens one more than may be, or is a number that is too great
 abbrev pub exceeds : ℕ → Symbol → Bool
 exceeds depth symbol = is_great (number_of symbol) || (nat_le max_open depth && is_mark open_parenthesis symbol)
 
--- the symbols before the first that exceeds a limit, and that one with those behind it
+-- the symbols before the first that exceeds a limit, and that one with those after it
 abbrev pub before_limit : ℕ → List Placed → List Placed
 before_limit depth [] = []
-before_limit depth (p ∷ rest) = if exceeds depth p.symbol then [] else p ∷ before_limit (open_behind depth p.symbol) rest
+before_limit depth (p ∷ rest) = if exceeds depth p.symbol then [] else p ∷ before_limit (depth_after depth p.symbol) rest
 
 abbrev pub from_limit : ℕ → List Placed → List Placed
 from_limit depth [] = []
-from_limit depth (p ∷ rest) = if exceeds depth p.symbol then p ∷ rest else from_limit (open_behind depth p.symbol) rest
+from_limit depth (p ∷ rest) = if exceeds depth p.symbol then p ∷ rest else from_limit (depth_after depth p.symbol) rest
 
 abbrev pub limit_fault : Placed → QueryFault
 limit_fault p = if is_mark open_parenthesis p.symbol then Q.Deep p.from else Q.Number p.from
 
--- how many parentheses are open behind symbols where so many are open before them, or the fault of the first of them that exceeds a limit
+-- how many parentheses are open after symbols where so many are open before them, or the fault of the first of them that exceeds a limit
 abbrev pub open_within : ℕ → List Placed → Result ℕ QueryFault
 open_within depth [] = Ok depth
-open_within depth (p ∷ rest) = if exceeds depth p.symbol then Err (limit_fault p) else open_within (open_behind depth p.symbol) rest
+open_within depth (p ∷ rest) = if exceeds depth p.symbol then Err (limit_fault p) else open_within (depth_after depth p.symbol) rest
 
 -- the fault of a symbol that can't stand where so many parentheses are open: a limit that it exceeds counts first
 abbrev pub symbol_fault : ℕ → Placed → QueryFault

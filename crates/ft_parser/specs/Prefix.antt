@@ -1,4 +1,4 @@
--- The run: the longest front of symbols that begins a selection. What it is read as, limits and what stands behind it included.
+-- The run: the longest prefix of symbols that begins a selection. What it is read as, limits and what stands after it included.
 use Rattle.std.specs.Prelude.{ℕ, suc, Bool, true, false, List, [], ◌∷◌, length, take, Option, Some, None, Result, Ok, Err}
 use Rattle.std.specs.Option.{is_some}
 use Rattle.ft_base.specs.Selection.{Form}
@@ -30,7 +30,7 @@ abbrev pub is_whole : List Placed → Bool
 is_whole symbols = is_some (finished (read symbols))
 
 -- What a run of so many symbols is read as: alone where it is a whole selection, and
--- else with the symbol behind it, which can't stand there, or with the end of the text.
+-- else with the symbol after it, which can't stand there, or with the end of the text.
 abbrev pub read_with_end : Bool → ℕ → List Placed → Option ℕ → ℕ → Result Form QueryFault
 read_with_end true count symbols bad size = symbols_read (symbols_with (take count symbols) None) size
 read_with_end false count symbols bad size = symbols_read (symbols_with (take (suc count) symbols) bad) size
@@ -47,17 +47,17 @@ counted is_all count symbols bad size = with_number count (read_with_end is_all 
 unfoldable pub run_read : List Placed → Option ℕ → ℕ → Result (Form × ℕ) QueryFault
 run_read symbols bad size = counted (is_whole (take (run_length symbols) symbols)) (run_length symbols) symbols bad size
 
--- the place behind symbols that stand from a place on
-abbrev pub place_behind : ℕ → List Placed → ℕ
-place_behind from [] = from
-place_behind from (p ∷ rest) = place_behind p.to rest
+-- the place after symbols that stand from a place on
+abbrev pub place_after : ℕ → List Placed → ℕ
+place_after from [] = from
+place_after from (p ∷ rest) = place_after p.to rest
 
 -- the place in the number's stead
 abbrev pub with_place : ℕ → List Placed → Result (Form × ℕ) QueryFault → Result (Form × ℕ) QueryFault
-with_place from symbols (Ok (form, count)) = Ok (form, place_behind from (take count symbols))
+with_place from symbols (Ok (form, count)) = Ok (form, place_after from (take count symbols))
 with_place from symbols (Err fault) = Err fault
 
--- what is read of a text from a place on: the selection with which it begins there and the place behind it, or the first fault
+-- what is read of a text from a place on: the selection with which it begins there and the place after it, or the first fault
 unfoldable pub prefix_read : ℕ → List ℕ → Result (Form × ℕ) QueryFault
 prefix_read from text = with_place from (symbols_from from text).placed (run_read (symbols_from from text).placed (symbols_from from text).bad (length text))
 

@@ -14,13 +14,13 @@ use Rattle.selection_grammar.specs.Texts.{Begins}
 use Rattle.selection_grammar.specs.Tree.{Tree}
 use Rattle.selection_faults.specs.Faults.{fault_of}
 use Rattle.ft_parser.specs.FilterLimit.{are_filters_within}
-use Rattle.ft_parser.specs.Limits.{is_great, open_behind, exceeds, is_deep_filter}
+use Rattle.ft_parser.specs.Limits.{is_great, depth_after, exceeds, is_deep_filter}
 use Rattle.query_symbols.specs.Symbols.{symbols_of}
 
--- how many parentheses are open behind symbols
+-- how many parentheses are open after symbols
 abbrev pub open_after : ℕ → List Placed → ℕ
 open_after depth [] = depth
-open_after depth (p ∷ rest) = open_after (open_behind depth p.symbol) rest
+open_after depth (p ∷ rest) = open_after (depth_after depth p.symbol) rest
 
 abbrev pub open_in : List Placed → ℕ
 open_in symbols = open_after 0 symbols
@@ -30,12 +30,12 @@ abbrev pub is_deep_there : Option (Shape State) → Symbol → Bool
 is_deep_there None symbol = false
 is_deep_there (Some shape) symbol = is_deep_filter shape symbol
 
-abbrev pub is_deep_behind : List Placed → Symbol → Bool
-is_deep_behind before symbol = is_deep_there (read before) symbol
+abbrev pub is_deep_after : List Placed → Symbol → Bool
+is_deep_after before symbol = is_deep_there (read before) symbol
 
--- whether a symbol exceeds a limit where it stands behind others: of numbers, of parentheses, or of filters
+-- whether a symbol exceeds a limit where it stands after others: of numbers, of parentheses, or of filters
 abbrev pub exceeds_limit : List Placed → Symbol → Bool
-exceeds_limit before symbol = exceeds (open_in before) symbol || is_deep_behind before symbol
+exceeds_limit before symbol = exceeds (open_in before) symbol || is_deep_after before symbol
 
 -- Symbols that may stand at the beginning of a selection: they begin one, and none of them exceeds a limit.
 pub record MayStand (symbols : List Placed) : Type 0 where
@@ -66,11 +66,11 @@ pub data Refuses (symbols : List Placed) (bad : Option ℕ) (size : ℕ) : Query
       → is_mark open_parenthesis p.symbol ≡ true → nat_le max_open (open_in before) ≡ true → Refuses symbols bad size (Q.Deep p.from)
   -- a filter begins whose operand has as many filters directly round one another as may stand so
   filter : (before : List Placed) (p : Placed) (rest : List Placed) → symbols ≡ before ++ p ∷ rest → MayStand before
-      → is_deep_behind before p.symbol ≡ true → Refuses symbols bad size (Q.Deep p.from)
+      → is_deep_after before p.symbol ≡ true → Refuses symbols bad size (Q.Deep p.from)
   -- with the symbol there they begin no selection
   symbol : (before : List Placed) (p : Placed) (rest : List Placed) → symbols ≡ before ++ p ∷ rest → MayStand before
       → exceeds_limit before p.symbol ≡ false → (Begins (before ++ p ∷ []) → ⊥) → Refuses symbols bad size (Q.Syntax p.from)
-  -- a character behind all symbols begins none
+  -- a character after all symbols begins none
   character : (at : ℕ) → bad ≡ Some at → MayStand symbols → Refuses symbols bad size (Q.Syntax at)
   -- the text ends before the selection does
   end : bad ≡ None → MayStand symbols → ((tree : Tree) → Selection symbols tree → ⊥) → Refuses symbols bad size (Q.Syntax size)

@@ -57,7 +57,7 @@ pub(crate) fn operand_tree(alloc: Global, operand: Operand) -> Result<Parsed, Me
     }
 }
 
-/// What stands before `not in`, and an operand behind it.
+/// What stands before `not in`, and an operand after it.
 pub(crate) fn mild_with(
     alloc: Global,
     mild: Option<Parsed>,

@@ -41,7 +41,7 @@ fn goes_on(symbols: &[Placed], next: usize, stage: &Stage) -> bool
     }
 }
 
-/// Whether the symbol of that number may stand behind a thesaurus that still may have a relationship, or not.
+/// Whether the symbol of that number may stand after a thesaurus that still may have a relationship, or not.
 fn follows_name(symbols: &[Placed], next: usize, may_relate: bool) -> bool
     ensures { result ≡ spec.follows_name may_relate (drop next symbols.now) }
 {

@@ -16,9 +16,9 @@ fn exceeds(depth: usize, symbol: &Symbol) -> bool
     }
 }
 
-fn open_behind(depth: usize, symbol: &Symbol) -> usize
+fn depth_after(depth: usize, symbol: &Symbol) -> usize
     requires { depth < 2 ^ 63 }
-    ensures { result ≡ spec.open_behind depth symbol.now }
+    ensures { result ≡ spec.depth_after depth symbol.now }
 {
     match symbol {
         Symbol::OpenParenthesis => depth + 1,
@@ -27,7 +27,7 @@ fn open_behind(depth: usize, symbol: &Symbol) -> usize
     }
 }
 
-/// How many parentheses are open behind symbols where so many are open before them, or the fault of the first of them that exceeds a limit.
+/// How many parentheses are open after symbols where so many are open before them, or the fault of the first of them that exceeds a limit.
 pub(crate) fn open_within(depth: usize, symbols: &[Placed]) -> Result<usize, QueryFault>
     requires { depth + length symbols.now < 2 ^ 63 }
     ensures { result ≡ spec.open_within depth symbols.now }
@@ -37,7 +37,7 @@ pub(crate) fn open_within(depth: usize, symbols: &[Placed]) -> Result<usize, Que
         if exceeds(count, &placed.symbol) {
             return Err(limit_fault(placed));
         }
-        count = open_behind(count, &placed.symbol);
+        count = depth_after(count, &placed.symbol);
     }
     Ok(count)
 }

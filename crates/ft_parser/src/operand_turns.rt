@@ -1,4 +1,4 @@
-//! Steps of the reader at operands: where one is wanted, and behind a whole one.
+//! Steps of the reader at operands: where one is wanted, and after a whole one.
 
 ghost use Rattle.std.specs.Prelude.{◌≡◌, [], ◌∷◌, IfOk, Some, None, codes};
 ghost use Rattle.ft_parser.specs.steps.State.{Answers, frames_of, left_of, state_of};
@@ -40,7 +40,7 @@ pub(crate) fn nothing_left_of(alloc: Global) -> Left
     }
 }
 
-/// Where an operand is wanted, perhaps behind `ftnot`.
+/// Where an operand is wanted, perhaps after `ftnot`.
 pub(crate) fn wanted(
     reader: Reader<'_>,
     next: usize,
@@ -156,7 +156,7 @@ fn opened(alloc: Global, context: Context, negation: Option<usize>) -> Result<St
     Ok(State { context, stage })
 }
 
-/// Behind a string in braces.
+/// After a string in braces.
 pub(crate) fn in_braces(
     reader: Reader<'_>,
     next: usize,
@@ -253,7 +253,7 @@ fn closed(alloc: Global, outer: Vec<Frame>, frame: Frame, selection: Parsed) -> 
     State { context, stage }
 }
 
-/// Behind a whole operand.
+/// After a whole operand.
 pub(crate) fn joint(
     reader: Reader<'_>,
     next: usize,
@@ -264,13 +264,13 @@ pub(crate) fn joint(
         (reading (m.joint_next (frames_of context.outer.items) (left_of context.left) (tree operand)) reader.entry.symbols.now next) }
 {
     if is_word(reader.symbols, next, "ftor") {
-        let state = behind_or(reader.alloc, context, operand)?;
+        let state = after_or(reader.alloc, context, operand)?;
         Ok((state, next + 1))
     } else if is_word(reader.symbols, next, "ftand") {
-        let state = behind_and(reader.alloc, context, operand)?;
+        let state = after_and(reader.alloc, context, operand)?;
         Ok((state, next + 1))
     } else if is_word(reader.symbols, next, "not") {
-        behind_not(reader, next + 1, context, operand)
+        after_not(reader, next + 1, context, operand)
     } else {
         let Context { outer, left } = context;
         let selection = selection_with(reader.alloc, left, operand)?;
@@ -278,8 +278,8 @@ pub(crate) fn joint(
     }
 }
 
-/// Behind the first word of `not in`.
-fn behind_not(
+/// After the first word of `not in`.
+fn after_not(
     reader: Reader<'_>,
     next: usize,
     context: Context,
@@ -292,7 +292,7 @@ fn behind_not(
         reader.entry.symbols.now next) }
 {
     if is_word(reader.symbols, next, "in") {
-        let state = behind_mild(reader.alloc, context, operand)?;
+        let state = after_mild(reader.alloc, context, operand)?;
         Ok((state, next + 1))
     } else {
         drop((context, operand));
@@ -300,7 +300,7 @@ fn behind_not(
     }
 }
 
-fn behind_or(alloc: Global, context: Context, operand: Parsed) -> Result<State, Memory>
+fn after_or(alloc: Global, context: Context, operand: Parsed) -> Result<State, Memory>
     ensures { IfOk result (λ state. state_of state
         ≡ stands (frames_of context.outer.items) (record { ors = m.ors_with (left_of context.left) (tree operand); ands = []; mild = None }) (m.wanted None)) }
 {
@@ -319,7 +319,7 @@ fn behind_or(alloc: Global, context: Context, operand: Parsed) -> Result<State, 
     Ok(State { context, stage })
 }
 
-fn behind_and(alloc: Global, context: Context, operand: Parsed) -> Result<State, Memory>
+fn after_and(alloc: Global, context: Context, operand: Parsed) -> Result<State, Memory>
     ensures { IfOk result (λ state. state_of state
         ≡ stands (frames_of context.outer.items)
         (record { ors = (left_of context.left).ors; ands = m.ands_with (left_of context.left) (tree operand); mild = None }) (m.wanted None)) }
@@ -338,7 +338,7 @@ fn behind_and(alloc: Global, context: Context, operand: Parsed) -> Result<State,
     Ok(State { context, stage })
 }
 
-fn behind_mild(alloc: Global, context: Context, operand: Parsed) -> Result<State, Memory>
+fn after_mild(alloc: Global, context: Context, operand: Parsed) -> Result<State, Memory>
     ensures { IfOk result (λ state. state_of state
         ≡ stands (frames_of context.outer.items)
         (record { ors = (left_of context.left).ors; ands = (left_of context.left).ands; mild = Some (m.mild_with (left_of context.left).mild (tree operand)) })

@@ -1,4 +1,4 @@
-//! Steps of the reader behind operands, at options and filters.
+//! Steps of the reader after operands, at options and filters.
 
 ghost use Rattle.std.specs.Prelude.{◌≡◌, [], ◌∷◌, ◌++◌, IfOk, Ok, codes, false};
 ghost use Rattle.ft_parser.specs.steps.State.{Answers, frames_of, left_of, primary_of, state_of};
@@ -23,8 +23,8 @@ use ft_base::{Filter, Items, Memory, Range, StopChoice};
 use selection_grammar::{MatchOption, Parsed, PlacedOption};
 use std::alloc::Global;
 
-/// Behind a filter, which was read or not.
-fn behind_filter(
+/// After a filter, which was read or not.
+fn after_filter(
     alloc: Global,
     outer: Vec<Frame>,
     selection: Parsed,
@@ -59,7 +59,7 @@ fn filtered_state(
     Ok(State { context, stage })
 }
 
-/// Behind a whole selection with a filter.
+/// After a whole selection with a filter.
 #[tactic(auto, unfolding(crate::specs::steps::Turns::with_filter_turn))]
 pub(crate) fn with_filter(
     reader: Reader<'_>,
@@ -70,7 +70,7 @@ pub(crate) fn with_filter(
     ensures { Answers state_of result (turns.with_filter_turn (frames_of outer.items) (tree selection) reader.entry.symbols.now next) }
 {
     if begins_filter(reader.symbols, next) {
-        behind_filter(reader.alloc, outer, selection, filter(reader.symbols, next))
+        after_filter(reader.alloc, outer, selection, filter(reader.symbols, next))
     } else {
         close(reader, next, outer, selection)
     }
@@ -114,7 +114,7 @@ pub(crate) fn thesaurus_ended(alloc: Global, left: Left, last: Uses) -> Result<P
     ended(alloc, left, operand)
 }
 
-/// Behind whole options.
+/// After whole options.
 #[tactic(auto, unfolding(crate::specs::steps::Turns::options_turn))]
 pub(crate) fn given(
     reader: Reader<'_>,
@@ -129,13 +129,13 @@ pub(crate) fn given(
     if begins_filter(reader.symbols, next) {
         let Context { outer, left } = context;
         let selection = ended(reader.alloc, left, operand)?;
-        behind_filter(reader.alloc, outer, selection, filter(reader.symbols, next))
+        after_filter(reader.alloc, outer, selection, filter(reader.symbols, next))
     } else {
         unfiltered(reader, next, context, operand)
     }
 }
 
-/// Behind whole options, but no filter.
+/// After whole options, but no filter.
 #[tactic(auto, unfolding(crate::specs::steps::Turns::unfiltered_turn))]
 fn unfiltered(
     reader: Reader<'_>,
@@ -159,7 +159,7 @@ fn unfiltered(
     }
 }
 
-/// Behind the `using` at that place.
+/// After the `using` at that place.
 #[tactic(auto, unfolding(crate::specs::steps::Turns::using_turn))]
 fn using(
     reader: Reader<'_>,
@@ -181,7 +181,7 @@ fn using(
     }
 }
 
-/// Stop words behind their `stop`.
+/// Stop words after their `stop`.
 fn stop_words(
     reader: Reader<'_>,
     next: usize,
@@ -254,7 +254,7 @@ fn with_option(operand: Operand, option: PlacedOption) -> Result<Operand, Memory
     })
 }
 
-/// Behind stop words.
+/// After stop words.
 #[tactic(auto, unfolding(crate::specs::steps::Turns::stop_terms_turn))]
 pub(crate) fn stop_terms(
     reader: Reader<'_>,
@@ -287,7 +287,7 @@ pub(crate) fn with_stops(stops: Stops) -> Result<Operand, Memory>
     with_option(operand, PlacedOption { at, option })
 }
 
-/// Behind a thesaurus outside parentheses.
+/// After a thesaurus outside parentheses.
 #[tactic(auto, unfolding(crate::specs::steps::Turns::thesaurus_turn))]
 pub(crate) fn thesaurus(
     reader: Reader<'_>,
@@ -301,12 +301,12 @@ pub(crate) fn thesaurus(
     if last.relationship.is_none() && is_word(reader.symbols, next, "relationship") {
         related(reader, next + 1, context, last)
     } else {
-        behind_name(reader, next, context, last)
+        after_name(reader, next, context, last)
     }
 }
 
 #[tactic(auto, unfolding(crate::specs::steps::Turns::thesaurus_rest_turn))]
-fn behind_name(
+fn after_name(
     reader: Reader<'_>,
     next: usize,
     context: Context,
@@ -316,7 +316,7 @@ fn behind_name(
         (primary_of last.operand.primary) last.operand.options last.at last.name last.relationship reader.entry.symbols.now next) }
 {
     if is_word(reader.symbols, next, "at") {
-        behind_at(reader, next + 1, context, last)
+        after_at(reader, next + 1, context, last)
     } else if begins_range_without_at(reader.symbols, next) {
         levels(
             reader,
@@ -325,7 +325,7 @@ fn behind_name(
             range_without_at(reader.symbols, next),
         )
     } else {
-        behind_thesaurus(reader, next, context, last)
+        after_thesaurus(reader, next, context, last)
     }
 }
 
@@ -349,15 +349,15 @@ fn levels(
     }
 }
 
-/// Behind an `at`, which begins levels or a filter.
-#[tactic(auto, unfolding(crate::specs::steps::Turns::behind_at_turn))]
-fn behind_at(
+/// After an `at`, which begins levels or a filter.
+#[tactic(auto, unfolding(crate::specs::steps::Turns::after_at_turn))]
+fn after_at(
     reader: Reader<'_>,
     next: usize,
     context: Context,
     last: Uses,
 ) -> Result<(State, usize), Halt>
-    ensures { Answers state_of result (turns.behind_at_turn (frames_of context.outer.items) (left_of context.left) last.operand.negation
+    ensures { Answers state_of result (turns.after_at_turn (frames_of context.outer.items) (left_of context.left) last.operand.negation
         (primary_of last.operand.primary) last.operand.options last.at last.name last.relationship reader.entry.symbols.now next) }
 {
     if is_word(reader.symbols, next, "least") || is_word(reader.symbols, next, "most") {
@@ -365,25 +365,25 @@ fn behind_at(
     } else {
         let Context { outer, left } = context;
         let selection = thesaurus_ended(reader.alloc, left, last)?;
-        behind_filter(reader.alloc, outer, selection, side(reader.symbols, next))
+        after_filter(reader.alloc, outer, selection, side(reader.symbols, next))
     }
 }
 
-/// Behind a thesaurus that has no levels, but not at an `at`.
-#[tactic(auto, unfolding(crate::specs::steps::Turns::behind_thesaurus_turn))]
-fn behind_thesaurus(
+/// After a thesaurus that has no levels, but not at an `at`.
+#[tactic(auto, unfolding(crate::specs::steps::Turns::after_thesaurus_turn))]
+fn after_thesaurus(
     reader: Reader<'_>,
     next: usize,
     context: Context,
     last: Uses,
 ) -> Result<(State, usize), Halt>
-    ensures { Answers state_of result (turns.behind_thesaurus_turn (frames_of context.outer.items) (left_of context.left) last.operand.negation
+    ensures { Answers state_of result (turns.after_thesaurus_turn (frames_of context.outer.items) (left_of context.left) last.operand.negation
         (primary_of last.operand.primary) last.operand.options last.at last.name last.relationship reader.entry.symbols.now next) }
 {
     if begins_other_filter(reader.symbols, next) {
         let Context { outer, left } = context;
         let selection = thesaurus_ended(reader.alloc, left, last)?;
-        behind_filter(
+        after_filter(
             reader.alloc,
             outer,
             selection,

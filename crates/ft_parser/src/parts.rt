@@ -26,7 +26,7 @@ fn unit(symbols: &[Placed], next: usize) -> Result<(Unit, usize), usize>
     }
 }
 
-/// A range behind `at`.
+/// A range after `at`.
 pub(crate) fn bound(symbols: &[Placed], next: usize) -> Result<(Range, usize), usize>
     ensures value { result ≡ reading keywords.bound symbols.now next }
     ensures within { IfOk result (λ r. r.1 ≤ length symbols.now) }
@@ -46,7 +46,7 @@ pub(crate) fn bound(symbols: &[Placed], next: usize) -> Result<(Range, usize), u
     }
 }
 
-/// A range behind `from`.
+/// A range after `from`.
 fn two_bounds(symbols: &[Placed], next: usize) -> Result<(Range, usize), usize>
     ensures value { result ≡ reading keywords.two_bounds symbols.now next }
     ensures within { IfOk result (λ r. r.1 ≤ length symbols.now) }
@@ -98,7 +98,7 @@ pub(crate) fn range(symbols: &[Placed], next: usize) -> Result<(Range, usize), u
     }
 }
 
-/// Times behind an `occurs` at that place.
+/// Times after an `occurs` at that place.
 pub(crate) fn times(
     symbols: &[Placed],
     next: usize,
@@ -156,7 +156,7 @@ fn scope(
     }
 }
 
-/// A filter behind its `at`.
+/// A filter after its `at`.
 pub(crate) fn side(symbols: &[Placed], next: usize) -> Result<(Filter, usize), usize>
     ensures value { result ≡ reading keywords.side symbols.now next }
     ensures within { IfOk result (λ r. r.1 ≤ length symbols.now) }

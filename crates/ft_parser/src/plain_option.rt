@@ -51,7 +51,7 @@ fn no_stop_words(symbols: &[Placed], next: usize, at: usize) -> Result<(PlacedOp
     }
 }
 
-/// An option behind `no`.
+/// An option after `no`.
 fn turned_off(symbols: &[Placed], next: usize, at: usize) -> Result<(PlacedOption, usize), Halt>
     ensures value { Answers (λ o. o) result (reading (keywords.turned_off at) symbols.now next) }
     ensures within { IfOk result (λ r. r.1 ≤ length symbols.now) }
@@ -79,7 +79,7 @@ fn language(reader: Reader<'_>, next: usize, at: usize) -> Result<(PlacedOption,
     }
 }
 
-/// An option behind the `using` at that place.
+/// An option after the `using` at that place.
 pub(crate) fn plain_option(
     reader: Reader<'_>,
     next: usize,

@@ -17,8 +17,8 @@ use selection_grammar::{Parsed, Placed};
 use std::alloc::Global;
 
 /// Reads the selection with which a text begins at a byte place, at which a character starts or the text ends. It takes the longest run of symbols that
-/// begins a selection, and gives the selection and the place behind the last of these symbols; what stands behind is left. A run that is no
-/// whole selection has its first fault in it or directly behind it. All places count bytes from the start of the text.
+/// begins a selection, and gives the selection and the place after the last of these symbols; what stands after is left. A run that is no
+/// whole selection has its first fault in it or directly after it. All places count bytes from the start of the text.
 #[tactic(none)]
 pub fn read_prefix(alloc: Global, text: &str, from: usize) -> Result<(Selection, usize), QueryFault>
     requires { IsCharBoundary text.now from }
@@ -28,7 +28,7 @@ pub fn read_prefix(alloc: Global, text: &str, from: usize) -> Result<(Selection,
         Ok(found) => {
             let placed = found.placed.as_slice();
             match read_run(alloc, placed, found.bad, text.len()) {
-                Ok((selection, count)) => Ok((selection, place_behind(from, &placed[..count]))),
+                Ok((selection, count)) => Ok((selection, place_after(from, &placed[..count]))),
                 Err(fault) => Err(fault),
             }
         }
@@ -36,9 +36,9 @@ pub fn read_prefix(alloc: Global, text: &str, from: usize) -> Result<(Selection,
     }
 }
 
-/// Reads the selection with which symbols begin, in a text of so many bytes that has a character behind
+/// Reads the selection with which symbols begin, in a text of so many bytes that has a character after
 /// them that begins no symbol, or none. It takes the longest run of them that begins a selection, and gives
-/// the selection and the number of symbols in the run. It looks at the run and the symbol behind it only.
+/// the selection and the number of symbols in the run. It looks at the run and the symbol after it only.
 #[tactic(none)]
 pub fn read_run(
     alloc: Global,
@@ -82,9 +82,9 @@ fn read_alone(
     }
 }
 
-/// The place behind symbols that stand from a place on.
-fn place_behind(from: usize, symbols: &[Placed]) -> usize
-    ensures { result ≡ spec.place_behind from symbols.now }
+/// The place after symbols that stand from a place on.
+fn place_after(from: usize, symbols: &[Placed]) -> usize
+    ensures { result ≡ spec.place_after from symbols.now }
 {
     let mut place = from;
     for placed in symbols {

@@ -28,7 +28,7 @@ pub fn read_selection(alloc: Global, text: &str) -> Result<Selection, QueryFault
     }
 }
 
-/// Reads symbols in a text of so many bytes, which has a character behind them that begins no symbol, or none.
+/// Reads symbols in a text of so many bytes, which has a character after them that begins no symbol, or none.
 fn read_placed(
     alloc: Global,
     placed: &[Placed],
@@ -58,7 +58,7 @@ pub(crate) fn rest(symbols: &[Placed], count: usize) -> &[Placed]
     &symbols[count..]
 }
 
-/// Behind the run, before these symbols: none of them may be left.
+/// After the run, before these symbols: none of them may be left.
 pub(crate) fn read_to_end(
     alloc: Global,
     depth: usize,
@@ -78,7 +78,7 @@ pub(crate) fn read_to_end(
     }
 }
 
-/// Behind all symbols: a character that begins none, or the end of the text.
+/// After all symbols: a character that begins none, or the end of the text.
 fn ended(
     alloc: Global,
     bad: Option<usize>,

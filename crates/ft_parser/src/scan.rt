@@ -23,14 +23,14 @@ use std::alloc::Global;
 pub(crate) struct Scan {
     /// How many of them do.
     pub(crate) count: usize,
-    /// How many parentheses are open behind those.
+    /// How many parentheses are open after those.
     pub(crate) depth: usize,
     /// The selection that those are, if they are a whole one.
     pub(crate) whole: Option<Parsed>,
 }
 
 /// Reads symbols up to the first one that can't stand there, or gives the fault of the first one that exceeds a limit. It reads them once, and of
-/// those behind them the next one at most.
+/// those after them the next one at most.
 pub(crate) fn scan_symbols(alloc: Global, symbols: &[Placed]) -> Result<Scan, QueryFault>
     ensures { spec.Scans symbols.now result }
 {
@@ -44,7 +44,7 @@ pub(crate) fn scan_symbols(alloc: Global, symbols: &[Placed]) -> Result<Scan, Qu
             return Err(QueryFault::Deep { at });
         }
         match turn(Reader { alloc, symbols }, next, state) {
-            Ok((there, end)) => match open_behind(symbols, next, end, depth) {
+            Ok((there, end)) => match depth_after(symbols, next, end, depth) {
                 Ok(count) => {
                     state = there;
                     next = end;
@@ -69,8 +69,8 @@ pub(crate) fn scan_symbols(alloc: Global, symbols: &[Placed]) -> Result<Scan, Qu
     }
 }
 
-/// How many parentheses are open behind the symbols from one number to another, or the fault of the first of them that exceeds a limit.
-fn open_behind(
+/// How many parentheses are open after the symbols from one number to another, or the fault of the first of them that exceeds a limit.
+fn depth_after(
     symbols: &[Placed],
     next: usize,
     end: usize,
@@ -91,7 +91,7 @@ fn stopped(symbols: &[Placed], next: usize, end: usize, depth: usize) -> Result<
     requires small { depth ≤ next }
     ensures { result ≡ spec.stopped end (limits.open_within depth (take (end - next) (drop next symbols.now))) }
 {
-    match open_behind(symbols, next, end, depth) {
+    match depth_after(symbols, next, end, depth) {
         Ok(depth) => Ok(Scan {
             count: end,
             depth,

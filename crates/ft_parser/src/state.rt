@@ -9,7 +9,7 @@ pub(crate) struct Reader<'a> {
     pub(crate) symbols: &'a [Placed],
 }
 
-/// What options stand behind: words, or a selection in parentheses.
+/// What options stand after: words, or a selection in parentheses.
 #[derive(Drop)]
 pub(crate) enum Primary {
     Phrases(Items<PlacedString>, Mode, Option<PlacedTimes>),
@@ -24,7 +24,7 @@ pub(crate) struct Operand {
     pub(crate) options: Items<PlacedOption>,
 }
 
-/// What stands to the left of an operand: before the last `ftor`, behind it before the last `ftand`, and behind that before
+/// What stands to the left of an operand: before the last `ftor`, after it before the last `ftand`, and after that before
 /// `not in`.
 #[derive(Drop)]
 pub(crate) struct Left {
@@ -85,11 +85,11 @@ pub(crate) enum Stage {
     Given(Operand),
     /// Stop words.
     StopTerms(Stops),
-    /// Strings of a further term, and whether it is behind `except`.
+    /// Strings of a further term, and whether it is after `except`.
     StopStrings(Stops, bool, Items<PlacedString>),
     /// A thesaurus outside parentheses.
     Thesaurus(Uses),
-    /// One inside parentheses, behind whole ones.
+    /// One inside parentheses, after whole ones.
     ThesaurusIn(Uses, Items<ThesaurusUse>),
     /// Whole ones inside parentheses.
     ThesauriIn(Operand, usize, Items<ThesaurusUse>),

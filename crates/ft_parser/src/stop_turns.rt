@@ -119,7 +119,7 @@ fn texts(alloc: Global, strings: &Items<PlacedString>) -> Result<Items<Line>, Me
     Ok(texts)
 }
 
-/// Behind a string of a term.
+/// After a string of a term.
 pub(crate) fn stop_strings(
     reader: Reader<'_>,
     next: usize,

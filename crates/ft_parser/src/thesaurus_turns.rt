@@ -128,7 +128,7 @@ fn name_inside(
     }
 }
 
-/// Behind whole thesauri in parentheses.
+/// After whole thesauri in parentheses.
 pub(crate) fn thesauri_in(
     reader: Reader<'_>,
     next: usize,
@@ -178,7 +178,7 @@ pub(crate) fn with_uses(operand: Operand, at: usize, uses: ThesaurusUses) -> Res
     })
 }
 
-/// Behind the name of a thesaurus in parentheses.
+/// After the name of a thesaurus in parentheses.
 #[tactic(auto, unfolding(crate::specs::steps::Turns::thesaurus_in_turn))]
 pub(crate) fn thesaurus_in(
     reader: Reader<'_>,
@@ -193,7 +193,7 @@ pub(crate) fn thesaurus_in(
     if last.relationship.is_none() && is_word(reader.symbols, next, "relationship") {
         related_in(reader, next + 1, context, last, uses)
     } else {
-        behind_name_in(reader, next, context, last, uses)
+        after_name_in(reader, next, context, last, uses)
     }
 }
 
@@ -232,7 +232,7 @@ fn related_in(
 }
 
 #[tactic(auto, unfolding(crate::specs::steps::Turns::thesaurus_in_rest_turn))]
-fn behind_name_in(
+fn after_name_in(
     reader: Reader<'_>,
     next: usize,
     context: Context,
@@ -249,7 +249,7 @@ fn behind_name_in(
     }
 }
 
-/// Behind a whole thesaurus in parentheses that has no levels.
+/// After a whole thesaurus in parentheses that has no levels.
 fn without_levels(
     reader: Reader<'_>,
     next: usize,
@@ -331,7 +331,7 @@ fn levels_in(
     }
 }
 
-/// Behind the name of a thesaurus outside parentheses: its relationship.
+/// After the name of a thesaurus outside parentheses: its relationship.
 pub(crate) fn related(
     reader: Reader<'_>,
     next: usize,
@@ -378,7 +378,7 @@ pub(crate) fn with_one_use(
     with_uses(operand, at, uses)
 }
 
-/// Behind the range of its levels.
+/// After the range of its levels.
 pub(crate) fn levels_outside(
     reader: Reader<'_>,
     end: usize,

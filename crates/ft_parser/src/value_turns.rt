@@ -1,4 +1,4 @@
-//! Steps of the reader behind the value of words.
+//! Steps of the reader after the value of words.
 
 ghost use Rattle.ft_parser.specs.steps.State.{Answers, frames_of, left_of, state_of};
 ghost use Rattle.ft_parser.specs.steps.Turns as turns;
@@ -10,7 +10,7 @@ use crate::state::{Context, Halt, Operand, Primary, Reader, Stage, State};
 use ft_base::{Items, Mode};
 use selection_grammar::PlacedString;
 
-/// Behind a value.
+/// After a value.
 #[tactic(auto, unfolding(crate::specs::steps::Turns::valued_turn))]
 pub(crate) fn valued(
     reader: Reader<'_>,
@@ -36,7 +36,7 @@ pub(crate) fn valued(
     }
 }
 
-/// Behind a value and `any`.
+/// After a value and `any`.
 #[tactic(auto, unfolding(crate::specs::steps::Turns::any_of_turn))]
 pub(crate) fn any_of(
     reader: Reader<'_>,
@@ -56,7 +56,7 @@ pub(crate) fn any_of(
     }
 }
 
-/// Behind a value and `all`.
+/// After a value and `all`.
 #[tactic(auto, unfolding(crate::specs::steps::Turns::all_of_turn))]
 pub(crate) fn all_of(
     reader: Reader<'_>,
@@ -76,7 +76,7 @@ pub(crate) fn all_of(
     }
 }
 
-/// Behind a value and its mode.
+/// After a value and its mode.
 #[tactic(auto, unfolding(crate::specs::steps::Turns::moded_turn))]
 pub(crate) fn moded(
     reader: Reader<'_>,

@@ -162,9 +162,9 @@ unfolding is_allowed
 allowed_flat c forms h = flat_pass is_allowed (λ parts all. sym (each_allowed parts) ∙ all) (λ parts all. sym (each_allowed parts) ∙ all) c forms h
 
 -- a selection without `ftnot` gives an And an operand at least
-some_behind : (first : List Form) (rest : List Form) → has_operands (forms_of first) ≡ true → has_operands (forms_of (first ++ rest)) ≡ true
-some_behind [] rest h = cc
-some_behind (form ∷ first) rest h = refl
+some_after : (first : List Form) (rest : List Form) → has_operands (forms_of first) ≡ true → has_operands (forms_of (first ++ rest)) ≡ true
+some_after [] rest h = cc
+some_after (form ∷ first) rest h = refl
 
 gives_some : (form : Form) → without_not form ≡ true → has_operands (forms_of (operands_in And form)) ≡ true
 unfolding without_not
@@ -220,7 +220,7 @@ mutual
   some-flattened none some h = some
   some-flattened (more form rest) some h =
       let parts = and_parts (without_not form) (each_without_not rest) h in
-      some_behind (operands_in And (flattened form)) (flat_map (operands_in And) (each_flattened rest)) (gives_some (flattened form) (not-flattened form parts.0))
+      some_after (operands_in And (flattened form)) (flat_map (operands_in And) (each_flattened rest)) (gives_some (flattened form) (not-flattened form parts.0))
 
   each_not-flattened : (forms : Forms) → each_without_not forms ≡ true → list_all without_not (each_flattened forms) ≡ true
   each_not-flattened none h = refl

@@ -40,9 +40,9 @@ or_further : (left right : List Match) (operands : List (List Match)) → fold f
 or_further left right [] = refl
 or_further left right (next ∷ rest) = ap (λ ms. fold ft_or ms rest) (append_assoc left right next) ∙ or_further left (ft_or right next) rest
 
--- operands behind a front are the front and their own join
-pub and_front : (front : List Match) (operands : List (List Match)) → fold ft_and front operands ≡ ft_and front (fold ft_and (empty_match ∷ []) operands)
-and_front front operands = ap (λ ms. fold ft_and ms operands) (sym (and_empty front)) ∙ and_further front (empty_match ∷ []) operands
+-- operands after a prefix are the prefix and their own join
+pub and_prefix : (prefix : List Match) (operands : List (List Match)) → fold ft_and prefix operands ≡ ft_and prefix (fold ft_and (empty_match ∷ []) operands)
+and_prefix prefix operands = ap (λ ms. fold ft_and ms operands) (sym (and_empty prefix)) ∙ and_further prefix (empty_match ∷ []) operands
 
-pub or_front : (front : List Match) (operands : List (List Match)) → fold ft_or front operands ≡ ft_or front (fold ft_or [] operands)
-or_front front operands = ap (λ ms. fold ft_or ms operands) (sym (append-nil front)) ∙ or_further front [] operands
+pub or_prefix : (prefix : List Match) (operands : List (List Match)) → fold ft_or prefix operands ≡ ft_or prefix (fold ft_or [] operands)
+or_prefix prefix operands = ap (λ ms. fold ft_or ms operands) (sym (append-nil prefix)) ∙ or_further prefix [] operands

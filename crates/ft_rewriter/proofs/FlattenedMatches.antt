@@ -16,7 +16,7 @@ use Rattle.ft_syntax.specs.View.{forms_of}
 use Rattle.ft_rewriter.specs.Rewriting.{listed, operands_in, flattened, each_flattened}
 use Rattle.ft_rewriter.specs.declared.connective.Connective.{Connective}
 use Rattle.ft_rewriter.specs.declared.connective.Connective.TheVariants.{Or, And}
-use Rattle.ft_rewriter.proofs.Associative.{and_front, or_front}
+use Rattle.ft_rewriter.proofs.Associative.{and_prefix, or_prefix}
 
 pub forms_of-listed : (forms : Forms) → forms_of (listed forms) ≡ forms
 forms_of-listed none = refl
@@ -70,38 +70,38 @@ module _ (lexicon : Lexicon) (options : Options) where
         ap (λ ms. all_matches lexicon options first tokens x ∷ ms) (each-append (first + phrase_count lexicon options x) xs ys
         ∙ ap (λ n. each (first + phrase_count lexicon options x) xs ++ each n ys) (add_assoc first (phrase_count lexicon options x) (counts xs)))
 
-    -- a selection joined to a front, by its operands
-    joined-operands : (c : Connective) (front : List Match) (first : ℕ) (form : Form)
-        → fold (joins c) front (each first (operands_in c form)) ≡ joins c front (all_matches lexicon options first tokens form)
+    -- a selection joined to a prefix, by its operands
+    joined-operands : (c : Connective) (prefix : List Match) (first : ℕ) (form : Form)
+        → fold (joins c) prefix (each first (operands_in c form)) ≡ joins c prefix (all_matches lexicon options first tokens form)
     unfolding joins each all_matches
-    joined-operands Or front first (words value) = refl
-    joined-operands Or front first (or_of forms) = ap (λ fs. fold ft_or front (each_form lexicon options first tokens fs)) (forms_of-listed forms) ∙ or_front front (each_form lexicon options first tokens forms)
-    joined-operands Or front first (and_of forms) = refl
-    joined-operands Or front first (mild_not left right) = refl
-    joined-operands Or front first (not_of form) = refl
-    joined-operands Or front first (filtered form kind) = refl
-    joined-operands Or front first (with_options form inner) = refl
-    joined-operands And front first (words value) = refl
-    joined-operands And front first (or_of forms) = refl
-    joined-operands And front first (and_of forms) = ap (λ fs. fold ft_and front (each_form lexicon options first tokens fs)) (forms_of-listed forms) ∙ and_front front (each_form lexicon options first tokens forms)
-    joined-operands And front first (mild_not left right) = refl
-    joined-operands And front first (not_of form) = refl
-    joined-operands And front first (filtered form kind) = refl
-    joined-operands And front first (with_options form inner) = refl
+    joined-operands Or prefix first (words value) = refl
+    joined-operands Or prefix first (or_of forms) = ap (λ fs. fold ft_or prefix (each_form lexicon options first tokens fs)) (forms_of-listed forms) ∙ or_prefix prefix (each_form lexicon options first tokens forms)
+    joined-operands Or prefix first (and_of forms) = refl
+    joined-operands Or prefix first (mild_not left right) = refl
+    joined-operands Or prefix first (not_of form) = refl
+    joined-operands Or prefix first (filtered form kind) = refl
+    joined-operands Or prefix first (with_options form inner) = refl
+    joined-operands And prefix first (words value) = refl
+    joined-operands And prefix first (or_of forms) = refl
+    joined-operands And prefix first (and_of forms) = ap (λ fs. fold ft_and prefix (each_form lexicon options first tokens fs)) (forms_of-listed forms) ∙ and_prefix prefix (each_form lexicon options first tokens forms)
+    joined-operands And prefix first (mild_not left right) = refl
+    joined-operands And prefix first (not_of form) = refl
+    joined-operands And prefix first (filtered form kind) = refl
+    joined-operands And prefix first (with_options form inner) = refl
 
     -- one operand more, where it and the further ones are as before
-    one_more : (c : Connective) (front : List Match) (first : ℕ) (form flat : Form) (further : List Form) (forms : Forms)
+    one_more : (c : Connective) (prefix : List Match) (first : ℕ) (form flat : Form) (further : List Form) (forms : Forms)
         → all_matches lexicon options first tokens flat ≡ all_matches lexicon options first tokens form
         → phrase_count lexicon options flat ≡ phrase_count lexicon options form
-        → ((front' : List Match) (first' : ℕ) → fold (joins c) front' (each first' further) ≡ fold (joins c) front' (each_form lexicon options first' tokens forms))
-        → fold (joins c) front (each first (operands_in c flat ++ further)) ≡ fold (joins c) front (each_form lexicon options first tokens (more form forms))
+        → ((prefix' : List Match) (first' : ℕ) → fold (joins c) prefix' (each first' further) ≡ fold (joins c) prefix' (each_form lexicon options first' tokens forms))
+        → fold (joins c) prefix (each first (operands_in c flat ++ further)) ≡ fold (joins c) prefix (each_form lexicon options first tokens (more form forms))
     unfolding all_matches
-    one_more c front first form flat further forms same count rest =
-        ap (fold (joins c) front) (each-append first (operands_in c flat) further)
-        ∙ fold-append (joins c) front (each first (operands_in c flat)) (each (first + counts (operands_in c flat)) further)
-        ∙ ap (λ ms. fold (joins c) ms (each (first + counts (operands_in c flat)) further)) (joined-operands c front first flat ∙ ap (joins c front) same)
-        ∙ ap (λ n. fold (joins c) (joins c front (all_matches lexicon options first tokens form)) (each (first + n) further)) (counts-operands c flat ∙ count)
-        ∙ rest (joins c front (all_matches lexicon options first tokens form)) (first + phrase_count lexicon options form)
+    one_more c prefix first form flat further forms same count rest =
+        ap (fold (joins c) prefix) (each-append first (operands_in c flat) further)
+        ∙ fold-append (joins c) prefix (each first (operands_in c flat)) (each (first + counts (operands_in c flat)) further)
+        ∙ ap (λ ms. fold (joins c) ms (each (first + counts (operands_in c flat)) further)) (joined-operands c prefix first flat ∙ ap (joins c prefix) same)
+        ∙ ap (λ n. fold (joins c) (joins c prefix (all_matches lexicon options first tokens form)) (each (first + n) further)) (counts-operands c flat ∙ count)
+        ∙ rest (joins c prefix (all_matches lexicon options first tokens form)) (first + phrase_count lexicon options form)
 
 -- the phrases are as many as before
 counts-further : (lexicon : Lexicon) (options : Options) (c : Connective) (form flat : Form) (further : List Form) (forms : Forms)
@@ -147,11 +147,11 @@ mutual
   matches-flattened lexicon options first tokens (filtered form kind) = ap (ft_filtered kind (whole_text tokens)) (matches-flattened lexicon options first tokens form)
   matches-flattened lexicon options first tokens (with_options form inner) = matches-flattened lexicon (inside inner options) first tokens form
 
-  matches-each : (lexicon : Lexicon) (options : Options) (tokens : List Token) (c : Connective) (forms : Forms) (front : List Match) (first : ℕ)
-      → fold (joins c) front (each lexicon options tokens first (flat_map (operands_in c) (each_flattened forms))) ≡ fold (joins c) front (each_form lexicon options first tokens forms)
-  matches-each lexicon options tokens c none front first = refl
-  matches-each lexicon options tokens c (more form rest) front first =
-      one_more lexicon options tokens c front first form (flattened form) (flat_map (operands_in c) (each_flattened rest)) rest
+  matches-each : (lexicon : Lexicon) (options : Options) (tokens : List Token) (c : Connective) (forms : Forms) (prefix : List Match) (first : ℕ)
+      → fold (joins c) prefix (each lexicon options tokens first (flat_map (operands_in c) (each_flattened forms))) ≡ fold (joins c) prefix (each_form lexicon options first tokens forms)
+  matches-each lexicon options tokens c none prefix first = refl
+  matches-each lexicon options tokens c (more form rest) prefix first =
+      one_more lexicon options tokens c prefix first form (flattened form) (flat_map (operands_in c) (each_flattened rest)) rest
       (matches-flattened lexicon options first tokens form) (counts-flattened lexicon options form) (matches-each lexicon options tokens c rest)
 
 -- so it is satisfied by the same texts

@@ -15,16 +15,16 @@ tail [] = []
 tail (n ∷ rest) = rest
 
 -- what the numbers of a code are followed by is told from them
-read_once : (a b : Code) (behind further : List ℕ) → numbers a ++ behind ≡ numbers b ++ further → (a ≡ b) × (behind ≡ further)
+read_once : (a b : Code) (suffix further : List ℕ) → numbers a ++ suffix ≡ numbers b ++ further → (a ≡ b) × (suffix ≡ further)
 unfolding head tail
-read_once empty empty behind further e = (refl, ap tail e)
-read_once empty (node n left right) behind further e = absurd (omega (arith, ap head e))
-read_once (node n left right) empty behind further e = absurd (omega (arith, ap head e))
-read_once (node m left right) (node n left' right') behind further e =
-    let rest : numbers left ++ (numbers right ++ behind) ≡ numbers left' ++ (numbers right' ++ further) =
-    sym (append_assoc (numbers left) (numbers right) behind) ∙ ap (λ l. tail (tail l)) e ∙ append_assoc (numbers left') (numbers right') further in
-    let first = read_once left left' (numbers right ++ behind) (numbers right' ++ further) rest in
-    let second = read_once right right' behind further first.1 in
+read_once empty empty suffix further e = (refl, ap tail e)
+read_once empty (node n left right) suffix further e = absurd (omega (arith, ap head e))
+read_once (node n left right) empty suffix further e = absurd (omega (arith, ap head e))
+read_once (node m left right) (node n left' right') suffix further e =
+    let rest : numbers left ++ (numbers right ++ suffix) ≡ numbers left' ++ (numbers right' ++ further) =
+    sym (append_assoc (numbers left) (numbers right) suffix) ∙ ap (λ l. tail (tail l)) e ∙ append_assoc (numbers left') (numbers right') further in
+    let first = read_once left left' (numbers right ++ suffix) (numbers right' ++ further) rest in
+    let second = read_once right right' suffix further first.1 in
     let number : m ≡ n = ap (λ l. head (tail l)) e in
     (λ i. node (number i) (first.0 i) (second.0 i), second.1)
 

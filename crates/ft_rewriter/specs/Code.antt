@@ -27,7 +27,7 @@ pub data Code : Type 0 where
   empty : Code
   node : ℕ → Code → Code → Code
 
--- its numbers, a node before its parts: 0 is an empty tree, and behind 1 stands a node's number
+-- its numbers, a node before its parts: 0 is an empty tree, and after 1 stands a node's number
 abbrev pub numbers : Code → List ℕ
 numbers empty = 0 ∷ []
 numbers (node n left right) = 1 ∷ n ∷ numbers left ++ numbers right

@@ -80,7 +80,7 @@ shorter_times times = times
 abbrev pub shorter_words : Words → Words
 shorter_words value = record value { times = shorter_times value.times }
 
--- A selection, and the negation of one, with `ftnot` moved inwards, in front of words and of what only its Matches tell: `not in` and a filter.
+-- A selection, and the negation of one, with `ftnot` moved inwards, before words and of what only its Matches tell: `not in` and a filter.
 -- No selection in parentheses with options comes here; it would stay.
 unfoldable mutual
   pub simplified : Form → Form

@@ -53,7 +53,7 @@ pub fn operands_joined()
     ensures one_left { rewritten (two_or word_a word_a) ≡ word_a }
     ensures one_left_of_and { rewritten (two_and word_a word_a) ≡ word_a }
     ensures in_their_order { rewritten (two_or (two_or word_b word_a) (two_or word_c word_b)) ≡ three_or word_b word_a word_c }
-    ensures equal_behind_nots { rewritten (two_or word_a (not_of (not_of word_a))) ≡ word_a }
+    ensures equal_after_nots { rewritten (two_or word_a (not_of (not_of word_a))) ≡ word_a }
     ensures one_left_inside { rewritten (two_and (two_or (two_and word_a word_b) (two_and word_a word_b)) word_c) ≡ three_and word_a word_b word_c }
     ensures with_other_options { rewritten (two_or word_a (by_stem (codes "a"))) ≡ two_or word_a (by_stem (codes "a")) }
     ensures as_written { rewritten (two_or (times_a (R.Exactly 1)) (times_a (R.FromTo 1 1))) ≡ two_or (times_a (R.Exactly 1)) (times_a (R.FromTo 1 1)) }
@@ -76,7 +76,7 @@ pub fn under_filters()
 /// `occurs at least 1 times` is left out.
 pub fn times_left_out()
     ensures at_least_once { rewritten (times_a (R.AtLeast 1)) ≡ word_a }
-    ensures behind_not { rewritten (not_of (times_a (R.AtLeast 1))) ≡ not_of word_a }
+    ensures after_not { rewritten (not_of (times_a (R.AtLeast 1))) ≡ not_of word_a }
     ensures at_least_twice { rewritten (times_a (R.AtLeast 2)) ≡ times_a (R.AtLeast 2) }
     ensures at_least_none { rewritten (times_a (R.AtLeast 0)) ≡ times_a (R.AtLeast 0) }
     ensures exactly_once { rewritten (times_a (R.Exactly 1)) ≡ times_a (R.Exactly 1) }

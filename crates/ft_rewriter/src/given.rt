@@ -82,7 +82,7 @@ pub(crate) fn given(
     }
 }
 
-/// The options in front of the operand come between the outer ones and its words.
+/// The options before the operand come between the outer ones and its words.
 #[cycle(giving)]
 fn given_inside(
     alloc: Global,

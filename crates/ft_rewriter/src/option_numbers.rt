@@ -149,7 +149,7 @@ fn put_stop_words(out: &mut Items<u32>, stop_words: &Option<StopChoice>) -> Resu
     put_empty(out)
 }
 
-/// The options behind the first three.
+/// The options after the first three.
 fn put_lists(out: &mut Items<u32>, options: &Options) -> Result<(), Memory>
     ensures { OnOk result (out.new ≡ out.old ++ numbers (lists_code options.now)) }
 {

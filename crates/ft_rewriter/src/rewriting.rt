@@ -22,7 +22,7 @@ fn give_and_simplify(alloc: Global, selection: &Selection) -> Result<Selection, 
     rewritten
 }
 
-/// The selection in a simpler form, which the same texts satisfy: options stand at words alone, `ftnot` in front of words, `not in` and
+/// The selection in a simpler form, which the same texts satisfy: options stand at words alone, `ftnot` before words, `not in` and
 /// selections with filters, and no operand of `ftor` or `ftand` twice. In it `ftnot` and `occurs` stand where they may, if they did before.
 pub fn rewrite(alloc: Global, selection: &Selection) -> Result<Selection, Memory>
     ensures is { IfOk result (λ simple. form simple ≡ rewritten (form selection.now)) }

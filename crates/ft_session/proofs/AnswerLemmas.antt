@@ -27,7 +27,7 @@ written_more before now next text rest all so_far wrote = record {
   holds = wrote ∙ (ap (λ w. with_text w text) so_far.holds ∙ with_text_twice before so_far.done text);
 }
 
--- a front of one more text is written
+-- a prefix of one more text is written
 pub prefix_more : (before now next : Option (List ℕ)) (text rest all : List ℕ) → WrittenSoFar before now (text ++ rest) all → TookPrefix now next text → TookPrefix before next all
 prefix_more before now next text rest all so_far took = record {
   prefix = so_far.done ++ took.prefix;

@@ -160,7 +160,7 @@ module _ (says : Judgement) (known before now : Option (List ℕ)) (taken : ℕ)
       by None tells = tt
       by (Some session) tells = p.holds ∙ (ap (λ rs. with_text before (texts_of rs)) done_is ∙ ap (λ f. with_text before (output_of_whole says f)) (fed_is session tells))
 
-  -- a front of the replies to what is left was written behind them
+  -- a prefix of the replies to what is left was written after them
   pub progress_prefix : (next : Option (List ℕ)) → IfSome known (λ session. TookPrefix now next (texts_of (replies says state (commands_left reader (drop taken session))))) → IfSome known (λ session. TookPrefix before next (output says session))
   progress_prefix next = by known refl
     where

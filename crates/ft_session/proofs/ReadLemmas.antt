@@ -6,7 +6,7 @@ use Rattle.std.proofs.lemmas.List.{take-append-le, take-take, length-take-le}
 use Rattle.ft_io.specs.Shelf.{Reads}
 use Rattle.ft_session.specs.Run.{BeginsWith}
 
--- a piece that was read behind the front of a file makes a longer front
+-- a piece that was read after the prefix of a file makes a longer prefix
 pub prefix_grows : (bytes old buffer new : List ℕ) (at count : ℕ) → at ≡ length old → count ≤ length buffer
     → old ≡ take (length old) bytes → Reads bytes at count buffer → new ≡ old ++ take count buffer → new ≡ take (length new) bytes
 prefix_grows bytes old buffer new at count place within prefix reads made =
@@ -23,6 +23,6 @@ known_prefix_grows None old buffer new at count place within reads made prefix =
 known_prefix_grows (Some bytes) old buffer new at count place within reads made prefix =
     prefix_grows bytes old buffer new at count place within prefix reads made
 
--- the front of a buffer that was put back into its vector
+-- the prefix of a buffer that was put back into its vector
 pub take_prefix : (count long : ℕ) (buffer rest : List ℕ) → count ≤ length buffer → count ≤ long → take count (take long (buffer ++ rest)) ≡ take count buffer
 take_prefix count long buffer rest within fits = take-take count long (buffer ++ rest) fits ∙ take-append-le count buffer rest within

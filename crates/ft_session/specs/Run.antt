@@ -22,7 +22,7 @@ session_file (word ∷ second ∷ others) = None
 abbrev pub with_text : Option (List ℕ) → List ℕ → Option (List ℕ)
 with_text before text = option_map (λ bytes. bytes ++ text) before
 
--- a sink that held `before` holds `after`: it took a front of the text
+-- a sink that held `before` holds `after`: it took a prefix of the text
 pub record TookPrefix (before after : Option (List ℕ)) (text : List ℕ) : Type 0 where
   pub prefix : List ℕ
   pub rest : List ℕ

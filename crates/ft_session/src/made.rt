@@ -116,7 +116,7 @@ fn read_commands(reader: &mut Lines_, session: &[u8]) -> Result<Commands, Memory
     }
 }
 
-/// The commands with one more behind them.
+/// The commands with one more after them.
 fn with_last(given: Commands, last: Command) -> Result<Commands, Memory>
     ensures { IfOk result (λ all. all ≡ given ++ last ∷ []) }
 {

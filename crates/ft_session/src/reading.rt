@@ -17,7 +17,7 @@ pub(crate) fn buffer(alloc: Global, size: usize) -> Result<Vec<u8>, AllocError>
     vec![in alloc; 0u8; size]
 }
 
-/// Reads the piece of the file behind the bytes that were taken, into the front of the buffer. It answers how many bytes
+/// Reads the piece of the file after the bytes that were taken, into the front of the buffer. It answers how many bytes
 /// that are, 0 at the file's end.
 pub(crate) fn read_piece<S: Shelf>(
     name: &String,

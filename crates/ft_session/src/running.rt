@@ -35,7 +35,7 @@ fn file_of(words: &[String]) -> Option<&String>
 /// place, nothing is read, and of each reply that begins with `=` the first line is written, and of others nothing.
 ///
 /// The words are the arguments of a call, without the program's name. The file is read in pieces of at most `MAX_PIECE_BYTES`, and
-/// each command is answered before the piece behind its last byte is read. The judge is asked of each `contains text`, and the
+/// each command is answered before the piece after its last byte is read. The judge is asked of each `contains text`, and the
 /// clauses hold for any: what a path selects is told by what its judge says.
 pub fn run<J: Judge + Drop, S: Shelf, K: Sink>(
     alloc: Global,
@@ -54,7 +54,7 @@ pub fn run<J: Judge + Drop, S: Shelf, K: Sink>(
         AnswersAll J.says session (S.reached shelf.new name) (K.written sink.old) (K.written sink.new) result))) }
     ensures limit { IsFinished result → IfSome (session_file (map string_bytes words.now)) (λ name. S.reached shelf.new name ≤ max_session_bytes) }
 
-    // Whatever the status, no more than a front of those replies is written.
+    // Whatever the status, no more than a prefix of those replies is written.
     ensures prefix { IfSome (session_file (map string_bytes words.now)) (λ name. IfSome (known_bytes (S.files shelf.old) name) (λ session.
         TookPrefix (K.written sink.old) (K.written sink.new) (output J.says session))) }
 

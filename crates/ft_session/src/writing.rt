@@ -3,7 +3,7 @@ ghost use Rattle.ft_session.specs.Run.{TookPrefix, with_text};
 
 use ft_io::{Failed, Sink};
 
-/// Writes the whole text, in as many writes as the sink wants. Where a write fails, the sink took a front of the text.
+/// Writes the whole text, in as many writes as the sink wants. Where a write fails, the sink took a prefix of the text.
 /// Nothing is written for an empty text.
 pub(crate) fn write_all<K: Sink>(sink: &mut K, text: &[u8]) -> Result<(), Failed>
     requires { K.faults sink.old + 1 < 2 ^ 64 }

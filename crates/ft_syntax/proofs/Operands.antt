@@ -34,7 +34,7 @@ map_further : (separator : Symbol) (wanted : ℕ) (parts : List Selection) → f
 map_further separator wanted [] = refl
 map_further separator wanted (part ∷ rest) = ap (λ more. (separator ∷ operand_symbols wanted (form part)) ++ more) (map_further separator wanted rest)
 
--- the first operand and then the further ones, each behind the separator
+-- the first operand and then the further ones, each after the separator
 pub first_and_further : (separator : Symbol) (wanted : ℕ) (first : Selection) (rest : List Selection)
     → operand_symbols wanted (form first) ++ flat_map (λ part. separator ∷ operand_symbols wanted (form part)) rest ≡ operands_symbols separator wanted (map form (first ∷ rest))
 first_and_further separator wanted first rest = ap (λ more. operand_symbols wanted (form first) ++ more) (map_further separator wanted rest)

@@ -1,4 +1,4 @@
--- Symbols that are added one behind the other.
+-- Symbols that are added one after the other.
 use Rattle.std.proofs.Common.{◌≡◌, ℕ, ◌+◌, ◌<◌, ◌≤◌, List, [], ◌∷◌, ◌++◌, length, get_or, take, map, refl, sym, ap, ◌∙◌, append-nil, append_assoc}
 use Rattle.std.specs.Prelude.{flat_map, ◌||◌, if◌then◌else◌}
 use Rattle.std.proofs.lemmas.List.{take_more, take_all, map_more}
@@ -29,23 +29,23 @@ put_flat_map_more page f xs i x h =
 
 -- the same for a loop over the list: what stands on the page before and after its next item
 pub next_symbol : {X : Type 0} (start page new : Page) (f : X → Symbol) (xs : List X) (i : ℕ) (x : X) → page ≡ put_all start (map f (take i xs)) → new ≡ put page (f (get_or xs i x)) → i < length xs → new ≡ put_all start (map f (take (i + 1) xs))
-next_symbol start page new f xs i x told added h = added ∙ ap (λ p. put p (f (get_or xs i x))) told ∙ sym (put_map_more start f xs i x h)
+next_symbol start page new f xs i x known added h = added ∙ ap (λ p. put p (f (get_or xs i x))) known ∙ sym (put_map_more start f xs i x h)
 
 pub next_item : {X : Type 0} (start page new : Page) (f : X → List Symbol) (xs : List X) (i : ℕ) (x : X) → page ≡ put_all start (flat_map f (take i xs)) → new ≡ put_all page (f x) → x ≡ get_or xs i x → i < length xs → new ≡ put_all start (flat_map f (take (i + 1) xs))
-next_item start page new f xs i x told added there h =
-    added ∙ ap (λ y. put_all page (f y)) there ∙ ap (λ p. put_all p (f (get_or xs i x))) told ∙ sym (put_flat_map_more start f xs i x h)
+next_item start page new f xs i x known added there h =
+    added ∙ ap (λ y. put_all page (f y)) there ∙ ap (λ p. put_all p (f (get_or xs i x))) known ∙ sym (put_flat_map_more start f xs i x h)
 
 -- a first item and then all others
 pub all_items : {X : Type 0} (start begun page : Page) (head : List Symbol) (f : X → List Symbol) (rest : List X) (i : ℕ) → begun ≡ put_all start head → page ≡ put_all begun (flat_map f (take i rest)) → length rest ≤ i → page ≡ put_all start (head ++ flat_map f rest)
-all_items start begun page head f rest i first told h =
-    told ∙ ap (λ xs. put_all begun (flat_map f xs)) (take_all i rest h) ∙ ap (λ p. put_all p (flat_map f rest)) first ∙ sym (put_all_append start head (flat_map f rest))
+all_items start begun page head f rest i first known h =
+    known ∙ ap (λ xs. put_all begun (flat_map f xs)) (take_all i rest h) ∙ ap (λ p. put_all p (flat_map f rest)) first ∙ sym (put_all_append start head (flat_map f rest))
 
 -- the text of symbols on a page
-text_behind : (page : Page) (symbol : Symbol) (rest : List Symbol) → (put_all page (symbol ∷ rest)).text ≡ page.text ++ (if page.is_open || closes symbol then [] else 32 ∷ []) ++ set_out (symbol ∷ rest)
+text_after : (page : Page) (symbol : Symbol) (rest : List Symbol) → (put_all page (symbol ∷ rest)).text ≡ page.text ++ (if page.is_open || closes symbol then [] else 32 ∷ []) ++ set_out (symbol ∷ rest)
 unfolding put set_out
-text_behind page symbol [] = refl
-text_behind page symbol (next ∷ rest) =
-    text_behind (put page symbol) next rest
+text_after page symbol [] = refl
+text_after page symbol (next ∷ rest) =
+    text_after (put page symbol) next rest
     ∙ regroup page.text (if page.is_open || closes symbol then [] else 32 ∷ []) symbol (gap symbol next) (set_out (next ∷ rest))
   where
     regroup : (a b c d e : List ℕ) → ((a ++ b) ++ c) ++ d ++ e ≡ (a ++ b) ++ ((c ++ d) ++ e)
@@ -54,4 +54,4 @@ text_behind page symbol (next ∷ rest) =
 pub text_of_page : (symbols : List Symbol) → (put_all empty_page symbols).text ≡ set_out symbols
 unfolding set_out
 text_of_page [] = refl
-text_of_page (symbol ∷ rest) = text_behind empty_page symbol rest
+text_of_page (symbol ∷ rest) = text_after empty_page symbol rest

@@ -20,8 +20,8 @@ in_quotes_letter letter h = stays (encode_utf8 letter) (λ k l e. h (
 
 -- one more letter was written
 pub one_more_letter : (out new whole letter rest left : List ℕ) → out ++ flat_map in_quotes rest ≡ whole → rest ≡ letter ++ left → new ≡ out ++ flat_map in_quotes letter → new ++ flat_map in_quotes left ≡ whole
-one_more_letter out new whole letter rest left told split written =
+one_more_letter out new whole letter rest left known split written =
     ap (λ bs. bs ++ flat_map in_quotes left) written
     ∙ append_assoc out (flat_map in_quotes letter) (flat_map in_quotes left)
     ∙ ap (λ bs. out ++ bs) (sym (flat_map-append in_quotes letter left) ∙ ap (flat_map in_quotes) (sym split))
-    ∙ told
+    ∙ known

@@ -1,4 +1,4 @@
--- How the symbols of a selection are set: one space between two, but none behind an opening bracket and none before a closing one or a comma.
+-- How the symbols of a selection are set: one space between two, but none after an opening bracket and none before a closing one or a comma.
 use Rattle.std.specs.Prelude.{ℕ, Bool, ◌||◌, if◌then◌else◌, List, [], ◌∷◌, ◌++◌, codes, bytes_eq}
 
 -- A symbol is its bytes.

@@ -30,7 +30,7 @@ pub fn printed_words()
     ensures from_to { printed (value (codes "a" ∷ []) M.Any (Some (R.FromTo 3 2))) ≡ codes "\"a\" occurs from 3 to 2 times" }
 {}
 
-/// Filters stand behind their operand, from left to right.
+/// Filters stand after their operand, from left to right.
 pub fn printed_filters()
     ensures ordered { printed (filtered (quoted (codes "a")) F.Ordered) ≡ codes "\"a\" ordered" }
     ensures window { printed (filtered (quoted (codes "a")) (F.Window 3 U.Words)) ≡ codes "\"a\" window 3 words" }

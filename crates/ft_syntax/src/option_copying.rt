@@ -138,7 +138,7 @@ pub fn copy_options(alloc: Global, options: &Options) -> Result<Options, Memory>
     })
 }
 
-/// A copy of words, with what is written behind them.
+/// A copy of words, with what is written after them.
 pub fn copy_words(alloc: Global, words: &Words) -> Result<Words, Memory>
     ensures { IfOk result (λ copy. copy ≡ words.now) }
 {

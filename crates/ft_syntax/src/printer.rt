@@ -48,7 +48,7 @@ impl Printer {
         Ok(())
     }
 
-    /// Adds symbols one behind the other.
+    /// Adds symbols one after the other.
     pub(crate) fn symbols(&mut self, symbols: &[&str]) -> Result<(), Memory>
         ensures { OnOk result (self.new ≡ put_all self.old (map (λ symbol. symbol.now) symbols.now)) }
     {

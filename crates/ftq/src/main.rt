@@ -10,7 +10,7 @@ use std::env;
 use std::io::ErrorKind;
 use std::process::ExitCode;
 
-/// The arguments behind the program's name. Where one of them isn't UTF-8, they are one empty word, which names no file.
+/// The arguments after the program's name. Where one of them isn't UTF-8, they are one empty word, which names no file.
 fn words(rt: &HostRuntime, alloc: Global) -> Result<Vec<String>, Memory> {
     let mut words = Vec::new(alloc);
     match env::args(rt) {

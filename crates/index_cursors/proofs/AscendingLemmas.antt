@@ -1,4 +1,4 @@
--- Ascending lists of numbers, under a test that holds up to some number and not behind it: how many pass it, and where
+-- Ascending lists of numbers, under a test that holds up to some number and not after it: how many pass it, and where
 -- they stand.
 use Rattle.std.proofs.Common.{◌≡◌, ℕ, ◌+◌, ◌-◌, ◌<◌, ◌≤◌, suc, zero, Bool, true, false, cond, List, [], ◌∷◌, length, get_or, refl, ap, sym, subst, ◌∙◌, arith}
 use Rattle.std.specs.Prelude.{nat_lt, nat_le}
@@ -6,7 +6,7 @@ use Rattle.std.specs.List.{count_by}
 use Rattle.std.proofs.lemmas.Bool.{and_parts, ltb-true, lt-ltb, le-ltb, leb-true, le-leb, lt-leb}
 use Rattle.std.proofs.lemmas.List.Recursion.{is_count_by}
 use Rattle.ft_base.specs.Places.{is_ascending}
-use Rattle.doc_index.proofs.TermLemmas.{rest-ascending}
+use Rattle.ft_base.proofs.PlacesLemmas.{rest-ascending}
 
 -- a test that a number passes where a greater one does
 abbrev pub HoldsBelow : (ℕ → Bool) → Type 0
@@ -26,23 +26,23 @@ first-less : (x : ℕ) (xs : List ℕ) (i : ℕ) → is_ascending (x ∷ xs) ≡
 first-less x [] i up there = absurd (omega arith)
 first-less x (y ∷ rest) zero up there = head-less x y rest up
 first-less x (y ∷ rest) (suc i) up there =
-    let front = head-less x y rest up in
-    let behind = first-less y rest i (rest-ascending x (y ∷ rest) up) (omega arith) in
+    let prefix = head-less x y rest up in
+    let after = first-less y rest i (rest-ascending x (y ∷ rest) up) (omega arith) in
     omega arith
 
 module _ (p : ℕ → Bool) (below : HoldsBelow p) where
-  fails-behind : (x y : ℕ) → x < y → p x ≡ false → p y ≡ false
-  fails-behind x y less fails = by (p y) refl
+  fails-after : (x y : ℕ) → x < y → p x ≡ false → p y ≡ false
+  fails-after x y less fails = by (p y) refl
     where
       by : (b : Bool) → p y ≡ b → p y ≡ false
       by true e = e ∙ sym (below x y less e) ∙ fails
       by false e = e
 
-  pub none-behind : (x : ℕ) (xs : List ℕ) → is_ascending (x ∷ xs) ≡ true → p x ≡ false → passing p xs ≡ 0
-  none-behind x [] up fails = refl
-  none-behind x (y ∷ rest) up fails =
-      let also = fails-behind x y (head-less x y rest up) fails in
-      ap (λ b. cond b (1 + passing p rest) (passing p rest)) also ∙ none-behind y rest (rest-ascending x (y ∷ rest) up) also
+  pub none-after : (x : ℕ) (xs : List ℕ) → is_ascending (x ∷ xs) ≡ true → p x ≡ false → passing p xs ≡ 0
+  none-after x [] up fails = refl
+  none-after x (y ∷ rest) up fails =
+      let also = fails-after x y (head-less x y rest up) fails in
+      ap (λ b. cond b (1 + passing p rest) (passing p rest)) also ∙ none-after y rest (rest-ascending x (y ∷ rest) up) also
 
   passes-at : (xs : List ℕ) (i : ℕ) → is_ascending xs ≡ true → i < length xs → p (get_or xs i 0) ≡ true → i < passing p xs
   passes-at [] i up there holds = absurd (omega arith)
@@ -55,7 +55,7 @@ module _ (p : ℕ → Bool) (below : HoldsBelow p) where
   fails-at : (xs : List ℕ) (i : ℕ) → is_ascending xs ≡ true → i < length xs → p (get_or xs i 0) ≡ false → passing p xs ≤ i
   fails-at [] i up there fails = absurd (omega arith)
   fails-at (x ∷ xs) zero up there fails =
-      let none = none-behind x xs up fails in
+      let none = none-after x xs up fails in
       subst (λ b. cond b (1 + passing p xs) (passing p xs) ≤ 0) (sym fails) (omega arith)
   fails-at (x ∷ xs) (suc i) up there fails = more (p x) (fails-at xs i (rest-ascending x xs up) (omega arith) fails)
     where
@@ -63,7 +63,7 @@ module _ (p : ℕ → Bool) (below : HoldsBelow p) where
       more true h = omega arith
       more false h = omega arith
 
-  -- a number that passes is among the first, and one that doesn't is behind them
+  -- a number that passes is among the first, and one that doesn't is after them
   pub count-passes : (xs : List ℕ) (i : ℕ) → is_ascending xs ≡ true → i < length xs → p (get_or xs i 0) ≡ true → i < count_by p xs
   count-passes xs i up there holds = subst (λ n. i < n) (passing-count p xs) (passes-at xs i up there holds)
 
@@ -78,9 +78,9 @@ pub less-below : (q x y : ℕ) → x < y → nat_lt y q ≡ true → nat_lt x q 
 less-below q x y less h = let to = ltb-true y q h in lt-ltb x q (omega arith)
 
 -- how many are at most a number: no more than that number and 0
-few-behind : (q x : ℕ) (xs : List ℕ) → is_ascending (x ∷ xs) ≡ true → passing (λ y. nat_le y q) xs ≤ q - x
-few-behind q x [] up = omega arith
-few-behind q x (y ∷ rest) up = by (nat_le y q) refl (few-behind q y rest (rest-ascending x (y ∷ rest) up)) (head-less x y rest up)
+few-after : (q x : ℕ) (xs : List ℕ) → is_ascending (x ∷ xs) ≡ true → passing (λ y. nat_le y q) xs ≤ q - x
+few-after q x [] up = omega arith
+few-after q x (y ∷ rest) up = by (nat_le y q) refl (few-after q y rest (rest-ascending x (y ∷ rest) up)) (head-less x y rest up)
   where
     by : (b : Bool) → nat_le y q ≡ b → passing (λ z. nat_le z q) rest ≤ q - y → x < y → cond b (1 + passing (λ z. nat_le z q) rest) (passing (λ z. nat_le z q) rest) ≤ q - x
     by true e more less = let to = leb-true y q e in omega arith
@@ -91,8 +91,8 @@ few q [] up = omega arith
 few q (x ∷ xs) up = by (nat_le x q)
   where
     by : (b : Bool) → cond b (1 + passing (λ z. nat_le z q) xs) (passing (λ z. nat_le z q) xs) ≤ q + 1
-    by true = omega (arith, few-behind q x xs up)
-    by false = omega (arith, few-behind q x xs up)
+    by true = omega (arith, few-after q x xs up)
+    by false = omega (arith, few-after q x xs up)
 
 pub count-few : (q : ℕ) (xs : List ℕ) → is_ascending xs ≡ true → count_by (λ y. nat_le y q) xs ≤ q + 1
 count-few q xs up = subst (λ n. n ≤ q + 1) (passing-count (λ y. nat_le y q) xs) (few q xs up)

@@ -11,10 +11,10 @@ use Rattle.ft_base.specs.declared.places.Breaks.{Breaks}
 use Rattle.ft_base.specs.Hits.{hit_place, hit_at, hits_passed, sought}
 use Rattle.index_cursors.specs.SpanHits.{word_hit, places_up_to, cursor_place, is_before_both}
 
-front-left : (p : ℕ → Bool) (ys : List ℕ) (k : ℕ) → k ≤ prefix_len p ys → drop k (take_while p ys) ≡ take_while p (drop k ys)
-front-left p ys zero h = refl
-front-left p [] (suc k) h = absurd (omega arith)
-front-left p (y ∷ ys) (suc k) h = by (p y) (λ g. front-left p ys k g) refl h
+prefix-left : (p : ℕ → Bool) (ys : List ℕ) (k : ℕ) → k ≤ prefix_len p ys → drop k (take_while p ys) ≡ take_while p (drop k ys)
+prefix-left p ys zero h = refl
+prefix-left p [] (suc k) h = absurd (omega arith)
+prefix-left p (y ∷ ys) (suc k) h = by (p y) (λ g. prefix-left p ys k g) refl h
   where
     by : (b : Bool) → (k ≤ prefix_len p ys → drop k (take_while p ys) ≡ take_while p (drop k ys)) → p y ≡ b → suc k ≤ cond b (1 + prefix_len p ys) 0 → drop (suc k) (take_while p (y ∷ ys)) ≡ take_while p (drop (suc k) (y ∷ ys))
     by true rest e h = ap (drop (suc k)) (take_while-cons p y ys ∙ ap (λ b. cond b (y ∷ take_while p ys) []) e) ∙ rest (omega arith)
@@ -35,7 +35,7 @@ module _ (breaks : Breaks) (to first at : ℕ) (xs : List ℕ) (order : first �
   left-places =
       let size = length-prefix_len (λ p. nat_lt p to) (drop first xs) in
       let sum : first + (at - first) ≡ at = omega arith in
-      front-left (λ p. nat_lt p to) (drop first xs) (at - first) (omega arith)
+      prefix-left (λ p. nat_lt p to) (drop first xs) (at - first) (omega arith)
       ∙ ap (take_while (λ p. nat_lt p to)) (drop-drop (at - first) first xs ∙ ap (λ n. drop n xs) sum)
 
   left-hits : drop (at - first) (map (word_hit breaks) (places_up_to to first xs)) ≡ map (word_hit breaks) (places_up_to to at xs)
@@ -65,20 +65,20 @@ module _ (to at : ℕ) (xs : List ℕ) where
   head there = ap (take_while (λ p. nat_lt p to)) (drop_more xs at 0 there) ∙ take_while-cons (λ p. nat_lt p to) (get_or xs at 0) (drop (at + 1) xs)
 
   pub first-end : at < length xs → to ≤ get_or xs at 0 → None ≡ slice_get (places_up_to to at xs) 0
-  first-end there behind =
+  first-end there after =
       sym (ap (λ l. slice_get l 0) (head there)
-      ∙ ap (λ b. slice_get (cond b (get_or xs at 0 ∷ places_up_to to (at + 1) xs) []) 0) (le-ltb (get_or xs at 0) to behind))
+      ∙ ap (λ b. slice_get (cond b (get_or xs at 0 ∷ places_up_to to (at + 1) xs) []) 0) (le-ltb (get_or xs at 0) to after))
 
   pub first-place : at < length xs → get_or xs at 0 < to → Some (get_or xs at 0) ≡ slice_get (places_up_to to at xs) 0
   first-place there less =
       sym (ap (λ l. slice_get l 0) (head there)
       ∙ ap (λ b. slice_get (cond b (get_or xs at 0 ∷ places_up_to to (at + 1) xs) []) 0) (lt-ltb (get_or xs at 0) to less))
 
--- hits in front of a word are as many as places in front of it and of the span's end
-both-front : (breaks : Breaks) (from to : ℕ) (ys : List ℕ) →
+-- hits before a word are as many as places before it and of the span's end
+both-prefix : (breaks : Breaks) (from to : ℕ) (ys : List ℕ) →
     length (take_while (λ hit. nat_lt hit.from from) (map (word_hit breaks) (take_while (λ p. nat_lt p to) ys))) ≡ prefix_len (is_before_both from to) ys
-both-front breaks from to [] = refl
-both-front breaks from to (y ∷ ys) = by (nat_lt y from) (nat_lt y to) refl refl (both-front breaks from to ys)
+both-prefix breaks from to [] = refl
+both-prefix breaks from to (y ∷ ys) = by (nat_lt y from) (nat_lt y to) refl refl (both-prefix breaks from to ys)
   where
     by : (b c : Bool) → nat_lt y from ≡ b → nat_lt y to ≡ c
         → length (take_while (λ hit. nat_lt hit.from from) (map (word_hit breaks) (take_while (λ p. nat_lt p to) ys))) ≡ prefix_len (is_before_both from to) ys
@@ -114,7 +114,7 @@ both-shorter from to (y ∷ ys) = by (nat_lt y from) (nat_lt y to) (both-shorter
 
 module _ (breaks : Breaks) (from to first at : ℕ) (xs : List ℕ) (order : first ≤ at) (within : at - first ≤ length (places_up_to to first xs)) where
   pub passed-is : hits_passed from (cursor_place breaks to first at xs) ≡ prefix_len (is_before_both from to) (drop at xs)
-  passed-is = ap (λ l. length (take_while (λ hit. nat_lt hit.from from) l)) (left-hits breaks to first at xs order within) ∙ both-front breaks from to (drop at xs)
+  passed-is = ap (λ l. length (take_while (λ hit. nat_lt hit.from from) l)) (left-hits breaks to first at xs order within) ∙ both-prefix breaks from to (drop at xs)
 
   pub sought-within : (reached : ℕ) → reached ≡ at + prefix_len (is_before_both from to) (drop at xs) → reached - first ≤ length (places_up_to to first xs)
   sought-within reached e =

@@ -33,11 +33,11 @@ range-ascending a (suc (suc n)) =
     let rest = range-ascending (a + 1) (suc n) in
     λ i. less i && rest i
 
-range-front : (breaks : Breaks) (a n q : ℕ) → length (take_while (λ hit. nat_lt hit.from q) (map (word_hit breaks) (range_with_len a n))) ≡ n - (n - (q - a))
-range-front breaks a zero q = omega arith
-range-front breaks a (suc n) q = elim (cases_lt a q) [
+range-prefix : (breaks : Breaks) (a n q : ℕ) → length (take_while (λ hit. nat_lt hit.from q) (map (word_hit breaks) (range_with_len a n))) ≡ n - (n - (q - a))
+range-prefix breaks a zero q = omega arith
+range-prefix breaks a (suc n) q = elim (cases_lt a q) [
   | inl less ↦
-      let rest = range-front breaks (a + 1) n q in
+      let rest = range-prefix breaks (a + 1) n q in
       let sum : suc (length (take_while (λ (hit : Hit). nat_lt hit.from q) (map (word_hit breaks) (range_with_len (a + 1) n)))) ≡ suc n - (suc n - (q - a)) = omega arith in
       ap length (take_while-cons (λ (hit : Hit). nat_lt hit.from q) (word_hit breaks a) (map (word_hit breaks) (range_with_len (a + 1) n)))
       ∙ ap (λ b. length (cond b (word_hit breaks a ∷ take_while (λ (hit : Hit). nat_lt hit.from q) (map (word_hit breaks) (range_with_len (a + 1) n))) [])) (lt-ltb a q less)
@@ -73,7 +73,7 @@ module _ (breaks : Breaks) (from to at : ℕ) (order : from ≤ at) (within : at
       let left : drop (at - from) (range_with_len from (to - from)) ≡ range_with_len at (to - at) =
       range-drop from (to - from) (at - from) within ∙ (λ i. range_with_len (sum i) (rest i)) in
       ap (λ l. length (take_while (λ (hit : Hit). nat_lt hit.from q) l)) (drop-map (word_hit breaks) (at - from) (range_with_len from (to - from)) ∙ ap (map (word_hit breaks)) left)
-      ∙ range-front breaks at (to - at) q
+      ∙ range-prefix breaks at (to - at) q
 
   pub every-sought : (q : ℕ) →
       hit_place (map (word_hit breaks) (range_with_len from (to - from))) ((at + ((to - at) - ((to - at) - (q - at)))) - from)

@@ -6,7 +6,7 @@ use Rattle.ft_base.specs.declared.places.Breaks.{Breaks}
 use Rattle.ft_base.specs.declared.span.Span.{Span}
 use Rattle.ft_base.specs.Hits.{HitPlace, hit_place}
 
--- how many of these sentences or paragraphs start at the place or in front of it: the number of the one around it
+-- how many of these sentences or paragraphs start at the place or before it: the number of the one around it
 abbrev pub started : List ℕ → ℕ → ℕ
 started starts place = count_by (λ start. nat_le start place) starts
 
@@ -35,11 +35,11 @@ hits_in breaks span places = map (word_hit breaks) (filter (is_inside span) plac
 abbrev pub words_in : Breaks → Span → List Hit
 words_in breaks span = map (word_hit breaks) (range_with_len span.from (span.to - span.from))
 
--- how many of the places are in front of a position
+-- how many of the places are before a position
 abbrev pub below : ℕ → List ℕ → ℕ
 below position places = count_by (λ place. nat_lt place position) places
 
--- whether the place is in front of both positions
+-- whether the place is before both positions
 abbrev pub is_before_both : ℕ → ℕ → ℕ → Bool
 is_before_both from to place = nat_lt place from && nat_lt place to
 

@@ -17,7 +17,7 @@ impl<'v> BreakView<'v> {
         BreakView { breaks }
     }
 
-    /// How many sentences start at the position or in front of it: the number of the word's sentence. The position is
+    /// How many sentences start at the position or before it: the number of the word's sentence. The position is
     /// one that a span can hold.
     pub fn sentence_of(&self, position: u32) -> u32
         requires { position < 2 ^ 32 - 1 }
@@ -26,7 +26,7 @@ impl<'v> BreakView<'v> {
         started_at(&self.breaks.sentences, position)
     }
 
-    /// How many paragraphs start at the position or in front of it: the number of the word's paragraph.
+    /// How many paragraphs start at the position or before it: the number of the word's paragraph.
     pub fn paragraph_of(&self, position: u32) -> u32
         requires { position < 2 ^ 32 - 1 }
         ensures { result ≡ started self.now.breaks.now.paragraphs position }

@@ -116,7 +116,7 @@ impl<'v> Hits for Cursor<'v> {
     }
 }
 
-/// The place of that number, if it is in front of the position `end`.
+/// The place of that number, if it is before the position `end`.
 fn place_at(places: &TermPlaces<'_>, at: usize, end: u32) -> Option<u32>
     ensures place { result ≡ slice_get (places_up_to end at places.now) 0 }
     ensures few { ForSome result (λ place. place < 2 ^ 32 - 1) }
@@ -132,7 +132,7 @@ fn place_at(places: &TermPlaces<'_>, at: usize, end: u32) -> Option<u32>
     Some(place)
 }
 
-/// The number of the first place, from that number on, that isn't in front of both positions. Counts a step for each
+/// The number of the first place, from that number on, that isn't before both positions. Counts a step for each
 /// place that it compares.
 fn walk<L: Ledger>(
     places: &TermPlaces<'_>,

@@ -75,7 +75,7 @@ impl<'v> Hits for Every<'v> {
     }
 }
 
-/// The place moved on to that position, but not behind the end.
+/// The place moved on to that position, but not after the end.
 fn moved(at: u32, to: u32, position: u32) -> u32
     ensures { result ≡ at + ((to - at) - ((to - at) - (position - at))) }
 {

@@ -4,13 +4,13 @@ ghost use Rattle.index_cursors.specs.SpanHits.{started, is_inside, hits_in, word
 ghost use Rattle.ft_base.specs.Hits.{hit_place};
 ghost use Rattle.index_cursors.specs.Examples.{breaks, span, hit};
 
-/// A word is in the last sentence that starts at it or in front of it; in front of the first one there is none.
+/// A word is in the last sentence that starts at it or before it; before the first one there is none.
 pub fn starts_of_sentences()
     ensures first { started (1 ∷ 3 ∷ 5 ∷ []) 1 ≡ 1 }
     ensures between { started (1 ∷ 3 ∷ 5 ∷ []) 4 ≡ 2 }
     ensures at_a_start { started (1 ∷ 3 ∷ 5 ∷ []) 5 ≡ 3 }
-    ensures behind { started (1 ∷ 3 ∷ 5 ∷ []) 9 ≡ 3 }
-    ensures in_front { started (2 ∷ []) 1 ≡ 0 }
+    ensures after { started (1 ∷ 3 ∷ 5 ∷ []) 9 ≡ 3 }
+    ensures before { started (2 ∷ []) 1 ≡ 0 }
     ensures hit { word_hit breaks 4 ≡ hit 4 2 1 }
 {}
 
@@ -19,7 +19,7 @@ pub fn spans()
     ensures from { is_inside (span 2 5) 2 ≡ true }
     ensures last { is_inside (span 2 5) 4 ≡ true }
     ensures to { is_inside (span 2 5) 5 ≡ false }
-    ensures in_front { is_inside (span 2 5) 1 ≡ false }
+    ensures before { is_inside (span 2 5) 1 ≡ false }
     ensures nothing { is_inside (span 2 2) 2 ≡ false }
 {}
 
@@ -34,7 +34,7 @@ pub fn hits_of_spans()
     ensures reversed { words_in breaks (span 4 2) ≡ [] }
 {}
 
-/// What a cursor goes by: how many places are in front of its span, and where its list ends.
+/// What a cursor goes by: how many places are before its span, and where its list ends.
 pub fn cursors()
     ensures below { below 5 (1 ∷ 4 ∷ 5 ∷ []) ≡ 2 }
     ensures both { is_before_both 5 4 3 ≡ true }

@@ -4,7 +4,7 @@ ghost use Rattle.index_cursors.specs.SpanHits.{below};
 
 use doc_index::TermPlaces;
 
-/// How many of the places are in front of a position. The search begins at that number, which may be any, and goes on from
+/// How many of the places are before a position. The search begins at that number, which may be any, and goes on from
 /// there, or back, by steps that double.
 pub(crate) fn first_from(places: &TermPlaces<'_>, near: usize, from: u32) -> usize
     ensures number { result ≡ below from places.now }
@@ -34,7 +34,7 @@ pub(crate) fn first_place(places: &TermPlaces<'_>, from: u32) -> usize
     around(places, likely_number(len, last, from), len - 1, from)
 }
 
-/// How many of so many places are in front of a position if they are equally far from each other up to the last one.
+/// How many of so many places are before a position if they are equally far from each other up to the last one.
 fn likely_number(len: usize, last: u32, from: u32) -> usize
     requires { 0 < len }
     ensures { result < len }
@@ -43,7 +43,7 @@ fn likely_number(len: usize, last: u32, from: u32) -> usize
     if number < len { number } else { len - 1 }
 }
 
-/// The same where at most so many are in front of the position. The search begins at a number up to that.
+/// The same where at most so many are before the position. The search begins at a number up to that.
 fn around(places: &TermPlaces<'_>, near: usize, end: usize, from: u32) -> usize
     requires ascending { IsTrue (is_ascending places.now) }
     requires near { near ≤ end }
@@ -60,7 +60,7 @@ fn around(places: &TermPlaces<'_>, near: usize, end: usize, from: u32) -> usize
     backward(places, near - 1, from)
 }
 
-/// The same where at least and at most so many are in front of the position.
+/// The same where at least and at most so many are before the position.
 fn forward(places: &TermPlaces<'_>, start: usize, end: usize, from: u32) -> usize
     requires ascending { IsTrue (is_ascending places.now) }
     requires from { start ≤ below from places.now }
@@ -79,7 +79,7 @@ fn forward(places: &TermPlaces<'_>, start: usize, end: usize, from: u32) -> usiz
     between(places, low, end, from)
 }
 
-/// The same where at most so many are in front of the position, and likely not many less.
+/// The same where at most so many are before the position, and likely not many less.
 fn backward(places: &TermPlaces<'_>, end: usize, from: u32) -> usize
     requires ascending { IsTrue (is_ascending places.now) }
     requires to { below from places.now ≤ end }

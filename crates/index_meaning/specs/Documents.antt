@@ -53,15 +53,15 @@ abbrev pub leaf_words : ℕ → List Leaf → List (List ℕ)
 leaf_words id [] = []
 leaf_words id (leaf ∷ rest) = cond (leaf.id == id) leaf.words (leaf_words id rest)
 
--- leaves with one more, directly behind the one of that number
-abbrev pub behind : ℕ → Leaf → List Leaf → List Leaf
-behind after new [] = new ∷ []
-behind after new (leaf ∷ rest) = cond (leaf.id == after) (leaf ∷ new ∷ rest) (leaf ∷ behind after new rest)
+-- leaves with one more, directly after the one of that number
+abbrev pub put_after : ℕ → Leaf → List Leaf → List Leaf
+put_after after new [] = new ∷ []
+put_after after new (leaf ∷ rest) = cond (leaf.id == after) (leaf ∷ new ∷ rest) (leaf ∷ put_after after new rest)
 
--- leaves with one more, directly behind a leaf, or in front of all
+-- leaves with one more, directly after a leaf, or before all
 abbrev pub leaves_with : Option LeafId → Leaf → List Leaf → List Leaf
 leaves_with None new leaves = new ∷ leaves
-leaves_with (Some after) new leaves = behind after.0 new leaves
+leaves_with (Some after) new leaves = put_after after.0 new leaves
 
 -- the document with that leaf, without the leaf of that number, and with other breaks
 abbrev pub with_leaf : Option LeafId → Leaf → Document → Document

@@ -24,7 +24,7 @@ text_cmp a b = slice_cmp nat_cmp a b
 abbrev pub entry_cmp : Entry → Entry → Ordering
 entry_cmp a b = ordering_then (text_cmp a.key b.key) (text_cmp a.word b.word)
 
--- whether the entry stands in front of all of these
+-- whether the entry stands before all of these
 abbrev pub is_below : Entry → List Entry → Bool
 is_below e entries = list_all (λ f. is_lt (entry_cmp e f)) entries
 
@@ -89,7 +89,7 @@ abbrev pub found : List ℕ → List Entry → Option Span
 found key entries =
     cond (same_keys key entries == 0) None (Some (span (smaller_keys key entries) (smaller_keys key entries + same_keys key entries)))
 
--- how many keys there are: as many as entries behind which no other with the same key follows
+-- how many keys there are: as many as entries after which no other with the same key follows
 abbrev pub key_count : List Entry → ℕ
 key_count [] = 0
 key_count (e ∷ []) = 1

@@ -5,7 +5,7 @@ use Rattle.std.specs.Ordering.{is_eq, nat_cmp}
 use Rattle.std.specs.Cmp.Lexicographic.{slice_cmp}
 use Rattle.index_meaning.specs.Documents.{Leaf, Document, words_of}
 
--- a place at which a word stands: the leaf, and how many words of the leaf stand in front of it
+-- a place at which a word stands: the leaf, and how many words of the leaf stand before it
 pub record Posting : Type 0 where
   pub leaf : ℕ
   pub offset : ℕ
@@ -13,7 +13,7 @@ pub record Posting : Type 0 where
 abbrev pub same_word : List ℕ → List ℕ → Bool
 same_word a b = is_eq (slice_cmp nat_cmp a b)
 
--- the postings of a word among these words of a leaf, in front of the first of which so many stand
+-- the postings of a word among these words of a leaf, before the first of which so many stand
 abbrev pub postings_from : List ℕ → ℕ → ℕ → List (List ℕ) → List Posting
 postings_from word leaf offset [] = []
 postings_from word leaf offset (other ∷ rest) =
@@ -24,7 +24,7 @@ postings_from word leaf offset (other ∷ rest) =
 abbrev pub posting_list : List ℕ → Document → List Posting
 posting_list word document = flat_map (λ leaf. postings_from word leaf.id 0 leaf.words) document.leaves
 
--- how many words stand in the leaves in front of that one
+-- how many words stand in the leaves before that one
 abbrev pub words_before : ℕ → List Leaf → ℕ
 words_before leaf [] = 0
 words_before leaf (first ∷ rest) = cond (first.id == leaf) 0 (length first.words + words_before leaf rest)

@@ -1,4 +1,4 @@
--- What is left of a phrase: all its hits where it was aimed, and the hits behind one that was found.
+-- What is left of a phrase: all its hits where it was aimed, and the hits after one that was found.
 use Rattle.std.proofs.Common.{◌≡◌, refl, sym, ap, subst, ◌∙◌, ℕ, suc, ◌≤◌, true, List, [], ◌∷◌, get_or, map, filter, Option, Some, None, arith}
 use Rattle.std.specs.List.{All}
 use Rattle.std.specs.Option.{ForSome}
@@ -12,7 +12,7 @@ use Rattle.place_merges.specs.Spots.{from_found, some_at, spot, spots_left}
 use Rattle.place_merges.specs.declared.spot.Spot.{Spot}
 use Rattle.place_merges.specs.steps.Spotting.{IsInside}
 use Rattle.place_merges.proofs.SpotLemmas.{from_place}
-use Rattle.index_phrases.specs.Phrases.{hits_in_span, phrase_hits, told, wanted_at}
+use Rattle.index_phrases.specs.Phrases.{hits_in_span, phrase_hits, numbered_hit, wanted_at}
 use Rattle.index_phrases.specs.steps.Aiming.{AreThere, HasDocument, IsTarget, own_wanted, sources_of}
 use Rattle.index_phrases.specs.declared.target.Target.{Target}
 use Rattle.index_phrases.specs.declared.word_terms.WordTerms.{WordTerms}
@@ -20,9 +20,9 @@ use Rattle.index_phrases.specs.declared.word_terms.WordTerms.TheVariants as Term
 
 pub all_left : (version : List Numbered) (number : ℕ) (terms : List (List WordTerms)) (target : Target) → IsTarget version target
     → (words : List (List Wanted)) → words ≡ map (map (wanted_at version target.doc.0 target.span)) terms
-    → map (told number target.breaks.breaks.now target.span) (spots_left target.span.to words (spot target.span.from 0)) ≡ phrase_hits version number terms target.doc.0 target.span
+    → map (numbered_hit number target.breaks.breaks.now target.span) (spots_left target.span.to words (spot target.span.from 0)) ≡ phrase_hits version number terms target.doc.0 target.span
 all_left version number terms target known words aimed =
-    ap (λ spots. map (told number target.breaks.breaks.now target.span) (filter (some_at target.span.to words) spots)) (sym (from_place target.span.to target.span.from))
+    ap (λ spots. map (numbered_hit number target.breaks.breaks.now target.span) (filter (some_at target.span.to words) spots)) (sym (from_place target.span.to target.span.from))
     ∙ (λ i. hits_in_span number (known.breaks i) target.span (aimed i))
 
 -- a target is what is known of it

@@ -28,12 +28,12 @@ module _ {A B C : Type 0} (f : A → B) (g : C → B) where
   -- one part more is as it is to be
   pub part_more : (now : List A) (wanted : List C) (i : ℕ) (y : A) (t : C) → length now ≡ length wanted → i < length now → t ≡ get_or wanted i t → f y ≡ g t
       → map f (take i now) ≡ map g (take i wanted) → map f (take (i + 1) (set now i y)) ≡ map g (take (i + 1) wanted)
-  part_more now wanted i y t many h told is before =
+  part_more now wanted i y t many h numbered_hit is before =
       let within : i < length wanted = omega arith in
       ap (map f) (take_more_set now i y h)
       ∙ map_push f (take i now) y
       ∙ (λ j. before j ++ is j ∷ [])
-      ∙ ap (λ (c : C). map g (take i wanted) ++ g c ∷ []) told
+      ∙ ap (λ (c : C). map g (take i wanted) ++ g c ∷ []) numbered_hit
       ∙ sym (map_more g wanted i t within)
 
 -- a part that stays as it is
@@ -46,10 +46,10 @@ module _ {A B C : Type 0} (f : A → B) (g : C → B) where
   same_length now wanted same = sym (length-map now f) ∙ ap length same ∙ length-map wanted g
 
   pub both_at : (now : List A) (wanted : List C) (i : ℕ) (x : A) (t : C) → map f now ≡ map g wanted → i < length wanted → x ≡ get_or now i x → t ≡ get_or wanted i t → f x ≡ g t
-  both_at now wanted i x t same h is told =
+  both_at now wanted i x t same h is numbered_hit =
       part_at f now (map g wanted) i x same is
       ∙ get_or_map g wanted i t (f x) h
-      ∙ ap g (sym told)
+      ∙ ap g (sym numbered_hit)
 
   -- one part more is as it is to be, and looks as it did
   pub record PartMore {D : Type 0} (made : A → D) (to_make : C → D) (after : List A) (wanted : List C) (i start end : ℕ) : Type 0 where
@@ -60,10 +60,10 @@ module _ {A B C : Type 0} (f : A → B) (g : C → B) where
   pub parts_more : {D : Type 0} (made : A → D) (to_make : C → D) (now : List A) (wanted : List C) (i start middle end : ℕ) (x y : A) (t : C)
       → map f now ≡ map g wanted → i < length wanted → x ≡ get_or now i x → t ≡ get_or wanted i t → f y ≡ f x → made y ≡ to_make t
       → map made (take i now) ≡ map to_make (take i wanted) → start ≤ middle → middle ≤ end → PartMore made to_make (set now i y) wanted i start end
-  parts_more made to_make now wanted i start middle end x y t same h is told kept new before first then =
+  parts_more made to_make now wanted i start middle end x y t same h is numbered_hit kept new before first then =
       let many = same_length now wanted same in
       record {
         sized = parts_kept f now (map g wanted) i x y same is kept;
-        done = part_more made to_make now wanted i y t many (omega arith) told new before;
+        done = part_more made to_make now wanted i y t many (omega arith) numbered_hit new before;
         grown = omega arith;
       }

@@ -17,25 +17,25 @@ use Rattle.place_merges.specs.Places.{Wanted, fits, stands_before}
 use Rattle.place_merges.specs.Spots.{some_at, spot, spots_between}
 use Rattle.place_merges.specs.declared.spot.Spot.{Spot}
 use Rattle.place_merges.proofs.PlacesLaw.{variant_law}
-use Rattle.index_phrases.specs.Phrases.{own_number, phrase_hits, told, wanted_at}
+use Rattle.index_phrases.specs.Phrases.{own_number, phrase_hits, numbered_hit, wanted_at}
 use Rattle.index_phrases.specs.Tokens.{AreVariants, IsSpan, interval_of, passes_terms, span_tokens, stands_on}
 use Rattle.index_phrases.specs.declared.word_terms.WordTerms.{WordTerms}
 use Rattle.index_phrases.proofs.SpanTokens.{no_token, paragraph_read, sentence_read, token_there, tokens_long}
 use Rattle.index_phrases.proofs.SpotIntervals.{Agrees, as_intervals, on}
 use Rattle.index_phrases.proofs.TermPlaces.{wanted_law}
 
--- ---- items on the front of some tokens
+-- ---- items on the prefix of some tokens
 
 module _ {X : Type 0} (passes : X → Token → Bool) where
-  -- a list of items stands on the front of its own length alone
-  pub front_stands : (items : List X) (tokens : List Token) (k : ℕ) → k ≤ length tokens → stands_on passes items (take k tokens) ≡ ((length items == k) && begins_as passes items tokens)
-  front_stands [] tokens zero h = refl
-  front_stands [] [] (suc k) h = absurd (omega arith)
-  front_stands [] (token ∷ tokens) (suc k) h = ap (λ b. b && true) (sym (eqb-zero-suc k))
-  front_stands (item ∷ items) tokens zero h = ap (λ b. b && begins_as passes (item ∷ items) tokens) (sym (eqb-suc-zero (length items)))
-  front_stands (item ∷ items) [] (suc k) h = absurd (omega arith)
-  front_stands (item ∷ items) (token ∷ tokens) (suc k) h =
-      ap (λ b. passes item token && b) (front_stands items tokens k (omega arith))
+  -- a list of items stands on the prefix of its own length alone
+  pub prefix_stands : (items : List X) (tokens : List Token) (k : ℕ) → k ≤ length tokens → stands_on passes items (take k tokens) ≡ ((length items == k) && begins_as passes items tokens)
+  prefix_stands [] tokens zero h = refl
+  prefix_stands [] [] (suc k) h = absurd (omega arith)
+  prefix_stands [] (token ∷ tokens) (suc k) h = ap (λ b. b && true) (sym (eqb-zero-suc k))
+  prefix_stands (item ∷ items) tokens zero h = ap (λ b. b && begins_as passes (item ∷ items) tokens) (sym (eqb-suc-zero (length items)))
+  prefix_stands (item ∷ items) [] (suc k) h = absurd (omega arith)
+  prefix_stands (item ∷ items) (token ∷ tokens) (suc k) h =
+      ap (λ b. passes item token && b) (prefix_stands items tokens k (omega arith))
       ∙ and_swap (passes item token) (length items == k) (begins_as passes items tokens)
       ∙ ap (λ b. b && (passes item token && begins_as passes items tokens)) (sym (eqb-suc-suc (length items) k))
 
@@ -65,7 +65,7 @@ module _ (lexicon : Lexicon) (options : Options) (number : ℕ) (phrase : List I
         (λ variant. stands_as lexicon options variant (tokens_in tokens (on from to))) (variants lexicon options phrase)
         (λ variant.
         ap (λ p. (length variant == suc to - from) && begins_as (passes_item lexicon options) variant (drop p tokens)) at
-        ∙ sym (front_stands (passes_item lexicon options) variant (drop (from - 1) tokens) (suc to - from) (omega (arith, left, first, order, last)))
+        ∙ sym (prefix_stands (passes_item lexicon options) variant (drop (from - 1) tokens) (suc to - from) (omega (arith, left, first, order, last)))
         ∙ sym (own lexicon options variant (tokens_in tokens (on from to))));
     values = λ from to first order last.
         let start : 0 + from ≡ from = omega arith in
@@ -120,9 +120,9 @@ module _ (version : List Numbered) (doc number : ℕ) (span : Span) (terms : Lis
       ap (λ n. (n == suc to - from) && stands_before span.to (k + from) (map want variant)) (length-map variant want)
       ∙ ap (λ b. (length variant == suc to - from) && b)
       (variant_law (passes_terms version) want variant (k + from) span.to (drop (from - 1) part) (omega (arith, start, long, left, first, order, last, ordered)) (fits_there from first (omega (arith, order, last))))
-      ∙ sym (front_stands (passes_terms version) variant (drop (from - 1) part) (suc to - from) (omega (arith, long, left, first, order, last)))
+      ∙ sym (prefix_stands (passes_terms version) variant (drop (from - 1) part) (suc to - from) (omega (arith, long, left, first, order, last)))
 
-  told_there : (from to : ℕ) → 1 ≤ from → from ≤ to → to ≤ m → told number (breaks_of (document_at doc version)) span (spot (k + from) (suc to - from)) ≡ hit_on part number (on from to)
+  told_there : (from to : ℕ) → 1 ≤ from → from ≤ to → to ≤ m → numbered_hit number (breaks_of (document_at doc version)) span (spot (k + from) (suc to - from)) ≡ hit_on part number (on from to)
   told_there from to first order last =
       let start = s.first in
       let long = tokens_long span (document_at doc version) s in
@@ -161,7 +161,7 @@ module _ (version : List Numbered) (doc number : ℕ) (span : Span) (terms : Lis
   is_wanted_at = some_at span.to (map (map want) terms)
 
   abbrev own_hit : Spot → Hit
-  own_hit = told number (breaks_of (document_at doc version)) span
+  own_hit = numbered_hit number (breaks_of (document_at doc version)) span
 
   terms_agree : Agrees k m is_wanted_at own_hit terms_stand (hit_on part number)
   terms_agree = record {

@@ -19,9 +19,9 @@ module _ {A B Z : Type 0} (p : A → Bool) (h : A → Z) (q : B → Bool) (f : B
       by_test true = λ i. values i ∷ rest i
       by_test false = rest
 
-  behind : (xs more : List A) (ys others : List B) → map h (filter p xs) ≡ map f (filter q ys) → map h (filter p more) ≡ map f (filter q others)
+  after : (xs more : List A) (ys others : List B) → map h (filter p xs) ≡ map f (filter q ys) → map h (filter p more) ≡ map f (filter q others)
       → map h (filter p (xs ++ more)) ≡ map f (filter q (ys ++ others))
-  behind xs more ys others first rest =
+  after xs more ys others first rest =
       ap (map h) (filter-append p xs more)
       ∙ map-append h (filter p xs) (filter p more)
       ∙ (λ i. first i ++ rest i)
@@ -49,7 +49,7 @@ module _ {Z : Type 0} (k m : ℕ) (p : Spot → Bool) (h : Spot → Z) (q : Inte
   rows place from (suc size) at first last =
       let many : suc (k + m) - place ≡ suc m - from = omega (arith, at) in
       let one : 1 ≡ suc from - from = omega arith in
-      behind p h q f (spots_at (suc (k + m)) place) (flat_map (spots_at (suc (k + m))) (range_with_len (place + 1) size))
+      after p h q f (spots_at (suc (k + m)) place) (flat_map (spots_at (suc (k + m))) (range_with_len (place + 1) size))
       (map (on from) (range_with_len from (suc m - from))) (flat_map (λ a. map (on a) (range_with_len a (suc m - a))) (range_with_len (from + 1) size))
       (ap (λ n. map h (filter p (map (spot place) (range_with_len 1 n)))) many
       ∙ row place from from 1 (suc m - from) at one first (omega arith) (omega (arith, last)))

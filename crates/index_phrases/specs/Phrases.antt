@@ -25,7 +25,7 @@ wanted_at version doc span Terms.Any = any_word
 wanted_at version doc span (Terms.Of sources) = one_of (map (λ source. map (λ hit. hit.from) (term_hits source.term doc span version)) sources)
 
 -- the number of the sentence or paragraph of the word at a place, if the one of the first word is the first: how many start
--- there or in front of it, but for those in front of the first one
+-- there or before it, but for those before the first one
 abbrev pub own_number : List ℕ → ℕ → ℕ → ℕ
 own_number starts first place = started starts place - (started starts first - 1)
 
@@ -34,8 +34,8 @@ abbrev pub last_place : Spot → ℕ
 last_place at = at.place + (at.words - 1)
 
 -- the hit of the phrase of that number on a spot
-abbrev pub told : ℕ → Breaks → Span → Spot → Hit
-told number breaks span at = record {
+abbrev pub numbered_hit : ℕ → Breaks → Span → Spot → Hit
+numbered_hit number breaks span at = record {
   query = number;
   from = at.place - (span.from - 1);
   to = last_place at - (span.from - 1);
@@ -48,7 +48,7 @@ told number breaks span at = record {
 
 -- the hits on the spots of the span at which one of the variants stands: place after place, and at a place by their lengths
 abbrev pub hits_in_span : ℕ → Breaks → Span → List (List Wanted) → List Hit
-hits_in_span number breaks span variants = map (told number breaks span) (filter (some_at span.to variants) (spots_between span.from span.to))
+hits_in_span number breaks span variants = map (numbered_hit number breaks span) (filter (some_at span.to variants) (spots_between span.from span.to))
 
 -- those of a phrase whose words are those of these terms, in a span of the document of that number
 abbrev pub phrase_hits : List Numbered → ℕ → List (List WordTerms) → ℕ → Span → List Hit

@@ -7,7 +7,7 @@ ghost use Rattle.index_versions.specs.Terms.{version_term};
 ghost use Rattle.place_merges.specs.Places.{any_word, one_of};
 ghost use Rattle.place_merges.specs.Spots.{spot};
 ghost use Rattle.index_phrases.specs.Cursors.{hits_where, phrase_aims};
-ghost use Rattle.index_phrases.specs.Phrases.{hits_in_span, is_wanted, last_place, own_number, phrase_hits, told, wanted_at, words_at};
+ghost use Rattle.index_phrases.specs.Phrases.{hits_in_span, is_wanted, last_place, own_number, phrase_hits, numbered_hit, wanted_at, words_at};
 ghost use Rattle.index_phrases.specs.Tokens.{interval_of, span_tokens, stands_on};
 ghost use Rattle.index_phrases.specs.Examples.{document, hit, is_word, token};
 ghost use Rattle.index_phrases.specs.declared.word_terms.WordTerms.TheVariants.{Any, Of};
@@ -17,15 +17,15 @@ pub fn numbers_of_a_span()
     ensures of_the_first_word { own_number (1 ∷ 3 ∷ 5 ∷ []) 4 4 ≡ 1 }
     ensures in_the_next { own_number (1 ∷ 3 ∷ 5 ∷ []) 4 5 ≡ 2 }
     ensures of_a_whole_text { own_number (1 ∷ 3 ∷ 5 ∷ []) 1 5 ≡ 3 }
-    ensures behind_no_start { own_number (9 ∷ []) 4 5 ≡ 0 }
+    ensures after_no_start { own_number (9 ∷ []) 4 5 ≡ 0 }
 {}
 
 /// The words of a spot, and the hit on it in the numbers of the span.
 pub fn hits_on_spots()
     ensures last { last_place (spot 5 3) ≡ 7 }
     ensures of_one_word { last_place (spot 5 1) ≡ 5 }
-    ensures told { told 7 breaks (span 4 7) (spot 4 2) ≡ hit 7 1 2 1 2 1 2 }
-    ensures later { told 7 breaks (span 4 7) (spot 5 2) ≡ hit 7 2 3 2 2 2 2 }
+    ensures numbered_hit { numbered_hit 7 breaks (span 4 7) (spot 4 2) ≡ hit 7 1 2 1 2 1 2 }
+    ensures later { numbered_hit 7 breaks (span 4 7) (spot 5 2) ≡ hit 7 2 3 2 2 2 2 }
 {}
 
 /// The spots come place after place, and at a place by their lengths; each once, and none past the end of the span.

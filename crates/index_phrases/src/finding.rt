@@ -5,7 +5,7 @@ ghost use Rattle.std.specs.Option.{ForSome};
 ghost use Rattle.place_merges.specs.Sources.{all_lists, wanted_words};
 ghost use Rattle.place_merges.specs.Spots.{spots_left};
 ghost use Rattle.place_merges.specs.steps.Spotting.{IsInside};
-ghost use Rattle.index_phrases.specs.Phrases.{told};
+ghost use Rattle.index_phrases.specs.Phrases.{numbered_hit};
 ghost use Rattle.index_phrases.specs.steps.Left.{rest_of};
 ghost use Rattle.index_phrases.specs.steps.Numbers.{numbers_at};
 
@@ -18,25 +18,25 @@ use index_versions::TermCursor;
 use place_merges::{Spot, Variant, next_spot};
 use std::sync::ledger::Ledger;
 
-/// The first spot behind that one at which a variant stands, with the hit of the phrase of that number on it. The numbers of
-/// the span's first word are given, where they are known from a hit in front of it.
-pub(crate) fn found_behind<'v, L: Ledger>(
+/// The first spot after that one at which a variant stands, with the hit of the phrase of that number on it. The numbers of
+/// the span's first word are given, where they are known from a hit before it.
+pub(crate) fn found_after<'v, L: Ledger>(
     variants: &mut Vec<Variant<TermCursor<'v>>>,
     number: u32,
     target: &Target<'v>,
     known: Option<UnitNumbers>,
-    behind: Spot,
+    after: Spot,
     steps: &mut Steps<L>,
 ) -> Option<Found<'v>>
-    requires place { target.now.span.from ≤ behind.place }
+    requires place { target.now.span.from ≤ after.place }
     requires known { ForSome known (λ first. first ≡ numbers_at target.now.breaks.breaks.now target.now.span.from) }
-    ensures left { map (told number target.now.breaks.breaks.now target.now.span)
-        (spots_left target.now.span.to (wanted_words (λ cursor. cursor) variants.old.items) behind)
+    ensures left { map (numbered_hit number target.now.breaks.breaks.now target.now.span)
+        (spots_left target.now.span.to (wanted_words (λ cursor. cursor) variants.old.items) after)
         ≡ rest_of number (wanted_words (λ cursor. cursor) variants.new.items) result }
     ensures lists { all_lists (λ cursor. cursor) variants.new.items ≡ all_lists (λ cursor. cursor) variants.old.items }
     ensures grown { steps.old ≤ steps.new }
 {
-    match next_spot(variants, behind, target.span.to, steps) {
+    match next_spot(variants, after, target.span.to, steps) {
         Some(spot) => Some(found_on(number, target, target.span.to, known, spot)),
         None => None,
     }
@@ -54,7 +54,7 @@ fn found_on<'v>(
     requires known { ForSome known (λ first. first ≡ numbers_at target.now.breaks.breaks.now target.now.span.from) }
     ensures target { result.target ≡ target.now }
     ensures spot { result.spot ≡ spot }
-    ensures hit { result.hit ≡ told number target.now.breaks.breaks.now target.now.span spot }
+    ensures hit { result.hit ≡ numbered_hit number target.now.breaks.breaks.now target.now.span spot }
 {
     let first = match known {
         Some(first) => first,

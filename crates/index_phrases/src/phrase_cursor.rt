@@ -6,7 +6,7 @@ ghost use Rattle.std.specs.Option.{ForSome};
 ghost use Rattle.index_phrases.specs.steps.Aiming.{AreThere, IsTarget, sizes_of, variant_words, wanted_size};
 
 use crate::aiming::aim_variants;
-use crate::finding::found_behind;
+use crate::finding::found_after;
 use crate::found::Found;
 use crate::target::Target;
 use crate::word_terms::WordTerms;
@@ -70,11 +70,11 @@ impl<'v> PhraseCursor<'v> {
         ensures grown { steps.old ≤ steps.new }
     {
         aim_variants(target, &mut self.terms, &mut self.variants, steps);
-        let front = Spot {
+        let prefix = Spot {
             place: target.span.from,
             words: 0,
         };
-        self.found = found_behind(&mut self.variants, self.number, target, None, front, steps);
+        self.found = found_after(&mut self.variants, self.number, target, None, prefix, steps);
         self.target = Some(*target);
     }
 }
@@ -101,7 +101,7 @@ impl<'v> PhraseHits for PhraseCursor<'v> {
     fn next<L: Ledger>(&mut self, steps: &mut Steps<L>) {
         match self.found {
             Some(found) => {
-                self.found = found_behind(
+                self.found = found_after(
                     &mut self.variants,
                     self.number,
                     &found.target,

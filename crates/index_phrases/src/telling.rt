@@ -2,7 +2,7 @@
 
 ghost use Rattle.std.specs.Prelude.{◌≡◌, ◌<◌, ◌-◌, ◌^◌};
 ghost use Rattle.place_merges.specs.steps.Spotting.{IsInside};
-ghost use Rattle.index_phrases.specs.Phrases.{told};
+ghost use Rattle.index_phrases.specs.Phrases.{numbered_hit};
 ghost use Rattle.index_phrases.specs.steps.Numbers.{numbers_at, own_numbers};
 
 use crate::target::Target;
@@ -15,7 +15,7 @@ use place_merges::Spot;
 pub(crate) fn tell(number: u32, target: &Target<'_>, to: u32, first: UnitNumbers, at: Spot) -> Hit
     requires inside { IsInside target.now.span.from to at }
     requires first { first ≡ numbers_at target.now.breaks.breaks.now target.now.span.from }
-    ensures { result ≡ told number target.now.breaks.breaks.now target.now.span at }
+    ensures { result ≡ numbered_hit number target.now.breaks.breaks.now target.now.span at }
 {
     let before = target.span.from.saturating_sub(1);
     let last = at.place + (at.words - 1);

@@ -1,4 +1,4 @@
--- A version that follows a tree has the leaves that a change takes, none of those that it puts, and behind it the document of the new tree.
+-- A version that follows a tree has the leaves that a change takes, none of those that it puts, and after it the document of the new tree.
 use Rattle.std.proofs.Common.{◌≡◌, ◌∙◌, sym, ap, ap₂, subst, refl, ℕ, ◌+◌, not, List, [], ◌∷◌, map, filter, length, arith}
 use Rattle.std.specs.Prelude.{Option, Some}
 use Rattle.std.proofs.lemmas.List.Filters.{sum_by-filter_both}
@@ -6,7 +6,7 @@ use Rattle.ft_base.specs.declared.ids.LeafId.{LeafId}
 use Rattle.ft_base.specs.declared.places.Breaks.{Breaks}
 use Rattle.index_meaning.specs.Documents.{Document, Numbered, document_at, numbered, with_breaks, with_document}
 use Rattle.index_meaning.specs.Documents as index
-use Rattle.ordered_tree.specs.Leaves.{leaf_of, leaves_behind, texts}
+use Rattle.ordered_tree.specs.Leaves.{leaf_of, leaves_after, texts}
 use Rattle.ordered_tree.specs.Numbered as tree
 use Rattle.ordered_tree.specs.Numbered.{plain}
 use Rattle.tokenizer.specs.Tokens.{tokens, sentence_starts, paragraph_starts}
@@ -21,8 +21,8 @@ use Rattle.index_updates.specs.steps.Turns.{AreNew, AreThere, with_all, without_
 use Rattle.index_updates.proofs.TextLemmas.{all_new, all_there, all_words, document, fewer, put_of, still_distinct, taken_of, words_of_put}
 
 -- the leaves of a tree are those of its texts
-leaves_of_texts : (before : Option LeafId) (ts : List Text) → word_leaves (leaves_behind before ts) ≡ map text_leaf ts
-unfolding leaves_behind
+leaves_of_texts : (before : Option LeafId) (ts : List Text) → word_leaves (leaves_after before ts) ≡ map text_leaf ts
+unfolding leaves_after
 leaves_of_texts before [] = refl
 leaves_of_texts before ((r, bytes) ∷ ts) = ap (λ ls. index.leaf_of r.0 (words bytes) ∷ ls) (leaves_of_texts (Some (leaf_of r)) ts)
 
@@ -43,8 +43,8 @@ module _ (version : List Numbered) (doc : ℕ) (old new : tree.Numbered) (change
   before : Distinct (refs_of (texts old))
   before = texts_apart old made.keeps_order.apart_before
 
-  behind : Distinct (refs_of (texts new))
-  behind = texts_apart new made.keeps_order.apart
+  after : Distinct (refs_of (texts new))
+  after = texts_apart new made.keeps_order.apart
 
   pub change-there : AreThere change.taken (document_at doc version)
   change-there =
@@ -58,13 +58,13 @@ module _ (version : List Numbered) (doc : ℕ) (old new : tree.Numbered) (change
       ap₂ without_all made.went is ∙ taken_of (sentences old) (paragraphs old) (taken old new) (text_leaves old)
 
   stayed : take_all (taken old new) (text_leaves old) ≡ map text_leaf (filter (stays (texts old)) (texts new))
-  stayed = stay_left (texts new) (texts old) before ∙ ap (map text_leaf) (stay_same (texts old) (texts new) before behind made.keeps_order.order)
+  stayed = stay_left (texts new) (texts old) before ∙ ap (map text_leaf) (stay_same (texts old) (texts new) before after made.keeps_order.order)
 
   pub change-new : AreNew change.put (without_all change.taken (document_at doc version))
   change-new =
       subst (λ ls. AreNew ls (without_all change.taken (document_at doc version))) (sym made.came)
       (subst (AreNew (put old new)) (sym (left ∙ ap (document (sentences old) (paragraphs old)) stayed))
-      (all_new (sentences old) (paragraphs old) (texts old) (texts new) behind))
+      (all_new (sentences old) (paragraphs old) (texts old) (texts new) after))
 
   change-document : (breaks : Breaks) → breaks ≡ breaks_in (plain new)
       → with_breaks breaks (with_all change.put (without_all change.taken (document_at doc version))) ≡ tree_document new

@@ -11,7 +11,7 @@ use Rattle.doc_index.specs.Terms.{are_distinct, has}
 use Rattle.ft_base.specs.declared.ids.LeafId.{LeafId}
 use Rattle.ft_base.specs.declared.ids.NodeRef.{NodeRef}
 use Rattle.index_meaning.specs.Documents.{leaf_ids}
-use Rattle.ordered_tree.specs.Leaves.{leaf_of, leaves, leaves_behind, texts, texts_of}
+use Rattle.ordered_tree.specs.Leaves.{leaf_of, leaves, leaves_after, texts, texts_of}
 use Rattle.ordered_tree.specs.Numbered.{Numbered, element_at, text_at, Children, no_children, child_then, first_of, is_element, reference}
 use Rattle.ordered_tree.specs.Stands.{Stand, child_stands, references, round_first, round_next, round_root, stands, stands_in}
 use Rattle.ordered_tree.specs.declared.around.Around.{Around}
@@ -32,8 +32,8 @@ text_numbers-append : (xs ys : List (NodeRef × List ℕ)) → text_numbers (xs 
 text_numbers-append [] ys = refl
 text_numbers-append ((r, bytes) ∷ xs) ys = ap (λ ns. r.0 ∷ ns) (text_numbers-append xs ys)
 
-leaf_numbers : (before : Option LeafId) (ts : List (NodeRef × List ℕ)) → leaf_ids (word_leaves (leaves_behind before ts)) ≡ text_numbers ts
-unfolding leaves_behind
+leaf_numbers : (before : Option LeafId) (ts : List (NodeRef × List ℕ)) → leaf_ids (word_leaves (leaves_after before ts)) ≡ text_numbers ts
+unfolding leaves_after
 leaf_numbers before [] = refl
 leaf_numbers before ((r, bytes) ∷ ts) = ap (λ ns. r.0 ∷ ns) (leaf_numbers (Some (leaf_of r)) ts)
 

@@ -10,10 +10,10 @@ use Rattle.index_meaning.specs.Documents.{Document, Leaf, leaf_words, without_le
 use Rattle.ordered_tree.specs.Leaves.{leaf_of}
 use Rattle.ordered_tree.specs.declared.leaf.LeafWords.{LeafWords}
 use Rattle.tokenizer.specs.Words.{words}
-use Rattle.tree_edits.specs.Changed.{Text, index_leaf, is_one_of, put_all, put_behind, stays, take_all, text_leaf, word_total}
+use Rattle.tree_edits.specs.Changed.{Text, index_leaf, is_one_of, put_all, put_after, stays, take_all, text_leaf, word_total}
 use Rattle.tree_edits.specs.Edits.{is_among, is_same}
 use Rattle.tree_edits.proofs.References.{Distinct, distinct_first, distinct_rest, none_among, same_ref, same_self, some_among, times, times_filter, weight_yes, weight_zero}
-use Rattle.tree_edits.proofs.TextLists.{behind_text, map_cond, one_further, refs_filter, refs_of, times_further}
+use Rattle.tree_edits.proofs.TextLists.{after_text, map_cond, one_further, refs_filter, refs_of, times_further}
 use Rattle.index_updates.specs.steps.Turns.{AreNew, AreThere, with_all, without_all, words_put, words_taken}
 
 abbrev pub ids_of : List Text → List LeafId
@@ -147,16 +147,16 @@ module _ (s p : List ℕ) where
       let rest = ap (λ e. words_taken (ids_of xs) e + word_total (without_all (ids_of xs) e).leaves) (less x.0 ts) ∙ all_words xs (filter (other x.0) ts) (still_distinct (other x.0) ts d) in
       omega (arith, rest, text_words x.0 ts (d x.0))
 
-  -- ---- each text that others don't have is new in its turn, and the one in front of it is there
+  -- ---- each text that others don't have is new in its turn, and the one before it is there
 
-  new_behind : (os ts : List Text) (t : Text) (rest : List Text) → ((r : NodeRef) → times r (refs_of ts) + times r (refs_of (t ∷ rest)) ≤ 1)
-      → AreNew (put_behind os (Some (leaf_of t.0)) rest) (document (map text_leaf ts ++ text_leaf t ∷ map text_leaf (filter (stays os) rest)))
-  new_behind os ts t [] few = tt
-  new_behind os ts t (u ∷ rest) few =
+  new_after : (os ts : List Text) (t : Text) (rest : List Text) → ((r : NodeRef) → times r (refs_of ts) + times r (refs_of (t ∷ rest)) ≤ 1)
+      → AreNew (put_after os (Some (leaf_of t.0)) rest) (document (map text_leaf ts ++ text_leaf t ∷ map text_leaf (filter (stays os) rest)))
+  new_after os ts t [] few = tt
+  new_after os ts t (u ∷ rest) few =
       let ls = map text_leaf (filter (stays os) rest) in
-      let next : AreNew (put_behind os (Some (leaf_of u.0)) rest) (document (map text_leaf ts ++ text_leaf t ∷ text_leaf u ∷ ls)) =
-      subst (λ xs. AreNew (put_behind os (Some (leaf_of u.0)) rest) (document xs)) (one_further ts t (text_leaf u ∷ ls))
-      (new_behind os (ts ++ t ∷ []) u rest (λ r. omega (arith, few r, times_further r ts t))) in
+      let next : AreNew (put_after os (Some (leaf_of u.0)) rest) (document (map text_leaf ts ++ text_leaf t ∷ text_leaf u ∷ ls)) =
+      subst (λ xs. AreNew (put_after os (Some (leaf_of u.0)) rest) (document xs)) (one_further ts t (text_leaf u ∷ ls))
+      (new_after os (ts ++ t ∷ []) u rest (λ r. omega (arith, few r, times_further r ts t))) in
       let alone : times t.0 (refs_of ts) ≡ 0 = omega (arith, few t.0, weight_yes (is_same t.0 t.0) (same_self t.0)) in
       let fresh : times u.0 (refs_of ts) + times u.0 (refs_of (t ∷ filter (stays os) rest)) ≡ 0 =
       omega (arith, few u.0, weight_yes (is_same u.0 u.0) (same_self u.0), fewer (stays os) rest u.0) in
@@ -165,14 +165,14 @@ module _ (s p : List ℕ) where
         | inr comes ↦ rw comes (
           has_none u.0 ts (t ∷ filter (stays os) rest) fresh,
           has_here ts t ls,
-          subst (λ xs. AreNew (put_behind os (Some (leaf_of u.0)) rest) (document xs)) (sym (behind_text ts t (text_leaf u) ls alone)) next,
+          subst (λ xs. AreNew (put_after os (Some (leaf_of u.0)) rest) (document xs)) (sym (after_text ts t (text_leaf u) ls alone)) next,
         )
       ]
 
-  pub all_new : (os rest : List Text) → Distinct (refs_of rest) → AreNew (put_behind os None rest) (document (map text_leaf (filter (stays os) rest)))
+  pub all_new : (os rest : List Text) → Distinct (refs_of rest) → AreNew (put_after os None rest) (document (map text_leaf (filter (stays os) rest)))
   all_new os [] d = tt
   all_new os (u ∷ rest) d =
-      let next = new_behind os [] u rest (λ r. omega (arith, d r)) in
+      let next = new_after os [] u rest (λ r. omega (arith, d r)) in
       let fresh : times u.0 (refs_of (filter (stays os) rest)) ≡ 0 = omega (arith, distinct_first u.0 (refs_of rest) d, fewer (stays os) rest u.0) in
       elim (cases_Bool (stays os u)) [
         | inl stay ↦ rw stay next

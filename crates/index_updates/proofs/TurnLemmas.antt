@@ -16,8 +16,8 @@ leaf_at xs i = slice_index_or xs i (record { 0 = 0 })
 module _ (doc : ℕ) where
   -- ---- a document that comes under that number goes in the place of the one that is there
 
-  in_front : (d : Document) (x : Numbered) (rest : List Numbered) → nat_lt doc x.id ≡ true → with_document (numbered doc d) (x ∷ rest) ≡ numbered doc d ∷ x ∷ rest
-  in_front d x rest less = rw less refl
+  comes_before : (d : Document) (x : Numbered) (rest : List Numbered) → nat_lt doc x.id ≡ true → with_document (numbered doc d) (x ∷ rest) ≡ numbered doc d ∷ x ∷ rest
+  comes_before d x rest less = rw less refl
 
   in_place : (d : Document) (x : Numbered) (rest : List Numbered) → nat_lt doc x.id ≡ false → (doc == x.id) ≡ true → with_document (numbered doc d) (x ∷ rest) ≡ numbered doc d ∷ rest
   in_place d x rest more same = rw (more, same) refl
@@ -31,7 +31,7 @@ module _ (doc : ℕ) where
   pub with-twice : (d e : Document) (ds : List Numbered) → with_document (numbered doc d) (with_document (numbered doc e) ds) ≡ with_document (numbered doc d) ds
   with-twice d e [] = instead d e []
   with-twice d e (x ∷ rest) = elim (cases_Bool (nat_lt doc x.id)) [
-    | inl less ↦ ap (with_document (numbered doc d)) (in_front e x rest less) ∙ instead d e (x ∷ rest) ∙ sym (in_front d x rest less)
+    | inl less ↦ ap (with_document (numbered doc d)) (comes_before e x rest less) ∙ instead d e (x ∷ rest) ∙ sym (comes_before d x rest less)
     | inr more ↦ elim (cases_Bool (doc == x.id)) [
       | inl same ↦ ap (with_document (numbered doc d)) (in_place e x rest more same) ∙ instead d e rest ∙ sym (in_place d x rest more same)
       | inr differ ↦
@@ -42,7 +42,7 @@ module _ (doc : ℕ) where
     ]
   ]
 
-  -- ---- the version behind a turn
+  -- ---- the version after a turn
 
   module _ (before now next : List Numbered) (d : Document) (is : next ≡ with_document (numbered doc d) now) where
     pub turned-there : document_at doc next ≡ d

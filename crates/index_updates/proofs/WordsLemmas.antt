@@ -6,7 +6,7 @@ use Rattle.std.proofs.lemmas.List.{length-map}
 use Rattle.ft_base.specs.declared.ids.LeafId.{LeafId}
 use Rattle.ft_base.specs.declared.ids.NodeRef.{NodeRef}
 use Rattle.index_meaning.specs.Documents.{token_count, words_of}
-use Rattle.ordered_tree.specs.Leaves.{leaf_of, leaves_behind, texts, texts_of}
+use Rattle.ordered_tree.specs.Leaves.{leaf_of, leaves_after, texts, texts_of}
 use Rattle.ordered_tree.specs.Numbered.{Numbered, element_at, text_at, Children, no_children, child_then, plain, plain_children}
 use Rattle.ordered_tree.specs.steps.Gathering.{parts_of}
 use Rattle.ordered_tree.proofs.ShiftLemmas.{parts-element, parts_of-then}
@@ -55,8 +55,8 @@ text_words-append : (xs ys : List (NodeRef × List ℕ)) → text_words (xs ++ y
 text_words-append [] ys = refl
 text_words-append ((r, bytes) ∷ xs) ys = ap (λ ws. words bytes ++ ws) (text_words-append xs ys) ∙ sym (append_assoc (words bytes) (text_words xs) (text_words ys))
 
-words-leaves : (before : Option LeafId) (ts : List (NodeRef × List ℕ)) → flat_map (λ leaf. leaf.words) (map word_leaf (leaves_behind before ts)) ≡ text_words ts
-unfolding leaves_behind
+words-leaves : (before : Option LeafId) (ts : List (NodeRef × List ℕ)) → flat_map (λ leaf. leaf.words) (map word_leaf (leaves_after before ts)) ≡ text_words ts
+unfolding leaves_after
 words-leaves before [] = refl
 words-leaves before ((r, bytes) ∷ ts) = ap (λ ws. words bytes ++ ws) (words-leaves (Some (leaf_of r)) ts)
 

@@ -127,7 +127,7 @@ fn texts_of(alloc: Global, leaves: Leaves) -> Result<WordLeaves, Memory>
     Ok(texts)
 }
 
-/// Puts a leaf behind the others.
+/// Puts a leaf after the others.
 fn push_text(texts: &mut WordLeaves, leaf: LeafWords) -> Result<(), Memory>
     ensures { OnOk result (texts.new ≡ texts.old ++ word_leaf leaf ∷ []) }
 {

@@ -13,7 +13,7 @@ use ordered_tree::{DocTree, LeafWords};
 use std::sync::ledger::Ledger;
 use tree_edits::Change;
 
-/// The version with a document as it is behind an edit, of which this is the tree and the change. The version follows the tree
+/// The version with a document as it is after an edit, of which this is the tree and the change. The version follows the tree
 /// of before. Counts a row for each word of the texts that don't stay; where memory runs out, no more than that.
 pub fn apply_change<L: Ledger>(
     version: &Version,
@@ -109,7 +109,7 @@ fn take_leaves<L: Ledger>(
     Ok(())
 }
 
-/// Puts leaves into the document, one after the other, each behind the one that it follows.
+/// Puts leaves into the document, one after the other, each after the one that it follows.
 fn put_leaves<L: Ledger>(
     version: &mut Version,
     doc: DocId,

@@ -7,7 +7,7 @@ ghost use Rattle.ordered_tree.specs.Numbered.{Numbered, plain};
 ghost use Rattle.tokenizer.specs.Tokens.{tokens};
 ghost use Rattle.index_updates.specs.Follows.{tree_document, under_tokens, under_tree};
 
-/// The words of a tree's leaves, one leaf behind the other, are those of its tokens: a row of an index for each token.
+/// The words of a tree's leaves, one leaf after the other, are those of its tokens: a row of an index for each token.
 pub fn words_law()
     ensures words { (root : Numbered) → words_of (tree_document root) ≡ map (λ token. token.word) (tokens (plain root)) }
     ensures count { (root : Numbered) → token_count (tree_document root) ≡ length (tokens (plain root)) }

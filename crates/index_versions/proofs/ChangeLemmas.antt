@@ -5,12 +5,13 @@ use Rattle.std.proofs.lemmas.Bool.{and_parts, and_from, or_cases, or_left, or_ri
 use Rattle.std.proofs.lemmas.List.Sums.{sum_by-cons}
 use Rattle.ft_base.specs.Places.{is_ascending}
 use Rattle.doc_index.specs.Terms.{are_distinct, has, terms_of}
-use Rattle.doc_index.proofs.TermLemmas.{rest-ascending, first-below, terms_of-ascending}
+use Rattle.ft_base.proofs.PlacesLemmas.{rest-ascending}
+use Rattle.doc_index.proofs.TermLemmas.{first-below, terms_of-ascending}
 use Rattle.index_meaning.specs.Dictionaries.{ids}
 use Rattle.document_counts.specs.Counts.{count_of, fallen}
 use Rattle.index_versions.specs.declared.parts.Parts.{Parts}
 use Rattle.index_versions.specs.steps.Held.{Held, held_ids, documents_with, numbers, listed, listed_ids}
-use Rattle.index_versions.specs.steps.Exchange.{in_front, of_number, in_back, exchanged}
+use Rattle.index_versions.specs.steps.Exchange.{held_before, of_number, in_back, exchanged}
 use Rattle.index_versions.specs.steps.Naming.{are_keyed}
 use Rattle.index_versions.specs.steps.Sound.{IsSound, IsSoundFor}
 use Rattle.index_versions.proofs.ExchangeLemmas.{whole, counts_exchanged, ascending_exchanged, HasNumber}
@@ -55,7 +56,7 @@ once_there : (id : ℕ) (o : Option Held) → has id (listed_ids o) ≡ true →
 once_there id o there = once id o ∙ ap (λ b. cond b 1 0) there
 
 pub parts_of : (id doc : ℕ) (hs : List Held) (old : Option Held) → is_ascending (numbers hs) ≡ true → listed old ≡ of_number doc hs
-    → documents_with id hs ≡ documents_with id (in_front doc hs) + (documents_with id (listed old) + documents_with id (in_back doc hs))
+    → documents_with id hs ≡ documents_with id (held_before doc hs) + (documents_with id (listed old) + documents_with id (in_back doc hs))
 parts_of id doc hs old up is =
     ap (documents_with id) (whole doc hs up ∙ ap (λ xs. exchanged doc xs hs) (sym is)) ∙ counts_exchanged id doc (listed old) hs
 
@@ -63,10 +64,10 @@ pub old_counted : (id doc : ℕ) (hs : List Held) (old : Option Held) → is_asc
     → has id (listed_ids old) ≡ true → 0 < documents_with id hs
 old_counted id doc hs old up is there = omega (arith, parts_of id doc hs old up is, once_there id old there)
 
-pub counted_then : (id doc : ℕ) (hs : List Held) (old new : Option Held) (before raised after : ℕ) → is_ascending (numbers hs) ≡ true → listed old ≡ of_number doc hs
-    → before ≡ documents_with id hs → raised ≡ before + documents_with id (listed new) → after ≡ raised - documents_with id (listed old)
+pub counted_then : (id doc : ℕ) (hs : List Held) (old new : Option Held) (before shifted after : ℕ) → is_ascending (numbers hs) ≡ true → listed old ≡ of_number doc hs
+    → before ≡ documents_with id hs → shifted ≡ before + documents_with id (listed new) → after ≡ shifted - documents_with id (listed old)
     → after ≡ documents_with id (exchanged doc (listed new) hs)
-counted_then id doc hs old new before raised after up is first second third =
+counted_then id doc hs old new before shifted after up is first second third =
     omega (arith, parts_of id doc hs old up is, counts_exchanged id doc (listed new) hs, first, second, third)
 
 -- ---- which ids stay
@@ -97,7 +98,7 @@ used_then id doc hs old new before after gone count up is first second third fou
     let then_ = parts_of id doc hs old up is in
     fourth
     ∙ (λ i. not ((second ∙ ap (λ k. has id (listed_ids old) && not (nat_lt 0 k)) now) i) && (first ∙ ap (λ k. has id (listed_ids new) || nat_lt 0 k) then_) i)
-    ∙ stays (has id (listed_ids new)) (has id (listed_ids old)) (documents_with id (in_front doc hs)) (documents_with id (listed new)) (documents_with id (listed old))
+    ∙ stays (has id (listed_ids new)) (has id (listed_ids old)) (documents_with id (held_before doc hs)) (documents_with id (listed new)) (documents_with id (listed old))
     (documents_with id (in_back doc hs)) (once id new) (once id old)
     ∙ ap (nat_lt 0) (sym (counts_exchanged id doc (listed new) hs))
 
@@ -131,16 +132,16 @@ leaves x rest before after distinct there step =
 
 -- ---- all of it
 
-pub sound_then : (doc : ℕ) (old new : Option Held) (before after : Parts) (raised : ℕ → ℕ) (gone : List ℕ) → HasNumber doc new → IsSoundFor (listed_ids new) before
+pub sound_then : (doc : ℕ) (old new : Option Held) (before after : Parts) (shifted : ℕ → ℕ) (gone : List ℕ) → HasNumber doc new → IsSoundFor (listed_ids new) before
     → listed old ≡ of_number doc before.documents → after.documents ≡ exchanged doc (listed new) before.documents
-    → ((id : ℕ) → raised id ≡ count_of before.counts id + documents_with id (listed new)) → ((id : ℕ) → count_of after.counts id ≡ raised id - documents_with id (listed old))
+    → ((id : ℕ) → shifted id ≡ count_of before.counts id + documents_with id (listed new)) → ((id : ℕ) → count_of after.counts id ≡ shifted id - documents_with id (listed old))
     → ((id : ℕ) → has id gone ≡ (has id (listed_ids old) && not (nat_lt 0 (count_of after.counts id))))
     → ((id : ℕ) → has id (ids after.dictionary.terms) ≡ (not (has id gone) && has id (ids before.dictionary.terms)))
     → after.dictionary.given ≡ before.dictionary.given → IsSound after
-sound_then doc old new before after raised gone number sound is becomes first second fallen_are left given =
+sound_then doc old new before after shifted gone number sound is becomes first second fallen_are left given =
     let hs = before.documents in
     let counted : (id : ℕ) → count_of after.counts id ≡ documents_with id (exchanged doc (listed new) hs) =
-    λ id. counted_then id doc hs old new (count_of before.counts id) (raised id) (count_of after.counts id) sound.ascending is (sound.counted id) (first id) (second id) in
+    λ id. counted_then id doc hs old new (count_of before.counts id) (shifted id) (count_of after.counts id) sound.ascending is (sound.counted id) (first id) (second id) in
     record {
       ascending = ap (λ xs. is_ascending (numbers xs)) becomes ∙ ascending_exchanged doc new hs number sound.ascending;
       used = λ id.

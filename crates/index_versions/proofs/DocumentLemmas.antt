@@ -70,8 +70,8 @@ same_map f g (x ∷ xs) same =
 abbrev pub Agree : List Entry → List Entry → List ℕ → Type 0
 Agree new old xs = (id : ℕ) → has id xs ≡ true → word_of new id ≡ word_of old id
 
-agree_front : (new old : List Entry) (xs ys : List ℕ) → Agree new old (xs ++ ys) → Agree new old xs
-agree_front new old xs ys same id there = same id (has-append id xs ys ∙ or_left (has id xs) (has id ys) there)
+agree_prefix : (new old : List Entry) (xs ys : List ℕ) → Agree new old (xs ++ ys) → Agree new old xs
+agree_prefix new old xs ys same id there = same id (has-append id xs ys ∙ or_left (has id xs) (has id ys) there)
 
 agree_back : (new old : List Entry) (xs ys : List ℕ) → Agree new old (xs ++ ys) → Agree new old ys
 agree_back new old xs ys same id there = same id (has-append id xs ys ∙ or_right (has id xs) (has id ys) there)
@@ -79,13 +79,13 @@ agree_back new old xs ys same id there = same id (has-append id xs ys ∙ or_rig
 pub same_leaves : (new old : List Entry) (leaves : List by_id.Leaf) → Agree new old (by_id.words_of leaves) → map (leaf_under new) leaves ≡ map (leaf_under old) leaves
 same_leaves new old [] same = refl
 same_leaves new old (leaf ∷ leaves) same =
-    let first = same_map (word_of new) (word_of old) leaf.words (agree_front new old leaf.words (by_id.words_of leaves) same) in
+    let first = same_map (word_of new) (word_of old) leaf.words (agree_prefix new old leaf.words (by_id.words_of leaves) same) in
     λ i. leaf_of leaf.id (first i) ∷ same_leaves new old leaves (agree_back new old leaf.words (by_id.words_of leaves) same) i
 
 pub same_under : (new old : List Entry) (hs : List Held) → Agree new old (all_ids hs) → documents_under new hs ≡ documents_under old hs
 same_under new old [] same = refl
 same_under new old (h ∷ hs) same =
-    let first = same_leaves new old h.index.leaves (agree_front new old (held_ids h) (all_ids hs) same) in
+    let first = same_leaves new old h.index.leaves (agree_prefix new old (held_ids h) (all_ids hs) same) in
     λ i. numbered h.index.doc (document_of (first i) h.breaks) ∷ same_under new old hs (agree_back new old (held_ids h) (all_ids hs) same) i
 
 -- the ids of one document are among those of all

@@ -9,21 +9,22 @@ use Rattle.std.proofs.lemmas.List.{map-append}
 use Rattle.std.proofs.lemmas.List.Sums.{length-filter, sum_by-append}
 use Rattle.ft_base.specs.Places.{is_ascending}
 use Rattle.doc_index.specs.Terms.{has}
-use Rattle.doc_index.proofs.TermLemmas.{rest-ascending, first-below, ascending-cons, has-head, has-append}
+use Rattle.ft_base.proofs.PlacesLemmas.{rest-ascending}
+use Rattle.doc_index.proofs.TermLemmas.{first-below, ascending-cons, has-head, has-append}
 use Rattle.index_cursors.specs.SpanHits.{below}
 use Rattle.index_meaning.specs.Entries.{Entry}
 use Rattle.index_meaning.specs.Documents.{numbered, with_document, without_document}
 use Rattle.index_versions.specs.steps.Held.{Held, document_under, numbered_under, documents_under, numbers, held_ids, documents_with, held_at, nothing_held, listed}
-use Rattle.index_versions.specs.steps.Exchange.{in_front, of_number, in_back, exchanged}
+use Rattle.index_versions.specs.steps.Exchange.{held_before, of_number, in_back, exchanged}
 
 -- ---- a first document of a smaller number, of this one, or of a greater one
 
 module _ (id : ℕ) (h : Held) (hs : List Held) where
-  front_less : h.index.doc < id → in_front id (h ∷ hs) ≡ h ∷ in_front id hs
-  front_less less = cond-true (nat_lt h.index.doc id) (h ∷ in_front id hs) (in_front id hs) (lt-ltb h.index.doc id less)
+  prefix_less : h.index.doc < id → held_before id (h ∷ hs) ≡ h ∷ held_before id hs
+  prefix_less less = cond-true (nat_lt h.index.doc id) (h ∷ held_before id hs) (held_before id hs) (lt-ltb h.index.doc id less)
 
-  front_else : id ≤ h.index.doc → in_front id (h ∷ hs) ≡ in_front id hs
-  front_else le = cond-false (nat_lt h.index.doc id) (h ∷ in_front id hs) (in_front id hs) (le-ltb h.index.doc id le)
+  prefix_else : id ≤ h.index.doc → held_before id (h ∷ hs) ≡ held_before id hs
+  prefix_else le = cond-false (nat_lt h.index.doc id) (h ∷ held_before id hs) (held_before id hs) (le-ltb h.index.doc id le)
 
   number_same : h.index.doc ≡ id → of_number id (h ∷ hs) ≡ h ∷ of_number id hs
   number_same same = cond-true (h.index.doc == id) (h ∷ of_number id hs) (of_number id hs) (eq-eqb h.index.doc id same)
@@ -39,19 +40,19 @@ module _ (id : ℕ) (h : Held) (hs : List Held) where
 
 -- where all have greater numbers
 record Above (id : ℕ) (hs : List Held) : Type 0 where
-  front : in_front id hs ≡ []
+  prefix : held_before id hs ≡ []
   number : of_number id hs ≡ []
   back : in_back id hs ≡ hs
   none : has id (numbers hs) ≡ false
   found : held_at id hs ≡ nothing_held id
 
 above : (id : ℕ) (hs : List Held) → ((n : ℕ) → has n (numbers hs) ≡ true → id < n) → Above id hs
-above id [] greater = record { front = refl; number = refl; back = refl; none = refl; found = refl }
+above id [] greater = record { prefix = refl; number = refl; back = refl; none = refl; found = refl }
 above id (h ∷ hs) greater =
     let first : id < h.index.doc = greater h.index.doc (has-head h.index.doc h.index.doc (numbers hs) refl) in
     let rest = above id hs (λ n there. greater n (or_more n there)) in
     record {
-      front = front_else id h hs (omega arith) ∙ rest.front;
+      prefix = prefix_else id h hs (omega arith) ∙ rest.prefix;
       number = number_else id h hs (λ same. omega (arith, same)) ∙ rest.number;
       back = back_more id h hs first ∙ ap (λ xs. h ∷ xs) rest.back;
       none = or_from (h.index.doc == id) (has id (numbers hs)) (ne_eqb h.index.doc id (λ same. omega (arith, same))) rest.none;
@@ -68,16 +69,16 @@ stands id hs at = option_map_or (λ (n : ℕ). n == id) (slice_get (numbers hs) 
 
 pub record Absent (id : ℕ) (hs : List Held) : Type 0 where
   pub number : of_number id hs ≡ []
-  pub list : hs ≡ in_front id hs ++ in_back id hs
-  pub test : stands id hs (length (in_front id hs)) ≡ false
+  pub list : hs ≡ held_before id hs ++ in_back id hs
+  pub test : stands id hs (length (held_before id hs)) ≡ false
   pub none : has id (numbers hs) ≡ false
   pub found : held_at id hs ≡ nothing_held id
 
 pub record Present (id : ℕ) (hs : List Held) : Type 0 where
   pub held : Held
   pub number : of_number id hs ≡ held ∷ []
-  pub list : hs ≡ in_front id hs ++ held ∷ in_back id hs
-  pub test : stands id hs (length (in_front id hs)) ≡ true
+  pub list : hs ≡ held_before id hs ++ held ∷ in_back id hs
+  pub test : stands id hs (length (held_before id hs)) ≡ true
   pub there : has id (numbers hs) ≡ true
   pub found : held_at id hs ≡ held
 
@@ -86,46 +87,46 @@ where_is id [] up = inl (record { number = refl; list = refl; test = refl; none 
 where_is id (h ∷ hs) up = elim (cases_order h.index.doc id) [
   | inl same ↦
       let rest = above id hs (λ n there. subst (λ k. k < n) same (first-below h.index.doc (numbers hs) up n there)) in
-      let front = front_else id h hs (omega (arith, same)) ∙ rest.front in
+      let prefix = prefix_else id h hs (omega (arith, same)) ∙ rest.prefix in
       let back = back_else id h hs (omega (arith, same)) ∙ rest.back in
       inr (record {
         held = h;
         number = number_same id h hs same ∙ ap (λ xs. h ∷ xs) rest.number;
-        list = sym (λ i. front i ++ h ∷ back i);
-        test = ap (λ xs. stands id (h ∷ hs) (length xs)) front ∙ eq-eqb h.index.doc id same;
+        list = sym (λ i. prefix i ++ h ∷ back i);
+        test = ap (λ xs. stands id (h ∷ hs) (length xs)) prefix ∙ eq-eqb h.index.doc id same;
         there = or_left (h.index.doc == id) (has id (numbers hs)) (eq-eqb h.index.doc id same);
         found = cond-true (h.index.doc == id) h (held_at id hs) (eq-eqb h.index.doc id same);
       })
   | inr apart ↦ elim apart [
     | inl less ↦
-        let front = front_less id h hs less in
+        let prefix = prefix_less id h hs less in
         let number = number_else id h hs (λ same. omega (arith, same)) in
         let back = back_else id h hs (omega arith) in
         elim (where_is id hs (rest-ascending h.index.doc (numbers hs) up)) [
           | inl rest ↦ inl (record {
             number = number ∙ rest.number;
-            list = ap (λ xs. h ∷ xs) rest.list ∙ sym (λ i. front i ++ back i);
-            test = ap (λ xs. stands id (h ∷ hs) (length xs)) front ∙ rest.test;
+            list = ap (λ xs. h ∷ xs) rest.list ∙ sym (λ i. prefix i ++ back i);
+            test = ap (λ xs. stands id (h ∷ hs) (length xs)) prefix ∙ rest.test;
             none = or_from (h.index.doc == id) (has id (numbers hs)) (other less) rest.none;
             found = cond-false (h.index.doc == id) h (held_at id hs) (other less) ∙ rest.found;
           })
           | inr rest ↦ inr (record {
             held = rest.held;
             number = number ∙ rest.number;
-            list = ap (λ xs. h ∷ xs) rest.list ∙ sym (λ i. front i ++ rest.held ∷ back i);
-            test = ap (λ xs. stands id (h ∷ hs) (length xs)) front ∙ rest.test;
+            list = ap (λ xs. h ∷ xs) rest.list ∙ sym (λ i. prefix i ++ rest.held ∷ back i);
+            test = ap (λ xs. stands id (h ∷ hs) (length xs)) prefix ∙ rest.test;
             there = or_right (h.index.doc == id) (has id (numbers hs)) rest.there;
             found = cond-false (h.index.doc == id) h (held_at id hs) (other less) ∙ rest.found;
           })
         ]
     | inr greater ↦
         let rest = above id hs (λ n there. omega (arith, greater, first-below h.index.doc (numbers hs) up n there)) in
-        let front = front_else id h hs (omega arith) ∙ rest.front in
+        let prefix = prefix_else id h hs (omega arith) ∙ rest.prefix in
         let back = back_more id h hs greater ∙ ap (λ xs. h ∷ xs) rest.back in
         inl (record {
           number = number_else id h hs (λ same. omega (arith, same)) ∙ rest.number;
-          list = sym (λ i. front i ++ back i);
-          test = ap (λ xs. stands id (h ∷ hs) (length xs)) front ∙ ne_eqb h.index.doc id (λ same. omega (arith, same));
+          list = sym (λ i. prefix i ++ back i);
+          test = ap (λ xs. stands id (h ∷ hs) (length xs)) prefix ∙ ne_eqb h.index.doc id (λ same. omega (arith, same));
           none = or_from (h.index.doc == id) (has id (numbers hs)) (ne_eqb h.index.doc id (λ same. omega (arith, same))) rest.none;
           found = cond-false (h.index.doc == id) h (held_at id hs) (ne_eqb h.index.doc id (λ same. omega (arith, same))) ∙ rest.found;
         })
@@ -135,17 +136,17 @@ where_is id (h ∷ hs) up = elim (cases_order h.index.doc id) [
     other : h.index.doc < id → (h.index.doc == id) ≡ false
     other less = ne_eqb h.index.doc id (λ same. omega (arith, same))
 
-length_front : (id : ℕ) (hs : List Held) → length (filter (λ n. nat_lt n id) (numbers hs)) ≡ length (in_front id hs)
-length_front id [] = refl
-length_front id (h ∷ hs) =
+length_prefix : (id : ℕ) (hs : List Held) → length (filter (λ n. nat_lt n id) (numbers hs)) ≡ length (held_before id hs)
+length_prefix id [] = refl
+length_prefix id (h ∷ hs) =
     elim (nat_lt h.index.doc id) as (λ b. length (cond b (h.index.doc ∷ filter (λ n. nat_lt n id) (numbers hs)) (filter (λ n. nat_lt n id) (numbers hs)))
-    ≡ length (cond b (h ∷ in_front id hs) (in_front id hs))) [
-      | true ↦ ap suc (length_front id hs)
-      | false ↦ length_front id hs
+    ≡ length (cond b (h ∷ held_before id hs) (held_before id hs))) [
+      | true ↦ ap suc (length_prefix id hs)
+      | false ↦ length_prefix id hs
     ]
 
-pub place_is : (id at : ℕ) (hs : List Held) → at ≡ below id (numbers hs) → at ≡ length (in_front id hs)
-place_is id at hs is = is ∙ sym (length-filter (λ n. nat_lt n id) (numbers hs)) ∙ length_front id hs
+pub place_is : (id at : ℕ) (hs : List Held) → at ≡ below id (numbers hs) → at ≡ length (held_before id hs)
+place_is id at hs is = is ∙ sym (length-filter (λ n. nat_lt n id) (numbers hs)) ∙ length_prefix id hs
 
 -- ---- the document of a number is found
 
@@ -164,27 +165,27 @@ none_held id hs up fails = elim (where_is id hs up) [
 -- ---- what the list becomes
 
 module _ (id at : ℕ) (hs : List Held) (b : Bool) (up : is_ascending (numbers hs) ≡ true) (place : at ≡ below id (numbers hs)) (test : b ≡ stands id hs at) where
-  at_front : at ≡ length (in_front id hs)
-  at_front = place_is id at hs place
+  at_prefix : at ≡ length (held_before id hs)
+  at_prefix = place_is id at hs place
 
   pub absent : b ≡ false → Absent id hs
   absent fails = elim (where_is id hs up) [
     | inl none ↦ none
-    | inr there ↦ absurd (true≢false (sym there.test ∙ ap (stands id hs) (sym at_front) ∙ sym test ∙ fails))
+    | inr there ↦ absurd (true≢false (sym there.test ∙ ap (stands id hs) (sym at_prefix) ∙ sym test ∙ fails))
   ]
 
   pub present : b ≡ true → Present id hs
   present holds = elim (where_is id hs up) [
-    | inl none ↦ absurd (true≢false (sym holds ∙ test ∙ ap (stands id hs) at_front ∙ none.test))
+    | inl none ↦ absurd (true≢false (sym holds ∙ test ∙ ap (stands id hs) at_prefix ∙ none.test))
     | inr there ↦ there
   ]
 
   pub inserted : (new : Held) → b ≡ false → insert hs at new ≡ exchanged id (new ∷ []) hs
   inserted new fails =
-      let front = in_front id hs in
+      let prefix = held_before id hs in
       let back = in_back id hs in
-      (λ i. insert ((absent fails).list i) (at_front i) new)
-      ∙ (λ i. take-append_seam front back i ++ new ∷ drop-append_seam front back i)
+      (λ i. insert ((absent fails).list i) (at_prefix i) new)
+      ∙ (λ i. take-append_seam prefix back i ++ new ∷ drop-append_seam prefix back i)
 
   pub nothing_taken : b ≡ false → hs ≡ exchanged id [] hs
   nothing_taken fails = (absent fails).list
@@ -192,12 +193,12 @@ module _ (id at : ℕ) (hs : List Held) (b : Bool) (up : is_ascending (numbers h
   pub within : b ≡ true → at < length hs
   within holds =
       let there = present holds in
-      omega (arith, at_front, ap length there.list, length-append (in_front id hs) (there.held ∷ in_back id hs))
+      omega (arith, at_prefix, ap length there.list, length-append (held_before id hs) (there.held ∷ in_back id hs))
 
   pub read : (d : Held) (holds : b ≡ true) → get_or hs at d ≡ (present holds).held
   read d holds =
       let there = present holds in
-      (λ i. get_or (there.list i) (at_front i) d) ∙ get_or-append_seam (in_front id hs) there.held (in_back id hs) d
+      (λ i. get_or (there.list i) (at_prefix i) d) ∙ get_or-append_seam (held_before id hs) there.held (in_back id hs) d
 
   pub read_held : (d : Held) → b ≡ true → get_or hs at d ≡ held_at id hs
   read_held d holds = read d holds ∙ sym ((present holds).found)
@@ -205,17 +206,17 @@ module _ (id at : ℕ) (hs : List Held) (b : Bool) (up : is_ascending (numbers h
   pub replaced : (new : Held) → b ≡ true → set hs at new ≡ exchanged id (new ∷ []) hs
   replaced new holds =
       let there = present holds in
-      (λ i. set (there.list i) (at_front i) new) ∙ set-append_seam (in_front id hs) there.held (in_back id hs) new
+      (λ i. set (there.list i) (at_prefix i) new) ∙ set-append_seam (held_before id hs) there.held (in_back id hs) new
 
   pub removed : b ≡ true → remove hs at ≡ exchanged id [] hs
   removed holds =
       let there = present holds in
-      let front = in_front id hs in
-      (λ i. remove (there.list i) (at_front i)) ∙ (λ i. take-append_seam front (there.held ∷ in_back id hs) i ++ behind front there.held (in_back id hs) i)
+      let prefix = held_before id hs in
+      (λ i. remove (there.list i) (at_prefix i)) ∙ (λ i. take-append_seam prefix (there.held ∷ in_back id hs) i ++ after prefix there.held (in_back id hs) i)
     where
-      behind : (xs : List Held) (x : Held) (ys : List Held) → drop (suc (length xs)) (xs ++ x ∷ ys) ≡ ys
-      behind [] x ys = refl
-      behind (y ∷ xs) x ys = behind xs x ys
+      after : (xs : List Held) (x : Held) (ys : List Held) → drop (suc (length xs)) (xs ++ x ∷ ys) ≡ ys
+      after [] x ys = refl
+      after (y ∷ xs) x ys = after xs x ys
 
 -- ---- the numbers still ascend
 
@@ -246,8 +247,8 @@ listed_has id n (Some h) number there = elim (or_cases (h.index.doc == n) false 
 
 exchanged_has : (id n : ℕ) (new : Option Held) (hs : List Held) → HasNumber id new → has n (numbers (exchanged id (listed new) hs)) ≡ true → (n ≡ id) ⊎ (has n (numbers hs) ≡ true)
 exchanged_has id n new hs number there =
-    elim (or_cases (has n (numbers (in_front id hs))) (has n (numbers (listed new ++ in_back id hs))) (sym (joined_has n (in_front id hs) (listed new ++ in_back id hs)) ∙ there)) [
-      | inl front ↦ inr (filtered (λ (h : Held). nat_lt h.index.doc id) n hs front)
+    elim (or_cases (has n (numbers (held_before id hs))) (has n (numbers (listed new ++ in_back id hs))) (sym (joined_has n (held_before id hs) (listed new ++ in_back id hs)) ∙ there)) [
+      | inl prefix ↦ inr (filtered (λ (h : Held). nat_lt h.index.doc id) n hs prefix)
       | inr later ↦ elim (or_cases (has n (numbers (listed new))) (has n (numbers (in_back id hs))) (sym (joined_has n (listed new) (in_back id hs)) ∙ later)) [
         | inl here ↦ inl (listed_has id n new number here)
         | inr back ↦ inr (filtered (λ (h : Held). nat_lt id h.index.doc) n hs back)
@@ -265,14 +266,14 @@ ascending_exchanged id new (h ∷ hs) number up = elim (cases_order h.index.doc 
   | inl same ↦
       let greater : (n : ℕ) → has n (numbers hs) ≡ true → id < n = λ n there. subst (λ k. k < n) same (first-below h.index.doc (numbers hs) up n there) in
       let rest = above id hs greater in
-      let front = front_else id h hs (omega (arith, same)) ∙ rest.front in
+      let prefix = prefix_else id h hs (omega (arith, same)) ∙ rest.prefix in
       let back = back_else id h hs (omega (arith, same)) ∙ rest.back in
-      (λ i. is_ascending (numbers (front i ++ (listed new ++ back i)))) ∙ put_first id new hs number greater (rest-ascending h.index.doc (numbers hs) up)
+      (λ i. is_ascending (numbers (prefix i ++ (listed new ++ back i)))) ∙ put_first id new hs number greater (rest-ascending h.index.doc (numbers hs) up)
   | inr apart ↦ elim apart [
     | inl less ↦
-        let front = front_less id h hs less in
+        let prefix = prefix_less id h hs less in
         let back = back_else id h hs (omega arith) in
-        (λ i. is_ascending (numbers (front i ++ (listed new ++ back i))))
+        (λ i. is_ascending (numbers (prefix i ++ (listed new ++ back i))))
         ∙ ascending-cons h.index.doc (numbers (exchanged id (listed new) hs))
         (λ n there. elim (exchanged_has id n new hs number there) [
           | inl is ↦ omega (arith, less, is)
@@ -285,22 +286,22 @@ ascending_exchanged id new (h ∷ hs) number up = elim (cases_order h.index.doc 
           | inr further ↦ omega (arith, greater, first-below h.index.doc (numbers hs) up n further)
         ] in
         let rest = above id (h ∷ hs) all in
-        (λ i. is_ascending (numbers (rest.front i ++ (listed new ++ rest.back i)))) ∙ put_first id new (h ∷ hs) number all up
+        (λ i. is_ascending (numbers (rest.prefix i ++ (listed new ++ rest.back i)))) ∙ put_first id new (h ∷ hs) number all up
   ]
 ]
 
 -- ---- how many documents have an id
 
 pub counts_exchanged : (id doc : ℕ) (new hs : List Held)
-    → documents_with id (exchanged doc new hs) ≡ documents_with id (in_front doc hs) + (documents_with id new + documents_with id (in_back doc hs))
+    → documents_with id (exchanged doc new hs) ≡ documents_with id (held_before doc hs) + (documents_with id new + documents_with id (in_back doc hs))
 counts_exchanged id doc new hs =
     let one = λ (h : Held). cond (has id (held_ids h)) 1 0 in
-    sum_by-append one (in_front doc hs) (new ++ in_back doc hs) ∙ ap (λ n. documents_with id (in_front doc hs) + n) (sum_by-append one new (in_back doc hs))
+    sum_by-append one (held_before doc hs) (new ++ in_back doc hs) ∙ ap (λ n. documents_with id (held_before doc hs) + n) (sum_by-append one new (in_back doc hs))
 
 pub whole : (doc : ℕ) (hs : List Held) → is_ascending (numbers hs) ≡ true → hs ≡ exchanged doc (of_number doc hs) hs
 whole doc hs up = elim (where_is doc hs up) [
-  | inl none ↦ none.list ∙ ap (λ xs. in_front doc hs ++ (xs ++ in_back doc hs)) (sym none.number)
-  | inr there ↦ there.list ∙ ap (λ xs. in_front doc hs ++ (xs ++ in_back doc hs)) (sym there.number)
+  | inl none ↦ none.list ∙ ap (λ xs. held_before doc hs ++ (xs ++ in_back doc hs)) (sym none.number)
+  | inr there ↦ there.list ∙ ap (λ xs. held_before doc hs ++ (xs ++ in_back doc hs)) (sym there.number)
 ]
 
 -- ---- what the documents mean then
@@ -317,16 +318,16 @@ with_under given id new (h ∷ hs) number up =
     elim (cases_order h.index.doc id) [
       | inl same ↦
           let rest = above id hs (λ n there. subst (λ k. k < n) same (first-below h.index.doc (numbers hs) up n there)) in
-          let front = front_else id h hs (omega (arith, same)) ∙ rest.front in
+          let prefix = prefix_else id h hs (omega (arith, same)) ∙ rest.prefix in
           let back = back_else id h hs (omega (arith, same)) ∙ rest.back in
-          (λ i. documents_under given (front i ++ new ∷ back i))
+          (λ i. documents_under given (prefix i ++ new ∷ back i))
           ∙ ap (λ m. m ∷ rest_mean) head
           ∙ sym (λ i. step (le-ltb id h.index.doc (omega (arith, same)) i) (eq-eqb id h.index.doc (sym same) i))
       | inr apart ↦ elim apart [
         | inl less ↦
-            let front = front_less id h hs less in
+            let prefix = prefix_less id h hs less in
             let back = back_else id h hs (omega arith) in
-            (λ i. documents_under given (front i ++ new ∷ back i))
+            (λ i. documents_under given (prefix i ++ new ∷ back i))
             ∙ ap (λ ms. numbered_under given h ∷ ms) (with_under given id new hs number (rest-ascending h.index.doc (numbers hs) up))
             ∙ sym (λ i. step (le-ltb id h.index.doc (omega arith) i) (ne_eqb id h.index.doc (λ same. omega (arith, same)) i))
         | inr greater ↦
@@ -335,7 +336,7 @@ with_under given id new (h ∷ hs) number up =
               | inr further ↦ omega (arith, greater, first-below h.index.doc (numbers hs) up n further)
             ] in
             let rest = above id (h ∷ hs) all in
-            (λ i. documents_under given (rest.front i ++ new ∷ rest.back i))
+            (λ i. documents_under given (rest.prefix i ++ new ∷ rest.back i))
             ∙ ap (λ m. m ∷ numbered_under given h ∷ rest_mean) head
             ∙ sym (λ i. step (lt-ltb id h.index.doc greater i) (id == h.index.doc))
       ]
@@ -350,17 +351,17 @@ without_under given id (h ∷ hs) up =
     let more = without_under given id hs (rest-ascending h.index.doc (numbers hs) up) in
     elim (cases_order h.index.doc id) [
       | inl same ↦
-          (λ i. documents_under given (front_else id h hs (omega (arith, same)) i ++ back_else id h hs (omega (arith, same)) i))
+          (λ i. documents_under given (prefix_else id h hs (omega (arith, same)) i ++ back_else id h hs (omega (arith, same)) i))
           ∙ more ∙ sym (ap step (eq-eqb h.index.doc id same))
       | inr apart ↦ elim apart [
         | inl less ↦
-            (λ i. documents_under given (front_less id h hs less i ++ back_else id h hs (omega arith) i))
+            (λ i. documents_under given (prefix_less id h hs less i ++ back_else id h hs (omega arith) i))
             ∙ ap (λ ms. numbered_under given h ∷ ms) more ∙ sym (ap step (ne_eqb h.index.doc id (λ same. omega (arith, same))))
         | inr greater ↦
             let rest = above id hs (λ n there. omega (arith, greater, first-below h.index.doc (numbers hs) up n there)) in
-            (λ i. documents_under given (front_else id h hs (omega arith) i ++ back_more id h hs greater i))
-            ∙ (λ i. documents_under given (rest.front i ++ h ∷ in_back id hs))
-            ∙ ap (λ ms. numbered_under given h ∷ ms) (sym (λ i. documents_under given (rest.front i ++ in_back id hs)) ∙ more)
+            (λ i. documents_under given (prefix_else id h hs (omega arith) i ++ back_more id h hs greater i))
+            ∙ (λ i. documents_under given (rest.prefix i ++ h ∷ in_back id hs))
+            ∙ ap (λ ms. numbered_under given h ∷ ms) (sym (λ i. documents_under given (rest.prefix i ++ in_back id hs)) ∙ more)
             ∙ sym (ap step (ne_eqb h.index.doc id (λ same. omega (arith, same))))
       ]
     ]

@@ -10,8 +10,8 @@ use Rattle.doc_index.specs.Terms as by_id
 use Rattle.doc_index.specs.Terms.{are_distinct, has}
 use Rattle.doc_index.proofs.TermLemmas.{has-append, has-at}
 use Rattle.index_meaning.specs.Entries.{Entry}
-use Rattle.index_meaning.specs.Documents.{Leaf, leaf_ids, leaves_with, behind, leaf_words}
-use Rattle.index_versions.specs.steps.Held.{word_of, leaf_under, place_after, place_behind, ids_of_leaf}
+use Rattle.index_meaning.specs.Documents.{Leaf, leaf_ids, leaves_with, put_after, leaf_words}
+use Rattle.index_versions.specs.steps.Held.{word_of, leaf_under, place_after, place_following, ids_of_leaf}
 
 -- ---- where a leaf is found, of which no other has the number
 
@@ -97,37 +97,37 @@ map_insert f xs zero x = refl
 map_insert f [] (suc n) x = refl
 map_insert f (y ∷ xs) (suc n) x = ap (λ ys. f y ∷ ys) (map_insert f xs n x)
 
-inserted_behind : (after : ℕ) (new : Leaf) (leaves : List Leaf) → insert leaves (place_after after (leaf_ids leaves)) new ≡ behind after new leaves
-inserted_behind after new [] = refl
-inserted_behind after new (l ∷ leaves) =
-    elim (l.id == after) as (λ b. insert (l ∷ leaves) (cond b 1 (suc (place_after after (leaf_ids leaves)))) new ≡ cond b (l ∷ new ∷ leaves) (l ∷ behind after new leaves)) [
+inserted_after : (after : ℕ) (new : Leaf) (leaves : List Leaf) → insert leaves (place_after after (leaf_ids leaves)) new ≡ put_after after new leaves
+inserted_after after new [] = refl
+inserted_after after new (l ∷ leaves) =
+    elim (l.id == after) as (λ b. insert (l ∷ leaves) (cond b 1 (suc (place_after after (leaf_ids leaves)))) new ≡ cond b (l ∷ new ∷ leaves) (l ∷ put_after after new leaves)) [
       | true ↦ refl
-      | false ↦ ap (λ ls. l ∷ ls) (inserted_behind after new leaves)
+      | false ↦ ap (λ ls. l ∷ ls) (inserted_after after new leaves)
     ]
 
-pub inserted_with : (after : Option LeafId) (new : Leaf) (leaves : List Leaf) → insert leaves (place_behind after (leaf_ids leaves)) new ≡ leaves_with after new leaves
+pub inserted_with : (after : Option LeafId) (new : Leaf) (leaves : List Leaf) → insert leaves (place_following after (leaf_ids leaves)) new ≡ leaves_with after new leaves
 inserted_with None new leaves = refl
-inserted_with (Some after) new leaves = inserted_behind after.0 new leaves
+inserted_with (Some after) new leaves = inserted_after after.0 new leaves
 
 pub put_under : (given : List Entry) (after : Option LeafId) (new : by_id.Leaf) (leaves : List by_id.Leaf)
-    → map (leaf_under given) (insert leaves (place_behind after (by_id.leaf_ids leaves)) new) ≡ leaves_with after (leaf_under given new) (map (leaf_under given) leaves)
+    → map (leaf_under given) (insert leaves (place_following after (by_id.leaf_ids leaves)) new) ≡ leaves_with after (leaf_under given new) (map (leaf_under given) leaves)
 put_under given after new leaves =
-    map_insert (leaf_under given) leaves (place_behind after (by_id.leaf_ids leaves)) new
-    ∙ ap (λ ids. insert (map (leaf_under given) leaves) (place_behind after ids) (leaf_under given new)) (sym (ids_under_leaves given leaves))
+    map_insert (leaf_under given) leaves (place_following after (by_id.leaf_ids leaves)) new
+    ∙ ap (λ ids. insert (map (leaf_under given) leaves) (place_following after ids) (leaf_under given new)) (sym (ids_under_leaves given leaves))
     ∙ inserted_with after (leaf_under given new) (map (leaf_under given) leaves)
 
 -- ---- which ids the document has then
 
 pub has_inserted : (t : ℕ) (leaves : List by_id.Leaf) (at : ℕ) (new : by_id.Leaf) → has t (by_id.words_of (insert leaves at new)) ≡ (has t new.words || has t (by_id.words_of leaves))
 has_inserted t leaves at new =
-    let front = take at leaves in
+    let prefix = take at leaves in
     let back = drop at leaves in
-    ap (has t) (flat_map-append (λ (l : by_id.Leaf). l.words) front (new ∷ back))
-    ∙ has-append t (by_id.words_of front) (new.words ++ by_id.words_of back)
-    ∙ ap (λ b. has t (by_id.words_of front) || b) (has-append t new.words (by_id.words_of back))
-    ∙ or_swap (has t (by_id.words_of front)) (has t new.words) (has t (by_id.words_of back))
-    ∙ ap (λ b. has t new.words || b) (sym (has-append t (by_id.words_of front) (by_id.words_of back)))
-    ∙ ap (λ ls. has t new.words || has t ls) (sym (flat_map-append (λ (l : by_id.Leaf). l.words) front back))
+    ap (has t) (flat_map-append (λ (l : by_id.Leaf). l.words) prefix (new ∷ back))
+    ∙ has-append t (by_id.words_of prefix) (new.words ++ by_id.words_of back)
+    ∙ ap (λ b. has t (by_id.words_of prefix) || b) (has-append t new.words (by_id.words_of back))
+    ∙ or_swap (has t (by_id.words_of prefix)) (has t new.words) (has t (by_id.words_of back))
+    ∙ ap (λ b. has t new.words || b) (sym (has-append t (by_id.words_of prefix) (by_id.words_of back)))
+    ∙ ap (λ ls. has t new.words || has t ls) (sym (flat_map-append (λ (l : by_id.Leaf). l.words) prefix back))
     ∙ ap (λ ls. has t new.words || has t (by_id.words_of ls)) (take-append-drop at leaves)
 
 pub has_taken : (t x : ℕ) (leaves : List by_id.Leaf) → has t (by_id.words_of (without x leaves)) ≡ true → has t (by_id.words_of leaves) ≡ true

@@ -1,10 +1,10 @@
--- Where a number stands in an ascending list, as many are smaller as stand in front of it.
+-- Where a number stands in an ascending list, as many are smaller as stand before it.
 use Rattle.std.proofs.Common.{◌≡◌, ℕ, ◌<◌, zero, suc, false, true, ◌==◌, List, [], ◌∷◌, length, get_or, arith}
 use Rattle.std.specs.Prelude.{slice_get}
 use Rattle.std.specs.Option.{option_map_or}
 use Rattle.std.proofs.lemmas.Bool.{eqb-true}
 use Rattle.ft_base.specs.Places.{is_ascending}
-use Rattle.doc_index.proofs.TermLemmas.{rest-ascending}
+use Rattle.ft_base.proofs.PlacesLemmas.{rest-ascending}
 use Rattle.index_cursors.specs.SpanHits.{below}
 use Rattle.index_cursors.proofs.AscendingLemmas.{head-less, below-holds, below-fails}
 

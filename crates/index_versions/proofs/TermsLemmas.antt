@@ -31,9 +31,9 @@ sorted_all (e ∷ new) es sorted = sorted_all new (with_entry e es) (sorted_with
 among_first : (e : Entry) (es : List Entry) → has_entry e (e ∷ es) ≡ true
 among_first e es = or_left (is_eq (entry_cmp e e)) (has_entry e es) (equal_same e)
 
--- an entry in front of the first of entries in order is none of them
-in_front : (e f : Entry) (es : List Entry) → entry_cmp e f ≡ Less → is_below f es ≡ true → has_entry e (f ∷ es) ≡ false
-in_front e f es less below =
+-- an entry before the first of entries in order is none of them
+held_before : (e f : Entry) (es : List Entry) → entry_cmp e f ≡ Less → is_below f es ≡ true → has_entry e (f ∷ es) ≡ false
+held_before e f es less below =
     (λ i. is_eq (less i) || not_among e es (below_less e f es less below) i)
 
 pub same_sorted : (xs ys : List Entry) → is_sorted xs ≡ true → is_sorted ys ≡ true → ((e : Entry) → has_entry e xs ≡ has_entry e ys) → xs ≡ ys
@@ -44,11 +44,11 @@ same_sorted (x ∷ xs) (y ∷ ys) first second same =
     let left = and_parts (is_below x xs) (is_sorted xs) first in
     let right = and_parts (is_below y ys) (is_sorted ys) second in
     elim (entry_cmp x y) as (λ o. entry_cmp x y ≡ o → x ∷ xs ≡ y ∷ ys) [
-      | Less ↦ λ is. absurd (true≢false (sym (among_first x xs) ∙ same x ∙ in_front x y ys is right.0))
+      | Less ↦ λ is. absurd (true≢false (sym (among_first x xs) ∙ same x ∙ held_before x y ys is right.0))
       | Equal ↦ λ is.
           let heads : x ≡ y = same_entry x y is in
           λ i. heads i ∷ same_sorted xs ys left.1 right.1 (rests x y xs ys heads left.0 right.0 same) i
-      | Greater ↦ λ is. absurd (true≢false (sym (among_first y ys) ∙ sym (same y) ∙ in_front y x xs (turned_less x y is) left.0))
+      | Greater ↦ λ is. absurd (true≢false (sym (among_first y ys) ∙ sym (same y) ∙ held_before y x xs (turned_less x y is) left.0))
     ] refl
   where
     rests : (x y : Entry) (xs ys : List Entry) → x ≡ y → is_below x xs ≡ true → is_below y ys ≡ true → ((e : Entry) → has_entry e (x ∷ xs) ≡ has_entry e (y ∷ ys))

@@ -17,7 +17,7 @@ use Rattle.index_meaning.specs.Documents.{Leaf, Document, leaf_of, document_of, 
 use Rattle.index_meaning.specs.Documents.{document_at, with_document, leaves_with}
 use Rattle.document_counts.specs.Counts.{count_of}
 use Rattle.index_versions.specs.declared.parts.Parts.{Parts}
-use Rattle.index_versions.specs.steps.Held.{Held, held_of, word_of, leaf_under, document_under, documents_under, numbers, held_ids, documents_with, held_at, listed, ids_of_leaf, place_behind}
+use Rattle.index_versions.specs.steps.Held.{Held, held_of, word_of, leaf_under, document_under, documents_under, numbers, held_ids, documents_with, held_at, listed, ids_of_leaf, place_following}
 use Rattle.index_versions.specs.steps.Exchange.{of_number, exchanged}
 use Rattle.index_versions.specs.steps.Naming.{are_keyed, entries_of, all_words, IsNamed}
 use Rattle.index_versions.specs.steps.Sound.{IsSound, IsSoundFor, meaning}
@@ -79,7 +79,7 @@ absorb false false z h = refl
 pub record IsPut (parts : Parts) (n : ℕ) (after : Option LeafId) (leaf : ℕ) (words : List (List ℕ)) (new : Dictionary) (named : List ℕ) (next : Held) : Type 0 where
   pub sound : IsSound parts
   pub names : IsNamed parts.dictionary (entries_of words) new named
-  pub next_is : next ≡ held_of (by_id.with_leaf (held_at n parts.documents).index (place_behind after (by_id.leaf_ids (held_at n parts.documents).index.leaves)) (by_id.leaf_of leaf named))
+  pub next_is : next ≡ held_of (by_id.with_leaf (held_at n parts.documents).index (place_following after (by_id.leaf_ids (held_at n parts.documents).index.leaves)) (by_id.leaf_of leaf named))
       (held_at n parts.documents).breaks
 
 module _ (parts : Parts) (n : ℕ) (after : Option LeafId) (leaf : ℕ) (words : List (List ℕ)) (new : Dictionary) (named : List ℕ) (next : Held) (put : IsPut parts n after leaf words new named next) where
@@ -89,7 +89,7 @@ module _ (parts : Parts) (n : ℕ) (after : Option LeafId) (leaf : ℕ) (words :
   pub put_ready : IsSoundFor (held_ids next) (parts_with parts new)
   put_ready =
       let held = held_at n parts.documents in
-      let at = place_behind after (by_id.leaf_ids held.index.leaves) in
+      let at = place_following after (by_id.leaf_ids held.index.leaves) in
       record {
         ascending = put.sound.ascending;
         used = λ id.
@@ -244,10 +244,10 @@ leaf_after_under given n hs index (Some other) is there =
     ap (λ (d : TermDocument). has other.0 (by_id.leaf_ids d.leaves)) is ∙ sym (has_leaf_under given n other.0 hs) ∙ there
 
 pub put_next : (n : ℕ) (hs : List Held) (after : Option LeafId) (leaf : ℕ) (named : List ℕ) (held : Held) (index made : TermDocument) (next : Held)
-    → held ≡ held_at n hs → index ≡ held.index → made ≡ by_id.with_leaf index (place_behind after (by_id.leaf_ids index.leaves)) (by_id.leaf_of leaf named) → next ≡ held_of made held.breaks
-    → next ≡ held_of (by_id.with_leaf (held_at n hs).index (place_behind after (by_id.leaf_ids (held_at n hs).index.leaves)) (by_id.leaf_of leaf named)) (held_at n hs).breaks
+    → held ≡ held_at n hs → index ≡ held.index → made ≡ by_id.with_leaf index (place_following after (by_id.leaf_ids index.leaves)) (by_id.leaf_of leaf named) → next ≡ held_of made held.breaks
+    → next ≡ held_of (by_id.with_leaf (held_at n hs).index (place_following after (by_id.leaf_ids (held_at n hs).index.leaves)) (by_id.leaf_of leaf named)) (held_at n hs).breaks
 put_next n hs after leaf named held index made next first second third fourth =
-    let with_ = λ (d : TermDocument). by_id.with_leaf d (place_behind after (by_id.leaf_ids d.leaves)) (by_id.leaf_of leaf named) in
+    let with_ = λ (d : TermDocument). by_id.with_leaf d (place_following after (by_id.leaf_ids d.leaves)) (by_id.leaf_of leaf named) in
     fourth ∙ (λ i. held_of ((third ∙ ap with_ second) i) held.breaks) ∙ ap (λ (h : Held). held_of (with_ h.index) h.breaks) first
 
 pub taken_next : (n : ℕ) (hs : List Held) (leaf : ℕ) (held : Held) (index made : TermDocument) (next : Held)

@@ -30,7 +30,7 @@ words_of_entries (word ∷ words) = ap (λ ws. word ∷ ws) (words_of_entries wo
 pub named_size : (given : List Entry) (named : List ℕ) (words : List (List ℕ)) → map (word_of given) named ≡ map (λ (e : Entry). e.word) (entries_of words) → length named ≡ length words
 named_size given named words h = sym (length-map named (word_of given)) ∙ ap length (h ∙ words_of_entries words)
 
--- ---- no word, one word, and words behind others
+-- ---- no word, one word, and words after others
 
 pub both_named : (a b c : Dictionary) (es fs : List Entry) (xs ys : List ℕ) → IsNamed a es b xs → IsNamed b fs c ys → IsNamed a (es ++ fs) c (xs ++ ys)
 both_named a b c es fs xs ys first second =

@@ -1,7 +1,7 @@
 -- The first of places that may be there or not.
 use Rattle.std.specs.Prelude.{ℕ, List, min, fold, Option, Some, None}
 
--- the one in front of the other; where one of them isn't there, the other
+-- the one before the other; where one of them isn't there, the other
 abbrev pub sooner : Option ℕ → Option ℕ → Option ℕ
 sooner None second = second
 sooner (Some a) None = Some a

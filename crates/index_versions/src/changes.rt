@@ -48,7 +48,7 @@ fn raise(
     match next {
         Some(held) => {
             let before = mem::replace(counts, DocumentCounts::empty(alloc));
-            *counts = before.raised(held.index())?;
+            *counts = before.shifted(held.index())?;
             Ok(())
         }
         None => Ok(()),

@@ -13,7 +13,7 @@ use std::sync::ledger::Ledger;
 use text_list::TextList;
 
 impl Version {
-    /// Puts a leaf with these words into the document, directly behind the leaf `after`, which is there, or in front of
+    /// Puts a leaf with these words into the document, directly after the leaf `after`, which is there, or before
     /// all. The leaf isn't there; the document comes in where it isn't there. Counts a row for each word; where memory
     /// runs out, no more than that, and the version is to be given up.
     pub fn put_leaf<L: Ledger>(

@@ -10,8 +10,8 @@ ghost use Rattle.index_versions.specs.FirstPlaces.{soonest};
 ghost use Rattle.index_versions.specs.Terms.{aimed_at, first_in, version_term};
 ghost use Rattle.index_versions.specs.Versions.{all_hits, stands_in, term_at, term_hits, terms_of};
 ghost use Rattle.index_versions.specs.steps.Held.{document_under, documents_with, held_at, ids_of_leaf, listed, listed_ids};
-ghost use Rattle.index_versions.specs.steps.Held.{nothing_held, numbers, place_behind, word_of};
-ghost use Rattle.index_versions.specs.steps.Exchange.{exchanged, in_back, in_front, of_number};
+ghost use Rattle.index_versions.specs.steps.Held.{nothing_held, numbers, place_following, word_of};
+ghost use Rattle.index_versions.specs.steps.Exchange.{exchanged, in_back, held_before, of_number};
 ghost use Rattle.index_versions.specs.steps.Naming.{all_words};
 ghost use Rattle.index_versions.specs.Examples.{breaks, first, given, second};
 
@@ -34,11 +34,11 @@ pub fn terms_in_documents()
     ensures aimed { aimed_at 3 (span 1 2) (version_term (short ∷ bare ∷ []) 0) ≡ hit_place (hit 1 1 1 ∷ []) 0 }
 {}
 
-/// The first place of a term in a span is where a cursor stands that was aimed there; of several, the one in front of the others counts.
+/// The first place of a term in a span is where a cursor stands that was aimed there; of several, the one before the others counts.
 pub fn first_places()
     ensures first { first_in 3 (span 1 2) (version_term (short ∷ bare ∷ []) 0) ≡ Some 1 }
     ensures at_the_end { first_in 3 (span 1 1) (version_term (short ∷ bare ∷ []) 0) ≡ None }
-    ensures behind { first_in 3 (span 2 9) (version_term (short ∷ bare ∷ []) 0) ≡ None }
+    ensures after { first_in 3 (span 2 9) (version_term (short ∷ bare ∷ []) 0) ≡ None }
     ensures no_document { first_in 9 (span 1 2) (version_term (short ∷ bare ∷ []) 0) ≡ None }
     ensures of_several { soonest (Some 5 ∷ None ∷ Some 3 ∷ Some 4 ∷ []) ≡ Some 3 }
     ensures of_none { soonest (None ∷ None ∷ []) ≡ None }
@@ -66,7 +66,7 @@ pub fn counted_ids()
 
 /// A document takes the place of the one with its number, or comes between the others.
 pub fn exchanged_documents()
-    ensures in_front { in_front 7 (first ∷ second ∷ []) ≡ first ∷ [] }
+    ensures held_before { held_before 7 (first ∷ second ∷ []) ≡ first ∷ [] }
     ensures of_number { of_number 7 (first ∷ second ∷ []) ≡ second ∷ [] }
     ensures in_back { in_back 3 (first ∷ second ∷ []) ≡ second ∷ [] }
     ensures replaced { exchanged 7 (nothing_held 7 ∷ []) (first ∷ second ∷ []) ≡ first ∷ nothing_held 7 ∷ [] }
@@ -74,12 +74,12 @@ pub fn exchanged_documents()
     ensures gone { exchanged 3 [] (first ∷ second ∷ []) ≡ second ∷ [] }
 {}
 
-/// A leaf is found by its number, and the place behind it counts it too.
+/// A leaf is found by its number, and the place after it counts it too.
 pub fn places_of_leaves()
     ensures ids { ids_of_leaf 2 first.index.leaves ≡ 1 ∷ [] }
     ensures no_leaf { ids_of_leaf 3 first.index.leaves ≡ [] }
-    ensures in_front { place_behind None (4 ∷ 2 ∷ []) ≡ 0 }
-    ensures behind_first { place_behind (Some (record { 0 = 4 })) (4 ∷ 2 ∷ []) ≡ 1 }
-    ensures behind_last { place_behind (Some (record { 0 = 2 })) (4 ∷ 2 ∷ []) ≡ 2 }
+    ensures held_before { place_following None (4 ∷ 2 ∷ []) ≡ 0 }
+    ensures after_first { place_following (Some (record { 0 = 4 })) (4 ∷ 2 ∷ []) ≡ 1 }
+    ensures after_last { place_following (Some (record { 0 = 2 })) (4 ∷ 2 ∷ []) ≡ 2 }
     ensures words { all_words (leaf_of 4 (codes "Hello" ∷ []) ∷ leaf_of 2 (codes "world" ∷ []) ∷ []) ≡ codes "Hello" ∷ codes "world" ∷ [] }
 {}

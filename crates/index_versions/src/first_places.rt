@@ -3,7 +3,7 @@
 ghost use Rattle.std.specs.Prelude.{◌≡◌};
 ghost use Rattle.index_versions.specs.FirstPlaces as spec;
 
-/// The place in front of the other; where one of them isn't there, the other.
+/// The place before the other; where one of them isn't there, the other.
 pub fn sooner(first: Option<u32>, second: Option<u32>) -> Option<u32>
     ensures { result ≡ spec.sooner first second }
 {

@@ -4,7 +4,7 @@ ghost use Rattle.index_meaning.specs.Documents.{leaf_of, document_of, numbered, 
 ghost use Rattle.index_meaning.specs.Documents.{with_leaf, without_leaf, with_breaks, has_document, document_at, with_document, without_document};
 ghost use Rattle.doc_index.specs.Terms as by_id;
 ghost use Rattle.doc_index.specs.Terms.{are_distinct, has};
-ghost use Rattle.index_versions.specs.steps.Held.{ids_of_leaf, leaf_under, place_behind};
+ghost use Rattle.index_versions.specs.steps.Held.{ids_of_leaf, leaf_under, place_following};
 ghost use Rattle.index_versions.specs.steps.Naming.{all_words, entries_of, IsNamed};
 ghost use Rattle.index_versions.specs.steps.Sound.{IsSound, meaning};
 
@@ -22,7 +22,7 @@ use std::alloc::Global;
 use std::sync::ledger::Ledger;
 use text_list::TextList;
 
-/// Puts a leaf with these words into the document, directly behind another leaf or in front of all.
+/// Puts a leaf with these words into the document, directly after another leaf or before all.
 pub(crate) fn put_leaf<L: Ledger>(
     alloc: Global,
     parts: &mut Parts,
@@ -60,19 +60,19 @@ fn index_with_leaf<L: Ledger>(
     requires new { has leaf.0 (by_id.leaf_ids index.now.leaves) ≡ false }
     requires after { IfSome after (λ other. has other.0 (by_id.leaf_ids index.now.leaves) ≡ true) }
     ensures index { IfOk result (λ made. made ≡
-        by_id.with_leaf index.now (place_behind after (by_id.leaf_ids index.now.leaves)) (by_id.leaf_of leaf.0 ids.items)) }
+        by_id.with_leaf index.now (place_following after (by_id.leaf_ids index.now.leaves)) (by_id.leaf_of leaf.0 ids.items)) }
     ensures counted { OnOk result (rows.new ≡ rows.old + length ids.items) }
     ensures at_most { rows.new ≤ rows.old + length ids.items }
 {
-    let at = place_behind(index, after)?;
+    let at = place_following(index, after)?;
     let copy = index.copy()?;
     let made = copy.put_leaf(at, leaf, ids, rows)?;
     Ok(made)
 }
 
-/// The place directly behind a leaf that is there, or the one in front of all.
-fn place_behind(index: &DocIndex, after: Option<LeafId>) -> Result<usize, Memory>
-    ensures place { IfOk result (λ at. at ≡ place_behind after (by_id.leaf_ids index.now.leaves)) }
+/// The place directly after a leaf that is there, or the one before all.
+fn place_following(index: &DocIndex, after: Option<LeafId>) -> Result<usize, Memory>
+    ensures place { IfOk result (λ at. at ≡ place_following after (by_id.leaf_ids index.now.leaves)) }
     ensures within { IfOk result (λ at. at ≤ length index.now.leaves) }
 {
     let _leaves = index.leaf_count();

@@ -50,7 +50,7 @@ impl<'v> TermSources<'v> {
         self.sources.is_empty()
     }
 
-    /// Puts one behind the others.
+    /// Puts one after the others.
     pub fn push(&mut self, source: TermSource<'v>) -> Result<(), Memory>
         ensures ok { OnOk result (self.new ≡ self.old ++ source.entry ∷ []) }
         ensures err { OnErr result (self.new ≡ self.old) }

@@ -158,21 +158,21 @@ fn stands_at<L: Ledger>(
         Some(hit) => hit.from,
         None => 0,
     };
-    let behind = Span { from: 3, to: 3 };
+    let after = Span { from: 3, to: 3 };
     let mut source = TermSource::new(version, number);
     let mut aimed = TermCursor::new();
     source.aim(&mut aimed, doc, whole, steps);
     if aimed.here().is_none() {
         return false;
     }
-    source.aim(&mut aimed, doc, behind, steps);
+    source.aim(&mut aimed, doc, after, steps);
     if aimed.here().is_some() {
         return false;
     }
     if source.first_in(doc, whole) != Some(place) {
         return false;
     }
-    if source.first_in(doc, behind).is_some() {
+    if source.first_in(doc, after).is_some() {
         return false;
     }
     let mut asked = TermSource::new(version, number);

@@ -71,8 +71,8 @@ module _ {Z : Type 0} where
         rest = subst (λ b. AllByRecursion IsByText (cond b es (e ∷ remove_entry (of_text text) es))) (sym t) all;
       }
 
-  missed_behind : (text : List ℕ) (e : Vec ℕ Z × PlanOf) (es : Entries Z) → IsByText e → bytes_eq text e.0.items ≡ false → Missed text es → Missed text (e ∷ es)
-  missed_behind text e es by f m =
+  missed_after : (text : List ℕ) (e : Vec ℕ Z × PlanOf) (es : Entries Z) → IsByText e → bytes_eq text e.0.items ≡ false → Missed text es → Missed text (e ∷ es)
+  missed_after text e es by f m =
       let other : bytes_eq text e.1.text ≡ false = ap (bytes_eq text) (sym by) ∙ f in
       record {
         value = ap (λ b. cond b (Some e.1) (lookup (of_text text) es)) f ∙ m.value;
@@ -80,8 +80,8 @@ module _ {Z : Type 0} where
         others = ap (λ b. cond (not b) (e.1 ∷ other_plans text (values_of es)) (other_plans text (values_of es))) other ∙ ap (λ ps. e.1 ∷ ps) m.others;
       }
 
-  found_behind : (text : List ℕ) (e : Vec ℕ Z × PlanOf) (es : Entries Z) → IsByText e → bytes_eq text e.0.items ≡ false → Found text es → Found text (e ∷ es)
-  found_behind text e es by f found =
+  found_after : (text : List ℕ) (e : Vec ℕ Z × PlanOf) (es : Entries Z) → IsByText e → bytes_eq text e.0.items ≡ false → Found text es → Found text (e ∷ es)
+  found_after text e es by f found =
       let other : bytes_eq text e.1.text ≡ false = ap (bytes_eq text) (sym by) ∙ f in
       record {
         key = found.key;
@@ -104,8 +104,8 @@ module _ {Z : Type 0} where
       (elim (bytes_eq text e.0.items) as (λ b. bytes_eq text e.0.items ≡ b → Missed text (e ∷ es) ⊎ Found text (e ∷ es)) [
         | true ↦ λ t. inr (here text e es by.0 by.1 (IsDistinct-head bytes_eq e.1.text (texts_of (values_of es)) d) t)
         | false ↦ λ f. elim (sought text es by.1 (IsDistinct-tail bytes_eq e.1.text (texts_of (values_of es)) d)) [
-          | inl m ↦ inl (missed_behind text e es by.0 f m)
-          | inr found ↦ inr (found_behind text e es by.0 f found)
+          | inl m ↦ inl (missed_after text e es by.0 f m)
+          | inr found ↦ inr (found_after text e es by.0 f found)
         ]
       ]) refl
 

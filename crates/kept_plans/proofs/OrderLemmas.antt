@@ -105,26 +105,26 @@ other_stays text other [] apart h = h
 other_stays text other (t ∷ ts) apart h =
     stays_if text other t ts (bytes_eq text t) (bytes_eq other t) refl refl apart (other_stays text other ts apart) h
 
-behind_first : (text other : List ℕ) (ts : List (List ℕ)) (b : Bool) → bytes_eq other text ≡ b → is_kept other ts ≡ true
+after_first : (text other : List ℕ) (ts : List (List ℕ)) (b : Bool) → bytes_eq other text ≡ b → is_kept other ts ≡ true
     → (b || is_kept other (others text ts)) ≡ true
-behind_first text other ts true is h = refl
-behind_first text other ts false is h = other_stays text other ts is h
+after_first text other ts true is h = refl
+after_first text other ts false is h = other_stays text other ts is h
 
 pub first_stays : (plan : PlanOf) (plans : List PlanOf) (other : List ℕ) → length (plan ∷ other_plans plan.text plans) ≤ 64
     → is_kept other (texts_of plans) ≡ true → is_kept other (texts_of (with_first plan plans)) ≡ true
 first_stays plan plans other fits h =
     ap (λ ps. is_kept other (texts_of ps)) (take_all 64 (plan ∷ other_plans plan.text plans) fits)
     ∙ (ap (λ ts. is_kept other (plan.text ∷ ts)) (other_texts plan.text plans)
-    ∙ behind_first plan.text other (texts_of plans) (bytes_eq other plan.text) refl h)
+    ∙ after_first plan.text other (texts_of plans) (bytes_eq other plan.text) refl h)
 
--- A plan that stood in front of some comes in front of them again.
-pub front_again : (before : List PlanOf) (plan : PlanOf) (behind : List PlanOf) → IsDistinct bytes_eq (texts_of (before ++ plan ∷ behind))
-    → length (before ++ plan ∷ behind) ≤ 64 → with_first plan behind ≡ plan ∷ behind
-front_again [] plan behind d within =
-    ap (λ ps. take 64 (plan ∷ ps)) (all_others plan.text behind (IsDistinct-head bytes_eq plan.text (texts_of behind) d))
-    ∙ take_all 64 (plan ∷ behind) within
-front_again (first ∷ before) plan behind d within =
-    front_again before plan behind (IsDistinct-tail bytes_eq first.text (texts_of (before ++ plan ∷ behind)) d) (omega (arith, within))
+-- A plan that stood before some comes before them again.
+pub prefix_again : (before : List PlanOf) (plan : PlanOf) (suffix : List PlanOf) → IsDistinct bytes_eq (texts_of (before ++ plan ∷ suffix))
+    → length (before ++ plan ∷ suffix) ≤ 64 → with_first plan suffix ≡ plan ∷ suffix
+prefix_again [] plan suffix d within =
+    ap (λ ps. take 64 (plan ∷ ps)) (all_others plan.text suffix (IsDistinct-head bytes_eq plan.text (texts_of suffix) d))
+    ∙ take_all 64 (plan ∷ suffix) within
+prefix_again (first ∷ before) plan suffix d within =
+    prefix_again before plan suffix (IsDistinct-tail bytes_eq first.text (texts_of (before ++ plan ∷ suffix)) d) (omega (arith, within))
 
 -- one use is at most one hit
 pub hits_used : (b : Bool) (hits : ℕ) → cond b (hits + 1) hits ≤ hits + 1

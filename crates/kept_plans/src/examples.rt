@@ -5,10 +5,10 @@ ghost use Rattle.std.specs.Prelude.{◌≡◌, [], ◌∷◌, codes};
 ghost use Rattle.kept_plans.specs.Kept.{all_used, emptied, nothing_kept, used};
 ghost use Rattle.kept_plans.specs.Examples.{kept, many};
 
-/// A text that is kept comes to the front and is a hit; one that isn't comes in front of the others.
+/// A text that is kept comes to the front and is a hit; one that isn't comes before the others.
 pub fn text_used()
     ensures hit { used (codes "b") (kept (codes "a" ∷ codes "b" ∷ codes "c" ∷ []) 4) ≡ kept (codes "b" ∷ codes "a" ∷ codes "c" ∷ []) 5 }
-    ensures front_again { used (codes "a") (kept (codes "a" ∷ codes "b" ∷ []) 0) ≡ kept (codes "a" ∷ codes "b" ∷ []) 1 }
+    ensures prefix_again { used (codes "a") (kept (codes "a" ∷ codes "b" ∷ []) 0) ≡ kept (codes "a" ∷ codes "b" ∷ []) 1 }
     ensures new { used (codes "c") (kept (codes "a" ∷ codes "b" ∷ []) 4) ≡ kept (codes "c" ∷ codes "a" ∷ codes "b" ∷ []) 4 }
     ensures first { used (codes "a") nothing_kept ≡ kept (codes "a" ∷ []) 0 }
     ensures longer { used (codes "ab") (kept (codes "a" ∷ []) 0) ≡ kept (codes "ab" ∷ codes "a" ∷ []) 0 }

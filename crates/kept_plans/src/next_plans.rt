@@ -1,4 +1,4 @@
-//! What is kept behind a command that uses plans.
+//! What is kept after a command that uses plans.
 
 use crate::recent_plans::RecentPlans;
 

@@ -101,7 +101,7 @@ impl RecentPlans {
         self.plans.peek(text)
     }
 
-    /// Puts the plan with that text in front, which takes no memory.
+    /// Puts the plan with that text first, which takes no memory.
     pub(crate) fn promote(&mut self, text: &[u8])
         requires { is_kept text.now (texts_of self.old) ≡ true }
         ensures { ComesFirst text.now self.old self.new }
@@ -109,7 +109,7 @@ impl RecentPlans {
         self.plans.promote(text);
     }
 
-    /// Puts a plan in front, in the place of one that has its text, and answers whether there was one.
+    /// Puts a plan first, in the place of one that has its text, and answers whether there was one.
     fn put(&mut self, alloc: Global, plan: &KeptPlan) -> Result<bool, Memory>
         ensures had { IfOk result (λ had. had ≡ is_kept plan.now.text (texts_of self.old)) }
         ensures plans { OnOk result (self.new ≡ with_first plan.now self.old) }
@@ -158,7 +158,7 @@ fn most() -> NonZeroUsize
     NonZeroUsize::MIN.saturating_add(MAX_PLANS - 1)
 }
 
-/// The hits behind a use of a text.
+/// The hits after a use of a text.
 fn hits_after(hits: u64, is_hit: bool) -> u64
     requires { hits + 1 < 2 ^ 64 }
     ensures { result ≡ (if is_hit then hits + 1 else hits) }

@@ -14,7 +14,7 @@ is_count number word = nat_le 1 number && nat_le number max_documents && bytes_e
 abbrev pub count_as : ℕ → List ℕ → Option ℕ
 count_as number word = if is_count number word then Some number else None
 
--- the number that a word is, in decimal without zeros in front
+-- the number that a word is, in decimal without leading zeros
 abbrev pub count_in : List ℕ → Option ℕ
 count_in word = count_as (digits_value 10 word) word
 

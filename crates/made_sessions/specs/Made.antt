@@ -17,7 +17,7 @@ words first = join_by (λ further. word (first + further)) (codes " ") (range_wi
 abbrev pub paragraph : ℕ → List ℕ
 paragraph first = codes "<p>" ++ words first ++ codes "</p>"
 
--- ten paragraphs: each begins with the word behind the last one of the paragraph before
+-- ten paragraphs: each begins with the word after the last one of the paragraph before
 unfoldable pub paragraphs : ℕ → List ℕ
 paragraphs first = flat_map (λ further. paragraph (first + 20 * further)) (range_with_len 0 10)
 
@@ -25,7 +25,7 @@ paragraphs first = flat_map (λ further. paragraph (first + 20 * further)) (rang
 unfoldable pub document : ℕ → List ℕ
 document number = line (codes "load d" ++ decimal number) ++ line (codes "<doc>" ++ paragraphs number ++ codes "</doc>") ++ line (codes ".")
 
--- what is asked and changed behind the documents
+-- what is asked and changed after the documents
 abbrev pub commands : List (List ℕ)
 commands =
     codes "query collection()/doc[. contains text \"t5\"]"

@@ -25,7 +25,7 @@ fn is_count(number: u32, word: &str) -> bool
     1 <= number && number <= MAX_DOCUMENTS as u32 && is_decimal(number, word)
 }
 
-/// The number that the word is: a decimal without zeros in front, from 1 to as many documents as a session may have.
+/// The number that the word is: a decimal without leading zeros, from 1 to as many documents as a session may have.
 fn count_in(word: &str) -> Option<u32>
     ensures { result ≡ spec.count_in word.now }
 {
@@ -35,7 +35,7 @@ fn count_in(word: &str) -> Option<u32>
     }
 }
 
-/// For a session of how many documents the words of a call ask: `--make` and a number behind it, or `--make=` and the number in one word.
+/// For a session of how many documents the words of a call ask: `--make` and a number after it, or `--make=` and the number in one word.
 pub fn asked_count(words: &[String]) -> Option<u32>
     ensures count { result ≡ spec.asked_count (map string_bytes words.now) }
     ensures within { IfSome result (λ count. (1 ≤ count) × (count ≤ max_documents)) }

@@ -30,7 +30,7 @@ pub fn documents()
         ++ codes "</doc>\n.\n" }
 {}
 
-/// Documents are numbered from 1, and behind them come queries, a deletion, and the counts twice.
+/// Documents are numbered from 1, and after them come queries, a deletion, and the counts twice.
 pub fn sessions()
     ensures of_one { made 1 ≡ document 1
         ++ codes "query collection()/doc[. contains text \"t5\"]\n"
@@ -48,11 +48,11 @@ pub fn asked_documents()
     ensures one_word { asked_count (codes "--make=4096" ∷ []) ≡ Some 4096 }
     ensures too_many { asked_count (codes "--make=4097" ∷ []) ≡ None }
     ensures none { asked_count (codes "--make" ∷ codes "0" ∷ []) ≡ None }
-    ensures a_zero_in_front { asked_count (codes "--make" ∷ codes "07" ∷ []) ≡ None }
+    ensures a_zero_before { asked_count (codes "--make" ∷ codes "07" ∷ []) ≡ None }
     ensures a_plus { asked_count (codes "--make=+7" ∷ []) ≡ None }
     ensures no_number { asked_count (codes "--make=" ∷ []) ≡ None }
     ensures no_word { asked_count (codes "--make" ∷ []) ≡ None }
-    ensures behind { asked_count (codes "--make=7" ∷ codes "8" ∷ []) ≡ None }
+    ensures after { asked_count (codes "--make=7" ∷ codes "8" ∷ []) ≡ None }
     ensures another { asked_count (codes "--mak" ∷ codes "7" ∷ []) ≡ None }
     ensures three_words { asked_count (codes "--make" ∷ codes "7" ∷ codes "8" ∷ []) ≡ None }
 {}

@@ -6,7 +6,7 @@ use crate::document::push_document;
 use ft_base::{Bytes, Items, Memory};
 use std::alloc::Global;
 
-/// What is asked and changed behind the documents.
+/// What is asked and changed after the documents.
 const COMMANDS: &str = "query collection()/doc[. contains text \"t5\"]
 query collection()//p[. contains text \"t5\" ftand \"t9\" window 5 words]
 query collection()//p[. contains text \"t5\" ftand ftnot \"t6\"]

@@ -9,9 +9,9 @@ use Rattle.match_options.specs.declared.atom.Atom.{Atom}
 use Rattle.match_options.specs.declared.atom.Atom.TheVariants.{Letter, Gap}
 use Rattle.match_options.specs.Wildcards.{fits_gap, covers}
 
--- the characters behind the first one
-pub behind_first : (text rest : List ℕ) (c : ℕ) → IsUtf8 text → text ≡ encode_utf8 c ++ rest → chars text ≡ c ∷ chars rest
-behind_first text rest c utf8 split =
+-- the characters after the first one
+pub after_first : (text rest : List ℕ) (c : ℕ) → IsUtf8 text → text ≡ encode_utf8 c ++ rest → chars text ≡ c ∷ chars rest
+after_first text rest c utf8 split =
     let utf8_rest = IsUtf8-past_char text rest c utf8 split in
     sym (chars_from_encodes (c ∷ chars rest) text utf8 (ap (λ bs. encode_utf8 c ++ bs) (encodes-chars rest utf8_rest) ∙ sym split))
 
@@ -33,7 +33,7 @@ no_letter a atoms text none = ap (covers (Letter a ∷ atoms)) (sym (chars_of_em
 
 pub letter_first : (a c : ℕ) (atoms : List Atom) (text rest : List ℕ) → IsUtf8 text → text ≡ encode_utf8 c ++ rest → ((a == c) && covers atoms (chars rest)) ≡ covers (Letter a ∷ atoms) (chars text)
 unfolding covers
-letter_first a c atoms text rest utf8 split = ap (covers (Letter a ∷ atoms)) (sym (behind_first text rest c utf8 split))
+letter_first a c atoms text rest utf8 split = ap (covers (Letter a ∷ atoms)) (sym (after_first text rest c utf8 split))
 
 -- a gap: whether it may stand for some number of characters from a number on
 module _ (low : ℕ) (high : Option ℕ) (atoms : List Atom) (letters : List ℕ) where
@@ -75,7 +75,7 @@ few_chars text utf8 = let bytes = ap length (encodes-chars text utf8) in omega (
 -- one character more is passed
 pub char_passed : (letters : List ℕ) (count c : ℕ) (bytes rest : List ℕ) → IsUtf8 bytes → bytes ≡ encode_utf8 c ++ rest → chars bytes ≡ drop count letters → (chars rest ≡ drop (count + 1) letters) × (count + 1 ≤ length letters)
 char_passed letters count c bytes rest utf8 split is =
-    let prefix = sym is ∙ behind_first bytes rest c utf8 split in
+    let prefix = sym is ∙ after_first bytes rest c utf8 split in
     (sym (ap (drop 1) prefix) ∙ drop-drop 1 count letters, some letters count (chars rest) c prefix)
   where
     some : (letters : List ℕ) (count : ℕ) (rest : List ℕ) (c : ℕ) → drop count letters ≡ c ∷ rest → count + 1 ≤ length letters

@@ -38,7 +38,7 @@ onto_none (piece ∷ rest) = refl
 some_pieces : (cs : List ℕ) → 0 < length (slice_split is_whitespace cs)
 some_pieces cs = rw (length-slice_split is_whitespace cs) (omega arith)
 
--- what is left makes the parts that it makes behind the first characters of a part
+-- what is left makes the parts that it makes after the first characters of a part
 left_split : (prefix cs : List ℕ) → texts (onto_prefix prefix (slice_split is_whitespace cs)) ≡ parts_left prefix cs
 unfolding onto_prefix texts parts_left
 left_split prefix [] = ap (λ f. texts (f ∷ [])) (append-nil prefix)

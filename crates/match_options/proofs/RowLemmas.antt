@@ -20,10 +20,10 @@ end_covered place size [] h = eq-eqb (place + 1) size (omega (arith, h))
 end_covered place size (c ∷ left) h = ne_eqb (place + 1) size (λ e. omega (arith, e, h))
 
 pub row_end : (row : List Bool) (letters : List ℕ) → length row ≡ suc (length letters) → ((place : ℕ) → place < length row → at_place row place ≡ (place + 1 == length row)) → IsRow row [] letters
-row_end row letters size told = record {
+row_end row letters size known = record {
   size = size;
-  told = λ place h.
-      told place (omega (arith, size, h))
+  known = λ place h.
+      known place (omega (arith, size, h))
       ∙ end_covered place (length row) (drop place letters) (omega (arith, size, h, length-drop place letters));
 }
 
@@ -44,7 +44,7 @@ within row place h = go (cases_lt place (length row))
   where
     go : ((place < length row) ⊎ (length row ≤ place)) → place < length row
     go (inl before) = before
-    go (inr behind) = absurd (both_ways (at_place row place) (get_or_past row place false behind) h)
+    go (inr suffix) = absurd (both_ways (at_place row place) (get_or_past row place false suffix) h)
 
 -- the nearest place is true, and no place before it
 nearest_is : (row : List Bool) → nearest row < length row → at_place row (nearest row) ≡ true
@@ -55,7 +55,7 @@ nearest_first row place h = go (cases_lt place (nearest row))
   where
     go : ((place < nearest row) ⊎ (nearest row ≤ place)) → nearest row ≤ place
     go (inl before) = absurd (both_ways (at_place row place) (not-true (at_place row place) (prefix_len_passes (λ b. not b) row place false before)) h)
-    go (inr behind) = behind
+    go (inr suffix) = suffix
 
 module _ (atoms : List Atom) (letters : List ℕ) (old : List Bool) (row : IsRow old atoms letters) where
   -- a letter
@@ -65,16 +65,16 @@ module _ (atoms : List Atom) (letters : List ℕ) (old : List Bool) (row : IsRow
     where
       go : ((place < length letters) ⊎ (length letters ≤ place)) → ((a == get_or letters place a) && at_place old (place + 1)) ≡ covers (Letter a ∷ atoms) (drop place letters)
       go (inl before) =
-          ap (λ b. (a == get_or letters place a) && b) (row.told (place + 1) (omega (arith, before)))
+          ap (λ b. (a == get_or letters place a) && b) (row.known (place + 1) (omega (arith, before)))
           ∙ ap (covers (Letter a ∷ atoms)) (sym (drop_more letters place a before))
-      go (inr behind) =
-          and_right (a == get_or letters place a) (at_place old (place + 1)) (get_or_past old (place + 1) false (omega (arith, behind, row.size)))
-          ∙ ap (covers (Letter a ∷ atoms)) (sym (drop_all place letters behind))
+      go (inr suffix) =
+          and_right (a == get_or letters place a) (at_place old (place + 1)) (get_or_past old (place + 1) false (omega (arith, suffix, row.size)))
+          ∙ ap (covers (Letter a ∷ atoms)) (sym (drop_all place letters suffix))
 
   pub row_letter : (new : List Bool) (a : ℕ) → length new ≡ length old → ((place : ℕ) → place < length new → at_place new place ≡ ((a == get_or letters place a) && at_place old (place + 1))) → IsRow new (Letter a ∷ atoms) letters
-  row_letter new a same told = record {
+  row_letter new a same known = record {
     size = same ∙ row.size;
-    told = λ place h. told place (omega (arith, h, same, row.size)) ∙ letter_told a place h;
+    known = λ place h. known place (omega (arith, h, same, row.size)) ∙ letter_told a place h;
   }
 
   -- a gap: its least number of characters, and those beyond
@@ -93,7 +93,7 @@ module _ (atoms : List Atom) (letters : List ℕ) (old : List Bool) (row : IsRow
         let end = within old ((place + count) + low) is in
         let at : place + (low + count) ≡ (place + count) + low = omega arith in
         ap (covers atoms) (drop-drop (low + count) place letters ∙ ap (λ n. drop n letters) at)
-        ∙ sym (row.told ((place + count) + low) (omega (arith, end, row.size))) ∙ is
+        ∙ sym (row.known ((place + count) + low) (omega (arith, end, row.size))) ∙ is
 
     found : reaches low high (drop place least) ≡ true → covers (Gap low high ∷ atoms) (drop place letters) ≡ true
     unfolding covers fits
@@ -118,7 +118,7 @@ module _ (atoms : List Atom) (letters : List ℕ) (old : List Bool) (row : IsRow
         let at : (place + (count - low)) + low ≡ place + count = omega (arith, above) in
         let true_there : at_place (drop place least) (count - low) ≡ true =
         stands (count - low) ∙ ap (at_place old) at
-        ∙ row.told (place + count) (omega (arith, h, most, length-drop place letters))
+        ∙ row.known (place + count) (omega (arith, h, most, length-drop place letters))
         ∙ ap (covers atoms) (sym (drop-drop count place letters)) ∙ parts.1 in
         let near = nearest_first (drop place least) (count - low) true_there in
         and_from (nat_lt (nearest (drop place least)) (length (drop place least))) (fits_gap low high (low + nearest (drop place least)))
@@ -143,9 +143,9 @@ module _ (atoms : List Atom) (letters : List ℕ) (old : List Bool) (row : IsRow
 
   pub row_gap : (low : ℕ) (high : Option ℕ) (least new : List Bool) → length least ≡ length old → ((place : ℕ) → at_place least place ≡ at_place old (place + low))
       → length new ≡ length least → ((place : ℕ) → at_place new place ≡ reaches low high (drop place least)) → IsRow new (Gap low high ∷ atoms) letters
-  row_gap low high least new size passed same told = record {
+  row_gap low high least new size passed same known = record {
     size = same ∙ size ∙ row.size;
-    told = λ place h. told place ∙ gap_told low high least size passed place h;
+    known = λ place h. known place ∙ gap_told low high least size passed place h;
   }
 
 -- one place before: the nearest place that is true
@@ -159,26 +159,26 @@ nearest_more row place h = ap nearest (drop_more row place false h) ∙ one (at_
 -- one place more, from the front and from the end
 module _ (f : ℕ → Bool) (old row : List Bool) (place : ℕ) (b : Bool) (h : place < length row) (is : b ≡ f place) where
   pub set_told : (p : ℕ) → (p ≡ place → ⊥) → at_place row p ≡ f p → at_place (set row place b) p ≡ f p
-  set_told p other told = get_or-set_other row place p b false other ∙ told
+  set_told p other known = get_or-set_other row place p b false other ∙ known
 
   pub set_here : (p : ℕ) → p ≡ place → at_place (set row place b) p ≡ f p
   set_here p same = ap (at_place (set row place b)) same ∙ get_or-set_same row place b false h ∙ is ∙ ap f (sym same)
 
-  pub front_told : ((p : ℕ) → p < place → at_place row p ≡ f p) → (p : ℕ) → p < place + 1 → at_place (set row place b) p ≡ f p
-  front_told told p less = go (cases_lt p place)
+  pub prefix_told : ((p : ℕ) → p < place → at_place row p ≡ f p) → (p : ℕ) → p < place + 1 → at_place (set row place b) p ≡ f p
+  prefix_told known p less = go (cases_lt p place)
     where
       go : ((p < place) ⊎ (place ≤ p)) → at_place (set row place b) p ≡ f p
-      go (inl before) = set_told p (λ e. omega (arith, before, e)) (told p before)
-      go (inr behind) = set_here p (omega (arith, behind, less))
+      go (inl before) = set_told p (λ e. omega (arith, before, e)) (known p before)
+      go (inr suffix) = set_here p (omega (arith, suffix, less))
 
-  pub front_left : ((p : ℕ) → place ≤ p → at_place row p ≡ at_place old p) → (p : ℕ) → place + 1 ≤ p → at_place (set row place b) p ≡ at_place old p
-  front_left left p more = get_or-set_other row place p b false (λ e. omega (arith, more, e)) ∙ left p (omega (arith, more))
+  pub prefix_left : ((p : ℕ) → place ≤ p → at_place row p ≡ at_place old p) → (p : ℕ) → place + 1 ≤ p → at_place (set row place b) p ≡ at_place old p
+  prefix_left left p more = get_or-set_other row place p b false (λ e. omega (arith, more, e)) ∙ left p (omega (arith, more))
 
   pub end_told : ((p : ℕ) → place + 1 ≤ p → at_place row p ≡ f p) → (p : ℕ) → place ≤ p → at_place (set row place b) p ≡ f p
-  end_told told p more = go (cases_lt place p)
+  end_told known p more = go (cases_lt place p)
     where
       go : ((place < p) ⊎ (p ≤ place)) → at_place (set row place b) p ≡ f p
-      go (inl behind) = set_told p (λ e. omega (arith, behind, e)) (told p (omega (arith, behind)))
+      go (inl suffix) = set_told p (λ e. omega (arith, suffix, e)) (known p (omega (arith, suffix)))
       go (inr here) = set_here p (omega (arith, here, more))
 
   pub end_left : ((p : ℕ) → p < place + 1 → at_place row p ≡ at_place old p) → (p : ℕ) → p < place → at_place (set row place b) p ≡ at_place old p
@@ -226,32 +226,32 @@ row_none : (row : List Bool) (atoms : List Atom) (letters : List ℕ) → IsRow 
 row_none row atoms letters is none place = go (cases_lt (length letters) place)
   where
     inside : (p : ℕ) → p ≤ length letters → covers atoms (drop p letters) ≡ false
-    inside p h = sym (is.told p h) ∙ at_none row none p
+    inside p h = sym (is.known p h) ∙ at_none row none p
 
     go : ((length letters < place) ⊎ (place ≤ length letters)) → covers atoms (drop place letters) ≡ false
-    go (inl behind) =
-        ap (covers atoms) (drop_all place letters (omega (arith, behind)) ∙ sym (drop_all (length letters) letters (omega arith)))
+    go (inl suffix) =
+        ap (covers atoms) (drop_all place letters (omega (arith, suffix)) ∙ sym (drop_all (length letters) letters (omega arith)))
         ∙ inside (length letters) (omega arith)
     go (inr before) = inside place before
 
--- then none is with an atom more in front, or with several
-none_in_front : (atom : Atom) (atoms : List Atom) (letters : List ℕ) → ((place : ℕ) → covers atoms (drop place letters) ≡ false) → covers (atom ∷ atoms) letters ≡ false
+-- then none is with an atom more before, or with several
+none_before : (atom : Atom) (atoms : List Atom) (letters : List ℕ) → ((place : ℕ) → covers atoms (drop place letters) ≡ false) → covers (atom ∷ atoms) letters ≡ false
 unfolding covers
-none_in_front (Letter a) atoms [] none = refl
-none_in_front (Letter a) atoms (c ∷ rest) none = and_right (a == c) (covers atoms rest) (none 1)
-none_in_front (Gap low high) atoms letters none =
+none_before (Letter a) atoms [] none = refl
+none_before (Letter a) atoms (c ∷ rest) none = and_right (a == c) (covers atoms rest) (none 1)
+none_before (Gap low high) atoms letters none =
     list_any_none (λ count. fits_gap low high count && covers atoms (drop count letters)) (range_with_len 0 (suc (length letters)))
     (λ k d h. and_right (fits_gap low high (slice_index_or (range_with_len 0 (suc (length letters))) k d))
     (covers atoms (drop (slice_index_or (range_with_len 0 (suc (length letters))) k d) letters)) (none (slice_index_or (range_with_len 0 (suc (length letters))) k d)))
 
-none_behind : (front atoms : List Atom) (letters : List ℕ) → ((place : ℕ) → covers atoms (drop place letters) ≡ false)
-    → (place : ℕ) → covers (front ++ atoms) (drop place letters) ≡ false
-none_behind [] atoms letters none place = none place
-none_behind (atom ∷ front) atoms letters none place =
-    none_in_front atom (front ++ atoms) (drop place letters)
-    (λ more. ap (covers (front ++ atoms)) (drop-drop more place letters) ∙ none_behind front atoms letters none (place + more))
+none_after : (prefix atoms : List Atom) (letters : List ℕ) → ((place : ℕ) → covers atoms (drop place letters) ≡ false)
+    → (place : ℕ) → covers (prefix ++ atoms) (drop place letters) ≡ false
+none_after [] atoms letters none place = none place
+none_after (atom ∷ prefix) atoms letters none place =
+    none_before atom (prefix ++ atoms) (drop place letters)
+    (λ more. ap (covers (prefix ++ atoms)) (drop-drop more place letters) ∙ none_after prefix atoms letters none (place + more))
 
 pub stopped : (row : List Bool) (atoms : List Atom) (letters : List ℕ) (number : ℕ) → IsRow row (drop number atoms) letters → list_any (λ b. b) row ≡ false → covers atoms letters ≡ false
 stopped row atoms letters number is none =
     ap (λ all. covers all letters) (sym (take-append-drop number atoms))
-    ∙ none_behind (take number atoms) (drop number atoms) letters (row_none row (drop number atoms) letters is none) 0
+    ∙ none_after (take number atoms) (drop number atoms) letters (row_none row (drop number atoms) letters is none) 0

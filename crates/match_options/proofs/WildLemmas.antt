@@ -35,6 +35,6 @@ module _ (form : List ℕ → List ℕ) where
       got ∙ sym (chars_from_encodes (form (chars text)) read utf8_read (sym formed_text)) ∙ ap form (sym (chars_from_encodes run text utf8 (sym spelled)))
 
 -- the atoms of a pattern in their form, and a badly formed pattern
-module _ (case : Case) (marks : Bool) (pattern : List ℕ) (read : Option (Vec Atom Global)) (told : option_map (λ (v : Vec Atom Global). v.items) read ≡ atoms_of (chars pattern)) where
+module _ (case : Case) (marks : Bool) (pattern : List ℕ) (read : Option (Vec Atom Global)) (known : option_map (λ (v : Vec Atom Global). v.items) read ≡ atoms_of (chars pattern)) where
   pub pattern_bad : read ≡ None → None ≡ pattern_in case marks pattern
-  pattern_bad none = ap (option_map (formed (form_by case marks) [])) (sym (ap (option_map (λ (v : Vec Atom Global). v.items)) none) ∙ told)
+  pattern_bad none = ap (option_map (formed (form_by case marks) [])) (sym (ap (option_map (λ (v : Vec Atom Global). v.items)) none) ∙ known)

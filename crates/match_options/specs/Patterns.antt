@@ -31,7 +31,7 @@ is_pattern part = list_any (λ c. is_period c || is_backslash c) part
 abbrev pub sized : Atom → ℕ → Option SizedAtom
 sized atom size = Some record { atom = atom; size = size }
 
--- a number with a closing character behind it
+-- a number with a closing character after it
 abbrev pub number_before : ℕ → List ℕ → Option Number
 number_before closing letters =
     if nat_lt 0 (prefix_len is_digit letters) && begins_with closing (drop (prefix_len is_digit letters) letters)
@@ -46,7 +46,7 @@ abbrev pub upper_bound : ℕ → ℕ → Option Number → Option SizedAtom
 upper_bound low size None = None
 upper_bound low size (Some high) = bounded_gap low high.value (size + high.size + 2)
 
--- behind `.{`: a number, a comma, a number and a closing brace
+-- after `.{`: a number, a comma, a number and a closing brace
 abbrev pub bounds : Option Number → List ℕ → Option SizedAtom
 bounds None letters = None
 bounds (Some low) letters = upper_bound low.value low.size (number_before 125 (drop low.size letters))
@@ -54,7 +54,7 @@ bounds (Some low) letters = upper_bound low.value low.size (number_before 125 (d
 abbrev pub braces_at : List ℕ → Option SizedAtom
 braces_at letters = bounds (number_before 44 letters) letters
 
--- behind a period: the longest form is taken
+-- after a period: the longest form is taken
 abbrev pub period_before : List ℕ → Option SizedAtom
 period_before [] = sized (Gap 1 (Some 1)) 1
 period_before (c ∷ rest) =
@@ -64,7 +64,7 @@ period_before (c ∷ rest) =
     else if c == 123 then braces_at rest
     else sized (Gap 1 (Some 1)) 1
 
--- behind a backslash: it makes the next character a letter
+-- after a backslash: it makes the next character a letter
 abbrev pub backslash_before : List ℕ → Option SizedAtom
 backslash_before [] = None
 backslash_before (c ∷ rest) = sized (Letter c) 2
@@ -81,16 +81,16 @@ atom_before None further = None
 atom_before (Some first) further = option_map (λ atoms. first.atom ∷ atoms) (further (first.size - 1))
 
 -- the atoms of characters, of which the first ones belong to an atom that is read
-unfoldable pub atoms_behind : ℕ → List ℕ → Option (List Atom)
-atoms_behind zero [] = Some []
-atoms_behind (suc passed) [] = None
-atoms_behind zero (c ∷ rest) = atom_before (first_atom c rest) (λ passed. atoms_behind passed rest)
-atoms_behind (suc passed) (c ∷ rest) = atoms_behind passed rest
+unfoldable pub atoms_after : ℕ → List ℕ → Option (List Atom)
+atoms_after zero [] = Some []
+atoms_after (suc passed) [] = None
+atoms_after zero (c ∷ rest) = atom_before (first_atom c rest) (λ passed. atoms_after passed rest)
+atoms_after (suc passed) (c ∷ rest) = atoms_after passed rest
 
 -- the atoms of a pattern, unless it is badly formed; it has at least one
 unfoldable pub atoms_of : List ℕ → Option (List Atom)
 atoms_of [] = None
-atoms_of (c ∷ rest) = atoms_behind 0 (c ∷ rest)
+atoms_of (c ∷ rest) = atoms_after 0 (c ∷ rest)
 
 -- whether a string holds a badly formed pattern
 abbrev pub is_bad_pattern : List ℕ → Bool

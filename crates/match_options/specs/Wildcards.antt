@@ -21,7 +21,7 @@ form_by Lower false characters = key_form characters
 form_by Upper true characters = plain_case_form characters
 form_by Upper false characters = key_form characters
 
--- atoms whose runs of letters are put through a form, behind the letters of a run
+-- atoms whose runs of letters are put through a form, after the letters of a run
 unfoldable pub formed : (List ℕ → List ℕ) → List ℕ → List Atom → List Atom
 formed form run [] = map Letter (form run)
 formed form run (Letter c ∷ rest) = formed form (run ++ c ∷ []) rest

@@ -28,7 +28,7 @@ pub(crate) fn covers(alloc: Global, atoms: &[Atom], text: &str) -> bool
 
 /// The same in a row that is kept, which takes memory where the text is longer than each before it.
 pub(crate) fn covers_kept(atoms: &[Atom], text: &str, row: &mut PlaceRow) -> Result<bool, Memory>
-    ensures told { IfOk result (λ covered. covered ≡ spec.covers atoms.now (chars text.now)) }
+    ensures known { IfOk result (λ covered. covered ≡ spec.covers atoms.now (chars text.now)) }
     ensures short { OnErr result (place_count row.old ≤ length (chars text.now)) }
 {
     let size = char_count(text);

@@ -1,5 +1,5 @@
 //! The atoms of small patterns, by computation.
-#![tactic(auto, unfolding(crate::specs::Patterns::atoms_of, crate::specs::Patterns::atoms_behind))]
+#![tactic(auto, unfolding(crate::specs::Patterns::atoms_of, crate::specs::Patterns::atoms_after))]
 
 ghost use Rattle.std.specs.Prelude.{◌≡◌, true, false, [], ◌∷◌, codes, Some, None};
 ghost use Rattle.match_options.specs.declared.atom.Atom.TheVariants.{Letter};
@@ -14,7 +14,7 @@ pub fn periods()
     ensures any_number { atoms_of (codes "t.*") ≡ Some (Letter 116 ∷ at_least 0 ∷ []) }
     ensures at_least_one { atoms_of (codes "t.+t") ≡ Some (Letter 116 ∷ at_least 1 ∷ Letter 116 ∷ []) }
     ensures two_periods { atoms_of (codes "..?") ≡ Some (from_to 1 1 ∷ from_to 0 1 ∷ []) }
-    ensures a_star_behind { atoms_of (codes ".**") ≡ Some (at_least 0 ∷ Letter 42 ∷ []) }
+    ensures a_star_after { atoms_of (codes ".**") ≡ Some (at_least 0 ∷ Letter 42 ∷ []) }
 {}
 
 /// `.{n,m}`, and what is no such form.
@@ -38,6 +38,6 @@ pub fn literals()
     ensures backslash { atoms_of (codes "\\\\") ≡ Some (Letter 92 ∷ []) }
     ensures letter { atoms_of (codes "\\a.") ≡ Some (Letter 97 ∷ from_to 1 1 ∷ []) }
     ensures at_the_end { atoms_of (codes "ab\\") ≡ None }
-    ensures behind_a_period { atoms_of (codes ".\\") ≡ None }
+    ensures after_a_period { atoms_of (codes ".\\") ≡ None }
     ensures nothing { atoms_of [] ≡ None }
 {}

@@ -52,7 +52,7 @@ fn period_before(rest: &[char]) -> Option<SizedAtom>
     }
 }
 
-/// A number, a comma, a number and a closing brace, behind `.{`.
+/// A number, a comma, a number and a closing brace, after `.{`.
 fn braces(letters: &[char]) -> Option<SizedAtom>
     ensures value { result ≡ spec.braces_at letters.now }
     ensures some { IfSome result (λ sized. 0 < sized.size) }
@@ -73,7 +73,7 @@ fn braces(letters: &[char]) -> Option<SizedAtom>
     )
 }
 
-/// A number with a closing character behind it.
+/// A number with a closing character after it.
 fn number_before(letters: &[char], closing: char) -> Option<Number>
     ensures value { result ≡ spec.number_before closing letters.now }
     ensures within { IfSome result (λ number. number.size ≤ length letters.now) }

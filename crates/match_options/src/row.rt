@@ -10,7 +10,7 @@ ghost use Rattle.match_options.specs.Wildcards as spec;
 use crate::atom::Atom;
 
 /// Whether the atoms cover the text exactly, in a row with a place before each character and one at the end. No step is done more often
-/// than there are atoms times places. Where no place is left, the atoms further in front aren't looked at.
+/// than there are atoms times places. Where no place is left, the atoms further before aren't looked at.
 pub(crate) fn covers_in(row: &mut [bool], atoms: &[Atom], text: &str) -> bool
     requires { length row.old ≡ suc (length (chars text.now)) }
     ensures { result ≡ spec.covers atoms.now (chars text.now) }
@@ -25,7 +25,7 @@ pub(crate) fn covers_in(row: &mut [bool], atoms: &[Atom], text: &str) -> bool
     row[0]
 }
 
-/// Whether what stands behind one of the places is covered.
+/// Whether what stands after one of the places is covered.
 fn some_place(row: &[bool]) -> bool
     ensures { result ≡ list_any (λ place. place) row.now }
 {
@@ -43,11 +43,11 @@ fn mark_end(row: &mut [bool], text: &str)
     }
 }
 
-/// The same with one atom more in front.
+/// The same with one atom more before.
 fn pass(row: &mut [bool], atom: Atom, text: &str)
     requires { length row.old ≡ suc (length (chars text.now)) }
     ensures size { length row.new ≡ length row.old }
-    ensures told { (atoms : List the.Atom) → IsRow row.old atoms (chars text.now) → IsRow row.new (atom ∷ atoms) (chars text.now) }
+    ensures known { (atoms : List the.Atom) → IsRow row.old atoms (chars text.now) → IsRow row.new (atom ∷ atoms) (chars text.now) }
 {
     match atom {
         Atom::Letter(letter) => pass_letter(row, letter, text),
@@ -58,7 +58,7 @@ fn pass(row: &mut [bool], atom: Atom, text: &str)
 fn pass_letter(row: &mut [bool], letter: char, text: &str)
     requires { length row.old ≡ suc (length (chars text.now)) }
     ensures size { length row.new ≡ length row.old }
-    ensures told { (atoms : List the.Atom) → IsRow row.old atoms (chars text.now) → IsRow row.new (Letter letter ∷ atoms) (chars text.now) }
+    ensures known { (atoms : List the.Atom) → IsRow row.old atoms (chars text.now) → IsRow row.new (Letter letter ∷ atoms) (chars text.now) }
 {
     let mut rest = text.chars();
     for place in 0..row.len() {
@@ -71,7 +71,7 @@ fn pass_letter(row: &mut [bool], letter: char, text: &str)
 
 fn pass_gap(row: &mut [bool], low: u32, high: Option<u32>)
     ensures size { length row.new ≡ length row.old }
-    ensures told { (atoms : List the.Atom) (letters : List ℕ) → IsRow row.old atoms letters → IsRow row.new (Gap low high ∷ atoms) letters }
+    ensures known { (atoms : List the.Atom) (letters : List ℕ) → IsRow row.old atoms letters → IsRow row.new (Gap low high ∷ atoms) letters }
 {
     pass_least(row, low);
     pass_more(row, low, high);
@@ -80,7 +80,7 @@ fn pass_gap(row: &mut [bool], low: u32, high: Option<u32>)
 /// The characters that a gap has at least.
 fn pass_least(row: &mut [bool], low: u32)
     ensures size { length row.new ≡ length row.old }
-    ensures told { (place : ℕ) → at_place row.new place ≡ at_place row.old (place + low) }
+    ensures known { (place : ℕ) → at_place row.new place ≡ at_place row.old (place + low) }
 {
     for place in 0..row.len() {
         row[place] = row.len() - place > low as usize && row[place + low as usize];
@@ -90,7 +90,7 @@ fn pass_least(row: &mut [bool], low: u32)
 /// The characters that a gap may have beyond.
 fn pass_more(row: &mut [bool], low: u32, high: Option<u32>)
     ensures size { length row.new ≡ length row.old }
-    ensures told { (place : ℕ) → at_place row.new place ≡ reaches low high (drop place row.old) }
+    ensures known { (place : ℕ) → at_place row.new place ≡ reaches low high (drop place row.old) }
 {
     let mut far = 0;
     for passed in 0..row.len() {

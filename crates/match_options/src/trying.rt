@@ -22,7 +22,7 @@ pub(crate) fn covers_from(atoms: &[Atom], next: usize, text: &str) -> bool
     }
 }
 
-/// The same of a letter and the atoms behind it.
+/// The same of a letter and the atoms after it.
 #[cycle(cover)]
 fn letter_covers(letter: char, atoms: &[Atom], next: usize, text: &str) -> bool
     requires { next ≤ length atoms.now }
@@ -35,7 +35,7 @@ fn letter_covers(letter: char, atoms: &[Atom], next: usize, text: &str) -> bool
     }
 }
 
-/// The same of a gap and the atoms behind it: it may stand for each number of characters in turn.
+/// The same of a gap and the atoms after it: it may stand for each number of characters in turn.
 #[cycle(cover)]
 fn gap_covers(low: u32, high: Option<u32>, atoms: &[Atom], next: usize, text: &str) -> bool
     requires { next ≤ length atoms.now }
@@ -53,7 +53,7 @@ fn gap_covers(low: u32, high: Option<u32>, atoms: &[Atom], next: usize, text: &s
     false
 }
 
-/// Whether the gap may stand for so many characters, and the atoms behind it cover the text behind them.
+/// Whether the gap may stand for so many characters, and the atoms after it cover the text after them.
 #[cycle(cover)]
 fn so_many_covers(
     low: u32,

@@ -84,7 +84,7 @@ impl Wild {
     /// The same in a row of places that is kept from one word to the next. No place is looked at more often than the pattern has atoms, and
     /// memory runs out only where the row has no room for the word.
     pub fn accepts_in(&self, form: &str, row: &mut PlaceRow) -> Result<bool, Memory>
-        ensures told { IfOk result (λ accepted. accepted ≡ spec.covers self.now.atoms.items (chars form.now)) }
+        ensures known { IfOk result (λ accepted. accepted ≡ spec.covers self.now.atoms.items (chars form.now)) }
         ensures short { OnErr result (place_count row.old ≤ length (chars form.now)) }
     {
         covers_kept(self.atoms.as_slice(), form, row)

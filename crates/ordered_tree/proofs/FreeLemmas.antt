@@ -84,7 +84,7 @@ kept-free_from (suc far) slots (Some r) i v h =
     ap (λ (s : Slot). r ∷ free_from far (set slots i v) s.around.next) here
     ∙ ap (λ l. r ∷ l) (kept-free_from far slots (slot_at slots r).around.next i v (All-tail (λ q. q.0 ≢ i) r (free_from far slots (slot_at slots r).around.next) h))
 
--- a free slot gets the link to those behind it
+-- a free slot gets the link to those after it
 pub links-step : (filled slots : List Slot) (k : ℕ) (link : Option NodeRef) (v d : Slot) → k < length filled → length slots ≡ length filled
     → is_free (get_or filled k d).held ≡ true → v.around.next ≡ link
     → ((far : ℕ) → length (free_numbers (suc k) (drop (suc k) filled)) ≤ far → free_from far slots link ≡ free_numbers (suc k) (drop (suc k) filled))
@@ -147,8 +147,8 @@ module _ (old slots : List Slot) (left k : ℕ) (link : Option NodeRef) (v : Slo
       ap slot_held is ∙ sym (get_or-map slot_held slots k v v.held (omega (arith, there, l.long)))
       ∙ ap (λ hs. get_or hs k v.held) l.held ∙ get_or-map slot_held old k v v.held there
 
-  behind : (far : ℕ) → length (free_numbers (suc k) (drop (suc k) old)) ≤ far → free_from far slots link ≡ free_numbers (suc k) (drop (suc k) old)
-  behind = subst (λ n. (far : ℕ) → length (free_numbers n (drop n old)) ≤ far → free_from far slots link ≡ free_numbers n (drop n old)) (sym before ∙ add-one k) l.linked
+  suffix : (far : ℕ) → length (free_numbers (suc k) (drop (suc k) old)) ≤ far → free_from far slots link ≡ free_numbers (suc k) (drop (suc k) old)
+  suffix = subst (λ n. (far : ℕ) → length (free_numbers n (drop n old)) ≤ far → free_from far slots link ≡ free_numbers n (drop n old)) (sym before ∙ add-one k) l.linked
 
   pub links-free : is_free v.held ≡ true → Links old (set slots k (record v { around = record v.around { next = link } })) k (Some (record { 0 = k }))
   links-free free =
@@ -161,7 +161,7 @@ module _ (old slots : List Slot) (left k : ℕ) (link : Option NodeRef) (v : Slo
             get_or-set_other slots k number changed d (λ same. ne (only-free (get_or old number d).held
             (ap (λ i. is_free (get_or old i d).held) same ∙ ap (λ (s : Slot). is_free s.held) (get_or_default old k d v there) ∙ free-old))) ∙ l.kept number d ne;
         held = map-set_same slot_held slots k changed v (ap slot_held is) ∙ l.held;
-        linked = links-step old slots k link changed v there l.long free-old refl behind;
+        linked = links-step old slots k link changed v there l.long free-old refl suffix;
       }
 
   pub links-taken : is_free v.held ≡ false → Links old slots k link
@@ -173,7 +173,7 @@ module _ (old slots : List Slot) (left k : ℕ) (link : Option NodeRef) (v : Slo
         within = omega (arith, there);
         kept = l.kept;
         held = l.held;
-        linked = λ far more. behind far (omega (arith, more, ap length same)) ∙ sym same;
+        linked = λ far more. suffix far (omega (arith, more, ap length same)) ∙ sym same;
       }
     where
       no : (b : Bool) → b ≡ false → (if b then record { 0 = k } ∷ free_numbers (suc k) (drop (suc k) old) else free_numbers (suc k) (drop (suc k) old)) ≡ free_numbers (suc k) (drop (suc k) old)
@@ -222,7 +222,7 @@ unfolding spare
 spare-none zero slots number = refl
 spare-none (suc count) slots number = ap (λ l. record { 0 = number } ∷ l) (spare-none count slots (suc number))
 
--- where the links end, the numbers come behind them
+-- where the links end, the numbers come after them
 pub spare-is : (count far : ℕ) (slots : List Slot) (link : Option NodeRef) (number : ℕ) → length (free_from far slots link) < far
     → spare count slots link number ≡ take count (free_from far slots link) ++ numbers number (count - length (free_from far slots link))
 unfolding spare free_from

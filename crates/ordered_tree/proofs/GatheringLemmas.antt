@@ -7,17 +7,17 @@ use Rattle.plain_tree.specs.declared.tree.Attr.{Attr}
 use Rattle.unicode_segmentation.specs.Word.{word_bounds}
 use Rattle.tokenizer.specs.Parts.{Part, gap_tag, part_of_segment, events, events_of, parts}
 use Rattle.tokenizer.specs.steps.StartsLeft.{sentences_in, paragraphs_in}
-use Rattle.ordered_tree.specs.Leaves.{texts, texts_of, leaves_behind, last_leaf}
+use Rattle.ordered_tree.specs.Leaves.{texts, texts_of, leaves_after, last_leaf}
 use Rattle.ordered_tree.specs.Numbering.{numbered, children_numbered}
 use Rattle.ordered_tree.specs.steps.Gathering.{Gathers, parts_of}
 use Rattle.ordered_tree.specs.declared.texts_read.TextsRead.{TextsRead}
-use Rattle.ordered_tree.proofs.LeavesLemmas.{leaves_behind-append, last_leaf-append, leaves_behind-nil, last_leaf-nil}
+use Rattle.ordered_tree.proofs.LeavesLemmas.{leaves_after-append, last_leaf-append, leaves_after-nil, last_leaf-nil}
 use Rattle.ordered_tree.proofs.ShiftLemmas.{parts-element, parts_of-then}
 
 Gathers-append : (a b c : TextsRead) (ts us : List (NodeRef × List ℕ)) (ps qs : List Part) → Gathers a ts ps b → Gathers b us qs c → Gathers a (ts ++ us) (ps ++ qs) c
 Gathers-append a b c ts us ps qs g h = record {
-  leaves = h.leaves ∙ ap₂ (λ l o. l ++ leaves_behind o us) g.leaves g.last ∙ append_assoc a.leaves (leaves_behind a.last ts) (leaves_behind (last_leaf a.last ts) us)
-      ∙ ap (λ l. a.leaves ++ l) (sym (leaves_behind-append ts us a.last));
+  leaves = h.leaves ∙ ap₂ (λ l o. l ++ leaves_after o us) g.leaves g.last ∙ append_assoc a.leaves (leaves_after a.last ts) (leaves_after (last_leaf a.last ts) us)
+      ∙ ap (λ l. a.leaves ++ l) (sym (leaves_after-append ts us a.last));
   last = h.last ∙ ap (λ o. last_leaf o us) g.last ∙ sym (last_leaf-append ts us a.last);
   sentences = λ rest. ap (sentences_in a.starts) (append_assoc ps qs rest) ∙ g.sentences (qs ++ rest) ∙ h.sentences rest;
   paragraphs = λ rest. ap (paragraphs_in a.starts) (append_assoc ps qs rest) ∙ g.paragraphs (qs ++ rest) ∙ h.paragraphs rest;
@@ -54,7 +54,7 @@ Gathers-element a b c d name attrs kids s first at open' inner close =
 pub Gathers-none : (a : TextsRead) (s : ℕ) → Gathers a (texts_of (children_numbered s no_nodes)) (parts_of no_nodes) a
 unfolding children_numbered events_of
 Gathers-none a s = record {
-  leaves = sym (append-nil a.leaves) ∙ ap (λ l. a.leaves ++ l) (sym (leaves_behind-nil a.last));
+  leaves = sym (append-nil a.leaves) ∙ ap (λ l. a.leaves ++ l) (sym (leaves_after-nil a.last));
   last = sym (last_leaf-nil a.last);
   sentences = λ rest. refl;
   paragraphs = λ rest. refl;

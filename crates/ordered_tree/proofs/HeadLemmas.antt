@@ -7,7 +7,7 @@ use Rattle.ordered_tree.specs.Numbered.{Numbered, element_at, text_at, is_elemen
 use Rattle.ordered_tree.specs.Slots.{held}
 use Rattle.ordered_tree.specs.steps.Heads.{mark_of, mark_of_held}
 
--- lists as long as each other, and no longer than a number, that have the same at each place in front of it
+-- lists as long as each other, and no longer than a number, that have the same at each place before it
 same-to : (k : ℕ) (a b : List ℕ) → length a ≡ length b → length a ≤ k → ((i : ℕ) → i < k → get_or a i 0 ≡ get_or b i 0) → a ≡ b
 same-to k [] [] long few alike = refl
 same-to k [] (y ∷ b) long few alike = absurd (omega (arith, long))

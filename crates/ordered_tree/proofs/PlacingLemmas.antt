@@ -216,5 +216,5 @@ unfolding placed
 placed-text a r bytes slots = refl
 
 -- the last of a vector is the first of its reverse
-pub reverse-pop : (all front : List RefTree) (last : RefTree) → all ≡ front ++ last ∷ [] → reverse all ≡ last ∷ reverse front
-reverse-pop all front last is = ap reverse is ∙ reverse-append front (last ∷ [])
+pub reverse-pop : (all prefix : List RefTree) (last : RefTree) → all ≡ prefix ++ last ∷ [] → reverse all ≡ last ∷ reverse prefix
+reverse-pop all prefix last is = ap reverse is ∙ reverse-append prefix (last ∷ [])

@@ -138,19 +138,19 @@ module _ (slots : List Slot) (free : Option NodeRef) (root : Numbered) (d : IsDo
     firsts-apart = AllPairs-left (λ a b. a ≢ b) firsts (drop count frees)
         (subst (AllPairs (λ a b. a ≢ b)) (sym (take-append-drop count frees)) (AllPairs-right (λ a b. a ≢ b) (references root) frees d.apart))
 
-    -- those behind all slots are apart from those of slots
-    behind : (xs : List NodeRef) → All (λ r. r.0 < length slots) xs → All (λ r. All (λ q. r ≢ q) others) xs
-    behind xs h k e lt j f less same =
+    -- those after all slots are apart from those of slots
+    suffix : (xs : List NodeRef) → All (λ r. r.0 < length slots) xs → All (λ r. All (λ q. r ≢ q) others) xs
+    suffix xs h k e lt j f less same =
         let more : length slots ≤ (get_or others j f).0 = (all-numbers (length slots) (count - length frees) j f less).0 in
         absurd (omega (arith, h k e lt, more, ap (λ (r : NodeRef). r.0) same))
 
     spare-apart : AllPairs (λ a b. a ≢ b) (references root ++ (firsts ++ others))
     spare-apart =
         AllPairs-append (λ a b. a ≢ b) (references root) (firsts ++ others) (AllPairs-left (λ a b. a ≢ b) (references root) frees d.apart)
-        (AllPairs-append (λ a b. a ≢ b) firsts others firsts-apart (apart-numbers (length slots) (count - length frees)) (behind firsts firsts-below))
+        (AllPairs-append (λ a b. a ≢ b) firsts others firsts-apart (apart-numbers (length slots) (count - length frees)) (suffix firsts firsts-below))
         (λ k e lt.
         let r : NodeRef = get_or (references root) k e in
-        All-append (λ q. r ≢ q) firsts others (first-part (λ q. r ≢ q) (AllPairs-between (λ a b. a ≢ b) (references root) frees d.apart k e lt)) (behind (references root) refs-below k e lt))
+        All-append (λ q. r ≢ q) firsts others (first-part (λ q. r ≢ q) (AllPairs-between (λ a b. a ≢ b) (references root) frees d.apart k e lt)) (suffix (references root) refs-below k e lt))
 
     spare-below : All (λ r. r.0 < max (length slots) (node_count (plain root) + count)) (firsts ++ others)
     spare-below =

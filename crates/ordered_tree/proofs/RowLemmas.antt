@@ -1,4 +1,4 @@
--- A node's slot leads to its children and to the siblings behind it.
+-- A node's slot leads to its children and to the siblings after it.
 use Rattle.std.proofs.Common.{◌≡◌, ℕ, ◌+◌, ◌<◌, ◌≤◌, List, [], ◌∷◌, Option, Some, None, length, get_or, refl, sym, ap, ap₂, ◌∙◌, arith, append-nil, length-append, subst}
 use Rattle.std.specs.List.{All}
 use Rattle.std.proofs.lemmas.List.{length-map}
@@ -15,7 +15,7 @@ use Rattle.ordered_tree.specs.declared.slot.Held.TheVariants.{Element, Text}
 use Rattle.ordered_tree.specs.declared.slot.Slot.{Slot}
 use Rattle.ordered_tree.proofs.SlotsLemmas.{some_node, from_link-children, slot_of-stands, below-stands, first-child_stands, rest-child_stands}
 
--- the node of a reference, with the siblings behind it, and where its slot leads
+-- the node of a reference, with the siblings after it, and where its slot leads
 pub record Step (slots : List Slot) (r : NodeRef) : Type 0 where
   pub n : Numbered
   pub ns : Children
@@ -141,7 +141,7 @@ count-element n name attrs h = ap node_count (plain-element n name attrs h)
 
 -- ---- a slot that was read
 
--- the slot to which a link leads: its row is the node and those behind it, and the row behind it is smaller
+-- the slot to which a link leads: its row is the node and those after it, and the row after it is smaller
 module _ (slots : List Slot) (link : Option NodeRef) (here : NodeRef) (left : IsRow slots link) (is : link ≡ Some here) (s : Slot) (read : s ≡ get_or slots here.0 s) where
   pub step-link : Step slots here
   step-link = step slots here (subst (IsRow slots) is left)

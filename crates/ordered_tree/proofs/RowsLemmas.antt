@@ -1,4 +1,4 @@
--- Every node of a document stands in a row with the siblings behind it.
+-- Every node of a document stands in a row with the siblings after it.
 use Rattle.std.proofs.Common.{◌≡◌, ◌≤◌, List, [], Option, Some, length, sym, ap, arith, append-nil}
 use Rattle.std.specs.List.{All}
 use Rattle.std.proofs.lemmas.List.Elements.{All-nil, All-cons, All-append, All-same}
@@ -13,17 +13,17 @@ use Rattle.ordered_tree.proofs.RowLemmas.{row-nodes, fits}
 use Rattle.ordered_tree.proofs.SlotsLemmas.{All-left, below-stands, first-child_stands, rest-child_stands}
 
 module _ (slots : List Slot) where
-  -- the slots of a node and of the siblings behind it, with all that is below them
+  -- the slots of a node and of the siblings after it, with all that is below them
   pub record IsFirst (n : Numbered) : Type 0 where
     pub around : Around
-    pub behind : Children
-    pub stands : All (IsIn slots) (child_stands around (child_then n behind))
-    pub few : nodes_count (plain_children (child_then n behind)) ≤ length slots
+    pub suffix : Children
+    pub stands : All (IsIn slots) (child_stands around (child_then n suffix))
+    pub few : nodes_count (plain_children (child_then n suffix)) ≤ length slots
 
   pub row_from : (n : Numbered) (r : NodeRef) → reference n ≡ r → IsFirst n → IsRow slots (Some r)
   row_from n r refers i = record {
     around = i.around;
-    nodes = child_then n i.behind;
+    nodes = child_then n i.suffix;
     first = ap Some (sym refers);
     stands = i.stands;
     few = i.few;
@@ -47,7 +47,7 @@ module _ (slots : List Slot) where
     first-children (child_then n ns) a few all =
         let b : Around = record a { next = first_of ns } in
         All-append (λ s. IsFirst s.node) (stands b n) (child_stands (round_next a n) ns)
-        (first-node n b (record { around = a; behind = ns; stands = all; few = few }) (omega arith) (first-child_stands slots n ns a all))
+        (first-node n b (record { around = a; suffix = ns; stands = all; few = few }) (omega arith) (first-child_stands slots n ns a all))
         (first-children ns (round_next a n) (omega arith) (rest-child_stands slots n ns a all))
 
   all-first : (root : Numbered) → node_count (plain root) ≤ length slots → All (IsIn slots) (stands_in root) → All (λ s. IsFirst s.node) (stands_in root)

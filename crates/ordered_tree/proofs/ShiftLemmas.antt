@@ -8,7 +8,7 @@ use Rattle.ft_base.specs.declared.token.Token.{Token}
 use Rattle.plain_tree.specs.Document.{Node, element, text, Nodes, no_nodes, node_then}
 use Rattle.tokenizer.specs.Gaps.{gap, ends_sentence, ends_paragraph}
 use Rattle.tokenizer.specs.Parts.{Part, word, gap_characters, gap_tag, events, events_of, parts, parts_of_event, part_of_segment}
-use Rattle.tokenizer.specs.Tokens.{raised, tokens_from, tokens}
+use Rattle.tokenizer.specs.Tokens.{shifted, tokens_from, tokens}
 use Rattle.tokenizer.specs.Words.{is_word}
 use Rattle.unicode_segmentation.specs.Word.{word_bounds}
 use Rattle.ordered_tree.specs.Counts.{word_count, word_counts}
@@ -46,7 +46,7 @@ tokens_from-none s p (word bytes ∷ xs) h = absurd (omega arith)
 tokens_from-none s p (gap_characters bytes ∷ xs) h = tokens_from-none s p xs h
 tokens_from-none s p (gap_tag name ∷ xs) h = tokens_from-none s p xs h
 
--- ---- the tokens behind a front, and those of a front
+-- ---- the tokens after a prefix, and those of a prefix
 
 record Later (ts : List Token) (ys : List Part) : Type 0 where
   sentence : ℕ
@@ -75,7 +75,7 @@ take-tokens [] zs s p = refl
 take-tokens (word bytes ∷ ys) zs s p =
     ap (λ ts. record { word = bytes; sentence = s; paragraph = p } ∷ ts) (elim (cases_lt 0 (word_parts ys)) [
       | inl some ↦
-          ap (λ g. take (word_parts ys) (tokens_from (raised (ends_sentence g) s) (raised (ends_paragraph g) p) (ys ++ zs))) (gap-append ys zs some)
+          ap (λ g. take (word_parts ys) (tokens_from (shifted (ends_sentence g) s) (shifted (ends_paragraph g) p) (ys ++ zs))) (gap-append ys zs some)
           ∙ take-tokens ys zs _ _
       | inr none ↦ take-none (word_parts ys) _ none ∙ sym (tokens_from-none _ _ ys none)
     ])
@@ -84,21 +84,21 @@ take-tokens (gap_tag name ∷ ys) zs s p = take-tokens ys zs s p
 
 -- ---- numbers counted from 1 again
 
-raised-shifted : (ended : Bool) (n m : ℕ) → m ≤ n → raised ended n + 1 - m ≡ raised ended (n + 1 - m)
-raised-shifted true n m h = omega arith
-raised-shifted false n m h = refl
+shifted-shifted : (ended : Bool) (n m : ℕ) → m ≤ n → shifted ended n + 1 - m ≡ shifted ended (n + 1 - m)
+shifted-shifted true n m h = omega arith
+shifted-shifted false n m h = refl
 
-raised-least : (ended : Bool) (n m : ℕ) → m ≤ n → m ≤ raised ended n
-raised-least true n m h = omega arith
-raised-least false n m h = h
+shifted-least : (ended : Bool) (n m : ℕ) → m ≤ n → m ≤ shifted ended n
+shifted-least true n m h = omega arith
+shifted-least false n m h = h
 
 map-counted_from : (f : Token) (xs : List Part) (s p : ℕ) → f.sentence ≤ s → f.paragraph ≤ p → map (counted_from f) (tokens_from s p xs) ≡ tokens_from (s + 1 - f.sentence) (p + 1 - f.paragraph) xs
 unfolding tokens_from
 map-counted_from f [] s p hs hp = refl
 map-counted_from f (word bytes ∷ xs) s p hs hp =
     ap (λ ts. record { word = bytes; sentence = s + 1 - f.sentence; paragraph = p + 1 - f.paragraph } ∷ ts)
-    (map-counted_from f xs _ _ (raised-least (ends_sentence (gap xs)) s f.sentence hs) (raised-least (ends_paragraph (gap xs)) p f.paragraph hp)
-    ∙ ap₂ (λ i j. tokens_from i j xs) (raised-shifted (ends_sentence (gap xs)) s f.sentence hs) (raised-shifted (ends_paragraph (gap xs)) p f.paragraph hp))
+    (map-counted_from f xs _ _ (shifted-least (ends_sentence (gap xs)) s f.sentence hs) (shifted-least (ends_paragraph (gap xs)) p f.paragraph hp)
+    ∙ ap₂ (λ i j. tokens_from i j xs) (shifted-shifted (ends_sentence (gap xs)) s f.sentence hs) (shifted-shifted (ends_paragraph (gap xs)) p f.paragraph hp))
 map-counted_from f (gap_characters bytes ∷ xs) s p hs hp = map-counted_from f xs s p hs hp
 map-counted_from f (gap_tag name ∷ xs) s p hs hp = map-counted_from f xs s p hs hp
 
@@ -163,26 +163,26 @@ length-tokens n = length-tokens_from (parts n) 1 1 ∙ word_parts-parts n
 
 -- ---- where the parts of a node stand
 
--- The parts of the node stand in these, behind as many words as its span says.
+-- The parts of the node stand in these, after as many words as its span says.
 record Inside (outer : List Part) (base : ℕ) (s : Stand) : Type 0 where
   ahead : List Part
-  behind : List Part
-  is : outer ≡ ahead ++ (parts (plain s.node) ++ behind)
+  suffix : List Part
+  is : outer ≡ ahead ++ (parts (plain s.node) ++ suffix)
   counts : base + word_parts ahead ≡ s.around.before
 
-regrouped : (x mid ahead own behind z : List Part) → mid ≡ ahead ++ (own ++ behind) → x ++ (mid ++ z) ≡ (x ++ ahead) ++ (own ++ (behind ++ z))
-regrouped x mid ahead own behind z e = ap (λ m. x ++ (m ++ z)) e ∙ simp append_assoc
+regrouped : (x mid ahead own suffix z : List Part) → mid ≡ ahead ++ (own ++ suffix) → x ++ (mid ++ z) ≡ (x ++ ahead) ++ (own ++ (suffix ++ z))
+regrouped x mid ahead own suffix z e = ap (λ m. x ++ (m ++ z)) e ∙ simp append_assoc
 
 widened : (x mid z outer : List Part) (base base' : ℕ) (s : Stand) → outer ≡ x ++ (mid ++ z) → base + word_parts x ≡ base' → Inside mid base' s → Inside outer base s
 widened x mid z outer base base' s e counts i = record {
   ahead = x ++ i.ahead;
-  behind = i.behind ++ z;
-  is = e ∙ regrouped x mid i.ahead (parts (plain s.node)) i.behind z i.is;
+  suffix = i.suffix ++ z;
+  is = e ∙ regrouped x mid i.ahead (parts (plain s.node)) i.suffix z i.is;
   counts = let more = word_parts-append x i.ahead in let rest = i.counts in omega arith;
 }
 
 itself : (a : Around) (n : Numbered) → Inside (parts (plain n)) a.before (record { node = n; around = a })
-itself a n = record { ahead = []; behind = []; is = sym (append-nil (parts (plain n))); counts = omega arith }
+itself a n = record { ahead = []; suffix = []; is = sym (append-nil (parts (plain n))); counts = omega arith }
 
 mutual
   unfolding stands child_stands
@@ -221,7 +221,7 @@ part-inside outer s i =
     let long : (s.around.before + 1 + word_count (plain s.node) - 1) - (s.around.before + 1 - 1) ≡ word_parts (parts (plain s.node)) = omega arith in
     ap₂ (λ l d. renumbered (take l (drop d (tokens_from 1 1 (parts outer))))) long from
     ∙ ap (λ ps. renumbered (take (word_parts (parts (plain s.node))) (drop (word_parts i.ahead) (tokens_from 1 1 ps)))) i.is
-    ∙ part-tokens_from i.ahead (parts (plain s.node)) i.behind
+    ∙ part-tokens_from i.ahead (parts (plain s.node)) i.suffix
 
 -- the words of a node, and those before it, are among the document's
 pub stands-few : (root : Numbered) → All (λ s. s.around.before + word_count (plain s.node) ≤ word_count (plain root)) (stands_in root)
@@ -233,8 +233,8 @@ stands-few root =
       word_parts-parts (plain s.node),
       word_parts-parts (plain root),
       ap word_parts i.is,
-      word_parts-append i.ahead (parts (plain s.node) ++ i.behind),
-      word_parts-append (parts (plain s.node)) i.behind,
+      word_parts-append i.ahead (parts (plain s.node) ++ i.suffix),
+      word_parts-append (parts (plain s.node)) i.suffix,
     ))
     (stands round_root root) (stands-inside round_root root)
 

@@ -24,14 +24,14 @@ text_of t = (t.node, t.text.now)
 abbrev pub leaf_of : NodeRef → LeafId
 leaf_of r = record { 0 = r.0 }
 
--- the leaves of texts that stand behind a leaf, each directly behind the one before
-unfoldable pub leaves_behind : Option LeafId → List (NodeRef × List ℕ) → List LeafWords
-leaves_behind before [] = []
-leaves_behind before ((r, bytes) ∷ rest) = record { leaf = leaf_of r; after = before; words = words bytes } ∷ leaves_behind (Some (leaf_of r)) rest
+-- the leaves of texts that stand after a leaf, each directly after the one before
+unfoldable pub leaves_after : Option LeafId → List (NodeRef × List ℕ) → List LeafWords
+leaves_after before [] = []
+leaves_after before ((r, bytes) ∷ rest) = record { leaf = leaf_of r; after = before; words = words bytes } ∷ leaves_after (Some (leaf_of r)) rest
 
 unfoldable pub last_leaf : Option LeafId → List (NodeRef × List ℕ) → Option LeafId
 last_leaf before [] = before
 last_leaf before ((r, bytes) ∷ rest) = last_leaf (Some (leaf_of r)) rest
 
 abbrev pub leaves : Numbered → List LeafWords
-leaves root = leaves_behind None (texts root)
+leaves root = leaves_after None (texts root)

@@ -14,6 +14,6 @@ unfoldable mutual
   children_numbered start no_nodes = no_children
   children_numbered start (node_then n ns) = child_then (numbered start n) (children_numbered (start + node_count n) ns)
 
--- the sibling behind a node, where a number is that of the next node behind it and all below it
+-- the sibling after a node, where a number is that of the next node after it and all below it
 abbrev pub next_sibling : Bool → ℕ → Option NodeRef
 next_sibling is_last number = if is_last then None else Some (record { 0 = number })

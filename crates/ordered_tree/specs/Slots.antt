@@ -48,7 +48,7 @@ node_held r (Element name attrs) kids = element_at r name attrs kids
 node_held r (Text bytes) kids = text_at r bytes
 node_held r Free kids = text_at r []
 
--- the node that a link names and its siblings behind it, at most so many links away
+-- the node that a link names and its siblings after it, at most so many links away
 unfoldable pub from_link : ℕ → List Slot → Option NodeRef → Children
 from_link zero slots link = no_children
 from_link (suc far) slots None = no_children
@@ -79,7 +79,7 @@ pub record IsRow (slots : List Slot) (link : Option NodeRef) : Type 0 where
   pub stands : All (IsIn slots) (child_stands around nodes)
   pub few : nodes_count (plain_children nodes) ≤ length slots
 
--- the free slots, each of which names the one behind it by `next`
+-- the free slots, each of which names the one after it by `next`
 unfoldable pub free_from : ℕ → List Slot → Option NodeRef → List NodeRef
 free_from zero slots link = []
 free_from (suc far) slots None = []

@@ -14,7 +14,7 @@ pub record Stand : Type 0 where
 abbrev pub round_root : Around
 round_root = record { parent = None; previous = None; next = None; number = 0; before = 0 }
 
--- what stands round an element's first child, and round the sibling behind a node, but for the sibling that is next
+-- what stands round an element's first child, and round the sibling after a node, but for the sibling that is next
 abbrev pub round_first : ℕ → NodeRef → Around
 round_first before parent = record { parent = Some parent; previous = None; next = None; number = 1; before = before }
 

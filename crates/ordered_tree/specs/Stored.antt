@@ -10,7 +10,7 @@ pub record Stored : Type 0 where
   pub root : Numbered
   pub slots : ℕ
 
--- how proofs tell such documents apart: each reference put in front of the name or the text
+-- how proofs tell such documents apart: each reference put before the name or the text
 abbrev mutual
   pub marked : Numbered → Node
   marked (element_at r name attrs kids) = element (r.0 ∷ name) attrs (all_marked kids)

@@ -137,7 +137,7 @@ fn add_children(
         left -= 1;
         let here = NodeRef(slots.len() as u32);
         let added = add_tree(slots, read, kid, around, left == 0)?;
-        around = around.behind(here, added.words);
+        around = around.suffix(here, added.words);
         levels = greater(levels, added.levels);
     }
     Ok(Row {
@@ -218,7 +218,7 @@ fn open_element(slots: &mut Vec<Slot>, around: Around) -> Result<(), Memory>
     Ok(())
 }
 
-/// Puts an element, and what its children bring, into its slot, behind which all slots are those of nodes below it.
+/// Puts an element, and what its children bring, into its slot, after which all slots are those of nodes below it.
 fn finish(slots: &mut Vec<Slot>, here: usize, held: Held, row: Row, is_last: bool)
     requires here { here < length slots.old.items }
     requires few { length slots.old.items < 2 ^ 31 }
@@ -250,7 +250,7 @@ fn first_child(here: usize, last: Option<NodeRef>) -> Option<NodeRef>
     }
 }
 
-/// The sibling behind a node, where a number is that of the next node behind it and all below it.
+/// The sibling after a node, where a number is that of the next node after it and all below it.
 fn sibling(is_last: bool, number: usize) -> Option<NodeRef>
     requires { number < 2 ^ 32 }
     ensures { result ≡ next_sibling is_last number }

@@ -26,7 +26,7 @@ impl<'a> ElementName<'a> {
     }
 }
 
-/// The mark of a name: its first seven bytes, zeros behind a shorter one, and one more than its length, where 9 stands for each longer one.
+/// The mark of a name: its first seven bytes, zeros after a shorter one, and one more than its length, where 9 stands for each longer one.
 #[tactic(auto, unfolding(crate::specs::steps::Heads::mark_of))]
 pub(crate) fn mark_of(name: &str) -> [u8; 8]
     ensures { result ≡ mark_of name.now }
@@ -44,7 +44,7 @@ pub(crate) fn mark_of(name: &str) -> [u8; 8]
     ]
 }
 
-/// The byte at a place, from 0; behind the last one, 0.
+/// The byte at a place, from 0; after the last one, 0.
 fn byte_at(bytes: &[u8], at: usize) -> u8
     ensures { result ≡ slice_index_or bytes.now at 0 }
 {

@@ -1,7 +1,7 @@
 use ft_base::LeafId;
 use text_list::TextList;
 
-/// A leaf with its words, in order. It stands directly behind the leaf `after`, or in front.
+/// A leaf with its words, in order. It stands directly after the leaf `after`, or first.
 #[derive(Drop)]
 pub struct LeafWords {
     pub leaf: LeafId,

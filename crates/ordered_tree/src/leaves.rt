@@ -1,6 +1,6 @@
 ghost use Rattle.std.specs.Prelude.{◌≡◌, ◌++◌, ◌∷◌, [], Some, IfOk, OnOk};
 ghost use Rattle.tokenizer.specs.Words.{words};
-ghost use Rattle.ordered_tree.specs.Leaves.{texts, texts_of, leaf_of, leaves_behind, last_leaf};
+ghost use Rattle.ordered_tree.specs.Leaves.{texts, texts_of, leaf_of, leaves_after, last_leaf};
 ghost use Rattle.ordered_tree.specs.Slots.{IsRow, row, node_at};
 
 use crate::leaf::LeafWords;
@@ -22,7 +22,7 @@ pub(crate) fn add_leaves(
     leaves: &mut Leaves,
 ) -> Result<Option<LeafId>, Memory>
     requires { IsRow slots.now (Some here) }
-    ensures leaves { OnOk result (leaves.new ≡ leaves.old ++ leaves_behind last (texts (node_at slots.now here))) }
+    ensures leaves { OnOk result (leaves.new ≡ leaves.old ++ leaves_after last (texts (node_at slots.now here))) }
     ensures last { IfOk result (λ new. new ≡ last_leaf last (texts (node_at slots.now here))) }
 {
     let slot = slots.get(here.0 as usize);
@@ -48,7 +48,7 @@ fn add_all_leaves(
     leaves: &mut Leaves,
 ) -> Result<Option<LeafId>, Memory>
     requires { IsRow slots.now first }
-    ensures leaves { OnOk result (leaves.new ≡ leaves.old ++ leaves_behind last (texts_of (row slots.now first))) }
+    ensures leaves { OnOk result (leaves.new ≡ leaves.old ++ leaves_after last (texts_of (row slots.now first))) }
     ensures last { IfOk result (λ new. new ≡ last_leaf last (texts_of (row slots.now first))) }
 {
     let mut before = last;

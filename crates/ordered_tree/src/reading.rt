@@ -73,7 +73,7 @@ impl DocTree {
         self.head(node).first_child
     }
 
-    /// The sibling behind a node.
+    /// The sibling after a node.
     pub fn next(&self, node: NodeRef) -> Option<NodeRef>
         requires { Contains (references self.now.root) node }
         ensures next { OnNode self.now.root node (λ s. result ≡ s.around.next) }

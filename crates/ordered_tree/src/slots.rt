@@ -16,7 +16,7 @@ use std::marker::Model;
 
 /// Slots by their numbers, which contracts see as their list. What walks look at stands in heads, the rest in cores. Trees
 /// that were copied or edited share the blocks of both which are the same; no core tells how many words stand before it, so
-/// that words which come in or go out change the heads behind them alone.
+/// that words which come in or go out change the heads after them alone.
 #[derive(Drop)]
 pub(crate) struct Slots {
     cores: SharedVector<SlotCore>,

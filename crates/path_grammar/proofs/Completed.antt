@@ -10,11 +10,11 @@ use Rattle.path_grammar.specs.Levels.{levels}
 use Rattle.path_grammar.specs.steps.Machine as m
 use Rattle.path_grammar.specs.steps.Machine.{Frame, Stage, Inner, State, read, run_on, finished, most_open, most_open_on}
 use Rattle.path_grammar.proofs.Given.{given}
-use Rattle.path_grammar.proofs.Walks.{run_inner, highest, Walks, goes_on, AtStep, Behind}
+use Rattle.path_grammar.proofs.Walks.{run_inner, highest, Walks, goes_on, AtStep, After}
 use Rattle.path_grammar.proofs.Conditions.{StepsWalk}
 use Rattle.path_grammar.proofs.Derived.{steps_walk, step_walk}
 
--- behind the root the machine of the steps goes on
+-- after the root the machine of the steps goes on
 pub along_runs : (root : PathRoot) (o : Option Inner) (u : List Placed) → run_on (m.along_to root o) u ≡ m.along_to root (run_inner o u)
 along_runs root None u = refl
 along_runs root (Some s) [] = refl
@@ -36,11 +36,11 @@ root_most v (Root.doc p q r t s) = omega arith
 abbrev path_of : PathRoot → List form.Step → form.Path
 path_of root xs = record { root = root; steps = form.steps xs }
 
--- behind the last step the path is whole
-ends_path : {zs : List form.Step} {stage : Stage} (root : PathRoot) (all : List Inside) (xs : List form.Step) (x : form.Step) → Behind [] zs stage → zs ≡ xs ++ x ∷ [] → m.finished_inner root [] all stage ≡ given (path_of root (xs ++ x ∷ [])) all
-ends_path root all [] x Behind.behind_none e = cc
-ends_path root all (y ∷ xs) x Behind.behind_none e = cc
-ends_path root all xs x (Behind.behind_step (AtStep.at_step last)) e = ap (λ z. given (path_of root z) all) e
+-- after the last step the path is whole
+ends_path : {zs : List form.Step} {stage : Stage} (root : PathRoot) (all : List Inside) (xs : List form.Step) (x : form.Step) → After [] zs stage → zs ≡ xs ++ x ∷ [] → m.finished_inner root [] all stage ≡ given (path_of root (xs ++ x ∷ [])) all
+ends_path root all [] x After.after_none e = cc
+ends_path root all (y ∷ xs) x After.after_none e = cc
+ends_path root all xs x (After.after_step (AtStep.at_step last)) e = ap (λ z. given (path_of root z) all) e
 
 -- a path that was read, and the most that was open on the way
 pub record Completed (u : List Placed) (value : form.Path) (selections : List Inside) (most : ℕ) : Type 0 where
@@ -54,7 +54,7 @@ completed : {u v w : List Placed} {root : PathRoot} {all more : List Inside} {k 
 completed {u = u} {v = v} {w = w} {root = root} {more = more} {k = k} {l = l} xs x r b s = record {
   state = m.along root (m.stand [] m.no_joint more s.stage);
   is_read = ap read (append_assoc u v w) ∙ root_read (v ++ w) r ∙ along_runs root (Some m.start) (v ++ w) ∙ ap (m.along_to root) both.ends;
-  ends = ends_path root more xs x s.behind refl;
+  ends = ends_path root more xs x s.suffix refl;
   most_is = ap most_open (append_assoc u v w) ∙ root_most (v ++ w) r ∙ along_most root (Some m.start) (v ++ w) ∙ both.peak ∙ omega arith;
 }
   where
@@ -62,7 +62,7 @@ completed {u = u} {v = v} {w = w} {root = root} {more = more} {k = k} {l = l} xs
     both = goes_on b.walks s.walks
 
 pub complete : {u : List Placed} {value : form.Path} {selections : List Inside} (a : Path u value selections) → Completed u value selections (levels a)
-complete (g.path {xs = xs} {x = x} {ss = ss} root before last) = let b = steps_walk before m.no_joint [] refl Behind.behind_none in completed xs x root b (step_walk last m.no_joint ss refl b.behind)
+complete (g.path {xs = xs} {x = x} {ss = ss} root before last) = let b = steps_walk before m.no_joint [] refl After.after_none in completed xs x root b (step_walk last m.no_joint ss refl b.suffix)
 
 pub path_read : (u : List Placed) (value : form.Path) (selections : List Inside) → Path u value selections → (state : State) × (read u ≡ Some state) × (finished state ≡ Some (value, selections))
 path_read u value selections a = let c = complete a in (c.state, c.is_read, c.ends)

@@ -14,9 +14,9 @@ use Rattle.path_grammar.specs.Grammar.{Inside, Slashes, Test}
 use Rattle.path_grammar.specs.steps.Machine as m
 use Rattle.path_grammar.specs.steps.Machine.{LastStep, tested, all_steps, filtered, Joint, no_joint, ands_with, ors_with, Frame, Stage, Inner, stand, advance_inner}
 use Rattle.path_grammar.proofs.Followers.{Follower}
-use Rattle.path_grammar.proofs.Walks.{Walks, stays, one, goes_on, walks_same, AtStep, Behind, bracket_opens, slash_walk, test_walk, Ends}
+use Rattle.path_grammar.proofs.Walks.{Walks, stays, one, goes_on, walks_same, AtStep, After, bracket_opens, slash_walk, test_walk, Ends}
 
--- behind predicates, behind steps, and behind conditions
+-- after predicates, after steps, and after conditions
 pub record PredicatesWalk (frames : List Frame) (joint : Joint) (all : List Inside) (s : Inner) (u : List Placed) (last : LastStep) (levels : ℕ) : Type 0 where
   pub stage : Stage
   pub at_it : AtStep frames last stage
@@ -24,7 +24,7 @@ pub record PredicatesWalk (frames : List Frame) (joint : Joint) (all : List Insi
 
 pub record StepsWalk (frames : List Frame) (joint : Joint) (all : List Inside) (s : Inner) (u : List Placed) (xs : List form.Step) (levels : ℕ) : Type 0 where
   pub stage : Stage
-  pub behind : Behind frames xs stage
+  pub suffix : After frames xs stage
   pub walks : Walks s u (stand frames joint all stage) (length frames + levels)
 
 pub record ConditionWalk (frame : Frame) (outer : List Frame) (joint : Joint) (c : form.Condition) (all : List Inside) (s : Inner) (u : List Placed) (levels : ℕ) : Type 0 where
@@ -102,15 +102,15 @@ holds_walk {frames = frames} {joint = joint} {all = all} {more = more} {last = l
     (w.ends.takes q S.CloseBracket Follower.close_bracket ∙ ap (λ z. Some (stand frames joint more (m.stepped (filtered last (form.holds (joined or_of z)))))) w.conditions)))) refl (omega (arith, ap length w.ends.frames_are))
 
 -- steps
-pub no_steps_walk : {frames : List Frame} (joint : Joint) (all : List Inside) {xs : List form.Step} {stage : Stage} → Behind frames xs stage → StepsWalk frames joint (all ++ []) (stand frames joint all stage) [] (xs ++ []) 0
-no_steps_walk {frames = frames} joint all {xs = xs} {stage = stage} a = steps_same (record { stage = stage; behind = a; walks = walks_same (stays (stand frames joint all stage)) refl (omega arith) }) (sym (append-nil all)) (sym (append-nil xs))
+pub no_steps_walk : {frames : List Frame} (joint : Joint) (all : List Inside) {xs : List form.Step} {stage : Stage} → After frames xs stage → StepsWalk frames joint (all ++ []) (stand frames joint all stage) [] (xs ++ []) 0
+no_steps_walk {frames = frames} joint all {xs = xs} {stage = stage} a = steps_same (record { stage = stage; suffix = a; walks = walks_same (stays (stand frames joint all stage)) refl (omega arith) }) (sym (append-nil all)) (sym (append-nil xs))
 
-pub step_walk_of : {frames : List Frame} {joint : Joint} {all more : List Inside} {xs : List form.Step} {stage : Stage} {u v w : List Placed} {deep : Bool} {test : NameTest} {l : ℕ} (ps : List form.Predicate) → Behind frames xs stage → Slashes u deep → Test v test
+pub step_walk_of : {frames : List Frame} {joint : Joint} {all more : List Inside} {xs : List form.Step} {stage : Stage} {u v w : List Placed} {deep : Bool} {test : NameTest} {l : ℕ} (ps : List form.Predicate) → After frames xs stage → Slashes u deep → Test v test
     → PredicatesWalk frames joint more (stand frames joint all (m.stepped (tested xs deep test))) w (more_filters (tested xs deep test) ps) l
     → StepsWalk frames joint more (stand frames joint all stage) (u ++ v ++ w) (xs ++ form.step deep test (predicates ps) ∷ []) l
 step_walk_of {frames = frames} {joint = joint} {all = all} {xs = xs} {deep = deep} ps a s t w = record {
   stage = w.stage;
-  behind = Behind.behind_step w.at_it;
+  suffix = After.after_step w.at_it;
   walks = walks_same (goes_on (goes_on (slash_walk joint all a s) (test_walk frames joint all xs deep t)) w.walks) refl (omega arith);
 }
 
@@ -118,13 +118,13 @@ pub further_step_walk : {frames : List Frame} {joint : Joint} {s : Inner} {u v :
     → (b : StepsWalk frames joint (all ++ ss) s u (ys ++ xs) k) → StepsWalk frames joint (all ++ ss ++ tt) (stand frames joint (all ++ ss) b.stage) v (ys ++ xs ++ x ∷ []) l
     → StepsWalk frames joint (all ++ (ss ++ tt)) s (u ++ v) (ys ++ (xs ++ x ∷ [])) (max k l)
 further_step_walk all ss tt ys xs x b w =
-    steps_same (record { stage = w.stage; behind = w.behind; walks = walks_same (goes_on b.walks w.walks) refl (omega arith) }) (append_assoc all ss tt) (append_assoc ys xs (x ∷ []))
+    steps_same (record { stage = w.stage; suffix = w.suffix; walks = walks_same (goes_on b.walks w.walks) refl (omega arith) }) (append_assoc all ss tt) (append_assoc ys xs (x ∷ []))
 
 -- the steps of a condition
 pub itself_walk : {frame : Frame} {outer : List Frame} {joint : Joint} {all more : List Inside} {u : List Placed} {xs : List form.Step} {l : ℕ} (first : Bool) (p : Spot)
     → StepsWalk (frame ∷ outer) joint more (stand (frame ∷ outer) joint all m.no_step) u xs l
     → StepsWalk (frame ∷ outer) joint more (stand (frame ∷ outer) joint all (m.wanted first)) (at p S.Period ∷ u) xs l
-itself_walk {frame = frame} {outer = outer} {joint = joint} {all = all} first p w = record { stage = w.stage; behind = w.behind; walks = walks_same (goes_on period w.walks) refl (omega arith) }
+itself_walk {frame = frame} {outer = outer} {joint = joint} {all = all} first p w = record { stage = w.stage; suffix = w.suffix; walks = walks_same (goes_on period w.walks) refl (omega arith) }
   where
     period : Walks (stand (frame ∷ outer) joint all (m.wanted first)) (at p S.Period ∷ []) (stand (frame ∷ outer) joint all m.no_step) (max (suc (length outer)) (suc (length outer)))
     period = one (at p S.Period) refl
@@ -153,4 +153,4 @@ filtered_walk b w = record { stage = w.stage; at_it = w.at_it; walks = walks_sam
 pub child_steps_walk : {frames : List Frame} {joint : Joint} {s : Inner} {u v : List Placed} {last : LastStep} {xs : List form.Step} {k l : ℕ} (all ss tt : List Inside)
     → (b : PredicatesWalk frames joint (all ++ ss) s u last k) → StepsWalk frames joint (all ++ ss ++ tt) (stand frames joint (all ++ ss) b.stage) v xs l
     → StepsWalk frames joint (all ++ (ss ++ tt)) s (u ++ v) xs (max k l)
-child_steps_walk all ss tt b w = steps_same (record { stage = w.stage; behind = w.behind; walks = walks_same (goes_on b.walks w.walks) refl (omega arith) }) (append_assoc all ss tt) refl
+child_steps_walk all ss tt b w = steps_same (record { stage = w.stage; suffix = w.suffix; walks = walks_same (goes_on b.walks w.walks) refl (omega arith) }) (append_assoc all ss tt) refl

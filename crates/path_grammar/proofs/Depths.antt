@@ -53,13 +53,13 @@ last_of u p s e = go (read u) refl
     go (Some t) k = record { before = t; is_read = k; leads = ends (m.advance t p) (sym (read-append u (p ∷ []) ∙ ap (λ o. run_on o (p ∷ [])) k) ∙ e) }
 
 pub one_more : (u : List Placed) (p : Placed) (s : State) → read (u ++ p ∷ []) ≡ Some s → most_open (u ++ p ∷ []) ≡ max (most_open u) (open_count s)
-one_more u p s e = omega (arith, most_open-append u (p ∷ []), ap (λ o. most_open_on o (p ∷ [])) l.is_read, behind, last_most (Some (m.at_root m.nothing)) u l.before l.is_read)
+one_more u p s e = omega (arith, most_open-append u (p ∷ []), ap (λ o. most_open_on o (p ∷ [])) l.is_read, suffix, last_most (Some (m.at_root m.nothing)) u l.before l.is_read)
   where
     l : Last u p s
     l = last_of u p s e
 
-    behind : most_open_on (Some l.before) (p ∷ []) ≡ max (open_count l.before) (open_count s)
-    behind = ap (λ o. max (open_count l.before) (most_open_on o [])) l.leads
+    suffix : most_open_on (Some l.before) (p ∷ []) ≡ max (open_count l.before) (open_count s)
+    suffix = ap (λ o. max (open_count l.before) (most_open_on o [])) l.leads
 
 pub begins_within : (most : ℕ) (u : List Placed) → BeginsWithin most u → (s : State) × (read u ≡ Some s) × (most_open u ≤ most)
 begins_within most u (rest, x, ss, a, few) = go (begins_read u (rest, x, ss, a))

@@ -7,7 +7,7 @@ use Rattle.path_grammar.specs.Grammar.{Inside, Step, Steps, Predicate, Predicate
 use Rattle.path_grammar.specs.Levels.{step_levels, steps_levels, predicate_levels, predicates_levels, ors_levels, ands_levels, primary_levels, rel_levels}
 use Rattle.path_grammar.specs.steps.Machine as m
 use Rattle.path_grammar.specs.steps.Machine.{LastStep, tested, filtered, Joint, no_joint, ors_with, Frame, Stage, stand}
-use Rattle.path_grammar.proofs.Walks.{Walks, AtStep, Behind}
+use Rattle.path_grammar.proofs.Walks.{Walks, AtStep, After}
 use Rattle.path_grammar.proofs.Conditions.{PredicatesWalk, StepsWalk, ConditionWalk, AndsWalk, OrsWalk, more_filters, no_predicates_walk, further_predicate_walk, number_walk, holds_walk, no_steps_walk, step_walk_of, further_step_walk, itself_walk, child_walk, filtered_walk, child_steps_walk}
 use Rattle.path_grammar.proofs.Primaries.{negated_walk, parentheses_walk, attribute_walk, value_walk, exists_walk, contains_walk, first_and_walk, further_and_walk, first_or_walk, further_or_walk}
 
@@ -15,16 +15,16 @@ counted : (n : ℕ) (all ss : List Inside) → length all ≡ n → length (all 
 counted n all ss e = omega (arith, e, length-append all ss)
 
 mutual
-  pub step_walk : {n : ℕ} {u : List Placed} {x : form.Step} {ss : List Inside} {frames : List Frame} {xs : List form.Step} {stage : Stage} (a : Step n u x ss) (joint : Joint) (all : List Inside) → length all ≡ n → Behind frames xs stage
+  pub step_walk : {n : ℕ} {u : List Placed} {x : form.Step} {ss : List Inside} {frames : List Frame} {xs : List form.Step} {stage : Stage} (a : Step n u x ss) (joint : Joint) (all : List Inside) → length all ≡ n → After frames xs stage
       → StepsWalk frames joint (all ++ ss) (stand frames joint all stage) u (xs ++ x ∷ []) (step_levels a)
   step_walk {xs = xs} (Step.step {deep = deep} {test = test} {ps = ps} slashes t filters) joint all e b = step_walk_of ps b slashes t (predicates_walk filters joint all e (AtStep.at_step (tested xs deep test)))
 
-  pub steps_walk : {n : ℕ} {u : List Placed} {xs : List form.Step} {ss : List Inside} {frames : List Frame} {ys : List form.Step} {stage : Stage} (a : Steps n u xs ss) (joint : Joint) (all : List Inside) → length all ≡ n → Behind frames ys stage
+  pub steps_walk : {n : ℕ} {u : List Placed} {xs : List form.Step} {ss : List Inside} {frames : List Frame} {ys : List form.Step} {stage : Stage} (a : Steps n u xs ss) (joint : Joint) (all : List Inside) → length all ≡ n → After frames ys stage
       → StepsWalk frames joint (all ++ ss) (stand frames joint all stage) u (ys ++ xs) (steps_levels a)
   steps_walk Steps.no_step joint all e b = no_steps_walk joint all b
   steps_walk {n = n} {ys = ys} (Steps.further_step {xs = xs} {x = x} {ss = ss} {tt = more} before last) joint all e b =
       let w = steps_walk before joint all e b in
-      further_step_walk all ss more ys xs x w (step_walk last joint (all ++ ss) (counted n all ss e) w.behind)
+      further_step_walk all ss more ys xs x w (step_walk last joint (all ++ ss) (counted n all ss e) w.suffix)
 
   predicate_walk : {n : ℕ} {u : List Placed} {x : form.Predicate} {ss : List Inside} {frames : List Frame} {last : LastStep} {stage : Stage} (a : Predicate n u x ss) (joint : Joint) (all : List Inside) → length all ≡ n → AtStep frames last stage
       → Walks (stand frames joint all stage) u (stand frames joint (all ++ ss) (m.stepped (filtered last x))) (length frames + predicate_levels a)
@@ -63,8 +63,8 @@ mutual
 
   rel_walk : {n : ℕ} {u : List Placed} {xs : List form.Step} {ss : List Inside} (a : Rel n u xs ss) (frame : Frame) (outer : List Frame) (joint : Joint) (all : List Inside) (first : Bool) → length all ≡ n
       → StepsWalk (frame ∷ outer) joint (all ++ ss) (stand (frame ∷ outer) joint all (m.wanted first)) u xs (rel_levels a)
-  rel_walk (Rel.itself p xs) frame outer joint all first e = itself_walk first p (steps_walk xs joint all e Behind.behind_none)
+  rel_walk (Rel.itself p xs) frame outer joint all first e = itself_walk first p (steps_walk xs joint all e After.after_none)
   rel_walk {n = n} (Rel.some_child {ss = ss} {tt = more} t filters xs) frame outer joint all first e =
       let c = child_walk frame outer joint all first t in
       let w = filtered_walk c (predicates_walk filters joint all e c.at_it) in
-      child_steps_walk all ss more w (steps_walk xs joint (all ++ ss) (counted n all ss e) (Behind.behind_step w.at_it))
+      child_steps_walk all ss more w (steps_walk xs joint (all ++ ss) (counted n all ss e) (After.after_step w.at_it))

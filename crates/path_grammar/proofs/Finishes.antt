@@ -18,7 +18,7 @@ use Rattle.path_grammar.specs.steps.Machine as m
 use Rattle.path_grammar.specs.steps.Machine.{LastStep, tested, all_steps, filtered, Joint, condition_with, Frame, Stage, Inner, stand}
 use Rattle.path_grammar.proofs.Standing.{Under, Place, Opened, Stands}
 use Rattle.path_grammar.proofs.Followers.{Follower}
-use Rattle.path_grammar.proofs.Walks.{Walks, stays, one, goes_on, walks_same, AtStep, Behind, slash_walk, test_walk, Ends, behind_ends, ended_ends, attribute_ends}
+use Rattle.path_grammar.proofs.Walks.{Walks, stays, one, goes_on, walks_same, AtStep, After, slash_walk, test_walk, Ends, after_ends, ended_ends, attribute_ends}
 use Rattle.path_grammar.proofs.Primaries.{selecting_walk, selecting_ends}
 
 here : Spot
@@ -46,13 +46,13 @@ Based (m.brackets joint last ∷ []) = Unit {0}
 Based (m.parentheses joint ∷ []) = ⊥
 Based (m.negation joint ∷ []) = ⊥
 
--- behind a whole condition all that is open closes
+-- after a whole condition all that is open closes
 close_all : (frame : Frame) (outer : List Frame) {joint : Joint} {c : form.Condition} {all : List Inside} {t : Inner} → Based (frame ∷ outer) → Ends frame outer joint c all t → Finish t
 close_all (m.brackets j last) [] {joint = joint} {c = c} {all = all} b e =
     finish_by (one (at here S.CloseBracket) (e.takes here S.CloseBracket Follower.close_bracket)) (omega (arith, ap length e.frames_are)) (finish_here j all (filtered last (form.holds (condition_with joint c))))
 close_all (m.brackets j last) (next ∷ outer) {joint = joint} {c = c} {all = all} b e =
     finish_by (one (at here S.CloseBracket) (e.takes here S.CloseBracket Follower.close_bracket)) (omega (arith, ap length e.frames_are))
-    (close_all next outer b (behind_ends j all (Behind.behind_step (AtStep.at_step (filtered last (form.holds (condition_with joint c)))))))
+    (close_all next outer b (after_ends j all (After.after_step (AtStep.at_step (filtered last (form.holds (condition_with joint c)))))))
 close_all (m.parentheses j) [] b e = absurd b
 close_all (m.parentheses j) (next ∷ outer) {joint = joint} {c = c} {all = all} b e =
     finish_by (one (at here S.CloseParenthesis) (e.takes here S.CloseParenthesis Follower.close_parenthesis)) (omega (arith, ap length e.frames_are)) (close_all next outer b (ended_ends next outer j (condition_with joint c) all))
@@ -60,10 +60,10 @@ close_all (m.negation j) [] b e = absurd b
 close_all (m.negation j) (next ∷ outer) {joint = joint} {c = c} {all = all} b e =
     finish_by (one (at here S.CloseParenthesis) (e.takes here S.CloseParenthesis Follower.close_parenthesis)) (omega (arith, ap length e.frames_are)) (close_all next outer b (ended_ends next outer j (form.not_of (condition_with joint c)) all))
 
--- behind a step
+-- after a step
 at_last : (frames : List Frame) (joint : Joint) (all : List Inside) (last : LastStep) → Based frames → Finish (stand frames joint all (m.stepped last))
 at_last [] joint all last b = finish_here joint all last
-at_last (frame ∷ outer) joint all last b = close_all frame outer b (behind_ends joint all (Behind.behind_step (AtStep.at_step last)))
+at_last (frame ∷ outer) joint all last b = close_all frame outer b (after_ends joint all (After.after_step (AtStep.at_step last)))
 
 mutual
   opened_based : {u : List Placed} {frames : List Frame} {ss : List Inside} → Opened u frames ss → Based frames
@@ -79,15 +79,15 @@ mutual
   bracket_based j last Place.at_root = tt
   bracket_based j last (Place.in_condition a b) = opened_based a
 
--- in front of a step
+-- before a step
 test_finish : (frames : List Frame) (joint : Joint) (all : List Inside) (xs : List form.Step) (deep : Bool) → Based frames → Finish (stand frames joint all (m.slashes xs deep))
 test_finish frames joint all xs deep b = finish_by (test_walk frames joint all xs deep (g.any here)) (omega arith) (at_last frames joint all (tested xs deep T.Any) b)
 
 no_step_finish : (frames : List Frame) (joint : Joint) (all : List Inside) → Based frames → Finish (stand frames joint all m.no_step)
-no_step_finish frames joint all b = finish_by (slash_walk joint all Behind.behind_none (g.child here)) (omega arith) (test_finish frames joint all [] false b)
+no_step_finish frames joint all b = finish_by (slash_walk joint all After.after_none (g.child here)) (omega arith) (test_finish frames joint all [] false b)
 
 wanted_finish : (frame : Frame) (outer : List Frame) (joint : Joint) (all : List Inside) (first : Bool) → Based (frame ∷ outer) → Finish (stand (frame ∷ outer) joint all (m.wanted first))
-wanted_finish frame outer joint all first b = finish_by dot (omega arith) (close_all frame outer b (behind_ends joint all Behind.behind_none))
+wanted_finish frame outer joint all first b = finish_by dot (omega arith) (close_all frame outer b (after_ends joint all After.after_none))
   where
     dot : Walks (stand (frame ∷ outer) joint all (m.wanted first)) (at (0, 0) S.Period ∷ []) (stand (frame ∷ outer) joint all m.no_step) (max (suc (length outer)) (suc (length outer)))
     dot = one (at (0, 0) S.Period) refl
@@ -127,13 +127,13 @@ contains_finish frame outer joint all xs b = finish_by texted (omega arith) (sel
     texted : Walks (stand (frame ∷ outer) joint all (m.contains xs)) (name (0, 0) (codes "text") ∷ []) (stand (frame ∷ outer) joint all (m.selecting xs [] (Shape.whole selection.start))) (max (suc (length outer)) (suc (length outer)))
     texted = one (name (0, 0) (codes "text")) refl
 
--- wherever the machine stands behind the root
+-- wherever the machine stands after the root
 under_finish : {frames : List Frame} {n : ℕ} {v : List Placed} {stage : Stage} {tt : List Inside} (joint : Joint) (all : List Inside) → Based frames → Under frames n v stage tt → Finish (stand frames joint all stage)
 under_finish {frames = frames} joint all b (Under.no_step x) = no_step_finish frames joint all b
 under_finish {frames = frames} joint all b (Under.slashes {xs = xs} {deep = deep} x s) = test_finish frames joint all xs deep b
 under_finish {frames = frames} joint all b (Under.stepped {last = last} x) = at_last frames joint all last b
 under_finish joint all b (Under.wanted {frame = frame} {outer = outer}) = wanted_finish frame outer joint all false b
-under_finish joint all b (Under.not_name {frame = frame} {outer = outer} p) = close_all frame outer b (behind_ends joint all (Behind.behind_step AtStep.at_not))
+under_finish joint all b (Under.not_name {frame = frame} {outer = outer} p) = close_all frame outer b (after_ends joint all (After.after_step AtStep.at_not))
 under_finish joint all b (Under.at_sign {frame = frame} {outer = outer} p) = sign_finish frame outer joint all b
 under_finish joint all b (Under.attribute {frame = frame} {outer = outer} p q s) = close_all frame outer b (attribute_ends frame outer joint s all)
 under_finish joint all b (Under.equals {frame = frame} {outer = outer} p q r s) = equals_finish frame outer joint all s b

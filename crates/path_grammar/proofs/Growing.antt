@@ -15,9 +15,9 @@ use Rattle.path_grammar.proofs.Reached.{by_otherwise}
 
 -- a symbol opens, or leaves no more open
 data Kept : Symbol → ℕ → ℕ → Type 0 where
-  bracket : {before behind : ℕ} → Kept S.OpenBracket before behind
-  parenthesis : {before behind : ℕ} → Kept S.OpenParenthesis before behind
-  no_more : {z : Symbol} {before behind : ℕ} → behind ≤ before → Kept z before behind
+  bracket : {before suffix : ℕ} → Kept S.OpenBracket before suffix
+  parenthesis : {before suffix : ℕ} → Kept S.OpenParenthesis before suffix
+  no_more : {z : Symbol} {before suffix : ℕ} → suffix ≤ before → Kept z before suffix
 
 kept : {z : Symbol} {before : ℕ} {s t : Inner} → Some s ≡ Some t → length s.frames ≤ before → Kept z before (length t.frames)
 kept {s = s} {t = t} e few = let there : s ≡ t = cc in Kept.no_more (omega (arith, few, ap (λ (r : Inner). length r.frames) there))
@@ -110,14 +110,14 @@ joint_keeps (frame ∷ outer) joint c all (S.Name s) t e =
     (λ i. by_word (codes "or") (S.Name s) (Some (stand (frame ∷ outer) (record { ors = m.ors_with joint c; ands = [] }) all (m.wanted false))) None t (λ k h. kept h (omega arith)) (λ h. cc) i) e
 joint_keeps (frame ∷ outer) joint c all other t e = cc
 
-behind_keeps : (frames : List Frame) (joint : Joint) (o : Option (form.Condition × List Inside)) (z : Symbol) (t : Inner) → m.behind_next frames joint o z ≡ Some t → Kept z (length frames) (length t.frames)
-behind_keeps frames joint None z t e = cc
-behind_keeps frames joint (Some (c, all)) z t e = joint_keeps frames joint c all z t e
+after_keeps : (frames : List Frame) (joint : Joint) (o : Option (form.Condition × List Inside)) (z : Symbol) (t : Inner) → m.after_next frames joint o z ≡ Some t → Kept z (length frames) (length t.frames)
+after_keeps frames joint None z t e = cc
+after_keeps frames joint (Some (c, all)) z t e = joint_keeps frames joint c all z t e
 
 inner_keeps : (s t : Inner) (p : Placed) → m.advance_inner s p ≡ Some t → Kept p.symbol (length s.frames) (length t.frames)
 inner_keeps s t p e =
-    by_otherwise (m.within_next s.frames s.joint s.selections s.stage p) (m.behind_next s.frames s.joint (m.condition_at s.selections s.stage) p.symbol) t
-    (λ h. within_keeps s.frames s.joint s.selections s.stage p t h) (λ h. behind_keeps s.frames s.joint (m.condition_at s.selections s.stage) p.symbol t h) e
+    by_otherwise (m.within_next s.frames s.joint s.selections s.stage p) (m.after_next s.frames s.joint (m.condition_at s.selections s.stage) p.symbol) t
+    (λ h. within_keeps s.frames s.joint s.selections s.stage p t h) (λ h. after_keeps s.frames s.joint (m.condition_at s.selections s.stage) p.symbol t h) e
 
 -- and in the root
 root_kept : {z : Symbol} {s t : State} → Some s ≡ Some t → open_count s ≡ 0 → Kept z 0 (open_count t)
@@ -146,7 +146,7 @@ keeps (m.along root s) t p e = go (m.advance_inner s p) refl e
     go None k h = cc
     go (Some r) k h = let there : m.along root r ≡ t = cc in subst (λ (z : State). Kept p.symbol (length s.frames) (open_count z)) there (inner_keeps s r p k)
 
-opening : {z : Symbol} {before behind : ℕ} → Kept z before behind → before < behind → (z ≡ S.OpenBracket) ⊎ (z ≡ S.OpenParenthesis)
+opening : {z : Symbol} {before suffix : ℕ} → Kept z before suffix → before < suffix → (z ≡ S.OpenBracket) ⊎ (z ≡ S.OpenParenthesis)
 opening Kept.bracket more = inl refl
 opening Kept.parenthesis more = inr refl
 opening (Kept.no_more few) more = absurd (omega (arith, few, more))

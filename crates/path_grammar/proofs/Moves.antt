@@ -1,4 +1,4 @@
--- Wherever the machine stands, what it reads next leads to where it stands behind that.
+-- Wherever the machine stands, what it reads next leads to where it stands after that.
 use Rattle.std.proofs.Common.{◌≡◌, ℕ, Bool, true, false, cond, List, [], ◌∷◌, ◌++◌, length, Option, Some, None, refl, sym, ◌∙◌, ap, subst, append_assoc}
 use Rattle.std.proofs.lemmas.List.{append-nil, length-append}
 use Rattle.std.specs.Prelude.{codes}
@@ -33,7 +33,7 @@ by_word {A = A} {B = B} key symbol x y r there past e = go (is_word key symbol) 
 pub goes_on : {frames : List Frame} {u w : List Placed} {joint : Joint} {stage : Stage} {ss ts : List Inside} (v : List Placed) (p : Placed) → Place u frames joint ss → Under frames (length ss) w stage ts → w ≡ v ++ p ∷ [] → Stands (u ++ v ++ p ∷ []) (stand frames joint (ss ++ ts) stage)
 goes_on {u = u} v p a x e = stands_same (Stands.under a x) (ap (λ z. u ++ z) e ∙ sym (append_assoc u v (p ∷ []))) refl
 
--- behind steps
+-- after steps
 pub steps_moves : {frames : List Frame} {u v : List Placed} {joint : Joint} {xs : List form.Step} {ss ts : List Inside} {t : Inner} (q : Spot) (z : Symbol) → Place u frames joint ss → Walked frames (length ss) v xs ts
     → m.steps_next frames joint (ss ++ ts) xs z ≡ Some t → Stands (u ++ v ++ at q z ∷ []) t
 steps_moves {v = v} q S.Slash a x e = led e (goes_on v (at q S.Slash) a (Under.slashes x (Slashes.child q)) refl)
@@ -44,7 +44,7 @@ steps_moves {u = u} {v = v} {joint = joint} {xs = xs} {ss = ss} {ts = ts} {t = t
     (λ k h. led h (goes_on v (at q (S.Name s)) a (Under.contains x q) (ap (λ z. v ++ at q z ∷ []) (sym k)))) (λ h. cc) e
 steps_moves q other a x e = cc
 
--- behind a step
+-- after a step
 pub step_moves : {frames : List Frame} {u v : List Placed} {joint : Joint} {last : LastStep} {ss ts : List Inside} {t : Inner} (q : Spot) (z : Symbol) → Place u frames joint ss → Trail frames (length ss) v last ts
     → m.step_next frames joint (ss ++ ts) last z ≡ Some t → Stands (u ++ v ++ at q z ∷ []) t
 step_moves {u = u} {v = v} q S.OpenBracket a x e = led e (Stands.bracket (Opened.brackets a x q))
@@ -98,7 +98,7 @@ pub not_moves : {frame : Frame} {outer : List Frame} {u : List Placed} {joint : 
 not_moves {u = u} {ss = ss} p q S.OpenParenthesis a e = led e (stands_same (wants (begins (Opened.negation a p q))) (sym (append_assoc u (name p (codes "not") ∷ []) (at q S.OpenParenthesis ∷ []))) (sym (append-nil ss)))
 not_moves p q other a e = step_moves q other a (Trail.first (Test.named p (codes "not")) Predicates.no_predicate) e
 
--- a bracket closes behind a predicate
+-- a bracket closes after a predicate
 pub filters : {frames : List Frame} {u v w : List Placed} {joint : Joint} {last : LastStep} {x : form.Predicate} {ss ts rr : List Inside} → Place u frames joint ss → Trail frames (length ss) v last ts → Predicate (length (ss ++ ts)) w x rr
     → Stands (u ++ v ++ w) (stand frames joint (ss ++ ts ++ rr) (m.stepped (filtered last x)))
 filters {u = u} {v = v} {w = w} {x = x} {ss = ss} {ts = ts} {rr = rr} a y b =

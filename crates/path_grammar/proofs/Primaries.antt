@@ -15,10 +15,10 @@ use Rattle.path_grammar.specs.Grammar.{Inside, inside}
 use Rattle.path_grammar.specs.steps.Machine as m
 use Rattle.path_grammar.specs.steps.Machine.{Joint, no_joint, ands_with, ors_with, Frame, Stage, Inner, stand, advance_inner}
 use Rattle.path_grammar.proofs.Followers.{Follower, selection_stops}
-use Rattle.path_grammar.proofs.Walks.{Walks, stays, one, goes_on, walks_same, contains_leads, Ends, behind_ends, ended_ends, attribute_ends}
+use Rattle.path_grammar.proofs.Walks.{Walks, stays, one, goes_on, walks_same, contains_leads, Ends, after_ends, ended_ends, attribute_ends}
 use Rattle.path_grammar.proofs.Conditions.{StepsWalk, ConditionWalk, AndsWalk, OrsWalk, condition_same}
 
--- one symbol, with as much open behind it as before
+-- one symbol, with as much open after it as before
 moved : {frame : Frame} {outer : List Frame} {joint next : Joint} {stage stage' : Stage} {all more : List Inside} (p : Placed) → advance_inner (stand (frame ∷ outer) joint all stage) p ≡ Some (stand (frame ∷ outer) next more stage')
     → Walks (stand (frame ∷ outer) joint all stage) (p ∷ []) (stand (frame ∷ outer) next more stage') (suc (length outer))
 moved p e = walks_same (one p e) refl (omega arith)
@@ -90,7 +90,7 @@ value_walk frame outer joint all first p q r t s value = condition_same (record 
     valued = moved (string t value) refl
 
 pub exists_walk : {frame : Frame} {outer : List Frame} {joint : Joint} {all : List Inside} {s : Inner} {u : List Placed} {xs : List form.Step} {l : ℕ} → StepsWalk (frame ∷ outer) joint all s u xs l → ConditionWalk frame outer joint (form.exists (steps xs)) all s u l
-exists_walk {frame = frame} {outer = outer} {joint = joint} {all = all} w = record { there = stand (frame ∷ outer) joint all w.stage; walks = w.walks; ends = behind_ends joint all w.behind }
+exists_walk {frame = frame} {outer = outer} {joint = joint} {all = all} w = record { there = stand (frame ∷ outer) joint all w.stage; walks = w.walks; ends = after_ends joint all w.suffix }
 
 -- the symbols of a selection
 abbrev pub selecting : Frame → List Frame → Joint → List Inside → List form.Step → List Placed → Shape selection.State → Inner
@@ -99,7 +99,7 @@ selecting frame outer joint all xs w t = stand (frame ∷ outer) joint all (m.se
 selecting_leads : (frame : Frame) (outer : List Frame) (joint : Joint) (all : List Inside) (xs : List form.Step) (w : List Placed) (t r : Shape selection.State) (p : Placed) → selection.advance t p ≡ Some r
     → advance_inner (selecting frame outer joint all xs w t) p ≡ Some (selecting frame outer joint all xs (w ++ p ∷ []) r)
 selecting_leads frame outer joint all xs w t r p k =
-    ap (λ o. m.otherwise (m.selecting_next (frame ∷ outer) joint all xs (w ++ p ∷ []) o) (m.behind_next (frame ∷ outer) joint (m.condition_at all (m.selecting xs w t)) p.symbol)) k
+    ap (λ o. m.otherwise (m.selecting_next (frame ∷ outer) joint all xs (w ++ p ∷ []) o) (m.after_next (frame ∷ outer) joint (m.condition_at all (m.selecting xs w t)) p.symbol)) k
 
 selecting_by : (frame : Frame) (outer : List Frame) (joint : Joint) (all : List Inside) (xs : List form.Step) (p : Placed) (v w : List Placed) (t r : Shape selection.State) (o : Option (Shape selection.State)) → selection.advance t p ≡ o
     → ((next : Shape selection.State) → selection.run_on (Some next) v ≡ Some r → Walks (selecting frame outer joint all xs (w ++ p ∷ []) next) v (selecting frame outer joint all xs (w ++ p ∷ [] ++ v) r) (suc (length outer)))
@@ -120,8 +120,8 @@ selecting_walk frame outer joint all xs (p ∷ v) w t r e = selecting_by frame o
 pub selecting_ends : (frame : Frame) (outer : List Frame) (joint : Joint) (all : List Inside) (xs : List form.Step) (w : List Placed) (r : Shape selection.State) (x : Tree) → selection.finished_at r ≡ Some x
     → Ends frame outer joint (form.contains (steps xs) (length all)) (all ++ inside w x ∷ []) (selecting frame outer joint all xs w r)
 selecting_ends frame outer joint all xs w r x e = record {
-  takes = λ p z f. ap (λ o. m.otherwise (m.selecting_next (frame ∷ outer) joint all xs (w ++ at p z ∷ []) o) (m.behind_next (frame ∷ outer) joint (m.selected all xs w (selection.finished_at r)) z)) (selection_stops p r x f e)
-      ∙ ap (λ o. m.behind_next (frame ∷ outer) joint (m.selected all xs w o) z) e;
+  takes = λ p z f. ap (λ o. m.otherwise (m.selecting_next (frame ∷ outer) joint all xs (w ++ at p z ∷ []) o) (m.after_next (frame ∷ outer) joint (m.selected all xs w (selection.finished_at r)) z)) (selection_stops p r x f e)
+      ∙ ap (λ o. m.after_next (frame ∷ outer) joint (m.selected all xs w o) z) e;
   frames_are = refl;
 }
 
@@ -134,7 +134,7 @@ selected_walk {frame = frame} {outer = outer} {joint = joint} {all = all} {xs = 
 }
   where
     contained : Walks (stand (frame ∷ outer) joint all w.stage) (name p (codes "contains") ∷ []) (stand (frame ∷ outer) joint all (m.contains xs)) (suc (length outer))
-    contained = moved (name p (codes "contains")) (contains_leads joint all p w.behind)
+    contained = moved (name p (codes "contains")) (contains_leads joint all p w.suffix)
 
     texted : Walks (stand (frame ∷ outer) joint all (m.contains xs)) (name q (codes "text") ∷ []) (selecting frame outer joint all xs [] (Shape.whole selection.start)) (suc (length outer))
     texted = moved (name q (codes "text")) refl

@@ -17,7 +17,7 @@ use Rattle.path_grammar.specs.Grammar.{Inside, inside, Root, Step, Steps, Predic
 use Rattle.path_grammar.specs.steps.Machine as m
 use Rattle.path_grammar.specs.steps.Machine.{LastStep, all_steps, Joint, ands_with, ors_with, condition_with, Frame, Stage, Inner, stand, State, read, run_on, advance, finished}
 use Rattle.path_grammar.proofs.Given.{given, same_value, same_selections}
-use Rattle.path_grammar.proofs.Standing.{same, Before, Walked, Under, Place, Opened, Stands, stands_same, with_joint, behind_or, behind_and, trail_walked}
+use Rattle.path_grammar.proofs.Standing.{same, Before, Walked, Under, Place, Opened, Stands, stands_same, with_joint, after_or, after_and, trail_walked}
 use Rattle.path_grammar.proofs.Moves.{led, by_word, goes_on, steps_moves, step_moves, test_moves, wants, wanted_moves, bracket_moves, not_moves, filters, number_moves}
 
 -- attributes
@@ -103,7 +103,7 @@ under_whole (Under.ended x) e = whole x e
 under_whole (Under.contains x p) e = cc
 under_whole (Under.selecting x p q w shape r) e = selection_whole p q w (selection.finished_at shape) x (ap selection.finished r) e
 
--- what stands behind a whole condition
+-- what stands after a whole condition
 bracket_closes : {frames : List Frame} {u w : List Placed} {xs : List form.Condition} {ss rr : List Inside} {t : Inner} (q : Spot) → Opened u frames ss → Ors (length ss) w xs rr
     → m.close_bracket frames (ss ++ rr) (form.holds (joined or_of xs)) ≡ Some t → Stands (u ++ (w ++ at q S.CloseBracket ∷ [])) t
 bracket_closes {w = w} q (Opened.brackets {u = u} {v = v} {ss = ss} {ts = ts} a x o) b e = led e (stands_same (filters a x (Predicate.holds o b q)) (regrouped u v (at o S.OpenBracket ∷ []) (w ++ at q S.CloseBracket ∷ [])) refl)
@@ -125,9 +125,9 @@ joint_moves q S.CloseBracket a b x e = bracket_closes q a (with_joint b x) e
 joint_moves q S.CloseParenthesis a b x e = parenthesis_closes q a (with_joint b x) e
 joint_moves {frame = frame} {outer = outer} {u = u} {v = v} {joint = joint} {c = c} {ss = ss} {ts = ts} {more = more} {t = t} q (S.Name s) a b {w = w} x e =
     by_word (codes "and") (S.Name s) (Some (stand (frame ∷ outer) (record { ors = joint.ors; ands = ands_with joint c }) (ss ++ (ts ++ more)) (m.wanted false))) _ t
-    (λ k h. led h (subst (λ z. Stands (u ++ (v ++ w ++ at q z ∷ [])) (stand (frame ∷ outer) (record { ors = joint.ors; ands = ands_with joint c }) (ss ++ (ts ++ more)) (m.wanted false))) (sym k) (wants (Place.in_condition a (behind_and b x q)))))
+    (λ k h. led h (subst (λ z. Stands (u ++ (v ++ w ++ at q z ∷ [])) (stand (frame ∷ outer) (record { ors = joint.ors; ands = ands_with joint c }) (ss ++ (ts ++ more)) (m.wanted false))) (sym k) (wants (Place.in_condition a (after_and b x q)))))
     (λ i. by_word (codes "or") (S.Name s) (Some (stand (frame ∷ outer) (record { ors = ors_with joint c; ands = [] }) (ss ++ (ts ++ more)) (m.wanted false))) None t
-    (λ k h. led h (subst (λ z. Stands (u ++ (v ++ w ++ at q z ∷ [])) (stand (frame ∷ outer) (record { ors = ors_with joint c; ands = [] }) (ss ++ (ts ++ more)) (m.wanted false))) (sym k) (wants (Place.in_condition a (behind_or b x q)))))
+    (λ k h. led h (subst (λ z. Stands (u ++ (v ++ w ++ at q z ∷ [])) (stand (frame ∷ outer) (record { ors = ors_with joint c; ands = [] }) (ss ++ (ts ++ more)) (m.wanted false))) (sym k) (wants (Place.in_condition a (after_or b x q)))))
     (λ h. cc) i) e
 joint_moves q other a b x e = cc
 
@@ -147,14 +147,14 @@ pub by_otherwise : {B : Type 0} (here there : Option Inner) (t : Inner) → (her
 by_otherwise None there t go further e = further e
 by_otherwise (Some s) there t go further e = go e
 
-behind_moves : {frames : List Frame} {u v : List Placed} {joint : Joint} {stage : Stage} {ss ts : List Inside} {t : Inner} (p : Placed) (o : Option (form.Condition × List Inside)) → Place u frames joint ss → Under frames (length ss) v stage ts
-    → m.condition_at (ss ++ ts) stage ≡ o → m.behind_next frames joint o p.symbol ≡ Some t → Stands (u ++ v ++ p ∷ []) t
-behind_moves p None a x h e = cc
-behind_moves p (Some (c, all)) a x h e = place_moves p a x h e
+after_moves : {frames : List Frame} {u v : List Placed} {joint : Joint} {stage : Stage} {ss ts : List Inside} {t : Inner} (p : Placed) (o : Option (form.Condition × List Inside)) → Place u frames joint ss → Under frames (length ss) v stage ts
+    → m.condition_at (ss ++ ts) stage ≡ o → m.after_next frames joint o p.symbol ≡ Some t → Stands (u ++ v ++ p ∷ []) t
+after_moves p None a x h e = cc
+after_moves p (Some (c, all)) a x h e = place_moves p a x h e
 
 pub moves : {u : List Placed} (s t : Inner) (p : Placed) → Stands u s → m.advance_inner s p ≡ Some t → Stands (u ++ p ∷ []) t
 moves s t p (Stands.under {frames = frames} {joint = joint} {stage = stage} {ss = ss} {ts = ts} a x) e =
-    by_otherwise (m.within_next frames joint (ss ++ ts) stage p) (m.behind_next frames joint (m.condition_at (ss ++ ts) stage) p.symbol) t (λ h. within_moves p a x h) (λ h. behind_moves p (m.condition_at (ss ++ ts) stage) a x refl h) e
+    by_otherwise (m.within_next frames joint (ss ++ ts) stage p) (m.after_next frames joint (m.condition_at (ss ++ ts) stage) p.symbol) t (λ h. within_moves p a x h) (λ h. after_moves p (m.condition_at (ss ++ ts) stage) a x refl h) e
 moves s t p (Stands.bracket {outer = outer} {joint = joint} {last = last} {ss = ss} a) e =
     by_otherwise (m.wanted_next (m.brackets joint last ∷ outer) m.no_joint ss true p.symbol) None t (λ h. bracket_moves (p.from, p.to) p.symbol a h) (λ h. cc) e
 moves s t p (Stands.number {outer = outer} {joint = joint} {last = last} {ss = ss} a q k) e =

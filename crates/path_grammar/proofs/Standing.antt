@@ -1,4 +1,4 @@
--- What the symbols spell that the machine has read behind the root, wherever it stands.
+-- What the symbols spell that the machine has read after the root, wherever it stands.
 use Rattle.std.proofs.Common.{◌≡◌, ℕ, ◌+◌, Bool, true, false, List, [], ◌∷◌, ◌++◌, length, Some, refl, sym, subst, append_assoc, arith}
 use Rattle.std.proofs.lemmas.List.{append-nil, length-append}
 use Rattle.std.specs.Prelude.{codes}
@@ -19,7 +19,7 @@ use Rattle.path_grammar.specs.steps.Machine.{LastStep, all_steps, filtered, Join
 pub same : {n k : ℕ} {u w : List Placed} {ss ts : List Inside} (R : ℕ → List Placed → List Inside → Type 0) → R n u ss → n ≡ k → u ≡ w → ss ≡ ts → R k w ts
 same {n = n} {k = k} {u = u} {w = w} {ss = ss} R a e f h = subst (λ z. R k w z) h (subst (λ z. R k z ss) f (subst (λ z. R z u ss) e a))
 
--- what stands before the last `or`, and behind it before the last `and`
+-- what stands before the last `or`, and after it before the last `and`
 pub data OrsBefore : ℕ → List Placed → List form.Condition → List Inside → Type 0 where
   none : {n : ℕ} → OrsBefore n [] [] []
   some : {n : ℕ} {u : List Placed} {xs : List form.Condition} {ss : List Inside} → Ors n u xs ss → (p : Spot) → OrsBefore n (u ++ name p (codes "or") ∷ []) xs ss
@@ -103,15 +103,15 @@ pub with_joint : {n : ℕ} {u v : List Placed} {joint : Joint} {c : form.Conditi
 with_joint {n = n} {v = w} {c = c} {ts = rr} (Before.before {u = u} {v = v} {xs = xs} {ys = ys} {ss = ss} {ts = ts} o a) b =
     same (λ k z ss. Ors k z (xs ++ joined and_of (ys ++ c ∷ []) ∷ []) ss) (with_ors o (ands_before n ss a b)) refl (sym (append_assoc u v w)) (sym (append_assoc ss ts rr))
 
--- behind `or` and `and`
-pub behind_or : {n : ℕ} {u v : List Placed} {joint : Joint} {c : form.Condition} {ss ts : List Inside} → Before n u joint ss → Primary (n + length ss) v c ts → (p : Spot)
+-- after `or` and `and`
+pub after_or : {n : ℕ} {u v : List Placed} {joint : Joint} {c : form.Condition} {ss ts : List Inside} → Before n u joint ss → Primary (n + length ss) v c ts → (p : Spot)
     → Before n ((u ++ v) ++ name p (codes "or") ∷ []) (record { ors = ors_with joint c; ands = [] }) (ss ++ ts)
-behind_or {n = n} {u = u} {v = v} {joint = joint} {c = c} {ss = ss} {ts = ts} b a p =
+after_or {n = n} {u = u} {v = v} {joint = joint} {c = c} {ss = ss} {ts = ts} b a p =
     same (λ k z ss. Before k z (record { ors = ors_with joint c; ands = [] }) ss) (Before.before (OrsBefore.some (with_joint b a) p) AndsBefore.none) refl (append-nil ((u ++ v) ++ name p (codes "or") ∷ [])) (append-nil (ss ++ ts))
 
-pub behind_and : {n : ℕ} {u v : List Placed} {joint : Joint} {c : form.Condition} {ss ts : List Inside} → Before n u joint ss → Primary (n + length ss) v c ts → (p : Spot)
+pub after_and : {n : ℕ} {u v : List Placed} {joint : Joint} {c : form.Condition} {ss ts : List Inside} → Before n u joint ss → Primary (n + length ss) v c ts → (p : Spot)
     → Before n ((u ++ v) ++ name p (codes "and") ∷ []) (record { ors = joint.ors; ands = ands_with joint c }) (ss ++ ts)
-behind_and {n = n} {v = w} {c = c} {ts = rr} (Before.before {u = u} {v = v} {xs = xs} {ys = ys} {ss = ss} {ts = ts} o a) b p =
+after_and {n = n} {v = w} {c = c} {ts = rr} (Before.before {u = u} {v = v} {xs = xs} {ys = ys} {ss = ss} {ts = ts} o a) b p =
     same (λ k z ss. Before k z (record { ors = xs; ands = ys ++ c ∷ [] }) ss) (Before.before o (AndsBefore.some (ands_before n ss a b) p)) refl (regrouped u v w (name p (codes "and") ∷ [])) (sym (append_assoc ss ts rr))
   where
     regrouped : (u v w z : List Placed) → u ++ (v ++ w ++ z) ≡ u ++ v ++ w ++ z

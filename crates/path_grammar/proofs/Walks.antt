@@ -61,28 +61,28 @@ pub data AtStep : List Frame → LastStep → Stage → Type 0 where
   at_step : {frames : List Frame} (last : LastStep) → AtStep frames last (m.stepped last)
   at_not : {frame : Frame} {outer : List Frame} → AtStep (frame ∷ outer) m.not_step m.not_name
 
-pub data Behind : List Frame → List form.Step → Stage → Type 0 where
-  behind_none : {frames : List Frame} → Behind frames [] m.no_step
-  behind_step : {frames : List Frame} {last : LastStep} {stage : Stage} → AtStep frames last stage → Behind frames (all_steps last) stage
+pub data After : List Frame → List form.Step → Stage → Type 0 where
+  after_none : {frames : List Frame} → After frames [] m.no_step
+  after_step : {frames : List Frame} {last : LastStep} {stage : Stage} → AtStep frames last stage → After frames (all_steps last) stage
 
 pub bracket_opens : {frames : List Frame} {last : LastStep} {stage : Stage} (joint : Joint) (all : List Inside) (p : Spot) → AtStep frames last stage
     → advance_inner (stand frames joint all stage) (at p S.OpenBracket) ≡ Some (stand (m.brackets joint last ∷ frames) no_joint all (m.wanted true))
 bracket_opens joint all p (AtStep.at_step last) = refl
 bracket_opens joint all p AtStep.at_not = refl
 
-slash_leads : {frames : List Frame} {xs : List form.Step} {stage : Stage} (joint : Joint) (all : List Inside) (p : Spot) → Behind frames xs stage
+slash_leads : {frames : List Frame} {xs : List form.Step} {stage : Stage} (joint : Joint) (all : List Inside) (p : Spot) → After frames xs stage
     → advance_inner (stand frames joint all stage) (at p S.Slash) ≡ Some (stand frames joint all (m.slashes xs false))
-slash_leads joint all p Behind.behind_none = refl
-slash_leads joint all p (Behind.behind_step (AtStep.at_step last)) = refl
-slash_leads joint all p (Behind.behind_step AtStep.at_not) = refl
+slash_leads joint all p After.after_none = refl
+slash_leads joint all p (After.after_step (AtStep.at_step last)) = refl
+slash_leads joint all p (After.after_step AtStep.at_not) = refl
 
-slashes_lead : {frames : List Frame} {xs : List form.Step} {stage : Stage} (joint : Joint) (all : List Inside) (p : Spot) → Behind frames xs stage
+slashes_lead : {frames : List Frame} {xs : List form.Step} {stage : Stage} (joint : Joint) (all : List Inside) (p : Spot) → After frames xs stage
     → advance_inner (stand frames joint all stage) (at p S.DoubleSlash) ≡ Some (stand frames joint all (m.slashes xs true))
-slashes_lead joint all p Behind.behind_none = refl
-slashes_lead joint all p (Behind.behind_step (AtStep.at_step last)) = refl
-slashes_lead joint all p (Behind.behind_step AtStep.at_not) = refl
+slashes_lead joint all p After.after_none = refl
+slashes_lead joint all p (After.after_step (AtStep.at_step last)) = refl
+slashes_lead joint all p (After.after_step AtStep.at_not) = refl
 
-pub slash_walk : {frames : List Frame} {xs : List form.Step} {stage : Stage} {u : List Placed} {deep : Bool} (joint : Joint) (all : List Inside) → Behind frames xs stage → Slashes u deep
+pub slash_walk : {frames : List Frame} {xs : List form.Step} {stage : Stage} {u : List Placed} {deep : Bool} (joint : Joint) (all : List Inside) → After frames xs stage → Slashes u deep
     → Walks (stand frames joint all stage) u (stand frames joint all (m.slashes xs deep)) (length frames)
 slash_walk joint all a (Slashes.child p) = walks_same (one (at p S.Slash) (slash_leads joint all p a)) refl (omega arith)
 slash_walk joint all a (Slashes.deep p) = walks_same (one (at p S.DoubleSlash) (slashes_lead joint all p a)) refl (omega arith)
@@ -92,35 +92,35 @@ pub test_walk : (frames : List Frame) (joint : Joint) (all : List Inside) (xs : 
 test_walk frames joint all xs deep (Test.named p s) = walks_same (one (name p s) refl) refl (omega arith)
 test_walk frames joint all xs deep (Test.any p) = walks_same (one (at p S.Star) refl) refl (omega arith)
 
-pub contains_leads : {frame : Frame} {outer : List Frame} {xs : List form.Step} {stage : Stage} (joint : Joint) (all : List Inside) (p : Spot) → Behind (frame ∷ outer) xs stage
+pub contains_leads : {frame : Frame} {outer : List Frame} {xs : List form.Step} {stage : Stage} (joint : Joint) (all : List Inside) (p : Spot) → After (frame ∷ outer) xs stage
     → advance_inner (stand (frame ∷ outer) joint all stage) (name p (codes "contains")) ≡ Some (stand (frame ∷ outer) joint all (m.contains xs))
-contains_leads joint all p Behind.behind_none = refl
-contains_leads joint all p (Behind.behind_step (AtStep.at_step last)) = refl
-contains_leads joint all p (Behind.behind_step AtStep.at_not) = refl
+contains_leads joint all p After.after_none = refl
+contains_leads joint all p (After.after_step (AtStep.at_step last)) = refl
+contains_leads joint all p (After.after_step AtStep.at_not) = refl
 
--- where a condition is whole: what ends it stands behind it
+-- where a condition is whole: what ends it stands after it
 pub record Ends (frame : Frame) (outer : List Frame) (joint : Joint) (c : form.Condition) (all : List Inside) (t : Inner) : Type 0 where
   pub takes : (p : Spot) (z : Symbol) → Follower z → advance_inner t (at p z) ≡ m.joint_next (frame ∷ outer) joint c all z
   pub frames_are : t.frames ≡ frame ∷ outer
 
-behind_takes : {frame : Frame} {outer : List Frame} {xs : List form.Step} {stage : Stage} (joint : Joint) (all : List Inside) → Behind (frame ∷ outer) xs stage → (p : Spot) (z : Symbol) → Follower z
+after_takes : {frame : Frame} {outer : List Frame} {xs : List form.Step} {stage : Stage} (joint : Joint) (all : List Inside) → After (frame ∷ outer) xs stage → (p : Spot) (z : Symbol) → Follower z
     → advance_inner (stand (frame ∷ outer) joint all stage) (at p z) ≡ m.joint_next (frame ∷ outer) joint (form.exists (steps xs)) all z
-behind_takes joint all Behind.behind_none p z Follower.close_bracket = refl
-behind_takes joint all Behind.behind_none p z Follower.close_parenthesis = refl
-behind_takes joint all Behind.behind_none p z Follower.and = refl
-behind_takes joint all Behind.behind_none p z Follower.or = refl
-behind_takes joint all (Behind.behind_step (AtStep.at_step last)) p z Follower.close_bracket = refl
-behind_takes joint all (Behind.behind_step (AtStep.at_step last)) p z Follower.close_parenthesis = refl
-behind_takes joint all (Behind.behind_step (AtStep.at_step last)) p z Follower.and = refl
-behind_takes joint all (Behind.behind_step (AtStep.at_step last)) p z Follower.or = refl
-behind_takes joint all (Behind.behind_step AtStep.at_not) p z Follower.close_bracket = refl
-behind_takes joint all (Behind.behind_step AtStep.at_not) p z Follower.close_parenthesis = refl
-behind_takes joint all (Behind.behind_step AtStep.at_not) p z Follower.and = refl
-behind_takes joint all (Behind.behind_step AtStep.at_not) p z Follower.or = refl
+after_takes joint all After.after_none p z Follower.close_bracket = refl
+after_takes joint all After.after_none p z Follower.close_parenthesis = refl
+after_takes joint all After.after_none p z Follower.and = refl
+after_takes joint all After.after_none p z Follower.or = refl
+after_takes joint all (After.after_step (AtStep.at_step last)) p z Follower.close_bracket = refl
+after_takes joint all (After.after_step (AtStep.at_step last)) p z Follower.close_parenthesis = refl
+after_takes joint all (After.after_step (AtStep.at_step last)) p z Follower.and = refl
+after_takes joint all (After.after_step (AtStep.at_step last)) p z Follower.or = refl
+after_takes joint all (After.after_step AtStep.at_not) p z Follower.close_bracket = refl
+after_takes joint all (After.after_step AtStep.at_not) p z Follower.close_parenthesis = refl
+after_takes joint all (After.after_step AtStep.at_not) p z Follower.and = refl
+after_takes joint all (After.after_step AtStep.at_not) p z Follower.or = refl
 
-pub behind_ends : {frame : Frame} {outer : List Frame} {xs : List form.Step} {stage : Stage} (joint : Joint) (all : List Inside) → Behind (frame ∷ outer) xs stage
+pub after_ends : {frame : Frame} {outer : List Frame} {xs : List form.Step} {stage : Stage} (joint : Joint) (all : List Inside) → After (frame ∷ outer) xs stage
     → Ends frame outer joint (form.exists (steps xs)) all (stand (frame ∷ outer) joint all stage)
-behind_ends joint all a = record { takes = behind_takes joint all a; frames_are = refl }
+after_ends joint all a = record { takes = after_takes joint all a; frames_are = refl }
 
 pub ended_ends : (frame : Frame) (outer : List Frame) (joint : Joint) (c : form.Condition) (all : List Inside) → Ends frame outer joint c all (stand (frame ∷ outer) joint all (m.ended c))
 ended_ends frame outer joint c all = record { takes = λ p z f. refl; frames_are = refl }

@@ -1,5 +1,5 @@
 -- The grammar of paths over symbols with their places: which symbols spell which path (XQuery 3.0, section 3.3; the part of its
--- grammar that is read here). The selections inside are numbered in the order of the text: a relation with a number n in front
+-- grammar that is read here). The selections inside are numbered in the order of the text: a relation with a number n before
 -- numbers its own from n on, and its last part is the list of them, each with its symbols.
 use Rattle.std.specs.Prelude.{ℕ, ◌+◌, Bool, true, false, List, [], ◌∷◌, ◌++◌, length, Some, None, codes}
 use Rattle.selection_grammar.specs.declared.symbol.Placed.{Placed}
@@ -21,7 +21,7 @@ pub record Inside : Type 0 where
 abbrev pub inside : List Placed → Tree → Inside
 inside symbols tree = record { symbols = symbols; tree = tree }
 
--- the places of the first of some symbols, and behind the last
+-- the places of the first of some symbols, and after the last
 abbrev pub begins_at : List Placed → ℕ
 begins_at [] = 0
 begins_at (p ∷ rest) = p.from

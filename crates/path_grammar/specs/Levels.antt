@@ -50,6 +50,6 @@ abbrev pub BeginsWithin : ℕ → List Placed → Type 0
 BeginsWithin most symbols =
     (rest : List Placed) × (value : form.Path) × (selections : List Inside) × (whole : Path (symbols ++ rest) value selections) × (levels whole ≤ most)
 
--- Behind some symbols a bracket or a parenthesis opens a level past the most: some path goes on with it, but none within the most.
+-- After some symbols a bracket or a parenthesis opens a level past the most: some path goes on with it, but none within the most.
 abbrev pub OpensTooDeep : ℕ → List Placed → Placed → Type 0
 OpensTooDeep most symbols p = BeginsWithin most symbols × Begins (symbols ++ p ∷ []) × (BeginsWithin most (symbols ++ p ∷ []) → ⊥)

@@ -24,7 +24,7 @@ pub enum NameTest {
     Name(Line),
 }
 
-/// Steps, one behind the other.
+/// Steps, one after the other.
 pub type Steps = Items<Step>;
 
 /// A step to the children of an element or, where it is deep, to all elements below it.

@@ -22,12 +22,12 @@ pub irreflexive : (place : List ℕ) → precedes place place ≡ false
 irreflexive [] = refl
 irreflexive (n ∷ rest) = ap (λ b. b || ((n == n) && precedes rest rest)) (nat_lt-irreflexive n) ∙ ap (λ b. (n == n) && b) (irreflexive rest) ∙ and-false (n == n)
 
--- a common front doesn't count
-pub behind : (prefix x y : List ℕ) → precedes x y ≡ true → precedes (prefix ++ x) (prefix ++ y) ≡ true
-behind [] x y h = h
-behind (n ∷ prefix) x y h =
+-- a common prefix doesn't count
+pub suffix : (prefix x y : List ℕ) → precedes x y ≡ true → precedes (prefix ++ x) (prefix ++ y) ≡ true
+suffix [] x y h = h
+suffix (n ∷ prefix) x y h =
     ap (λ b. nat_lt n n || (b && precedes (prefix ++ x) (prefix ++ y))) (eq-eqb n n refl)
-    ∙ ap (λ b. nat_lt n n || b) (behind prefix x y h)
+    ∙ ap (λ b. nat_lt n n || b) (suffix prefix x y h)
     ∙ or-true (nat_lt n n)
 
 -- at or below a place; at or below a child of this number or a later one
@@ -63,12 +63,12 @@ pub earlier : (above : List ℕ) (number : ℕ) (e f : Element) → From (above 
 earlier above number e f a b =
     let less : nat_lt number b.0 ≡ true = nat_lt-true number b.0 (let h : number + 1 ≤ b.0 = b.2 in omega arith) in
     let first : precedes (number ∷ a.0) (b.0 ∷ b.1) ≡ true = ap (λ c. c || ((number == b.0) && precedes a.0 b.1)) less in
-    ap (λ p. precedes p f.place) (a.1 ∙ append_assoc above (number ∷ []) a.0) ∙ ap (precedes (above ++ number ∷ a.0)) b.3 ∙ behind above (number ∷ a.0) (b.0 ∷ b.1) first
+    ap (λ p. precedes p f.place) (a.1 ∙ append_assoc above (number ∷ []) a.0) ∙ ap (precedes (above ++ number ∷ a.0)) b.3 ∙ suffix above (number ∷ a.0) (b.0 ∷ b.1) first
 
 -- an element before those below it
 outer : (place : List ℕ) (node : Node) (f : Element) → Below place 1 f → Before (placed place node) f
 outer place node f b =
-    ap (precedes place) b.3 ∙ ap (λ p. precedes p (place ++ b.0 ∷ b.1)) (sym (append-nil place)) ∙ behind place [] (b.0 ∷ b.1) refl
+    ap (precedes place) b.3 ∙ ap (λ p. precedes p (place ++ b.0 ∷ b.1)) (sym (append-nil place)) ∙ suffix place [] (b.0 ∷ b.1) refl
 
 mutual
   pub ordered-from : (place : List ℕ) (node : Node) → AllPairs Before (elements_from place node)

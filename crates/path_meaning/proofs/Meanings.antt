@@ -1,4 +1,4 @@
--- Steps and predicates one behind the other.
+-- Steps and predicates one after the other.
 use Rattle.std.proofs.Common.{◌≡◌, refl, sym, ap, ◌∙◌, ℕ, Bool, true, ◌&&◌, List, [], ◌∷◌, ◌++◌, map, slice_index_or}
 use Rattle.path_meaning.specs.Elements.{Element}
 use Rattle.path_grammar.specs.Form.{Step, steps, Predicate, holds, predicates, Condition, and_of, conditions}

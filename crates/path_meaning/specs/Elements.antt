@@ -64,7 +64,7 @@ abbrev mutual
   node_at (text bytes) [] = Some (text bytes)
   node_at (text bytes) (number ∷ rest) = None
 
-  -- behind the first k nodes of a list
+  -- after the first k nodes of a list
   pub child_at : Nodes → ℕ → List ℕ → Option Node
   child_at no_nodes k rest = None
   child_at (node_then node nodes) zero rest = node_at node rest

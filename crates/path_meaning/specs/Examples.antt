@@ -10,7 +10,7 @@ use Rattle.path_meaning.specs.Tests.{selected_tests}
 abbrev pub elem : List ℕ → List Node → Node
 elem name kids = element name [] (nodes kids)
 
--- the texts of a node, one behind the other
+-- the texts of a node, one after the other
 abbrev mutual
   pub text_of : Node → List ℕ
   text_of (element name attributes kids) = text_of_all kids

@@ -59,7 +59,7 @@ unfoldable mutual
   stepped satisfies all (step deep test predicates) contexts =
       union all (map (λ items. filtered satisfies all predicates (filter (λ e. is_named test e.node) items)) (flat_map (lists deep) contexts))
 
-  -- the elements to which steps lead from an element on, one behind the other
+  -- the elements to which steps lead from an element on, one after the other
   pub led : (ℕ → Element → Bool) → List Element → Steps → List Element → List Element
   led satisfies all no_steps items = items
   led satisfies all (step_then s rest) items = led satisfies all rest (stepped satisfies all s (map item items))

@@ -22,7 +22,7 @@ unfoldable mutual
   step_tests satisfies all (step deep test predicates) contexts =
       flat_map (λ items. predicates_tests satisfies all predicates (filter (λ e. is_named test e.node) items)) (flat_map (lists deep) contexts)
 
-  -- those of steps, one behind the other
+  -- those of steps, one after the other
   pub steps_tests : (ℕ → Element → Bool) → List Element → Steps → List Element → List Test
   steps_tests satisfies all no_steps items = []
   steps_tests satisfies all (step_then s rest) items =

@@ -33,7 +33,7 @@ pub fn predicates_law()
         ≡ filtered satisfies all (predicates second) (filtered satisfies all (predicates first) items) }
 {}
 
-/// Two conditions one behind the other are the one that joins them by `and`.
+/// Two conditions one after the other are the one that joins them by `and`.
 pub fn conditions_law()
     ensures { (satisfies : ℕ → Element → Bool) (all : List Element) (a b : Condition) (items : List Element)
         → filtered satisfies all (predicates (holds a ∷ holds b ∷ [])) items

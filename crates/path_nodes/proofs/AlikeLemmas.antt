@@ -10,9 +10,9 @@ use Rattle.path_grammar.specs.Form.{Step, step, Steps, no_steps, step_then, Pred
 use Rattle.path_meaning.specs.Meaning.{Context, document, item, children, with_descendants, lists, is_named, some_element, stepped, led, filtered, filtered_by, is_true, some_true, each_true, selected}
 use Rattle.path_meaning.proofs.Lists.{filter-alike, list_any-alike}
 use Rattle.path_nodes.specs.steps.Regions.{at_or_below}
-use Rattle.path_nodes.specs.steps.Within.{is_front}
+use Rattle.path_nodes.specs.steps.Within.{is_prefix}
 use Rattle.path_nodes.proofs.ChosenLemmas.{by-of}
-use Rattle.path_nodes.proofs.FrontLemmas.{region}
+use Rattle.path_nodes.proofs.PrefixLemmas.{region}
 use Rattle.path_nodes.proofs.SpotLemmas.{Contains-cons}
 
 -- ---- the lists of a step have elements of the document alone
@@ -22,7 +22,7 @@ In root = Contains (elements root)
 
 pub region-in : (root : Node) (e : Element) → In root e → All (In root) (at_or_below e)
 region-in root e there =
-    subst (All (In root)) (region [] root e there) (All-filter (λ x. is_front e.place x.place) (In root) (elements root) (All-contains_itself (elements root)))
+    subst (All (In root)) (region [] root e there) (All-filter (λ x. is_prefix e.place x.place) (In root) (elements root) (All-contains_itself (elements root)))
 
 among-below : (above : List ℕ) (number : ℕ) (ns : Nodes) → All (Contains (elements_below above number ns)) (elements_among above number ns)
 among-below above number no_nodes = All-nil (Contains [])

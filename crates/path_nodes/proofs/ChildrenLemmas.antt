@@ -1,4 +1,4 @@
--- Reading the children of an element one behind the other.
+-- Reading the children of an element one after the other.
 use Rattle.std.proofs.Common.{◌≡◌, ◌+◌, ◌-◌, ◌<◌, ℕ, suc, true, false, List, [], ◌∷◌, ◌++◌, map, Option, Some, None, refl, sym, ap, ◌∙◌, subst, arith, append_assoc}
 use Rattle.std.specs.List.{All, AllPairs, Contains}
 use Rattle.std.proofs.Math.Logic.{◌≢◌}
@@ -24,7 +24,7 @@ last_number [] = 0
 last_number (n ∷ []) = n
 last_number (n ∷ m ∷ rest) = last_number (m ∷ rest)
 
-pub last_number-is : (front : List ℕ) (k : ℕ) → last_number (front ++ k ∷ []) ≡ k
+pub last_number-is : (prefix : List ℕ) (k : ℕ) → last_number (prefix ++ k ∷ []) ≡ k
 last_number-is [] k = refl
 last_number-is (n ∷ []) k = refl
 last_number-is (n ∷ m ∷ rest) k = last_number-is (m ∷ rest) k
@@ -34,7 +34,7 @@ abbrev pub left : Numbered → NodeRef → Option NodeRef → ℕ
 left root node None = 0
 left root node (Some r) = suc (suc (size (kids_of (element_of root node).node))) - last_number (element_of root r).place
 
--- The children in front of a link were read.
+-- The children before a link were read.
 pub record Reading (root : Numbered) (above : Element) (link : Option NodeRef) (done : List NodeRef) : Type 0 where
   pub number : ℕ
   pub around : Around
@@ -72,9 +72,9 @@ next-from root above child done number around (child_then n ns) first inside all
 pub next : (root : Numbered) (above : Element) (link : Option NodeRef) (child : NodeRef) (done : List NodeRef) → link ≡ Some child → Reading root above link done → Next root above child done
 next root above link child done is r = next-from root above child done r.number r.around r.rest (sym r.first ∙ is) r.inside r.all r.elements r.few
 
-pub All-behind : {X : Type 0} (P : X → Type 0) (xs ys : List X) → All P (xs ++ ys) → All P ys
-All-behind P [] ys h = h
-All-behind P (x ∷ xs) ys h = All-behind P xs ys (All-tail P x (xs ++ ys) h)
+pub All-after : {X : Type 0} (P : X → Type 0) (xs ys : List X) → All P (xs ++ ys) → All P ys
+All-after P [] ys h = h
+All-after P (x ∷ xs) ys h = All-after P xs ys (All-tail P x (xs ++ ys) h)
 
 pub head-spot : (P : Spot → Type 0) (place : List ℕ) (a : Around) (n : Numbered) (rest : List Spot) → All P (spots place a n ++ rest) → P (record { place = place; stand = record { node = n; around = a } })
 unfolding spots
@@ -89,9 +89,9 @@ module _ (root : Numbered) (above : Element) (child : NodeRef) (done : List Node
   unfolding child_spots
   among = head-spot (Contains (spots_in root)) (above.place ++ x.number ∷ []) (record x.around { next = first_of x.ns }) x.n (child_spots above.place (x.number + 1) (round_next x.around x.n) x.ns) x.inside
 
-  pub behind : All (Contains (spots_in root)) (child_spots above.place (x.number + 1) (round_next x.around x.n) x.ns)
+  pub after : All (Contains (spots_in root)) (child_spots above.place (x.number + 1) (round_next x.around x.n) x.ns)
   unfolding child_spots
-  behind = All-behind (Contains (spots_in root)) (spots (above.place ++ x.number ∷ []) (record x.around { next = first_of x.ns }) x.n) (child_spots above.place (x.number + 1) (round_next x.around x.n) x.ns) x.inside
+  after = All-after (Contains (spots_in root)) (spots (above.place ++ x.number ∷ []) (record x.around { next = first_of x.ns }) x.n) (child_spots above.place (x.number + 1) (round_next x.around x.n) x.ns) x.inside
 
   pub there : Contains (references root) child
   there = subst (Contains (references root)) x.refers (spot-there root here among)
@@ -129,7 +129,7 @@ module _ (root : Numbered) (above : Element) (child : NodeRef) (done : List Node
     around = round_next x.around x.n;
     rest = x.ns;
     first = is;
-    inside = behind root above child done x;
+    inside = after root above child done x;
     all = ap (λ l. map (element_of root) done ++ (l ++ elements_among above.place (x.number + 1) (plain_children x.ns))) (sym (text-adds (above.place ++ x.number ∷ []) x.n h)) ∙ all-is;
     elements = x.elements;
     few = few;
@@ -141,7 +141,7 @@ module _ (root : Numbered) (above : Element) (child : NodeRef) (done : List Node
     around = round_next x.around x.n;
     rest = x.ns;
     first = is;
-    inside = behind root above child done x;
+    inside = after root above child done x;
     all = ap (λ l. map (element_of root) l ++ elements_among above.place (x.number + 1) (plain_children x.ns)) e
         ∙ ap (λ l. l ++ elements_among above.place (x.number + 1) (plain_children x.ns)) (map-append (element_of root) done (child ∷ []))
         ∙ append_assoc (map (element_of root) done) (element_of root child ∷ []) (elements_among above.place (x.number + 1) (plain_children x.ns))
@@ -171,7 +171,7 @@ pub smaller : (root : Numbered) (node child : NodeRef) (done : List NodeRef) (x 
     → link ≡ Some child → next ≡ first_of x.ns → left root node next < left root node link
 smaller root node child done x apart link next is to =
     let e : last_number (element_of root child).place ≡ x.number = ap (λ y. last_number y.place) (named root (element_of root node) child done x apart) ∙ last_number-is (element_of root node).place x.number in
-    let less = smaller-from root node apart x.ns x.number (round_next x.around x.n) (behind root (element_of root node) child done x) x.few in
+    let less = smaller-from root node apart x.ns x.number (round_next x.around x.n) (after root (element_of root node) child done x) x.few in
     omega (arith, less, e, ap (left root node) is, ap (left root node) to)
 
 -- ---- the first child

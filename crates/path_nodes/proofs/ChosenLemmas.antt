@@ -21,9 +21,9 @@ use Rattle.path_nodes.specs.steps.Kept.{parents, kept, kept_children}
 use Rattle.path_nodes.specs.References.{Spot, spots, child_spots, spots_in, spot_element, element_of, IsElement}
 use Rattle.path_nodes.specs.steps.Regions.{at_or_below, below}
 use Rattle.path_nodes.specs.Says.{Meaning, satisfied}
-use Rattle.path_nodes.specs.steps.Within.{is_front, AtOrBelow, IsBelow}
+use Rattle.path_nodes.specs.steps.Within.{is_prefix, AtOrBelow, IsBelow}
 use Rattle.path_meaning.proofs.InOrder.{From, from, under}
-use Rattle.path_nodes.proofs.FrontLemmas.{front-of, region}
+use Rattle.path_nodes.proofs.PrefixLemmas.{prefix-of, region}
 use Rattle.path_nodes.proofs.MeaningLemmas.{lists-are}
 use Rattle.path_nodes.proofs.NumberLemmas.{numbered_from, at, past, before}
 use Rattle.path_nodes.proofs.PlaceLemmas.{element-is}
@@ -106,14 +106,14 @@ children-strict above number (node_then n ns) =
     All-append (λ e. (k : ℕ) × (e.place ≡ above ++ k ∷ [])) (el.element_at (above ++ number ∷ []) n) (elements_among above (number + 1) ns)
     (λ k d within. (number, one-at above number n k d within)) (children-strict above (number + 1) ns)
 
-tail-cons : (a b : ℕ) (p q : List ℕ) (c : Bool) → (a == b) ≡ c → (c && is_front p q) ≡ true → (is_front p q ≡ true → (r : List ℕ) × (q ≡ p ++ r)) → (r : List ℕ) × (b ∷ q ≡ (a ∷ p) ++ r)
+tail-cons : (a b : ℕ) (p q : List ℕ) (c : Bool) → (a == b) ≡ c → (c && is_prefix p q) ≡ true → (is_prefix p q ≡ true → (r : List ℕ) × (q ≡ p ++ r)) → (r : List ℕ) × (b ∷ q ≡ (a ∷ p) ++ r)
 tail-cons a b p q true e h further =
     let t = further h in
     let same : b ≡ a = grind (arith, nat_tests, e) in
     (t.0, ap (λ l. b ∷ l) t.1 ∙ ap (λ n. n ∷ (p ++ t.0)) same)
 tail-cons a b p q false e h further = cc
 
-pub tail-of : (p q : List ℕ) → is_front p q ≡ true → (r : List ℕ) × (q ≡ p ++ r)
+pub tail-of : (p q : List ℕ) → is_prefix p q ≡ true → (r : List ℕ) × (q ≡ p ++ r)
 tail-of [] q h = (q, refl)
 tail-of (a ∷ p) [] h = cc
 tail-of (a ∷ p) (b ∷ q) h = tail-cons a b p q (a == b) refl h (tail-of p q)
@@ -151,13 +151,13 @@ module _ (root : Numbered) (m : Meaning) (s : Step) (base : Element) where
   pub not-itself : IsBelow base base → ⊥
   not-itself (k, r, is) = let l = length-append base.place (k ∷ r) in omega (arith, l, ap length is)
 
-  strict-front : (x : Element) → IsBelow base x → is_front base.place x.place ≡ true
-  strict-front x (k, r, is) = ap (is_front base.place) is ∙ front-of base.place (k ∷ r)
+  strict-prefix : (x : Element) → IsBelow base x → is_prefix base.place x.place ≡ true
+  strict-prefix x (k, r, is) = ap (is_prefix base.place) is ∙ prefix-of base.place (k ∷ r)
 
-  and-front : (x : Element) (qs : List Element) → All (AtOrBelow base) qs → (b : Bool) → is_front base.place x.place ≡ b
+  and-prefix : (x : Element) (qs : List Element) → All (AtOrBelow base) qs → (b : Bool) → is_prefix base.place x.place ≡ b
       → is_in (map (kept_children root m s) qs) x ≡ (b && is_in (map (kept_children root m s) qs) x)
-  and-front x qs h true e = refl
-  and-front x qs h false e = not-in x qs (λ st. let f : true ≡ false = sym (strict-front x st) ∙ e in cc) h
+  and-prefix x qs h true e = refl
+  and-prefix x qs h false e = not-in x qs (λ st. let f : true ≡ false = sym (strict-prefix x st) ∙ e in cc) h
 
 pub within-base : (root : Numbered) (m : Meaning) (s : Step) (r : NodeRef) (x : IsElement root r) (qs : List Element) → All (AtOrBelow (element_of root r)) qs
     → filter (is_in (map (kept_children root m s) qs)) (below (element_of root r)) ≡ filter (is_in (map (kept_children root m s) qs)) (elements (plain root))
@@ -165,15 +165,15 @@ within-base root m s r x qs h =
     let base = element_of root r in
     let g = is_in (map (kept_children root m s) qs) in
     sym (
-    filter-alike g (λ e. is_front base.place e.place && g e) (elements (plain root)) (λ k d within. let y = get_or (elements (plain root)) k d in and-front root m s base y qs h (is_front base.place y.place) refl)
-    ∙ sym (filter-filter (λ e. is_front base.place e.place) g (elements (plain root)))
+    filter-alike g (λ e. is_prefix base.place e.place && g e) (elements (plain root)) (λ k d within. let y = get_or (elements (plain root)) k d in and-prefix root m s base y qs h (is_prefix base.place y.place) refl)
+    ∙ sym (filter-filter (λ e. is_prefix base.place e.place) g (elements (plain root)))
     ∙ ap (filter g) (region [] (plain root) base (of-document root r x))
     ∙ ap (filter g) (opened root r x)
     ∙ ap (λ b. cond b (base ∷ filter g (below base)) (filter g (below base))) (not-in root m s base base qs (not-itself root m s base) h)
     )
 
 below-base : (base : Element) → All (AtOrBelow base) (below base)
-below-base base k d within = let b = under base.place 1 (kids_of base.node) k d within in ap (is_front base.place) b.3 ∙ front-of base.place (b.0 ∷ b.1)
+below-base base k d within = let b = under base.place 1 (kids_of base.node) k d within in ap (is_prefix base.place) b.3 ∙ prefix-of base.place (b.0 ∷ b.1)
 
 pub chosen-inside : (root : Numbered) (m : Meaning) (s : Step) (r : NodeRef) (x : IsElement root r) (qs : List Element) → All (AtOrBelow (element_of root r)) qs
     → All (AtOrBelow (element_of root r)) (filter (is_in (map (kept_children root m s) qs)) (elements (plain root)))
@@ -181,17 +181,17 @@ chosen-inside root m s r x qs h =
     let base = element_of root r in
     subst (All (AtOrBelow base)) (within-base root m s r x qs h) (All-filter (is_in (map (kept_children root m s) qs)) (AtOrBelow base) (below base) (below-base base))
 
-pub front-further : (base c : Element) (y : Element) → AtOrBelow base c → From c.place y → AtOrBelow base y
-front-further base c y h (r, is) =
+pub prefix-further : (base c : Element) (y : Element) → AtOrBelow base c → From c.place y → AtOrBelow base y
+prefix-further base c y h (r, is) =
     let t = tail-of base.place c.place h in
-    ap (is_front base.place) (is ∙ ap (λ p. p ++ r) t.1 ∙ append_assoc base.place t.0 r) ∙ front-of base.place (t.0 ++ r)
+    ap (is_prefix base.place) (is ∙ ap (λ p. p ++ r) t.1 ∙ append_assoc base.place t.0 r) ∙ prefix-of base.place (t.0 ++ r)
 
 pub parents-inside : (base : Element) (deep : Bool) (cs : List Element) → All (AtOrBelow base) cs → All (AtOrBelow base) (parents deep cs)
 parents-inside base false cs h = h
 parents-inside base true [] h = All-nil (AtOrBelow base)
 parents-inside base true (c ∷ cs) h =
     All-append (AtOrBelow base) (at_or_below c) (flat_map at_or_below cs)
-    (λ k d within. front-further base c (get_or (at_or_below c) k d) (All-head (AtOrBelow base) c cs h) (from c.place c.node k d within))
+    (λ k d within. prefix-further base c (get_or (at_or_below c) k d) (All-head (AtOrBelow base) c cs h) (from c.place c.node k d within))
     (parents-inside base true cs (All-tail (AtOrBelow base) c cs h))
 
 pub all-refs : (root : Numbered) (P : Element → Type 0) (items : List NodeRef) → All P (map (element_of root) items) → All (λ r. P (element_of root r)) items

@@ -15,7 +15,7 @@ at-price before after one other h e = omega arith
 pub at-most : (before after one other all : ℕ) → after ≤ before + one → one ≤ other → other ≡ all → after ≤ before + all
 at-most before after one other all h less e = omega arith
 
--- one part behind the other
+-- one part after the other
 pub both-cost : (before between after one two all : ℕ) → between ≤ before + one → after ≤ between + two → one + two ≡ all → after ≤ before + all
 both-cost before between after one two all h i e = omega arith
 

@@ -31,11 +31,11 @@ pub in-step : (s : Step) → in_step (step s) ≡ in_predicates (form.predicates
 unfolding in_step
 in-step s = ap in_step (step-is s)
 
--- ---- the number behind a part
+-- ---- the number after a part
 
 module _ (part rest all : List form.Condition) (whole : all ≡ part ++ rest) where
-  pub behind-next : (number behind bound : ℕ) → behind ≡ number + length part → number + length all ≡ bound → behind + length rest ≡ bound
-  behind-next number behind bound is before =
+  pub after-next : (number after bound : ℕ) → after ≡ number + length part → number + length all ≡ bound → after + length rest ≡ bound
+  after-next number after bound is before =
       let long : length all ≡ length part + length rest = ap length whole ∙ length-append part rest in
       omega (arith, long, is, before)
 
@@ -45,8 +45,8 @@ module _ (part rest all : List form.Condition) (whole : all ≡ part ++ rest) wh
     pub stand-first : StandFrom path number part
     stand-first = (rest ++ h.0, h.1 ∙ ap (λ l. l ++ h.0) whole ∙ append_assoc part rest h.0)
 
-    pub stand-next : (behind : ℕ) → behind ≡ number + length part → StandFrom path behind rest
-    stand-next behind is = (
+    pub stand-next : (after : ℕ) → after ≡ number + length part → StandFrom path after rest
+    stand-next after is = (
       h.0,
       ap (λ n. drop n path) is ∙ sym (drop-drop (length part) number path) ∙ ap (drop (length part)) (h.1 ∙ ap (λ l. l ++ h.0) whole ∙ append_assoc part rest h.0)
           ∙ drop-append_seam part (rest ++ h.0),

@@ -5,7 +5,7 @@ pub mod ListLemmas
 pub mod RegionLemmas
 pub mod AttributeLemmas
 pub mod NumberLemmas
-pub mod FrontLemmas
+pub mod PrefixLemmas
 pub mod AskedLemmas
 pub mod LeadingLemmas
 pub mod KnownLemmas

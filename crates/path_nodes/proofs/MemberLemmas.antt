@@ -8,9 +8,9 @@ use Rattle.path_meaning.specs.Elements.{Element, elements, is_same, is_in}
 use Rattle.path_meaning.proofs.Lists.{filter-alike, list_any-filter}
 use Rattle.path_nodes.specs.steps.Members.{HaveSame}
 use Rattle.path_nodes.specs.steps.Regions.{at_or_below}
-use Rattle.path_nodes.specs.steps.Within.{is_front, AtOrBelow}
-use Rattle.path_nodes.proofs.ChosenLemmas.{front-further, tail-of}
-use Rattle.path_nodes.proofs.FrontLemmas.{region}
+use Rattle.path_nodes.specs.steps.Within.{is_prefix, AtOrBelow}
+use Rattle.path_nodes.proofs.ChosenLemmas.{prefix-further, tail-of}
+use Rattle.path_nodes.proofs.PrefixLemmas.{region}
 
 any-map : (p : List Element → Bool) (f : Element → List Element) (xs : List Element) → list_any p (map f xs) ≡ list_any (λ x. p (f x)) xs
 any-map p f [] = refl
@@ -24,9 +24,9 @@ same-offered f xs ys all same =
 
 pub same-inside : (base : Element) (xs ys : List Element) → HaveSame xs ys → All (AtOrBelow base) ys → All (AtOrBelow base) xs
 same-inside base xs ys same h k d within =
-    let p : Element → Bool = λ e. not (is_front base.place e.place) in
+    let p : Element → Bool = λ e. not (is_prefix base.place e.place) in
     let none : list_any p ys ≡ false = list_any_none p ys (λ i o more. ap not (h i o more)) in
-    true_from_ne_false (is_front base.place (get_or xs k d).place)
+    true_from_ne_false (is_prefix base.place (get_or xs k d).place)
     (λ f. let some : list_any p xs ≡ true = list_any_at p xs k d within (ap not f) in let e : true ≡ false = sym some ∙ same p ∙ none in cc)
 
 -- ---- regions in regions
@@ -49,12 +49,12 @@ and-wider false b c f h = cc
 -- what is at or below an element that is at or below another is at or below that one
 pub region-has : (root : Node) (h e : Element) → Contains (elements root) h → Contains (elements root) e → AtOrBelow h e → (p : Element → Bool)
     → list_any p (at_or_below e) ≡ true → list_any p (at_or_below h) ≡ true
-region-has root h e x y front p some =
+region-has root h e x y prefix p some =
     let all = elements root in
-    let in-e : Element → Bool = λ z. is_front e.place z.place in
-    let in-h : Element → Bool = λ z. is_front h.place z.place in
+    let in-e : Element → Bool = λ z. is_prefix e.place z.place in
+    let in-h : Element → Bool = λ z. is_prefix h.place z.place in
     sym (ap (list_any p) (region [] root h x))
     ∙ list_any-filter p in-h all
     ∙ any-wider (λ z. in-e z && p z) (λ z. in-h z && p z) all
-    (λ z both. and-wider (in-e z) (p z) (in-h z) (λ f. front-further h e z front (tail-of e.place z.place f)) both)
+    (λ z both. and-wider (in-e z) (p z) (in-h z) (λ f. prefix-further h e z prefix (tail-of e.place z.place f)) both)
     (sym (list_any-filter p in-e all) ∙ ap (list_any p) (region [] root e y) ∙ some)

@@ -13,7 +13,7 @@ use Rattle.path_grammar.specs.Form.{Predicates}
 use Rattle.path_nodes.specs.Says.{Meaning}
 use Rattle.path_nodes.specs.steps.Kept.{offered, offered_from, some_number}
 use Rattle.path_nodes.specs.steps.RuledOut.{Suffice}
-use Rattle.path_nodes.proofs.ChildrenLemmas.{Reading, Next, next, on, named, is-child, there, start, past-text, past-element, smaller, left, element-adds, All-behind, on_element}
+use Rattle.path_nodes.proofs.ChildrenLemmas.{Reading, Next, next, on, named, is-child, there, start, past-text, past-element, smaller, left, element-adds, All-after, on_element}
 use Rattle.path_nodes.proofs.ListLemmas.{flat-more}
 use Rattle.path_nodes.proofs.RegionLemmas.{weight, children-light, below-children}
 use Rattle.path_nodes.proofs.SufficeLemmas.{suffice-same, suffice-further, suffice-more}
@@ -27,7 +27,7 @@ pub offered-children : (deep : Bool) (e : Element) → flat_map (offered_from de
 offered-children true e = below-children e
 offered-children false e = alone (element_children e)
 
--- The children in front of a link were gone through.
+-- The children before a link were gone through.
 pub record Gone (root : Numbered) (m : Meaning) (ps : Predicates) (node : NodeRef) (name : Element → Bool) (deep : Bool) (link : Option NodeRef) (old found : List NodeRef) : Type 0 where
   pub done : List NodeRef
   pub reading : Reading root (element_of root node) link done
@@ -80,8 +80,8 @@ module _ (root : Numbered) (m : Meaning) (ps : Predicates) (none : some_number p
           let P : Element → Type 0 = λ e. weight e.node < weight up.node in
           let rest : List Element = elements_among up.place (n.number + 1) (plain_children n.ns) in
           let every : All P (map (element_of root) g.done ++ (elements.element_at place (plain n.n) ++ rest)) = subst (All P) (sym n.all) (children-light up) in
-          let behind : All P (elements.element_at place (plain n.n) ++ rest) = All-behind P (map (element_of root) g.done) (elements.element_at place (plain n.n) ++ rest) every in
-          let first : All P (placed place (plain n.n) ∷ rest) = subst (λ l. All P (l ++ rest)) (element-adds place n.n element-here) behind in
+          let past : All P (elements.element_at place (plain n.n) ++ rest) = All-after P (map (element_of root) g.done) (elements.element_at place (plain n.n) ++ rest) every in
+          let first : All P (placed place (plain n.n) ∷ rest) = subst (λ l. All P (l ++ rest)) (element-adds place n.n element-here) past in
           subst P (sym (named root up child g.done n x.apart)) (All-head P (placed place (plain n.n)) rest first)
 
       pub gone-element : (after : Option NodeRef) → OnNode root child (λ s. after ≡ s.around.next) → (new : List NodeRef)

@@ -16,20 +16,20 @@ use Rattle.path_meaning.proofs.InOrder.{From, Below, irreflexive, pairs-append, 
 use Rattle.path_meaning.proofs.Lists.{filter-alike, filter-none}
 use Rattle.path_meaning.proofs.Traced.{same_itself}
 use Rattle.path_nodes.specs.steps.Kept.{offered}
-use Rattle.path_nodes.specs.steps.Within.{is_front, Precedes}
+use Rattle.path_nodes.specs.steps.Within.{is_prefix, Precedes}
 
 -- ---- places
 
-apart-cons : (less same c front d : Bool) → (less || (same && c)) ≡ true → (same && front) ≡ false → (c ≡ true → front ≡ false → d ≡ true) → (less || (same && d)) ≡ true
-apart-cons true same c front d h f further = refl
-apart-cons false true c front d h f further = further h f
-apart-cons false false c front d h f further = cc
+apart-cons : (less same c prefix d : Bool) → (less || (same && c)) ≡ true → (same && prefix) ≡ false → (c ≡ true → prefix ≡ false → d ≡ true) → (less || (same && d)) ≡ true
+apart-cons true same c prefix d h f further = refl
+apart-cons false true c prefix d h f further = further h f
+apart-cons false false c prefix d h f further = cc
 
 -- what is at or below a place stands before what is at or below a later one that isn't below it
-pub apart-below : (p q r s : List ℕ) → precedes p q ≡ true → is_front p q ≡ false → precedes (p ++ r) (q ++ s) ≡ true
+pub apart-below : (p q r s : List ℕ) → precedes p q ≡ true → is_prefix p q ≡ false → precedes (p ++ r) (q ++ s) ≡ true
 apart-below [] q r s h f = cc
 apart-below (a ∷ p) [] r s h f = cc
-apart-below (a ∷ p) (b ∷ q) r s h f = apart-cons (nat_lt a b) (a == b) (precedes p q) (is_front p q) (precedes (p ++ r) (q ++ s)) h f (apart-below p q r s)
+apart-below (a ∷ p) (b ∷ q) r s h f = apart-cons (nat_lt a b) (a == b) (precedes p q) (is_prefix p q) (precedes (p ++ r) (q ++ s)) h f (apart-below p q r s)
 
 one-way-cons : (l e x m f y : Bool) → (l || (e && x)) ≡ true → (m || (f && y)) ≡ true → (l ≡ true → m ≡ true → ⊥) → (l ≡ true → f ≡ true → ⊥) → (e ≡ true → m ≡ true → ⊥) → (x ≡ true → y ≡ true → ⊥) → ⊥
 one-way-cons true e x true f y h k lm lf em xy = lm refl refl
@@ -63,8 +63,8 @@ before-other e f h =
     (λ s. let same : e.place ≡ f.place = (bytes_eq-Decides e.place f.place).0 s in
     let here : true ≡ false = sym (ap (precedes e.place) same ∙ h) ∙ irreflexive e.place in cc)
 
-pub behind-other : (e f : Element) → Before e f → is_same f e ≡ false
-behind-other e f h =
+pub after-other : (e f : Element) → Before e f → is_same f e ≡ false
+after-other e f h =
     false_from_ne_true (is_same f e)
     (λ s. let same : f.place ≡ e.place = (bytes_eq-Decides f.place e.place).0 s in
     let here : true ≡ false = sym (ap (precedes e.place) (sym same) ∙ h) ∙ irreflexive e.place in cc)
@@ -171,7 +171,7 @@ module _ (a : Element) (all : List Element) where
         let alike : filter in-it all ≡ filter (λ e. list_any (is_same e) xs) all =
         filter-alike in-it (λ e. list_any (is_same e) xs) all
         (λ k d within. let e = get_or all k d in
-        ap (λ b. b || list_any (is_same e) xs) (ap (is_same e) (sym is) ∙ behind-other a e (pairs-head Before a all h k d within))) in
+        ap (λ b. b || list_any (is_same e) xs) (ap (is_same e) (sym is) ∙ after-other a e (pairs-head Before a all h k d within))) in
         let itself : is_same a x ≡ true = ap (is_same a) (sym is) ∙ same_itself a in
         ap (λ l. x ∷ l) later
         ∙ ap (λ l. x ∷ l) (sym alike)

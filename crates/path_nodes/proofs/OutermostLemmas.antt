@@ -16,25 +16,25 @@ use Rattle.path_nodes.specs.steps.Members.{AreAmong, HaveSame}
 use Rattle.path_nodes.specs.References.{IsElement, element_of}
 use Rattle.path_nodes.specs.steps.Kept.{parents}
 use Rattle.path_nodes.specs.steps.Regions.{at_or_below}
-use Rattle.path_nodes.specs.steps.Within.{is_front, Precedes, stands_below_last}
+use Rattle.path_nodes.specs.steps.Within.{is_prefix, Precedes, stands_below_last}
 use Rattle.path_nodes.proofs.ChosenLemmas.{of-document, tail-of}
-use Rattle.path_nodes.proofs.FrontLemmas.{front-of}
+use Rattle.path_nodes.proofs.PrefixLemmas.{prefix-of}
 use Rattle.path_nodes.proofs.ListLemmas.{flat-more, flat-map-more}
 use Rattle.path_nodes.proofs.MemberLemmas.{region-has}
 use Rattle.path_nodes.proofs.OrderLemmas.{apart-below, one-way, pairs-without, pairs-between}
 use Rattle.path_nodes.proofs.PlaceLemmas.{one-reference}
 use Rattle.path_nodes.proofs.SpotLemmas.{of_number}
-use Rattle.path_nodes.proofs.WayLemmas.{front-above}
+use Rattle.path_nodes.proofs.WayLemmas.{prefix-above}
 
 -- ---- the last of a list
 
-pub last-is : (xs : List Element) (x e : Element) → stands_below_last (xs ++ x ∷ []) e ≡ is_front x.place e.place
+pub last-is : (xs : List Element) (x e : Element) → stands_below_last (xs ++ x ∷ []) e ≡ is_prefix x.place e.place
 last-is [] x e = refl
 last-is (y ∷ []) x e = refl
 last-is (y ∷ z ∷ xs) x e = last-is (z ∷ xs) x e
 
 -- a list that isn't empty, up to its last item
-pub parted : {A : Type 0} (xs : List A) (n : ℕ) (d : A) → length xs ≡ suc n → (front : List A) × (xs ≡ front ++ get_or xs n d ∷ [])
+pub parted : {A : Type 0} (xs : List A) (n : ℕ) (d : A) → length xs ≡ suc n → (prefix : List A) × (xs ≡ prefix ++ get_or xs n d ∷ [])
 parted [] n d is = absurd (omega (arith, is))
 parted (x ∷ []) zero d is = ([], refl)
 parted (x ∷ []) (suc n) d is = absurd (omega (arith, is))
@@ -44,7 +44,7 @@ parted (x ∷ y ∷ xs) (suc n) d is =
     (x ∷ rest.0, ap (λ l. x ∷ l) rest.1)
 
 pub below-last : (root : Numbered) (outer : List NodeRef) (n : ℕ) (d node : NodeRef) → length outer ≡ suc n
-    → is_front (element_of root (get_or outer n d)).place (element_of root node).place ≡ stands_below_last (map (element_of root) outer) (element_of root node)
+    → is_prefix (element_of root (get_or outer n d)).place (element_of root node).place ≡ stands_below_last (map (element_of root) outer) (element_of root node)
 below-last root outer n d node is =
     let p = parted outer n d is in
     let last = get_or outer n d in
@@ -60,24 +60,24 @@ pub other-place : (root : Numbered) (base node : NodeRef) → IsElement root bas
 other-place root base node x y other same = other (ap (λ r. r.0) (sym (one-reference root base node x y same)))
 
 -- an element above another is it, or above its parent
-pub front-parent : (base above : List ℕ) (k : ℕ) (place : List ℕ) → place ≡ above ++ k ∷ [] → (base ≡ place → ⊥) → is_front base place ≡ is_front base above
-front-parent base above k place is other = cases (is_front base place) (is_front base above) refl refl
+pub prefix-parent : (base above : List ℕ) (k : ℕ) (place : List ℕ) → place ≡ above ++ k ∷ [] → (base ≡ place → ⊥) → is_prefix base place ≡ is_prefix base above
+prefix-parent base above k place is other = cases (is_prefix base place) (is_prefix base above) refl refl
   where
-    up : (t : List ℕ) → place ≡ base ++ t → is_front base above ≡ true
+    up : (t : List ℕ) → place ≡ base ++ t → is_prefix base above ≡ true
     up [] e = absurd (other (sym (e ∙ append-nil base)))
-    up (n ∷ t) e = front-above base above k n t (sym is ∙ e)
+    up (n ∷ t) e = prefix-above base above k n t (sym is ∙ e)
 
-    cases : (b c : Bool) → is_front base place ≡ b → is_front base above ≡ c → is_front base place ≡ is_front base above
+    cases : (b c : Bool) → is_prefix base place ≡ b → is_prefix base above ≡ c → is_prefix base place ≡ is_prefix base above
     cases true c e f = let t = tail-of base place e in e ∙ sym (up t.0 t.1)
     cases false true e f =
         let t = tail-of base above f in
-        let in-it : is_front base place ≡ true = ap (is_front base) (is ∙ ap (λ l. l ++ k ∷ []) t.1 ∙ append_assoc base t.0 (k ∷ [])) ∙ front-of base (t.0 ++ k ∷ []) in
+        let in-it : is_prefix base place ≡ true = ap (is_prefix base) (is ∙ ap (λ l. l ++ k ∷ []) t.1 ∙ append_assoc base t.0 (k ∷ [])) ∙ prefix-of base (t.0 ++ k ∷ []) in
         let h : true ≡ false = sym in-it ∙ e in cc
     cases false false e f = e ∙ sym f
 
-pub not-above-root : (base place : List ℕ) → place ≡ [] → (base ≡ place → ⊥) → false ≡ is_front base place
+pub not-above-root : (base place : List ℕ) → place ≡ [] → (base ≡ place → ⊥) → false ≡ is_prefix base place
 not-above-root [] place is other = absurd (other (sym is))
-not-above-root (b ∷ base) place is other = sym (ap (is_front (b ∷ base)) is)
+not-above-root (b ∷ base) place is other = sym (ap (is_prefix (b ∷ base)) is)
 
 -- ---- one element further
 
@@ -117,8 +117,8 @@ none-above (first ∷ second ∷ rest) e apart before h =
     let next : Precedes first second = apart 0 1 first (omega arith) (omega arith) in
     All-cons (λ x. Precedes x e) first (second ∷ rest) (
       All-head (λ x. Before x e) first (second ∷ rest) before,
-      false_from_ne_true (is_front first.place e.place)
-          (λ front. let t = tail-of first.place e.place front in
+      false_from_ne_true (is_prefix first.place e.place)
+          (λ prefix. let t = tail-of first.place e.place prefix in
           let back : precedes e.place second.place ≡ true =
           ap (precedes e.place) (sym (append-nil second.place)) ∙ ap (λ q. precedes q (second.place ++ [])) t.1 ∙ apart-below first.place second.place t.0 [] next.0 next.1 in
           one-way second.place e.place (All-head (λ x. Precedes x e) second rest others).0 back),

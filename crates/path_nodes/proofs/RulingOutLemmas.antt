@@ -23,7 +23,7 @@ use Rattle.path_nodes.specs.steps.RuledOut.{StandsWithin, HasNone, IsFalse, Keep
 use Rattle.path_nodes.proofs.AlikeLemmas.{ContextOf, all-lists-of, map-alike}
 use Rattle.path_nodes.proofs.AskedLemmas.{step-is}
 use Rattle.path_nodes.proofs.ChosenLemmas.{by-of}
-use Rattle.path_nodes.proofs.FrontLemmas.{filter-none}
+use Rattle.path_nodes.proofs.PrefixLemmas.{filter-none}
 use Rattle.path_nodes.proofs.MeaningLemmas.{by-none, filtered-none}
 use Rattle.path_nodes.proofs.PlaceLemmas.{reference-back}
 use Rattle.path_nodes.proofs.SpanLemmas.{below-within, stepped-within, led-within}
@@ -58,35 +58,35 @@ module _ (root : Numbered) (m : Meaning) where
   led-nowhere (form.step_then s rest) = ap (led sat every rest) (from-nothing s) ∙ led-nowhere rest
 
   module _ (from : ℕ) where
-    -- ---- nothing stands in front of the first position
+    -- ---- nothing stands before the first position
 
-    in-front : (e : Element) → StandsWithin root from 0 e → ⊥
-    in-front e w = let h = w.in_front in omega (arith, h)
+    before : (e : Element) → StandsWithin root from 0 e → ⊥
+    before e w = let h = w.ends_before in omega (arith, h)
 
-    none-in-front : (items : List Element) → All (StandsWithin root from 0) items → items ≡ []
-    none-in-front [] h = refl
-    none-in-front (x ∷ xs) h = absurd (in-front x (All-head (StandsWithin root from 0) x xs h))
+    none-before : (items : List Element) → All (StandsWithin root from 0) items → items ≡ []
+    none-before [] h = refl
+    none-before (x ∷ xs) h = absurd (before x (All-head (StandsWithin root from 0) x xs h))
 
     pub nothing-kept-by : (p : form.Predicate) → KeepsNothing root m from 0 p
-    nothing-kept-by p = λ items there. ap (filtered_by sat every p) (none-in-front items there) ∙ by-none sat every p
+    nothing-kept-by p = λ items there. ap (filtered_by sat every p) (none-before items there) ∙ by-none sat every p
 
     pub nothing-kept : (ps : form.Predicates) → KeepNothing root m from 0 ps
-    nothing-kept ps = λ items there. ap (filtered sat every ps) (none-in-front items there) ∙ filtered-none sat every ps
+    nothing-kept ps = λ items there. ap (filtered sat every ps) (none-before items there) ∙ filtered-none sat every ps
 
     pub nothing-led : (s : form.Steps) → LeadNowhere root m from 0 s
     nothing-led s = record {
-      from_elements = λ items there. ap (led sat every s) (none-in-front items there) ∙ led-nowhere s;
-      from_document = λ w. absurd (in-front (placed [] (plain root)) w);
+      from_elements = λ items there. ap (led sat every s) (none-before items there) ∙ led-nowhere s;
+      from_document = λ w. absurd (before (placed [] (plain root)) w);
     }
 
     pub shorter-false : (less to : ℕ) (c : form.Condition) → less ≤ to → IsFalse root m from to c → IsFalse root m from less c
-    shorter-false less to c l h = λ e w. let high = w.in_front in h e (record {
+    shorter-false less to c l h = λ e w. let high = w.ends_before in h e (record {
       spot = w.spot;
       among = w.among;
       element = w.element;
       is = w.is;
-      behind = w.behind;
-      in_front = omega (arith, high, l);
+      after = w.after;
+      ends_before = omega (arith, high, l);
     })
 
     module _ (to : ℕ) where
@@ -108,8 +108,8 @@ module _ (root : Numbered) (m : Meaning) where
           let x : IsElement root r = record { spot = w.spot; among = w.among; refers = refl; element = w.element; apart = apart } in
           let may = ask r x in
           let is : m.span r ≡ span w.spot.stand = may.1 w.spot.stand (spot-stand root w.spot w.among) refl in
-          let low = w.behind in
-          let high = w.in_front in
+          let low = w.after in
+          let high = w.ends_before in
           let from-is = ap (λ s. s.from) is in
           let to-is = ap (λ s. s.to) is in
           let named : element_of root r ≡ e = element_of-is root w.spot w.among apart ∙ w.is in
@@ -220,6 +220,6 @@ root-within root to element less = record {
   among = root-among root;
   element = element;
   is = refl;
-  behind = omega arith;
-  in_front = less;
+  after = omega arith;
+  ends_before = less;
 }

@@ -24,11 +24,11 @@ use Rattle.path_nodes.specs.Prices.{list_price, children_price, step_price}
 use Rattle.path_nodes.specs.References.{Spot, spots, spots_in, element_of, IsElement}
 use Rattle.path_nodes.specs.steps.Regions.{at_or_below, below}
 use Rattle.path_nodes.specs.Says.{Meaning, satisfied}
-use Rattle.path_nodes.specs.steps.Within.{is_front, AtOrBelow}
+use Rattle.path_nodes.specs.steps.Within.{is_prefix, AtOrBelow}
 use Rattle.path_nodes.proofs.AskedLemmas.{step-is}
 use Rattle.path_nodes.proofs.ChosenLemmas.{map-map, not-in, not-itself, stepped-is}
 use Rattle.path_meaning.proofs.InOrder.{under}
-use Rattle.path_nodes.proofs.FrontLemmas.{filter-none}
+use Rattle.path_nodes.proofs.PrefixLemmas.{filter-none}
 use Rattle.path_nodes.proofs.MeaningLemmas.{by-none, filtered-none, items-children}
 use Rattle.path_nodes.proofs.PriceLemmas.{step-price, own-price, deep-document-price}
 use Rattle.path_nodes.proofs.RegionLemmas.{opened}
@@ -136,7 +136,7 @@ module _ (root : Numbered) (r : NodeRef) (refers : r ≡ reference root) (apart 
 
 -- every place is below the root's
 pub below-root : (root : Numbered) (base : Element) → base ≡ placed [] (plain root) → (xs : List Element) → All (AtOrBelow base) xs
-below-root root base first xs k d within = ap (λ b. is_front b.place (get_or xs k d).place) first
+below-root root base first xs k d within = ap (λ b. is_prefix b.place (get_or xs k d).place) first
 
 alone-is : (n : Node) (e : Element) (rest : List Element) → e ≡ placed [] n → elements n ≡ e ∷ rest → el.element_at [] n ≡ e ∷ []
 alone-is (element name attributes kids) e rest is h = ap (λ x. x ∷ []) (sym is)

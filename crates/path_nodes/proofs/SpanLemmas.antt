@@ -21,7 +21,7 @@ use Rattle.path_nodes.proofs.NamedLemmas.{Has, has-from}
 use Rattle.path_nodes.proofs.PlaceLemmas.{one-place}
 use Rattle.path_nodes.proofs.SpotLemmas.{inside}
 
--- the words of a node stand behind so many words and among the first so many
+-- the words of a node stand after so many words and among the first so many
 abbrev WordsIn : ℕ → ℕ → Spot → Type 0
 WordsIn before most t = (before ≤ t.stand.around.before) × (t.stand.around.before + word_count (plain t.stand.node) ≤ most)
 
@@ -66,15 +66,15 @@ module _ (root : Numbered) (from to : ℕ) where
       (λ k d within.
       let h = has-from s.place s.stand.around s.stand.node k d within in
       let at = All-contains (WordsIn s.stand.around.before (s.stand.around.before + word_count (plain s.stand.node))) mine h.0 (words-from s.place s.stand.around s.stand.node) h.1 in
-      let low = w.behind in
-      let high = w.in_front in
+      let low = w.after in
+      let high = w.ends_before in
       record {
         spot = h.0;
         among = All-contains (Contains (spots_in root)) mine h.0 (inside root s w.among) h.1;
         element = h.2;
         is = h.3;
-        behind = omega (arith, low, at.0);
-        in_front = omega (arith, high, at.1);
+        after = omega (arith, low, at.0);
+        ends_before = omega (arith, high, at.1);
       })
 
   -- an element at the place of one of them is that one

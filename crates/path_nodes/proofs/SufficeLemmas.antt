@@ -97,8 +97,8 @@ element-within root r x from to s tells low high =
       among = x.among;
       element = x.element;
       is = sym (element-is root r x);
-      behind = omega (arith, low, from-is);
-      in_front = omega (arith, high, to-is);
+      after = omega (arith, low, from-is);
+      ends_before = omega (arith, high, to-is);
     }
 
 -- predicates that keep nothing of a stretch keep none of what is at or below an element in it

@@ -8,6 +8,7 @@ use Rattle.std.proofs.lemmas.List.Elements.{All-head, All-tail}
 use Rattle.std.proofs.lemmas.Slice.Eq.{bytes_eq-Decides}
 use Rattle.ordered_tree.specs.Numbered.{Numbered}
 use Rattle.ordered_tree.specs.Stands.{OnNode, round_root}
+use Rattle.ft_base.proofs.Truth.{fails_below}
 use Rattle.ft_base.specs.declared.ids.NodeRef.{NodeRef}
 use Rattle.path_meaning.specs.Elements.{Element, kids_of, is_same}
 use Rattle.path_grammar.specs.Form.{Step}
@@ -17,12 +18,12 @@ use Rattle.path_nodes.specs.References.{spots_in, spot_reference, element_of, Is
 use Rattle.path_nodes.specs.steps.Regions.{below}
 use Rattle.path_nodes.specs.Says.{Meaning}
 use Rattle.path_nodes.specs.steps.Ways.{AreWays, LeadTo}
-use Rattle.path_nodes.specs.steps.Within.{is_front, AtOrBelow, IsBelow}
+use Rattle.path_nodes.specs.steps.Within.{is_prefix, AtOrBelow, IsBelow}
 use Rattle.path_nodes.proofs.AboveLemmas.{HasParent, top, parent-there}
 use Rattle.path_nodes.proofs.ChildrenLemmas.{on_element}
 use Rattle.path_nodes.proofs.ChosenLemmas.{tail-of, kept-places}
 use Rattle.path_meaning.proofs.InOrder.{under}
-use Rattle.path_nodes.proofs.FrontLemmas.{filter-none}
+use Rattle.path_nodes.proofs.PrefixLemmas.{filter-none}
 use Rattle.path_nodes.proofs.MemberLemmas.{or-cases}
 use Rattle.path_nodes.proofs.PlaceLemmas.{element-is, one-reference}
 use Rattle.path_nodes.proofs.SpotLemmas.{of_number}
@@ -75,12 +76,12 @@ first-same a b p q h = cc
 rest-same : (a b : ℕ) (p q : List ℕ) → a ∷ p ≡ b ∷ q → p ≡ q
 rest-same a b p q h = cc
 
-pub front-above : (p q : List ℕ) (n k : ℕ) (r : List ℕ) → q ++ n ∷ [] ≡ p ++ k ∷ r → is_front p q ≡ true
-front-above [] q n k r h = refl
-front-above (b ∷ p) [] n k r h = let long = length-append p (k ∷ r) in absurd (omega (arith, long, ap length h))
-front-above (b ∷ p) (c ∷ q) n k r h =
+pub prefix-above : (p q : List ℕ) (n k : ℕ) (r : List ℕ) → q ++ n ∷ [] ≡ p ++ k ∷ r → is_prefix p q ≡ true
+prefix-above [] q n k r h = refl
+prefix-above (b ∷ p) [] n k r h = let long = length-append p (k ∷ r) in absurd (omega (arith, long, ap length h))
+prefix-above (b ∷ p) (c ∷ q) n k r h =
     let same : b ≡ c = sym (first-same c b (q ++ n ∷ []) (p ++ k ∷ r) h) in
-    ap (λ d. d && is_front p q) (eq-eqb b c same) ∙ front-above p q n k r (rest-same c b (q ++ n ∷ []) (p ++ k ∷ r) h)
+    ap (λ d. d && is_prefix p q) (eq-eqb b c same) ∙ prefix-above p q n k r (rest-same c b (q ++ n ∷ []) (p ++ k ∷ r) h)
 
 -- the element itself, or one that is marked
 abbrev pub Reached : {S : Type 0} → NodeRef → HashSet ℕ S → NodeRef → Type 0
@@ -90,7 +91,7 @@ module _ {S : Type 0} (root : Numbered) (node : NodeRef) (x : IsElement root nod
   reached-up : (parent : NodeRef) → Parent root node parent → AreWays root ways → is_marked ways parent ≡ true → (r : NodeRef) → IsElement root r → (t : List ℕ) → (element_of root node).place ≡ (element_of root r).place ++ t → Reached node ways r
   reached-up parent p closed m r y [] is = inl (one-reference root r node y x (sym (is ∙ append-nil (element_of root r).place)))
   reached-up parent p closed m r y (k ∷ t) is =
-      inr (closed r parent y p.there (front-above (element_of root r).place (element_of root parent).place p.number k t (sym p.place ∙ is)) m)
+      inr (closed r parent y p.there (prefix-above (element_of root r).place (element_of root parent).place p.number k t (sym p.place ∙ is)) m)
 
   pub above-child : (parent : NodeRef) → Parent root node parent → AreWays root ways → is_marked ways parent ≡ true → (r : NodeRef) → IsElement root r → AtOrBelow (element_of root r) (element_of root node) → Reached node ways r
   above-child parent p closed m r y h =
@@ -147,18 +148,14 @@ pub lead-kept : {S : Type 0} (root : Numbered) (m : Meaning) (s : Step) (q : Nod
     → (r : NodeRef) → IsElement root r → (e : Element) → IsBelow (element_of root r) e → list_any (is_same e) (kept_children root m s (element_of root q)) ≡ true → is_marked ways r ≡ true
 lead-kept root m s q y ways closed items kept there r x e (k, t, is) some =
     let child = any-child (kept_children root m s (element_of root q)) e (element_of root q).place (kept-places root m s (element_of root q)) some in
-    closed r q x y (front-above (element_of root r).place (element_of root q).place child.0 k t (sym child.1 ∙ is))
+    closed r q x y (prefix-above (element_of root r).place (element_of root q).place child.0 k t (sym child.1 ∙ is))
     (there (some-there (element_of root) (is_same e) items (ap (list_any (is_same e)) kept ∙ some)))
 
 -- ---- nothing below an element that leads to none
-
-neither : (b m : Bool) → (b ≡ true → m ≡ true) → m ≡ false → b ≡ false
-neither true m f none = let e : true ≡ false = sym (f refl) ∙ none in cc
-neither false m f none = refl
 
 pub none-below : {S : Type 0} (root : Numbered) (r : NodeRef) (x : IsElement root r) (ways : HashSet ℕ S) (test : Element → Bool) → LeadTo root ways test → is_marked ways r ≡ false → filter test (below (element_of root r)) ≡ []
 none-below root r x ways test lead none =
     let base = element_of root r in
     filter-none test (below base)
     (λ k d within. let b = under base.place 1 (kids_of base.node) k d within in
-    neither (test (get_or (below base) k d)) (is_marked ways r) (lead r x (get_or (below base) k d) (b.0, b.1, b.3)) none)
+    fails_below (test (get_or (below base) k d)) (is_marked ways r) (lead r x (get_or (below base) k d) (b.0, b.1, b.3)) none)

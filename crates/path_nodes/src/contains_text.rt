@@ -22,7 +22,7 @@ pub trait TextTest {
         ensures cost { cost self.new ≤ cost self.old + (meaning self.old).price selection node };
 
     /// A place up to which the selection of this number is known at once not to be satisfied: no node for which it may be asked, whose
-    /// span starts at `from` or behind it and ends at or in front of the result, satisfies it. 0 says nothing. It spends nothing.
+    /// span starts at `from` or after it and ends at or before the result, satisfies it. 0 says nothing. It spends nothing.
     fn skip_to(&self, selection: usize, from: u32) -> u32
         ensures { (node : NodeRef) → IsTrue ((meaning self.now).may_ask selection node) → from ≤ ((meaning self.now).span node).from
             → ((meaning self.now).span node).to ≤ result → (meaning self.now).says selection node ≡ false };

@@ -24,7 +24,7 @@ use crate::attributes::has_attribute;
 use crate::children::element_children;
 use crate::kept::push_if;
 use crate::known::Known;
-use crate::leading::{behind_condition, behind_predicate, behind_step, next};
+use crate::leading::{after_condition, after_predicate, after_step, next};
 use crate::marks::{Marks, mark_kept};
 use crate::names::named;
 use crate::naming::named_under;
@@ -37,7 +37,7 @@ use ordered_tree::{DocTree, NodeRef};
 use path_grammar::{Condition, Predicate, Step};
 use std::alloc::Global;
 
-/// The elements to which steps lead from elements at or below an element, one step behind the other.
+/// The elements to which steps lead from elements at or below an element, one step after the other.
 #[cycle(evaluate)]
 pub(crate) fn led<T: TextTest>(
     tree: &DocTree,
@@ -68,9 +68,9 @@ pub(crate) fn led<T: TextTest>(
     let mut items = from;
     let mut first = number;
     for step in steps {
-        let behind = behind_step(first, step)?;
+        let after = after_step(first, step)?;
         items = stepped(tree, step, first, base, items, test, known)?;
-        first = behind;
+        first = after;
     }
     Ok(items)
 }
@@ -114,7 +114,7 @@ pub(crate) fn stepped<T: TextTest>(
     chosen(tree, step, number, base, &parents, test, known)
 }
 
-/// Whether what a step keeps of each of the outermost contexts, one behind the other, is all that it keeps, in document order.
+/// Whether what a step keeps of each of the outermost contexts, one after the other, is all that it keeps, in document order.
 fn keeps_order(step: &Step, outer: &Nodes, contexts: &Nodes) -> bool
     ensures numbers { result ≡ true → spec.has_number (view.step step.now) ≡ false }
     ensures apart { result ≡ true → step.now.deep ≡ false → length outer.now ≡ length contexts.now }
@@ -326,9 +326,9 @@ fn passed<T: TextTest>(
     let mut kept = items;
     let mut first = number;
     for predicate in step.predicates.as_slice() {
-        let behind = behind_predicate(first, predicate)?;
+        let after = after_predicate(first, predicate)?;
         kept = filtered(tree, predicate, first, kept, test, known)?;
-        first = behind;
+        first = after;
     }
     Ok(kept)
 }
@@ -463,7 +463,7 @@ fn led_from<T: TextTest>(
     Ok(found)
 }
 
-/// The truth of conditions that are joined: by `or` where a true one decides it, by `and` where a false one does. Those behind
+/// The truth of conditions that are joined: by `or` where a true one decides it, by `and` where a false one does. Those after
 /// the first one that decides aren't looked at.
 #[cycle(evaluate)]
 fn joined<T: TextTest>(
@@ -491,11 +491,11 @@ fn joined<T: TextTest>(
 {
     let mut first = number;
     for condition in conditions.as_slice() {
-        let behind = behind_condition(first, condition)?;
+        let after = after_condition(first, condition)?;
         if is_true(tree, condition, first, item, test, known)? == deciding {
             return Ok(deciding);
         }
-        first = behind;
+        first = after;
     }
     Ok(!deciding)
 }
@@ -591,7 +591,7 @@ fn itself_contains<T: TextTest>(
     test.contains(selection, item)
 }
 
-/// Whether one of the elements satisfies a selection; those behind it aren't asked for.
+/// Whether one of the elements satisfies a selection; those after it aren't asked for.
 fn some_contains<T: TextTest>(
     tree: &DocTree,
     selection: usize,

@@ -14,7 +14,7 @@ pub(crate) fn push_if(wanted: bool, node: NodeRef, nodes: &mut Nodes) -> Result<
     Ok(())
 }
 
-/// Puts nodes behind others.
+/// Puts nodes after others.
 pub(crate) fn append(nodes: &mut Nodes, more: &Nodes) -> Result<(), Memory>
     ensures { OnOk result (nodes.new ≡ nodes.old ++ more.now) }
 {

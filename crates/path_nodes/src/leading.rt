@@ -1,5 +1,5 @@
 //! The numbers of the conditions of a path that lead somewhere: they count from 0, in the order of the path, and each condition
-//! stands in front of those inside its steps.
+//! stands before those inside its steps.
 
 ghost use Rattle.std.specs.Prelude.{◌≡◌, ◌+◌, suc, IfOk, length, map};
 ghost use Rattle.path_grammar.specs.Form as form;
@@ -9,7 +9,7 @@ ghost use Rattle.path_nodes.specs.steps.Leading.{in_step, in_steps, in_predicate
 use ft_base::{Items, Memory};
 use path_grammar::{Condition, Predicate, Step};
 
-/// The number behind a number.
+/// The number after a number.
 pub(crate) fn next(number: usize) -> Result<usize, Memory>
     ensures { IfOk result (λ next. next ≡ number + 1) }
 {
@@ -19,74 +19,74 @@ pub(crate) fn next(number: usize) -> Result<usize, Memory>
     }
 }
 
-/// The number behind those of a step, which begin with this one.
-#[cycle(behind)]
-pub(crate) fn behind_step(number: usize, step: &Step) -> Result<usize, Memory>
-    ensures { IfOk result (λ behind. behind ≡ number + length (in_step (view.step step.now))) }
+/// The number after those of a step, which begin with this one.
+#[cycle(after)]
+pub(crate) fn after_step(number: usize, step: &Step) -> Result<usize, Memory>
+    ensures { IfOk result (λ after. after ≡ number + length (in_step (view.step step.now))) }
 {
-    let mut behind = number;
+    let mut after = number;
     for predicate in step.predicates.as_slice() {
-        behind = behind_predicate(behind, predicate)?;
+        after = after_predicate(after, predicate)?;
     }
-    Ok(behind)
+    Ok(after)
 }
 
-/// The number behind those of a predicate.
-#[cycle(behind)]
-pub(crate) fn behind_predicate(number: usize, predicate: &Predicate) -> Result<usize, Memory>
-    ensures { IfOk result (λ behind. behind ≡ number + length (in_predicate (view.predicate predicate.now))) }
+/// The number after those of a predicate.
+#[cycle(after)]
+pub(crate) fn after_predicate(number: usize, predicate: &Predicate) -> Result<usize, Memory>
+    ensures { IfOk result (λ after. after ≡ number + length (in_predicate (view.predicate predicate.now))) }
 {
     match predicate {
         Predicate::Number(_) => Ok(number),
-        Predicate::Holds(condition) => behind_condition(number, condition),
+        Predicate::Holds(condition) => after_condition(number, condition),
     }
 }
 
-/// The number behind those of a condition.
-#[cycle(behind)]
-pub(crate) fn behind_condition(number: usize, condition: &Condition) -> Result<usize, Memory>
-    ensures { IfOk result (λ behind. behind ≡ number + length (in_condition (view.condition condition.now))) }
+/// The number after those of a condition.
+#[cycle(after)]
+pub(crate) fn after_condition(number: usize, condition: &Condition) -> Result<usize, Memory>
+    ensures { IfOk result (λ after. after ≡ number + length (in_condition (view.condition condition.now))) }
 {
     match condition {
-        Condition::Or(parts) => behind_conditions(number, parts),
-        Condition::And(parts) => behind_conditions(number, parts),
-        Condition::Not(operand) => behind_condition(number, operand),
+        Condition::Or(parts) => after_conditions(number, parts),
+        Condition::And(parts) => after_conditions(number, parts),
+        Condition::Not(operand) => after_condition(number, operand),
         Condition::Attribute { .. } => Ok(number),
-        Condition::Exists(steps) => behind_leading(number, steps),
-        Condition::Contains { steps, .. } => behind_leading(number, steps),
+        Condition::Exists(steps) => after_leading(number, steps),
+        Condition::Contains { steps, .. } => after_leading(number, steps),
     }
 }
 
-/// The number behind a condition of this number, which leads somewhere by the steps, and those inside it.
-#[cycle(behind)]
-fn behind_leading(number: usize, steps: &Items<Step>) -> Result<usize, Memory>
-    ensures { IfOk result (λ behind. behind ≡ number + suc (length (in_steps (form.steps (map view.step steps.now))))) }
+/// The number after a condition of this number, which leads somewhere by the steps, and those inside it.
+#[cycle(after)]
+fn after_leading(number: usize, steps: &Items<Step>) -> Result<usize, Memory>
+    ensures { IfOk result (λ after. after ≡ number + suc (length (in_steps (form.steps (map view.step steps.now))))) }
 {
     let inside = next(number)?;
-    let behind = behind_steps(inside, steps)?;
-    Ok(behind)
+    let after = after_steps(inside, steps)?;
+    Ok(after)
 }
 
-/// The number behind those of conditions.
-#[cycle(behind)]
-fn behind_conditions(number: usize, conditions: &Items<Condition>) -> Result<usize, Memory>
-    ensures { IfOk result (λ behind. behind ≡ number + length (in_conditions (form.conditions (map view.condition conditions.now)))) }
+/// The number after those of conditions.
+#[cycle(after)]
+fn after_conditions(number: usize, conditions: &Items<Condition>) -> Result<usize, Memory>
+    ensures { IfOk result (λ after. after ≡ number + length (in_conditions (form.conditions (map view.condition conditions.now)))) }
 {
-    let mut behind = number;
+    let mut after = number;
     for condition in conditions.as_slice() {
-        behind = behind_condition(behind, condition)?;
+        after = after_condition(after, condition)?;
     }
-    Ok(behind)
+    Ok(after)
 }
 
-/// The number behind those of steps.
-#[cycle(behind)]
-fn behind_steps(number: usize, steps: &Items<Step>) -> Result<usize, Memory>
-    ensures { IfOk result (λ behind. behind ≡ number + length (in_steps (form.steps (map view.step steps.now)))) }
+/// The number after those of steps.
+#[cycle(after)]
+fn after_steps(number: usize, steps: &Items<Step>) -> Result<usize, Memory>
+    ensures { IfOk result (λ after. after ≡ number + length (in_steps (form.steps (map view.step steps.now)))) }
 {
-    let mut behind = number;
+    let mut after = number;
     for step in steps.as_slice() {
-        behind = behind_step(behind, step)?;
+        after = after_step(after, step)?;
     }
-    Ok(behind)
+    Ok(after)
 }

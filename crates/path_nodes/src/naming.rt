@@ -17,7 +17,7 @@ use path_grammar::Step;
 use std::alloc::Global;
 
 /// The elements that pass a step's test of names, of the children of elements or, where it is deep, of all elements below them: those
-/// of each element, in document order, behind those of the one before. Elements are left out, with all below them, where the predicates
+/// of each element, in document order, after those of the one before. Elements are left out, with all below them, where the predicates
 /// of the step are known at once to keep none of them.
 pub(crate) fn named_under<T: TextTest>(
     alloc: Global,

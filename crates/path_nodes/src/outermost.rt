@@ -3,7 +3,7 @@ ghost use Rattle.path_meaning.specs.Order.{Before};
 ghost use Rattle.path_nodes.specs.steps.Members.{AreAmong, HaveSame};
 ghost use Rattle.path_nodes.specs.References.{IsElement, element_of};
 ghost use Rattle.path_nodes.specs.steps.Regions.{at_or_below};
-ghost use Rattle.path_nodes.specs.steps.Within.{Precedes, is_front, stands_below_last};
+ghost use Rattle.path_nodes.specs.steps.Within.{Precedes, is_prefix, stands_below_last};
 
 use crate::Nodes;
 use crate::kept::push_if;
@@ -47,7 +47,7 @@ fn is_below_last(tree: &DocTree, outer: &Nodes, node: NodeRef) -> bool
 fn is_at_or_below(tree: &DocTree, base: NodeRef, node: NodeRef) -> bool
     requires base { IsElement tree.now.root base }
     requires node { IsElement tree.now.root node }
-    ensures { result ≡ is_front (element_of tree.now.root base).place (element_of tree.now.root node).place }
+    ensures { result ≡ is_prefix (element_of tree.now.root base).place (element_of tree.now.root node).place }
 {
     if node.0 == base.0 {
         return true;

@@ -1,5 +1,5 @@
 //! Up to which position it is known that a test rules out what steps, predicates and conditions ask for: nothing is walked for it. Each
-//! result speaks of the elements whose words stand from `from` on and in front of it; 0 says nothing.
+//! result speaks of the elements whose words stand from `from` on and before it; 0 says nothing.
 
 ghost use Rattle.std.specs.Prelude.{◌≡◌, [], true, map};
 ghost use Rattle.ordered_tree.specs.Numbered.{plain};
@@ -24,7 +24,7 @@ pub(crate) fn lead_nowhere<T: TextTest>(tree: &DocTree, steps: &Steps, test: &T)
     tree.span_of(tree.root()).to <= place
 }
 
-/// Up to where a step has a predicate that is ruled out: then nothing is behind it.
+/// Up to where a step has a predicate that is ruled out: then nothing is after it.
 #[cycle(rule_out)]
 fn skip_steps<T: TextTest>(tree: &DocTree, steps: &Items<Step>, from: u32, test: &T) -> u32
     requires { OfEach (MayAsk tree.now.root (T.meaning test.now)) (form.steps (map view.step steps.now)) }

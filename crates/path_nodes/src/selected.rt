@@ -15,7 +15,7 @@ ghost use Rattle.path_meaning.specs.Tests.{selected_tests};
 use crate::evaluating::{kept, led, stepped};
 use crate::kept::append;
 use crate::known::Known;
-use crate::leading::behind_step;
+use crate::leading::after_step;
 use crate::ruling_out::lead_nowhere;
 use crate::{Nodes, TextTest};
 use ft_base::Memory;
@@ -60,7 +60,7 @@ pub fn nodes<T: TextTest>(
     }
     let mut known = Known::new(alloc, steps);
     let step = steps.get(0);
-    let number = behind_step(0, step)?;
+    let number = after_step(0, step)?;
     let first = from_document(tree, step, root, test, &mut known)?;
     let found = led(
         tree,

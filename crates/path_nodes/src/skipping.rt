@@ -15,16 +15,16 @@ use path_grammar::Predicates;
 /// as much as a test of an element.
 const ENOUGH: u32 = 3;
 
-/// Positions of words from `from` on and in front of `to`: predicates are known to keep no element whose words stand there.
+/// Positions of words from `from` on and before `to`: predicates are known to keep no element whose words stand there.
 #[derive(Clone, Copy)]
 pub(crate) struct Stretch {
     pub(crate) from: u32,
     pub(crate) to: u32,
-    /// Whether to ask anew behind it: not where the answer was that nothing is known
+    /// Whether to ask anew after it: not where the answer was that nothing is known
     asks: bool,
     /// How many answers skipped little, less half of them for each that skipped much: where many elements are kept, few are worth asking
     vain: u32,
-    /// How many elements behind it to pass before that
+    /// How many elements after it to pass before that
     pause: u32,
 }
 
@@ -58,14 +58,14 @@ impl Stretch {
             to,
             asks: to != 0,
             vain,
-            pause: pause_behind(vain),
+            pause: pause_after(vain),
         }
     }
 
     /// Whether all positions of a span are in it.
     fn holds(&self, span: Span) -> bool
-        ensures behind { result ≡ true → self.now.from ≤ span.from }
-        ensures in_front { result ≡ true → span.to ≤ self.now.to }
+        ensures after { result ≡ true → self.now.from ≤ span.from }
+        ensures ends_before { result ≡ true → span.to ≤ self.now.to }
     {
         self.from <= span.from && span.to <= self.to
     }
@@ -92,13 +92,13 @@ pub(crate) fn is_skipped<T: TextTest>(
         return false;
     }
     let span = tree.span_of(element);
-    ask_behind(tree, predicates, span, test, stretch);
+    ask_after(tree, predicates, span, test, stretch);
     stretch.holds(span)
 }
 
-/// Asks anew up to where predicates are known to keep nothing from an element's first word on, where the element stands behind the stretch
+/// Asks anew up to where predicates are known to keep nothing from an element's first word on, where the element stands after the stretch
 /// and isn't one to pass.
-fn ask_behind<T: TextTest>(
+fn ask_after<T: TextTest>(
     tree: &DocTree,
     predicates: &Predicates,
     span: Span,
@@ -127,9 +127,9 @@ fn one_more(count: u32) -> u32 {
     if count < 8 { count + 1 } else { count }
 }
 
-/// How many elements to pass before it is asked anew, behind so many answers that skipped little: none behind the first few, and then
-/// twice as many behind each.
-fn pause_behind(vain: u32) -> u32 {
+/// How many elements to pass before it is asked anew, after so many answers that skipped little: none after the first few, and then
+/// twice as many after each.
+fn pause_after(vain: u32) -> u32 {
     match vain {
         0..=3 => 0,
         4 => 4,

@@ -35,7 +35,7 @@ pub(crate) fn add_elements(
     Ok(())
 }
 
-/// The elements and all elements below them, those of each one behind those of the one before.
+/// The elements and all elements below them, those of each one after those of the one before.
 pub(crate) fn with_descendants(
     alloc: Global,
     tree: &DocTree,

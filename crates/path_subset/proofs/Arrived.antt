@@ -1,4 +1,4 @@
--- Where the reader stands behind symbols that may stand.
+-- Where the reader stands after symbols that may stand.
 use Rattle.std.proofs.Common.{◌≡◌, ◌≤◌, ℕ, zero, suc, false, List, [], ◌∷◌, ◌++◌, length, take, drop, Option, Some, None, option_map, Result, refl, sym, ◌∙◌, ap, subst, append_assoc, append-nil, arith}
 use Rattle.ft_base.specs.declared.fault.QueryFault.{QueryFault}
 use Rattle.selection_grammar.specs.declared.symbol.Placed.{Placed}
@@ -11,7 +11,7 @@ use Rattle.path_grammar.specs.Grammar.{Inside, inside}
 use Rattle.path_grammar.specs.steps.Machine as m
 use Rattle.path_grammar.specs.steps.Machine.{Inner, stand}
 use Rattle.path_grammar.proofs.Begun.{read-append, begins_read}
-use Rattle.path_subset.specs.Answer.{behind_run, with_run, led_by, before_selection_at, before_selection, further, read_from}
+use Rattle.path_subset.specs.Answer.{after_run, with_run, led_by, before_selection_at, before_selection, further, read_from}
 use Rattle.path_subset.specs.Limits.{exceeds}
 use Rattle.path_subset.specs.Paths.{PlacedForm, placed_form, PathForm}
 use Rattle.path_subset.specs.Refused as R
@@ -23,7 +23,7 @@ use Rattle.path_subset.proofs.RunLaws.{IsReadAmong, read_among}
 use Rattle.path_subset.proofs.Skipped.{first, turned_within}
 use Rattle.path_subset.proofs.Spelled.{Stands, with_state, step_same, next_stands, fresh_selecting, selecting_run, counted, open_same, outside}
 
--- The reader behind some symbols and the machine with the selections beside it, where reading goes on as it was expected to.
+-- The reader after some symbols and the machine with the selections beside it, where reading goes on as it was expected to.
 pub record Arrived (prefix rest : List Placed) (bad : Option ℕ) (size : ℕ) (expected : Result PathForm QueryFault) : Type 0 where
   pub s : m.State
   pub real : m.State
@@ -82,7 +82,7 @@ module _ (bad : Option ℕ) (size : ℕ) (rest : List Placed) (p : Placed) (u : 
       (read-append (done ++ p ∷ []) (take n (u ++ rest)) ∙ ap (λ o. m.run_on o (take n (u ++ rest))) (selection_next done p (u ++ rest) s real all root i before st r a b)
       ∙ selecting_run root i.frames i.joint all before (take n (u ++ rest)) [] (Shape.whole selection.start) run.shape run.reads)
       (one_read s (m.along root i) found p (u ++ rest) bad size (Some before) below a b
-      ∙ ap (λ z. further (behind_run (m.along root i) found before (u ++ rest) z) (λ l. read_from l.state l.selections l.count (u ++ rest) bad size)) e
+      ∙ ap (λ z. further (after_run (m.along root i) found before (u ++ rest) z) (λ l. read_from l.state l.selections l.count (u ++ rest) bad size)) e
       ∙ ap (λ c. read_from (m.along root (stand i.frames i.joint i.selections (m.ended (form.contains (steps before) c)))) (found ++ placed_form x (take n (u ++ rest)) ∷ []) n (u ++ rest) bad size) (counted each))
 
   by_selection : (t : m.State) (o : Option (List form.Step)) → before_selection t ≡ o → m.advance s p ≡ Some t → There
@@ -93,7 +93,7 @@ module _ (bad : Option ℕ) (size : ℕ) (rest : List Placed) (p : Placed) (u : 
   by_selection (m.at_root stage) (Some before) b a = cc
   by_selection (m.along root i) (Some before) b a =
       through root i before a b
-      (read_among u rest bad size (h.selections (done ++ p ∷ []) u (sym (append_assoc done (p ∷ []) u)) (R.behind_text root i.frames i.joint all before (selection_next done p (u ++ rest) s real all root i before st r a b))))
+      (read_among u rest bad size (h.selections (done ++ p ∷ []) u (sym (append_assoc done (p ∷ []) u)) (R.after_text root i.frames i.joint all before (selection_next done p (u ++ rest) s real all root i before st r a b))))
 
   stuck : m.advance s p ≡ None → (t : m.State) × (m.read (done ++ p ∷ u) ≡ Some t) → ⊥
   stuck a (t, k) =

@@ -32,7 +32,7 @@ joint_none (frame ∷ outer) joint c all S.OpenParenthesis e = refl
 joint_none (frame ∷ outer) joint c all other e = cc
 
 selection_none : (frames : List Frame) (joint : Joint) (all : List Inside) (before : List form.Step) (w v : List Placed) (z : Symbol) (o : Option (Shape selection.State)) (x : Option Tree) (next : Inner) → opens z ≡ true → is_some o ≡ false
-    → m.otherwise (m.selecting_next frames joint all before v o) (m.behind_next frames joint (m.selected all before w x) z) ≡ Some next → ⊥
+    → m.otherwise (m.selecting_next frames joint all before v o) (m.after_next frames joint (m.selected all before w x) z) ≡ Some next → ⊥
 selection_none frames joint all before w v z (Some shape) x next h g e = cc
 selection_none frames joint all before w v z None None next h g e = cc
 selection_none frames joint all before w v z None (Some tree) next h g e = let two : None ≡ Some next = sym (joint_none frames joint (form.contains (form.steps before) (length all)) _ z h) ∙ e in cc
@@ -90,7 +90,7 @@ selecting_keeps (m.along root s) next p g e = by_stage s.stage refl
 
     by_stage : (stage : Stage) → s.stage ≡ stage → open_count next ≡ length s.frames
     by_stage (m.selecting before w shape) k =
-        by_shape before (w ++ p ∷ []) (selection.advance shape p) (m.behind_next s.frames s.joint (m.condition_at s.selections (m.selecting before w shape)) p.symbol)
+        by_shape before (w ++ p ∷ []) (selection.advance shape p) (m.after_next s.frames s.joint (m.condition_at s.selections (m.selecting before w shape)) p.symbol)
         (sym (ap (λ z. goes_on_at z p) k) ∙ g)
         (sym (ap (λ z. m.along_to root (m.advance_inner (stand s.frames s.joint s.selections z) p)) k) ∙ e)
     by_stage other k = let two : true ≡ false = sym g ∙ ap (λ z. goes_on_at z p) k in cc
@@ -111,7 +111,7 @@ grown_opens : (z : Symbol) → (z ≡ S.OpenBracket) ⊎ (z ≡ S.OpenParenthesi
 grown_opens z (inl e) = ap opens e
 grown_opens z (inr e) = ap opens e
 
--- not more are open than may be behind a symbol within the limits
+-- not more are open than may be after a symbol within the limits
 one_few : (s next : State) (p : Placed) → advance s p ≡ Some next → (goes_on s p ≡ false → exceeds (open_count s) p.symbol ≡ false) → open_count s ≤ max_open → open_count next ≤ max_open
 one_few s next p a l few = by_growth (leb (open_count next) (open_count s)) refl
   where

@@ -132,23 +132,23 @@ module _ (all some : List Inside) where
   joint_same (frame ∷ outer) joint c (S.Name name) = words_same (frame ∷ outer) joint c (S.Name name)
   joint_same (frame ∷ outer) joint c other = refl
 
-  behind_same : (frames : List Frame) (joint : Joint) (stage : Stage) (z : Symbol) → before_selection_at stage ≡ None → m.behind_next frames joint (m.condition_at all stage) z ≡ with_these all (m.behind_next frames joint (m.condition_at some stage) z)
-  behind_same frames joint m.no_step z e = joint_same frames joint (form.exists (steps [])) z
-  behind_same frames joint (m.slashes before deep) z e = refl
-  behind_same frames joint (m.stepped last) z e = joint_same frames joint (form.exists (steps (m.all_steps last))) z
-  behind_same frames joint (m.wanted first) z e = refl
-  behind_same frames joint (m.number k) z e = refl
-  behind_same frames joint m.not_name z e = joint_same frames joint (form.exists (steps (m.all_steps m.not_step))) z
-  behind_same frames joint m.at_sign z e = refl
-  behind_same frames joint (m.attribute name) z e = joint_same frames joint (form.attribute name None) z
-  behind_same frames joint (m.equals name) z e = refl
-  behind_same frames joint (m.ended c) z e = joint_same frames joint c z
-  behind_same frames joint (m.contains before) z e = refl
-  behind_same frames joint (m.selecting before symbols shape) z e = cc
+  after_same : (frames : List Frame) (joint : Joint) (stage : Stage) (z : Symbol) → before_selection_at stage ≡ None → m.after_next frames joint (m.condition_at all stage) z ≡ with_these all (m.after_next frames joint (m.condition_at some stage) z)
+  after_same frames joint m.no_step z e = joint_same frames joint (form.exists (steps [])) z
+  after_same frames joint (m.slashes before deep) z e = refl
+  after_same frames joint (m.stepped last) z e = joint_same frames joint (form.exists (steps (m.all_steps last))) z
+  after_same frames joint (m.wanted first) z e = refl
+  after_same frames joint (m.number k) z e = refl
+  after_same frames joint m.not_name z e = joint_same frames joint (form.exists (steps (m.all_steps m.not_step))) z
+  after_same frames joint m.at_sign z e = refl
+  after_same frames joint (m.attribute name) z e = joint_same frames joint (form.attribute name None) z
+  after_same frames joint (m.equals name) z e = refl
+  after_same frames joint (m.ended c) z e = joint_same frames joint c z
+  after_same frames joint (m.contains before) z e = refl
+  after_same frames joint (m.selecting before symbols shape) z e = cc
 
   either_same : (x y x' y' : Option Inner) → x ≡ with_these all x' → y ≡ with_these all y' → m.otherwise x y ≡ with_these all (m.otherwise x' y')
   either_same x y None y' h k = ap (λ o. m.otherwise o y) h ∙ k
   either_same x y (Some s) y' h k = ap (λ o. m.otherwise o y) h
 
   pub advance_same : (frames : List Frame) (joint : Joint) (stage : Stage) (p : Placed) → before_selection_at stage ≡ None → m.advance_inner (stand frames joint all stage) p ≡ with_these all (m.advance_inner (stand frames joint some stage) p)
-  advance_same frames joint stage p e = either_same (m.within_next frames joint all stage p) (m.behind_next frames joint (m.condition_at all stage) p.symbol) (m.within_next frames joint some stage p) (m.behind_next frames joint (m.condition_at some stage) p.symbol) (within_same frames joint stage p e) (behind_same frames joint stage p.symbol e)
+  advance_same frames joint stage p e = either_same (m.within_next frames joint all stage p) (m.after_next frames joint (m.condition_at all stage) p.symbol) (m.within_next frames joint some stage p) (m.after_next frames joint (m.condition_at some stage) p.symbol) (within_same frames joint stage p e) (after_same frames joint stage p.symbol e)

@@ -33,13 +33,13 @@ use Rattle.path_subset.specs.Spelled.{Each, SpellsPath}
 use Rattle.path_subset.proofs.Everywhere.{with_all, with_these, joint_same, advance_same}
 use Rattle.path_subset.proofs.Refused.{refused}
 use Rattle.path_subset.proofs.RunLaws.{run_of, run_selects, misread_read}
-use Rattle.path_subset.proofs.RefusedExact.{outside_behind, refuses_read}
+use Rattle.path_subset.proofs.RefusedExact.{outside_after, refuses_read}
 use Rattle.path_subset.proofs.Spelled.{spelled}
 
--- the selections so far stay, and further ones come behind them
+-- the selections so far stay, and further ones come after them
 record Grown (all more : List Inside) : Type 0 where
-  behind : List Inside
-  is : more ≡ all ++ behind
+  suffix : List Inside
+  is : more ≡ all ++ suffix
 
 these_kept : (all : List Inside) (o : Option Inner) (t : Inner) → with_these all o ≡ Some t → t.selections ≡ all
 these_kept all None t e = cc
@@ -49,17 +49,17 @@ joint_kept : (frames : List Frame) (joint : Joint) (c : form.Condition) (all : L
 joint_kept frames joint c all p t e = these_kept all (m.joint_next frames joint c all p.symbol) t (sym (joint_same all all frames joint c p.symbol) ∙ e)
 
 selecting_grows : (frames : List Frame) (joint : Joint) (all : List Inside) (before : List form.Step) (w : List Placed) (p : Placed) (o : Option (Shape selection.State)) (x : Option Tree) (t : Inner)
-    → m.otherwise (m.selecting_next frames joint all before (w ++ p ∷ []) o) (m.behind_next frames joint (m.selected all before w x) p.symbol) ≡ Some t → Grown all t.selections
+    → m.otherwise (m.selecting_next frames joint all before (w ++ p ∷ []) o) (m.after_next frames joint (m.selected all before w x) p.symbol) ≡ Some t → Grown all t.selections
 selecting_grows frames joint all before w p (Some y) x t e =
     let same : stand frames joint all (m.selecting before (w ++ p ∷ []) y) ≡ t = cc in
-    record { behind = []; is = ap (λ (i : Inner). i.selections) (sym same) ∙ sym (append-nil all) }
+    record { suffix = []; is = ap (λ (i : Inner). i.selections) (sym same) ∙ sym (append-nil all) }
 selecting_grows frames joint all before w p None None t e = cc
-selecting_grows frames joint all before w p None (Some x) t e = record { behind = inside w x ∷ []; is = joint_kept frames joint (form.contains (steps before) (length all)) (all ++ inside w x ∷ []) p t e }
+selecting_grows frames joint all before w p None (Some x) t e = record { suffix = inside w x ∷ []; is = joint_kept frames joint (form.contains (steps before) (length all)) (all ++ inside w x ∷ []) p t e }
 
 inner_grows : (frames : List Frame) (joint : Joint) (all : List Inside) (stage : Stage) (p : Placed) (t : Inner) → m.advance_inner (stand frames joint all stage) p ≡ Some t → Grown all t.selections
 inner_grows frames joint all (m.selecting before w shape) p t e = selecting_grows frames joint all before w p (selection.advance shape p) (selection.finished_at shape) t e
 inner_grows frames joint all other p t e =
-    record { behind = []; is = these_kept all (m.advance_inner (stand frames joint all other) p) t (sym (advance_same all all frames joint other p refl) ∙ e) ∙ sym (append-nil all) }
+    record { suffix = []; is = these_kept all (m.advance_inner (stand frames joint all other) p) t (sym (advance_same all all frames joint other p refl) ∙ e) ∙ sym (append-nil all) }
 
 finished_kept : (root : PathRoot) (frames : List Frame) (all : List Inside) (stage : Stage) (value : form.Path) (insides : List Inside) → m.finished_inner root frames all stage ≡ given value insides → insides ≡ all
 finished_kept root [] all (m.stepped last) value insides e = sym (same_selections e)
@@ -69,7 +69,7 @@ finished_kept root (frame ∷ outer) all other value insides e = cc
 ends_grown : (root : PathRoot) (u : List Placed) (i : Inner) (x : m.State) (value : form.Path) (insides : List Inside) → m.run_on (Some (m.along root i)) u ≡ Some x → m.finished x ≡ given value insides → Grown i.selections insides
 ends_grown root [] i x value insides e f =
     let same : m.along root i ≡ x = cc in
-    record { behind = []; is = finished_kept root i.frames i.selections i.stage value insides (ap m.finished same ∙ f) ∙ sym (append-nil i.selections) }
+    record { suffix = []; is = finished_kept root i.frames i.selections i.stage value insides (ap m.finished same ∙ f) ∙ sym (append-nil i.selections) }
 ends_grown root (p ∷ u) i x value insides e f = by (m.advance_inner i p) refl e (λ t k. ends_grown root u t x value insides k f)
   where
     by : (o : Option Inner) → m.advance_inner i p ≡ o → m.run_on (m.along_to root o) u ≡ Some x → ((t : Inner) → m.run_on (Some (m.along root t)) u ≡ Some x → Grown t.selections insides) → Grown i.selections insides
@@ -77,9 +77,9 @@ ends_grown root (p ∷ u) i x value insides e f = by (m.advance_inner i p) refl 
     by (Some t) a k again =
         let first = inner_grows i.frames i.joint i.selections i.stage p t a in
         let further = again t k in
-        record { behind = first.behind ++ further.behind; is = further.is ∙ ap (λ z. z ++ further.behind) first.is ∙ append_assoc i.selections first.behind further.behind }
+        record { suffix = first.suffix ++ further.suffix; is = further.is ∙ ap (λ z. z ++ further.suffix) first.is ∙ append_assoc i.selections first.suffix further.suffix }
 
--- A selection of a path that is whole: the symbols that lead on in it, which are one of the path's selections, and those behind it.
+-- A selection of a path that is whole: the symbols that lead on in it, which are one of the path's selections, and those after it.
 record Passed (w : List Placed) (y : Shape selection.State) (rest : List Placed) (insides : List Inside) : Type 0 where
   prefix : List Placed
   back : List Placed
@@ -109,22 +109,22 @@ module _ (root : PathRoot) (frames : List Frame) (joint : Joint) (all : List Ins
         shape = y;
         tree = tree;
         first = all;
-        last = grown.behind;
+        last = grown.suffix;
         parts = refl;
         runs = refl;
         ends = k;
         stops = λ p z h. let same : q ≡ p = cc in ap (selection.advance y) (sym same) ∙ a;
-        found = grown.is ∙ ap (λ z. z ++ grown.behind) (joint_kept frames joint (form.contains (steps before) (length all)) (all ++ inside w tree ∷ []) q t j)
-            ∙ append_assoc all (inside w tree ∷ []) grown.behind ∙ ap (λ z. all ++ inside z tree ∷ grown.behind) (sym (append-nil w));
+        found = grown.is ∙ ap (λ z. z ++ grown.suffix) (joint_kept frames joint (form.contains (steps before) (length all)) (all ++ inside w tree ∷ []) q t j)
+            ∙ append_assoc all (inside w tree ∷ []) grown.suffix ∙ ap (λ z. all ++ inside z tree ∷ grown.suffix) (sym (append-nil w));
       }
 
   ended_by : (w : List Placed) (y : Shape selection.State) (q : Placed) (rest : List Placed) (o : Option Tree) → selection.advance y q ≡ None → selection.finished_at y ≡ o
-      → m.run_on (m.along_to root (m.behind_next frames joint (m.selected all before w o) q.symbol)) rest ≡ Some x → Passed w y (q ∷ rest) insides
+      → m.run_on (m.along_to root (m.after_next frames joint (m.selected all before w o) q.symbol)) rest ≡ Some x → Passed w y (q ∷ rest) insides
   ended_by w y q rest None a k e = cc
   ended_by w y q rest (Some tree) a k e = ended_by_next w y q rest tree (m.joint_next frames joint (form.contains (steps before) (length all)) (all ++ inside w tree ∷ []) q.symbol) a k refl e
 
   passed_by : (w : List Placed) (y : Shape selection.State) (q : Placed) (rest : List Placed) (o : Option (Shape selection.State)) → selection.advance y q ≡ o
-      → m.run_on (m.along_to root (m.otherwise (m.selecting_next frames joint all before (w ++ q ∷ []) o) (m.behind_next frames joint (m.selected all before w (selection.finished_at y)) q.symbol))) rest ≡ Some x
+      → m.run_on (m.along_to root (m.otherwise (m.selecting_next frames joint all before (w ++ q ∷ []) o) (m.after_next frames joint (m.selected all before w (selection.finished_at y)) q.symbol))) rest ≡ Some x
       → ((next : Shape selection.State) → m.run_on (Some (there (w ++ q ∷ []) next)) rest ≡ Some x → Passed (w ++ q ∷ []) next rest insides) → Passed w y (q ∷ rest) insides
   passed_by w y q rest None a e again = ended_by w y q rest (selection.finished_at y) a refl e
   passed_by w y q rest (Some next) a e again =
@@ -178,7 +178,7 @@ module _ (text : List ℕ) (value : PathForm) (h : SpellsPath text value) where
       by (x, k, f) = (x, ap (λ o. m.run_on o rest) (sym r) ∙ sym (read-append before rest) ∙ ap m.read (sym e) ∙ k, f)
 
   not_misread : (before rest : List Placed) (bad : Option ℕ) (size : ℕ) (fault : QueryFault) → symbols ≡ before ++ rest → WantSelection before → run_read rest bad size ≡ Err fault → ⊥
-  not_misread before rest bad size fault e (R.behind_text root frames joint all xs r) k = by (run_on_from before rest (m.along root (stand frames joint all (m.selecting xs [] (Shape.whole selection.start)))) e r)
+  not_misread before rest bad size fault e (R.after_text root frames joint all xs r) k = by (run_on_from before rest (m.along root (stand frames joint all (m.selecting xs [] (Shape.whole selection.start)))) e r)
     where
       by : (x : m.State) × (m.run_on (Some (m.along root (stand frames joint all (m.selecting xs [] (Shape.whole selection.start))))) rest ≡ Some x) × (m.finished x ≡ given value.path h.insides) → ⊥
       by (x, runs, f) =
@@ -188,26 +188,26 @@ module _ (text : List ℕ) (value : PathForm) (h : SpellsPath text value) where
           let two : ◌≡◌ {A = Result (Form × ℕ) QueryFault} (Err fault) (Ok (one.0, length p.prefix)) = sym k ∙ is in cc
 
   not_refused : (size : ℕ) (fault : QueryFault) → Refuses symbols (symbols_of text).bad size fault → ⊥
-  not_refused size fault (Refuses.limit before p rest s e may r l) = let two : true ≡ false = sym l ∙ h.limits before p rest s e r (outside_behind before p rest s may r) in cc
+  not_refused size fault (Refuses.limit before p rest s e may r l) = let two : true ≡ false = sym l ∙ h.limits before p rest s e r (outside_after before p rest s may r) in cc
   not_refused size fault (Refuses.symbol before p rest s e may r l none) = none (path_begins (before ++ p ∷ []) rest value.path h.insides (subst (λ z. Path z value.path h.insides) (e ∙ sym (append_assoc before (p ∷ []) rest)) h.spells))
   not_refused size fault (Refuses.misread before p rest f e may want k) = not_misread (before ++ p ∷ []) rest (symbols_of text).bad size f (e ∙ sym (append_assoc before (p ∷ []) rest)) want (misread_read rest (symbols_of text).bad size f k)
   not_refused size fault (Refuses.character at e may) = let two : Some at ≡ None = sym e ∙ h.all in cc
   not_refused size fault (Refuses.end e may none) = none value.path h.insides h.spells
 
 -- the selections inside have one form and one place each
-abbrev told : PlacedForm → Result Form QueryFault × Extent
-told found = (Ok found.form, found.extent)
+abbrev known : PlacedForm → Result Form QueryFault × Extent
+known found = (Ok found.form, found.extent)
 
 abbrev asked : Inside → Result Form QueryFault × Extent
 asked i = (rest_read 0 (Shape.whole selection.start) i.symbols None 0, extent_of i.symbols)
 
-each_told : {all : List Inside} {found : List PlacedForm} → Each all found → map told found ≡ map asked all
+each_told : {all : List Inside} {found : List PlacedForm} → Each all found → map known found ≡ map asked all
 each_told E.none = refl
 each_told (E.further {insides = insides} {found = found} each i x s) =
-    map-append told found (placed_form x i.symbols ∷ []) ∙ ap (λ z. z ++ told (placed_form x i.symbols) ∷ []) (each_told each)
+    map-append known found (placed_form x i.symbols ∷ []) ∙ ap (λ z. z ++ known (placed_form x i.symbols) ∷ []) (each_told each)
     ∙ ap (λ r. map asked insides ++ (r, extent_of i.symbols) ∷ []) (sym (selects_read i.symbols None 0 x s)) ∙ sym (map-append asked insides (i ∷ []))
 
-told_same : (x y : PlacedForm) → told x ≡ told y → x ≡ y
+told_same : (x y : PlacedForm) → known x ≡ known y → x ≡ y
 told_same x y e =
     let ok : ◌≡◌ {A = Result Form QueryFault} (Ok x.form) (Ok y.form) = ap (λ b. b.0) e in
     let forms : x.form ≡ y.form = cc in
@@ -217,13 +217,13 @@ told_same x y e =
     placed : Extent → Form → PlacedForm
     placed extent x = record { form = x; extent = extent }
 
-told_one : (a b : List PlacedForm) → map told a ≡ map told b → a ≡ b
+told_one : (a b : List PlacedForm) → map known a ≡ map known b → a ≡ b
 told_one [] [] e = refl
 told_one [] (y ∷ b) e = cc
 told_one (x ∷ a) [] e = cc
 told_one (x ∷ a) (y ∷ b) e =
-    let first : told x ≡ told y = cc in
-    let further : map told a ≡ map told b = cc in
+    let first : known x ≡ known y = cc in
+    let further : map known a ≡ map known b = cc in
     ap (λ z. z ∷ a) (told_same x y first) ∙ ap (λ z. y ∷ z) (told_one a b further)
 
 one_value : (text : List ℕ) (x y : PathForm) → SpellsPath text x → SpellsPath text y → x ≡ y

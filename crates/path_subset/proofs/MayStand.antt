@@ -1,4 +1,4 @@
--- Symbols that may stand may stand with one more symbol, and with those of a selection behind it.
+-- Symbols that may stand may stand with one more symbol, and with those of a selection after it.
 use Rattle.std.proofs.Common.{◌≡◌, false, List, [], ◌∷◌, ◌++◌, Option, Some, None, refl, sym, ◌∙◌, ap, subst, append_assoc, append-nil}
 use Rattle.selection_grammar.specs.declared.symbol.Placed.{Placed}
 use Rattle.path_grammar.specs.steps.Machine.{State, at_root, nothing, advance, run_on, read, open_count}
@@ -10,7 +10,7 @@ use Rattle.path_subset.specs.Refused as R
 use Rattle.path_subset.specs.Refused.{WantSelection, MayStand}
 use Rattle.path_subset.specs.Runs.{IsRun, EndsAmong}
 
--- where symbols with one more among them are parted: before that one, or behind it
+-- where symbols with one more among them are parted: before that one, or after it
 cut : (u : List Placed) (p : Placed) (v x y : List Placed) (C : Type 0) → u ++ p ∷ v ≡ x ++ y → ((c : List Placed) → u ≡ x ++ c → y ≡ c ++ p ∷ v → C) → ((c : List Placed) → x ≡ u ++ p ∷ c → v ≡ c ++ y → C) → C
 cut u p v [] y C e before rest = before u refl (sym e)
 cut [] p v (q ∷ x) y C e before rest =
@@ -24,7 +24,7 @@ cut (d ∷ u) p v (q ∷ x) y C e before rest =
 
 -- no selection comes next
 pub wants : (u : List Placed) (t : State) → read u ≡ Some t → before_selection t ≡ None → WantSelection u → ⊥
-wants u t r e (R.behind_text root frames joint insides steps k) =
+wants u t r e (R.after_text root frames joint insides steps k) =
     let two : ◌≡◌ {A = Option (Option (List form.Step))} (Some None) (Some (Some steps)) = ap Some (sym e) ∙ ap before (sym r ∙ k) in cc
   where
     before : Option State → Option (Option (List form.Step))

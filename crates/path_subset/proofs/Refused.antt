@@ -19,7 +19,7 @@ use Rattle.path_grammar.specs.steps.Machine as m
 use Rattle.path_grammar.specs.steps.Machine.{Joint, Frame, Stage, Inner, stand}
 use Rattle.path_grammar.proofs.Begun.{read-append, refused_begins}
 use Rattle.path_grammar.proofs.Completed as completed
-use Rattle.path_subset.specs.Answer.{Led, behind_run, with_run, led_by, before_selection_at, before_selection, with_condition, turned, further, ended_by, finished_path, read_from, path_read}
+use Rattle.path_subset.specs.Answer.{Led, after_run, with_run, led_by, before_selection_at, before_selection, with_condition, turned, further, ended_by, finished_path, read_from, path_read}
 use Rattle.path_subset.specs.Limits.{exceeds, limit_fault, WithinFrom}
 use Rattle.path_subset.specs.Paths.{PlacedForm, placed_form, PathForm}
 use Rattle.path_subset.specs.Refused as R
@@ -34,7 +34,7 @@ use Rattle.path_subset.proofs.RunLaws.{run_of, misread}
 use Rattle.path_subset.proofs.Runs.{Whole, whole_read}
 use Rattle.path_subset.proofs.Spelled.{Stands, with_state, step_same, next_stands, fresh_selecting, selecting_run, selection_within, none_within, counted, open_same}
 
--- behind all symbols
+-- after all symbols
 ended : (u : List Placed) (s : m.State) (bad : Option ℕ) (size : ℕ) (found : List PlacedForm) (fault : QueryFault) → MayStand u [] → m.read u ≡ Some s → (o : Option form.Path) → finished_path s ≡ o → ended_by bad size found o ≡ Err fault → Refuses u bad size fault
 ended u s (Some at) size found fault h r o f e = let same : Q.Syntax at ≡ fault = cc in subst (Refuses u (Some at) size) same (Refuses.character at refl h)
 ended u s None size found fault h r (Some path) f e = cc
@@ -57,7 +57,7 @@ abbrev selecting_at : m.State → List Placed
 selecting_at (m.at_root stage) = []
 selecting_at (m.along root s) = selecting_stage s.stage
 
--- what is read on from behind some of the symbols has its cause
+-- what is read on from after some of the symbols has its cause
 abbrev Stops : Option ℕ → ℕ → QueryFault → List Placed → Type 0
 Stops bad size fault u = (done : List Placed) (count : ℕ) (s real : m.State) (all : List Inside) (found : List PlacedForm) → Stands s (drop count u) all real → Each all found → m.read (done ++ take count u) ≡ Some real
     → MayStand (done ++ take count u) (drop count u) → read_from s found count u bad size ≡ Err fault → Refuses (done ++ u) bad size fault
@@ -103,7 +103,7 @@ module _ (bad : Option ℕ) (size : ℕ) (fault : QueryFault) (p : Placed) (rest
     within_none : (q : Placed) (c d : List Placed) (o : Option (Shape selection.State)) → take n rest ≡ (q ∷ c) ++ d → selection.run_on (Some (Shape.whole selection.start)) (q ∷ c) ≡ o → WantSelection (done ++ p ∷ q ∷ c) → ⊥
     within_none q c d None j e want =
         let two : None ≡ Some run.shape = ap (λ o. selection.run_on o d) (sym e) ∙ sym (laws.read-append (q ∷ c) d) ∙ ap selection.read (sym j) ∙ run.reads in cc
-    within_none q c d (Some y) j e (R.behind_text other frames joint insides xs g) =
+    within_none q c d (Some y) j e (R.after_text other frames joint insides xs g) =
         let there : Some (into (q ∷ c) y) ≡ Some (m.along other (stand frames joint insides (m.selecting xs [] (Shape.whole selection.start)))) =
         sym (reads_on (Some (into [] (Shape.whole selection.start))) (q ∷ c) begun ∙ selecting_run root i.frames i.joint all before (q ∷ c) [] (Shape.whole selection.start) y e) ∙ g in
         let same : into (q ∷ c) y ≡ m.along other (stand frames joint insides (m.selecting xs [] (Shape.whole selection.start))) = cc in
@@ -131,11 +131,11 @@ module _ (bad : Option ℕ) (size : ℕ) (fault : QueryFault) (p : Placed) (rest
         (ap (λ c. read_from (m.along root (stand i.frames i.joint i.selections (m.ended (form.contains (steps before) c)))) (found ++ placed_form x (take n rest) ∷ []) n rest bad size) (sym (counted each)) ∙ e)
 
   by_run : (t : m.State) (before : List form.Step) (o : Result (Form × ℕ) QueryFault) → run_read rest bad size ≡ o → exceeds (m.open_count s) p.symbol ≡ false → m.advance s p ≡ Some t → before_selection t ≡ Some before
-      → further (behind_run t found before rest o) on ≡ Err fault → Refuses (done ++ p ∷ rest) bad size fault
+      → further (after_run t found before rest o) on ≡ Err fault → Refuses (done ++ p ∷ rest) bad size fault
   by_run (m.at_root stage) before (Err f) k l a b e = cc
   by_run (m.along root i) before (Err f) k l a b e =
       let same : f ≡ fault = cc in
-      Refuses.misread done p rest fault refl h (R.behind_text root i.frames i.joint all before (selection_next done p rest s real all root i before st r a b)) (misread rest bad size fault (k ∙ ap Err same))
+      Refuses.misread done p rest fault refl h (R.after_text root i.frames i.joint all before (selection_next done p rest s real all root i before st r a b)) (misread rest bad size fault (k ∙ ap Err same))
   by_run (m.at_root stage) before (Ok (x, n)) k l a b e = cc
   by_run (m.along root i) before (Ok (x, n)) k l a b e = through root i before x n a b k (whole_read rest bad size x n k) l e
 

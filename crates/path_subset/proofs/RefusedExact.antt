@@ -16,7 +16,7 @@ use Rattle.path_grammar.specs.steps.Machine.{Joint, Frame, Stage, Inner, stand}
 use Rattle.path_grammar.proofs.Begun.{read-append, not_begun}
 use Rattle.path_grammar.proofs.Rooted as rooted
 use Rattle.path_grammar.proofs.Standing as standing
-use Rattle.path_subset.specs.Answer.{Led, behind_run, led_by, before_selection_at, before_selection, further, ended_by, finished_path, read_from}
+use Rattle.path_subset.specs.Answer.{Led, after_run, led_by, before_selection_at, before_selection, further, ended_by, finished_path, read_from}
 use Rattle.path_subset.specs.Limits.{exceeds, limit_fault, goes_on}
 use Rattle.path_subset.specs.Paths.{PlacedForm, PathForm}
 use Rattle.path_subset.specs.Refused as R
@@ -33,17 +33,17 @@ record EndsWithText (u : List Placed) : Type 0 where
   at : Spot
   is : u ≡ prefix ++ name at (codes "text") ∷ []
 
-behind_more : (u v : List Placed) → EndsWithText v → EndsWithText (u ++ v)
-behind_more u v h = record { prefix = u ++ h.prefix; at = h.at; is = ap (λ z. u ++ z) h.is ∙ sym (append_assoc u h.prefix (name h.at (codes "text") ∷ [])) }
+after_more : (u v : List Placed) → EndsWithText v → EndsWithText (u ++ v)
+after_more u v h = record { prefix = u ++ h.prefix; at = h.at; is = ap (λ z. u ++ z) h.is ∙ sym (append_assoc u h.prefix (name h.at (codes "text") ∷ [])) }
 
 under_ends : {frames : List Frame} {n : ℕ} {u : List Placed} {stage : Stage} {ss : List Inside} → standing.Under frames n u stage ss → (xs : List form.Step) → stage ≡ m.selecting xs [] (Shape.whole selection.start) → EndsWithText u
 under_ends (standing.selecting {u = u} rel p q v shape r) xs e =
     let none : v ≡ [] = cc in
-    subst (λ z. EndsWithText (u ++ name p (codes "contains") ∷ name q (codes "text") ∷ z)) (sym none) (behind_more u (name p (codes "contains") ∷ name q (codes "text") ∷ []) (record { prefix = name p (codes "contains") ∷ []; at = q; is = refl }))
+    subst (λ z. EndsWithText (u ++ name p (codes "contains") ∷ name q (codes "text") ∷ z)) (sym none) (after_more u (name p (codes "contains") ∷ name q (codes "text") ∷ []) (record { prefix = name p (codes "contains") ∷ []; at = q; is = refl }))
 under_ends other xs e = cc
 
 inner_ends : {u : List Placed} {s : Inner} → standing.Stands u s → (xs : List form.Step) → s.stage ≡ m.selecting xs [] (Shape.whole selection.start) → EndsWithText u
-inner_ends (standing.under {u = u} {v = v} place a) xs e = behind_more u v (under_ends a xs e)
+inner_ends (standing.under {u = u} {v = v} place a) xs e = after_more u v (under_ends a xs e)
 inner_ends (standing.bracket a) xs e = cc
 inner_ends (standing.number a p k) xs e = cc
 
@@ -53,7 +53,7 @@ stage_of (m.along root s) = Some s.stage
 
 state_ends : {u : List Placed} {s : m.State} → rooted.Reads u s → (xs : List form.Step) → stage_of s ≡ Some (m.selecting xs [] (Shape.whole selection.start)) → EndsWithText u
 state_ends (rooted.at_root a) xs e = cc
-state_ends (rooted.along {u = u} {v = v} {s = s} root a) xs e = let same : s.stage ≡ m.selecting xs [] (Shape.whole selection.start) = cc in behind_more u v (inner_ends a xs same)
+state_ends (rooted.along {u = u} {v = v} {s = s} root a) xs e = let same : s.stage ≡ m.selecting xs [] (Shape.whole selection.start) = cc in after_more u v (inner_ends a xs same)
 
 last_same : (u prefix : List Placed) (p q : Placed) → u ++ p ∷ [] ≡ prefix ++ q ∷ [] → p ≡ q
 last_same [] [] p q e = cc
@@ -64,7 +64,7 @@ last_same (r ∷ t ∷ u) [] p q e = cc
 last_same (r ∷ u) (t ∷ prefix) p q e = let tail : u ++ p ∷ [] ≡ prefix ++ q ∷ [] = cc in last_same u prefix p q tail
 
 text_exceeds_none : (before : List Placed) (p : Placed) (depth : ℕ) → WantSelection (before ++ p ∷ []) → exceeds depth p.symbol ≡ false
-text_exceeds_none before p depth (R.behind_text root frames joint insides steps r) =
+text_exceeds_none before p depth (R.after_text root frames joint insides steps r) =
     let h = state_ends (rooted.reads (before ++ p ∷ []) (m.along root (stand frames joint insides (m.selecting steps [] (Shape.whole selection.start)))) r) steps refl in
     ap (λ (q : Placed). exceeds depth q.symbol) (last_same before h.prefix p (name h.at (codes "text")) h.is)
 
@@ -94,8 +94,8 @@ finished_same s real u all (Stands.ended root (frame ∷ outer) joint some these
 same_there : (u : List Placed) (s t : m.State) → m.read u ≡ Some s → m.read u ≡ Some t → s ≡ t
 same_there u s t e f = let two : Some s ≡ Some t = sym e ∙ f in cc
 
-pub outside_behind : (before : List Placed) (p : Placed) (rest : List Placed) (s : m.State) → MayStand before (p ∷ rest) → m.read before ≡ Some s → goes_on s p ≡ false
-outside_behind before p rest s h r =
+pub outside_after : (before : List Placed) (p : Placed) (rest : List Placed) (s : m.State) → MayStand before (p ∷ rest) → m.read before ≡ Some s → goes_on s p ≡ false
+outside_after before p rest s h r =
     let a = arrive before (p ∷ rest) None 0 h in
     ap (λ x. goes_on x p) (same_there before s a.real r a.reads) ∙ outside a.s a.real p rest a.all a.stands
 
@@ -123,17 +123,17 @@ module _ (bad : Option ℕ) (size : ℕ) (p : Placed) (rest : List Placed) (befo
       stuck (Some t) e = cc
 
   pub at_selection : (fault : QueryFault) → WantSelection (before ++ p ∷ []) → run_read rest bad size ≡ Err fault → expected ≡ Err fault
-  at_selection fault (R.behind_text root frames joint insides steps r) k = by (m.advance a.s p) refl (sym one_on ∙ r)
+  at_selection fault (R.after_text root frames joint insides steps r) k = by (m.advance a.s p) refl (sym one_on ∙ r)
     where
       by : (o : Option m.State) → m.advance a.s p ≡ o → m.run_on (option_map (with_state a.all) o) [] ≡ Some (m.along root (stand frames joint insides (m.selecting steps [] (Shape.whole selection.start)))) → expected ≡ Err fault
       by None e f = cc
       by (Some t) e f =
           let same : with_state a.all t ≡ m.along root (stand frames joint insides (m.selecting steps [] (Shape.whole selection.start))) = cc in
           a.is
-          ∙ one_read a.s t a.found p rest bad size (Some steps) (text_exceeds_none before p (m.open_count a.s) (R.behind_text root frames joint insides steps r)) e (sym (fresh_before a.all t) ∙ ap before_selection same)
-          ∙ ap (λ z. further (behind_run t a.found steps rest z) on) k
+          ∙ one_read a.s t a.found p rest bad size (Some steps) (text_exceeds_none before p (m.open_count a.s) (R.after_text root frames joint insides steps r)) e (sym (fresh_before a.all t) ∙ ap before_selection same)
+          ∙ ap (λ z. further (after_run t a.found steps rest z) on) k
 
--- behind all symbols
+-- after all symbols
 at_end : (symbols : List Placed) (bad : Option ℕ) (size : ℕ) (r : Result PathForm QueryFault) → MayStand symbols [] → ((s : m.State) (found : List PlacedForm) → m.read symbols ≡ Some s → ended_by bad size found (finished_path s) ≡ r)
     → read_from (m.at_root m.nothing) [] 0 symbols bad size ≡ r
 at_end symbols bad size r h ends =

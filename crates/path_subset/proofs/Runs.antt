@@ -1,4 +1,4 @@
--- What is read as a selection is one without a fault, and no symbol behind it goes on with it.
+-- What is read as a selection is one without a fault, and no symbol after it goes on with it.
 use Rattle.std.proofs.Common.{◌≡◌, ◌≤◌, ℕ, zero, suc, Bool, true, false, List, [], ◌∷◌, ◌++◌, length, take, drop, Option, Some, None, Result, Ok, Err, refl, sym, ◌∙◌, ap, subst, arith}
 use Rattle.std.specs.Option.{is_some}
 use Rattle.ft_base.specs.Selection.{Form}

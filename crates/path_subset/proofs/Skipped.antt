@@ -1,4 +1,4 @@
--- What is read behind a symbol, and behind the symbols that were read with it.
+-- What is read after a symbol, and after the symbols that were read with it.
 use Rattle.std.proofs.Common.{◌≡◌, ◌<◌, ◌+◌, ℕ, zero, suc, true, false, cond, List, [], ◌∷◌, length, drop, get_or, Option, Result, Ok, Err, refl, sym, ◌∙◌, ap}
 use Rattle.std.proofs.lemmas.List.{drop-drop, drop_more}
 use Rattle.ft_base.specs.declared.fault.QueryFault.{QueryFault}
@@ -23,7 +23,7 @@ pub first : (s : State) (found : List PlacedForm) (p : Placed) (rest : List Plac
 unfolding read_from
 first s found p rest bad size = refl
 
--- one symbol on, in a list of which so many are behind
+-- one symbol on, in a list of which so many are after
 module _ (s : State) (found : List PlacedForm) (symbols : List Placed) (n : ℕ) (p : Placed) (bad : Option ℕ) (size : ℕ) (within : n < length symbols) (is : p ≡ get_or symbols n p) where
   at_symbol : read_from s found 0 (drop n symbols) bad size ≡ further (turned s found p (drop (n + 1) symbols) bad size) (λ l. read_from l.state l.selections l.count (drop (n + 1) symbols) bad size)
   at_symbol = ap (λ u. read_from s found 0 u bad size) (drop_more symbols n p within ∙ ap (λ q. q ∷ drop (n + 1) symbols) (sym is)) ∙ first s found p (drop (n + 1) symbols) bad size

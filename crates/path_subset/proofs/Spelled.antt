@@ -21,7 +21,7 @@ use Rattle.path_grammar.specs.steps.Machine as m
 use Rattle.path_grammar.specs.steps.Machine.{Joint, Frame, Stage, Inner, stand}
 use Rattle.path_grammar.proofs.Begun.{run_on-append}
 use Rattle.path_grammar.proofs.Rooted.{read_path}
-use Rattle.path_subset.specs.Answer.{Led, behind_run, with_run, led_by, before_selection_at, before_selection, with_condition, turned, further, ended_by, finished_path, read_from, path_read}
+use Rattle.path_subset.specs.Answer.{Led, after_run, with_run, led_by, before_selection_at, before_selection, with_condition, turned, further, ended_by, finished_path, read_from, path_read}
 use Rattle.path_subset.specs.Limits.{exceeds, limit_fault, goes_on, goes_on_at, WithinFrom}
 use Rattle.path_subset.specs.Paths.{PlacedForm, placed_form, PathForm, path_form}
 use Rattle.path_subset.specs.Spelled as E
@@ -29,7 +29,7 @@ use Rattle.path_subset.specs.Spelled.{Each, SpellsPath}
 use Rattle.path_subset.proofs.Everywhere.{fresh, with_all, with_these, joint_same, advance_same}
 use Rattle.path_subset.proofs.Runs.{Whole, whole_read}
 
--- How the machine with the selections so far stands where the reader's, without them, stands before some symbols. Behind a selection it is inside it
+-- How the machine with the selections so far stands where the reader's, without them, stands before some symbols. After a selection it is inside it
 -- still, and nothing of what comes next goes on there.
 pub data Stands : m.State → List Placed → List Inside → m.State → Type 0 where
   at_root : (r : m.RootStage) (u : List Placed) → Stands (m.at_root r) u [] (m.at_root r)
@@ -70,8 +70,8 @@ along_these root all (Some s) = refl
 ended_next : (frames : List Frame) (joint : Joint) (some all : List Inside) (before : List form.Step) (w : List Placed) (x : Tree) (shape : Shape selection.State) (p : Placed) → selection.finished_at shape ≡ Some x → selection.advance shape p ≡ None
     → m.advance_inner (stand frames joint all (m.selecting before w shape)) p ≡ with_these (all ++ inside w x ∷ []) (m.advance_inner (stand frames joint some (m.ended (form.contains (steps before) (length all)))) p)
 ended_next frames joint some all before w x shape p e stops =
-    ap (λ o. m.otherwise (m.selecting_next frames joint all before (w ++ p ∷ []) o) (m.behind_next frames joint (m.selected all before w (selection.finished_at shape)) p.symbol)) stops
-    ∙ ap (λ o. m.behind_next frames joint (m.selected all before w o) p.symbol) e
+    ap (λ o. m.otherwise (m.selecting_next frames joint all before (w ++ p ∷ []) o) (m.after_next frames joint (m.selected all before w (selection.finished_at shape)) p.symbol)) stops
+    ∙ ap (λ o. m.after_next frames joint (m.selected all before w o) p.symbol) e
     ∙ joint_same (all ++ inside w x ∷ []) some frames joint (form.contains (steps before) (length all)) p.symbol
 
 pub step_same : (s real : m.State) (p : Placed) (rest : List Placed) (all : List Inside) → Stands s (p ∷ rest) all real → m.advance real p ≡ option_map (with_state all) (m.advance s p)
@@ -114,7 +114,7 @@ selecting_by : (root : PathRoot) (frames : List Frame) (joint : Joint) (all : Li
     → m.run_on (Some (m.along root (stand frames joint all (m.selecting before w x)))) (p ∷ v) ≡ Some (m.along root (stand frames joint all (m.selecting before (w ++ p ∷ v) r)))
 selecting_by root frames joint all before p v w x r None k e again = cc
 selecting_by root frames joint all before p v w x r (Some y) k e again =
-    ap (λ o. m.run_on (m.along_to root (m.otherwise (m.selecting_next frames joint all before (w ++ p ∷ []) o) (m.behind_next frames joint (m.selected all before w (selection.finished_at x)) p.symbol))) v) k
+    ap (λ o. m.run_on (m.along_to root (m.otherwise (m.selecting_next frames joint all before (w ++ p ∷ []) o) (m.after_next frames joint (m.selected all before w (selection.finished_at x)) p.symbol))) v) k
     ∙ again y e
     ∙ ap (λ z. Some (m.along root (stand frames joint all (m.selecting before z r)))) (append_assoc w (p ∷ []) v)
 
@@ -161,7 +161,7 @@ symbol_within : (root : PathRoot) (frames : List Frame) (joint : Joint) (all : L
 symbol_within root frames joint all before p v b w x r None k e again = cc
 symbol_within root frames joint all before p v b w x r (Some y) k e again =
     one_within (m.along root (stand frames joint all (m.selecting before w x))) (m.along root (stand frames joint all (m.selecting before (w ++ p ∷ []) y))) p (v ++ b)
-    (ap (λ o. m.along_to root (m.otherwise (m.selecting_next frames joint all before (w ++ p ∷ []) o) (m.behind_next frames joint (m.selected all before w (selection.finished_at x)) p.symbol))) k)
+    (ap (λ o. m.along_to root (m.otherwise (m.selecting_next frames joint all before (w ++ p ∷ []) o) (m.after_next frames joint (m.selected all before w (selection.finished_at x)) p.symbol))) k)
     (λ g. let two : true ≡ false = sym (ap is_some k) ∙ g in cc)
     (again y e)
 
@@ -192,7 +192,7 @@ pub record Sound (real : m.State) (u : List Placed) (bad : Option ℕ) (value : 
 sound_before : (real there : m.State) (u v : List Placed) (bad : Option ℕ) (value : PathForm) → m.run_on (Some real) u ≡ m.run_on (Some there) v → (WithinFrom there v → WithinFrom real u) → Sound there v bad value → Sound real u bad value
 sound_before real there u v bad value e within on = record { limits = within on.limits; there = on.there; insides = on.insides; runs = e ∙ on.runs; ends = on.ends; each = on.each; all = on.all }
 
--- behind all symbols
+-- after all symbols
 steps_end : (root : PathRoot) (frames : List Frame) (joint : Joint) (some all : List Inside) (stage : Stage) (bad : Option ℕ) (size : ℕ) (found : List PlacedForm) (value : PathForm) → Each all found
     → ended_by bad size found (option_map (λ whole. whole.0) (m.finished_inner root frames some stage)) ≡ Ok value → Sound (m.along root (stand frames joint all stage)) [] bad value
 steps_end root frames joint some all stage (Some at) size found value each e = cc
@@ -218,7 +218,7 @@ at_end s real all None size found value (Stands.along root frames joint some the
 at_end s real all None size found value (Stands.ended root [] joint some these before w x shape u h stops) each e = cc
 at_end s real all None size found value (Stands.ended root (frame ∷ outer) joint some these before w x shape u h stops) each e = cc
 
--- what is read on from behind some of the symbols is sound
+-- what is read on from after some of the symbols is sound
 abbrev Reads : Option ℕ → ℕ → PathForm → List Placed → Type 0
 Reads bad size value rest = (count : ℕ) (s real : m.State) (all : List Inside) (found : List PlacedForm) → Stands s (drop count rest) all real → Each all found → read_from s found count rest bad size ≡ Ok value → Sound real (drop count rest) bad value
 
@@ -259,7 +259,7 @@ module _ (bad : Option ℕ) (size : ℕ) (value : PathForm) (p : Placed) (rest :
       (all ++ inside (take n rest) run.selects.tree ∷ []) (found ++ placed_form x (take n rest) ∷ []) stands (E.further each (inside (take n rest) run.selects.tree) x run.selects) reads)
 
   by_run : (t : m.State) (before : List form.Step) (r : Result (Form × ℕ) QueryFault) → run_read rest bad size ≡ r → exceeds (m.open_count s) p.symbol ≡ false → m.advance s p ≡ Some t → before_selection t ≡ Some before
-      → further (behind_run t found before rest r) on ≡ Ok value → Sound real (p ∷ rest) bad value
+      → further (after_run t found before rest r) on ≡ Ok value → Sound real (p ∷ rest) bad value
   by_run t before (Err fault) k l a b e = cc
   by_run (m.at_root r) before (Ok (x, n)) k l a b e = cc
   by_run (m.along root i) before (Ok (x, n)) k l a b e = through root i before x n l a b (whole_read rest bad size x n k) e

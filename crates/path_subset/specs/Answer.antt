@@ -21,13 +21,13 @@ abbrev pub before_selection : State → Option (List form.Step)
 before_selection (at_root stage) = None
 before_selection (along root s) = before_selection_at s.stage
 
--- behind a whole condition, in the place of what was read last
+-- after a whole condition, in the place of what was read last
 abbrev pub with_condition : State → form.Condition → State
 with_condition (at_root stage) c = at_root stage
 with_condition (along root s) c = along root (stand s.frames s.joint s.selections (ended c))
 
 -- Where a symbol leads: the machine, whose own list of selections stays empty, since each is read by itself; the selections so far;
--- and how many of the symbols behind it were read with it, as a selection.
+-- and how many of the symbols after it were read with it, as a selection.
 pub record Led : Type 0 where
   pub state : State
   pub selections : List PlacedForm
@@ -36,26 +36,26 @@ pub record Led : Type 0 where
 abbrev pub led : State → List PlacedForm → ℕ → Led
 led state selections count = record { state = state; selections = selections; count = count }
 
--- behind what is read as a selection
-abbrev pub behind_run : State → List PlacedForm → List form.Step → List Placed → Result (Form × ℕ) QueryFault → Result Led QueryFault
-behind_run s selections before rest (Err fault) = Err fault
-behind_run s selections before rest (Ok (x, count)) =
+-- after what is read as a selection
+abbrev pub after_run : State → List PlacedForm → List form.Step → List Placed → Result (Form × ℕ) QueryFault → Result Led QueryFault
+after_run s selections before rest (Err fault) = Err fault
+after_run s selections before rest (Ok (x, count)) =
     Ok (led (with_condition s (form.contains (form.steps before) (length selections))) (selections ++ placed_form x (take count rest) ∷ []) count)
 
 abbrev pub with_run : State → List PlacedForm → Option (List form.Step) → List Placed → Option ℕ → ℕ → Result Led QueryFault
 with_run s selections None rest bad size = Ok (led s selections 0)
-with_run s selections (Some before) rest bad size = behind_run s selections before rest (run_read rest bad size)
+with_run s selections (Some before) rest bad size = after_run s selections before rest (run_read rest bad size)
 
 abbrev pub led_by : Placed → Option State → List PlacedForm → List Placed → Option ℕ → ℕ → Result Led QueryFault
 led_by p None selections rest bad size = Err (Q.Syntax p.from)
 led_by p (Some s) selections rest bad size = with_run s selections (before_selection s) rest bad size
 
--- Where a symbol leads that has these symbols behind it, in a text of so many bytes, which has a character behind them all that begins
--- no symbol, or none. Behind `contains text` it leads through a selection.
+-- Where a symbol leads that has these symbols after it, in a text of so many bytes, which has a character after them all that begins
+-- no symbol, or none. After `contains text` it leads through a selection.
 unfoldable pub turned : State → List PlacedForm → Placed → List Placed → Option ℕ → ℕ → Result Led QueryFault
 turned s selections p rest bad size = if exceeds (open_count s) p.symbol then Err (limit_fault p) else led_by p (advance s p) selections rest bad size
 
--- behind all symbols: a character that begins none, or the end of the text, which is too soon for a path that isn't whole
+-- after all symbols: a character that begins none, or the end of the text, which is too soon for a path that isn't whole
 abbrev pub ended_by : Option ℕ → ℕ → List PlacedForm → Option form.Path → Result PathForm QueryFault
 ended_by (Some bad) size selections whole = Err (Q.Syntax bad)
 ended_by None size selections None = Err (Q.Syntax size)
@@ -69,7 +69,7 @@ abbrev pub further : Result Led QueryFault → (Led → Result PathForm QueryFau
 further (Err fault) on = Err fault
 further (Ok there) on = on there
 
--- What symbols are read as from where the machine stands, behind so many of them that are read already. The first one that exceeds a
+-- What symbols are read as from where the machine stands, after so many of them that are read already. The first one that exceeds a
 -- limit or can't stand there, or the first fault of a selection, whichever comes first, is their fault.
 unfoldable pub read_from : State → List PlacedForm → ℕ → List Placed → Option ℕ → ℕ → Result PathForm QueryFault
 read_from s selections count [] bad size = ended_by bad size selections (finished_path s)

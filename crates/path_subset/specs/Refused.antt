@@ -15,7 +15,7 @@ use Rattle.path_subset.specs.Runs.{EndsAmong, Misread}
 
 -- The symbols before a place end with `contains text`.
 pub data WantSelection (before : List Placed) : Type 0 where
-  behind_text : (root : PathRoot) (frames : List Frame) (joint : Joint) (insides : List Inside) (steps : List form.Step)
+  after_text : (root : PathRoot) (frames : List Frame) (joint : Joint) (insides : List Inside) (steps : List form.Step)
       → read before ≡ Some (along root (stand frames joint insides (selecting steps [] (whole selection.start)))) → WantSelection before
 
 -- Nothing is wrong with some symbols before others: they begin a path; outside of all selections none of them exceeds a limit; and each selection that
@@ -26,7 +26,7 @@ pub record MayStand (before rest : List Placed) : Type 0 where
   pub selections : (prefix inner : List Placed) → before ≡ prefix ++ inner → WantSelection prefix → EndsAmong inner rest
 
 -- The cause of a fault, in a text of so many bytes that has a character that begins no symbol, or none. Nothing is wrong with the symbols before it, so
--- that the first fault counts. Any fault of a selection counts where the selection begins: before all that stands behind the selection, and behind
+-- that the first fault counts. Any fault of a selection counts where the selection begins: before all that stands after the selection, and after
 -- the faults of the selections before it.
 pub data Refuses (symbols : List Placed) (bad : Option ℕ) (size : ℕ) : QueryFault → Type 0 where
   -- a number is too great, or a bracket or parenthesis opens where as many are open as may be
@@ -36,10 +36,10 @@ pub data Refuses (symbols : List Placed) (bad : Option ℕ) (size : ℕ) : Query
   symbol : (before : List Placed) (p : Placed) (rest : List Placed) (s : State) → symbols ≡ before ++ p ∷ rest → MayStand before (p ∷ rest)
       → read before ≡ Some s → exceeds (open_count s) p.symbol ≡ false → (Begins (before ++ p ∷ []) → ⊥)
       → Refuses symbols bad size (Q.Syntax p.from)
-  -- behind `contains text`, of which that symbol is the last, no selection is read
+  -- after `contains text`, of which that symbol is the last, no selection is read
   misread : (before : List Placed) (p : Placed) (rest : List Placed) (fault : QueryFault) → symbols ≡ before ++ p ∷ rest
       → MayStand before (p ∷ rest) → WantSelection (before ++ p ∷ []) → Misread rest bad size fault → Refuses symbols bad size fault
-  -- a character behind all symbols begins none
+  -- a character after all symbols begins none
   character : (at : ℕ) → bad ≡ Some at → MayStand symbols [] → Refuses symbols bad size (Q.Syntax at)
   -- the text ends before the path does
   end : bad ≡ None → MayStand symbols [] → ((value : form.Path) (insides : List Inside) → Path symbols value insides → ⊥)

@@ -29,7 +29,7 @@ pub(crate) fn all_steps(last: LastStep) -> Result<Vec<Step>, Memory>
     Ok(steps)
 }
 
-/// A step without predicates, behind others.
+/// A step without predicates, after others.
 pub(crate) fn tested(alloc: Global, before: Vec<Step>, deep: bool, test: NameTest) -> LastStep
     ensures { last_of result ≡ m.tested (steps_of before.items) deep test }
 {
@@ -105,8 +105,8 @@ pub(crate) fn condition_with(joint: Joint, last: Condition) -> Result<Condition,
     or_with(joint.ors, and)
 }
 
-/// To the left of the condition behind `and`.
-pub(crate) fn behind_and(joint: Joint, last: Condition) -> Result<Joint, Memory>
+/// To the left of the condition after `and`.
+pub(crate) fn after_and(joint: Joint, last: Condition) -> Result<Joint, Memory>
     ensures { IfOk result (λ there. joint_of there ≡ record { ors = (joint_of joint).ors; ands = m.ands_with (joint_of joint) (condition last) }) }
 {
     let mut ands = joint.ands;
@@ -117,8 +117,8 @@ pub(crate) fn behind_and(joint: Joint, last: Condition) -> Result<Joint, Memory>
     })
 }
 
-/// To the left of the condition behind `or`.
-pub(crate) fn behind_or(alloc: Global, joint: Joint, last: Condition) -> Result<Joint, Memory>
+/// To the left of the condition after `or`.
+pub(crate) fn after_or(alloc: Global, joint: Joint, last: Condition) -> Result<Joint, Memory>
     ensures { IfOk result (λ there. joint_of there ≡ record { ors = m.ors_with (joint_of joint) (condition last); ands = [] }) }
 {
     let and = and_with(joint.ands, last)?;

@@ -1,4 +1,4 @@
-//! Steps of the reader behind a whole condition: what closes, `and`, `or`.
+//! Steps of the reader after a whole condition: what closes, `and`, `or`.
 #![tactic(auto, using(
 // the frames that are left
 ft_parser::proofs::Frames::pushed_first, crate::proofs::Turns::joint_next_by,
@@ -12,7 +12,7 @@ ghost use Rattle.path_grammar.specs.View.{condition, predicate};
 ghost use Rattle.path_subset.specs.steps.State.{Leads, frame_of, frames_of, inner_of, joint_of, stage_of, stands};
 ghost use Rattle.path_subset.specs.steps.Turns.{joint_words};
 
-use crate::building::{behind_and, behind_or, condition_with, filtered, negated, no_joint};
+use crate::building::{after_and, after_or, condition_with, filtered, negated, no_joint};
 use crate::heads::is_word;
 use crate::state::{Frame, Inner, Joint, LastStep, Stage};
 use ft_base::Memory;
@@ -30,7 +30,7 @@ pub(crate) fn stand(frames: Vec<Frame>, joint: Joint, stage: Stage) -> Inner
     }
 }
 
-/// A bracket that closes behind a predicate.
+/// A bracket that closes after a predicate.
 pub(crate) fn close_bracket(frames: Vec<Frame>, filter: Predicate) -> Result<Option<Inner>, Memory>
     ensures { Leads (m.close_bracket (frames_of frames.items) [] (predicate filter)) result }
 {
@@ -59,7 +59,7 @@ fn unbracketed(outer: Vec<Frame>, frame: Frame, filter: Predicate) -> Result<Opt
     }
 }
 
-/// A parenthesis that closes behind conditions.
+/// A parenthesis that closes after conditions.
 pub(crate) fn close_parenthesis(
     alloc: Global,
     frames: Vec<Frame>,
@@ -98,8 +98,8 @@ fn unparenthesised(
     }
 }
 
-/// Behind a whole condition.
-pub(crate) fn behind_condition(
+/// After a whole condition.
+pub(crate) fn after_condition(
     alloc: Global,
     frames: Vec<Frame>,
     joint: Joint,
@@ -136,10 +136,10 @@ fn joined(
         return Ok(None);
     }
     if is_word(symbol, "and") {
-        let joint = behind_and(joint, whole)?;
+        let joint = after_and(joint, whole)?;
         Ok(Some(stand(frames, joint, Stage::Wanted(false))))
     } else if is_word(symbol, "or") {
-        let joint = behind_or(alloc, joint, whole)?;
+        let joint = after_or(alloc, joint, whole)?;
         Ok(Some(stand(frames, joint, Stage::Wanted(false))))
     } else {
         drop((frames, joint, whole));

@@ -6,7 +6,7 @@ ghost use Rattle.path_grammar.specs.Form as form;
 ghost use Rattle.path_grammar.specs.steps.Machine as m;
 ghost use Rattle.path_subset.specs.steps.State.{Leads, frames_of, inner_of, joint_of};
 
-use crate::closing::{behind_condition, close_bracket, opened, stand};
+use crate::closing::{after_condition, close_bracket, opened, stand};
 use crate::heads::is_word;
 use crate::state::{Frame, Inner, Joint, Stage};
 use crate::stepping::test;
@@ -47,7 +47,7 @@ fn place(frames: Vec<Frame>, joint: Joint, first: bool, number: u32) -> Option<I
     Some(stand(frames, joint, Stage::Number(number)))
 }
 
-/// Behind the number of a place.
+/// After the number of a place.
 pub(crate) fn numbered(
     frames: Vec<Frame>,
     number: u32,
@@ -61,7 +61,7 @@ pub(crate) fn numbered(
     }
 }
 
-/// Behind `@`.
+/// After `@`.
 pub(crate) fn at_sign(
     alloc: Global,
     frames: Vec<Frame>,
@@ -79,7 +79,7 @@ pub(crate) fn at_sign(
     }
 }
 
-/// Behind the name of an attribute.
+/// After the name of an attribute.
 pub(crate) fn attribute(
     alloc: Global,
     frames: Vec<Frame>,
@@ -95,12 +95,12 @@ pub(crate) fn attribute(
         Symbol::Equals => Ok(Some(stand(frames, joint, Stage::Equals(name)))),
         _ => {
             let whole = Condition::Attribute { name, value: None };
-            behind_condition(alloc, frames, joint, whole, symbol)
+            after_condition(alloc, frames, joint, whole, symbol)
         }
     }
 }
 
-/// Behind the name of an attribute and `=`.
+/// After the name of an attribute and `=`.
 pub(crate) fn equals(
     alloc: Global,
     frames: Vec<Frame>,

@@ -30,7 +30,7 @@ pub fn refused_law()
 
 /// The limits outside of selections by the grammar: a path is within them exactly where its brackets and parentheses stand no more
 /// levels deep in one another than may be open at once and no number is too great; symbols that begin a path, where some path of no more
-/// levels goes on with them. A bracket or parenthesis that may stand behind them exceeds the limit exactly where none does with it.
+/// levels goes on with them. A bracket or parenthesis that may stand after them exceeds the limit exactly where none does with it.
 pub fn depth_law()
     ensures path { (symbols : List Placed) (value : form.Path) (insides : List Inside) → (whole : Path symbols value insides)
         → Within symbols ↔ ((levels whole ≤ max_open) × AreNumbersWithin symbols) }

@@ -8,7 +8,7 @@ use ft_base::Items;
 use ft_syntax::Selection;
 use path_grammar::{Path, PathRoot, Steps};
 
-/// A part of a text: how many bytes are before it, and how many before what stands behind it.
+/// A part of a text: how many bytes are before it, and how many before what stands after it.
 #[derive(Clone, Copy, Debug, PartialEq, Eq)]
 pub struct Extent {
     pub from: usize,

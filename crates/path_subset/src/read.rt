@@ -24,7 +24,7 @@ use path_grammar::{Condition, Path, PathRoot, Step};
 use selection_grammar::Placed;
 use std::alloc::Global;
 
-/// What is left of a text: its symbols, the place of the character behind them all that begins no symbol, if there is one, and the bytes
+/// What is left of a text: its symbols, the place of the character after them all that begins no symbol, if there is one, and the bytes
 /// of the whole text.
 #[derive(Clone, Copy)]
 struct Rest<'a> {
@@ -34,7 +34,7 @@ struct Rest<'a> {
 }
 
 /// Reads a text that is a path, and the selections in it. Each selection is as long as can be. A fault of a selection counts before
-/// what stands behind it; all places count bytes from the start of the text. It reads the text once.
+/// what stands after it; all places count bytes from the start of the text. It reads the text once.
 #[tactic(auto, unfolding(crate::specs::Answer::path_read))]
 pub fn read_path(alloc: Global, text: &str) -> Result<ReadPath, QueryFault>
     ensures { Answered read_form (spec.path_read text.now) result }
@@ -45,7 +45,7 @@ pub fn read_path(alloc: Global, text: &str) -> Result<ReadPath, QueryFault>
     }
 }
 
-/// Reads symbols in a text of so many bytes, which has a character behind them that begins no symbol, or none.
+/// Reads symbols in a text of so many bytes, which has a character after them that begins no symbol, or none.
 fn read_placed(
     alloc: Global,
     placed: &[Placed],
@@ -84,7 +84,7 @@ fn start(alloc: Global) -> ReadSoFar
     }
 }
 
-/// Reads a symbol and, behind `contains text`, the selection that follows it, and gives the number of symbols in the selection.
+/// Reads a symbol and, after `contains text`, the selection that follows it, and gives the number of symbols in the selection.
 #[tactic(auto, unfolding(crate::specs::Answer::turned))]
 fn turn(
     alloc: Global,
@@ -247,7 +247,7 @@ fn end(symbols: &[Placed]) -> usize
     }
 }
 
-/// Behind all symbols: a character that begins none, or the end of the text.
+/// After all symbols: a character that begins none, or the end of the text.
 fn ended(bad: Option<usize>, size: usize, reading: ReadSoFar) -> Result<ReadPath, QueryFault>
     ensures { Answered read_form (spec.ended_by bad size (map found_form reading.found) (spec.finished_path (state_of reading.state))) result }
 {

@@ -11,7 +11,7 @@ pub(crate) struct LastStep {
     pub(crate) filters: Vec<Predicate>,
 }
 
-/// The conditions to the left of the one under way: those before the last `or`, and behind it those before the last `and`.
+/// The conditions to the left of the one under way: those before the last `or`, and after it those before the last `and`.
 #[derive(Drop)]
 pub(crate) struct Joint {
     pub(crate) ors: Vec<Condition>,
@@ -21,7 +21,7 @@ pub(crate) struct Joint {
 /// An open bracket or parenthesis, and what stands to the left of it.
 #[derive(Drop)]
 pub(crate) enum Frame {
-    /// `[` behind a step
+    /// `[` after a step
     Brackets(Joint, LastStep),
     Parentheses(Joint),
     /// `not (`
@@ -33,10 +33,10 @@ pub(crate) enum Frame {
 pub(crate) enum Stage {
     /// `.`, or the root of the path: no step yet.
     NoStep,
-    /// `/` or, where it is deep, `//`, behind these steps.
+    /// `/` or, where it is deep, `//`, after these steps.
     Slashes(Vec<Step>, bool),
     Stepped(LastStep),
-    /// What a condition stands behind, and whether that is `[`.
+    /// What a condition stands after, and whether that is `[`.
     Wanted(bool),
     Number(u32),
     /// The name `not`, in the place of a condition.
@@ -48,11 +48,11 @@ pub(crate) enum Stage {
     Equals(Line),
     /// A condition that can't go on.
     Ended(Condition),
-    /// `contains`, behind these steps.
+    /// `contains`, after these steps.
     Contains(Vec<Step>),
 }
 
-/// Where the reader stands behind the root: the open brackets and parentheses, the innermost last, and what is inside them.
+/// Where the reader stands after the root: the open brackets and parentheses, the innermost last, and what is inside them.
 #[derive(Drop)]
 pub(crate) struct Inner {
     pub(crate) frames: Vec<Frame>,
@@ -60,11 +60,11 @@ pub(crate) struct Inner {
     pub(crate) stage: Stage,
 }
 
-/// Where a symbol leads behind the root.
+/// Where a symbol leads after the root.
 #[derive(Drop)]
 pub(crate) enum Way {
     On(Inner),
-    /// Before a selection, behind `contains text` and these steps.
+    /// Before a selection, after `contains text` and these steps.
     Selection(Vec<Frame>, Joint, Vec<Step>),
 }
 

@@ -8,7 +8,7 @@ ghost use Rattle.path_subset.specs.steps.State.{Leads, frames_of, joint_of, last
 ghost use Rattle.path_subset.specs.steps.Turns.{contains_or_joint};
 
 use crate::building::{all_steps, not_step, tested};
-use crate::closing::{behind_condition, opened, stand};
+use crate::closing::{after_condition, opened, stand};
 use crate::heads::is_word;
 use crate::state::{Frame, Inner, Joint, LastStep, Stage};
 use ft_base::{Items, Line, Memory};
@@ -16,8 +16,8 @@ use path_grammar::{Condition, NameTest, Step};
 use selection_grammar::Symbol;
 use std::alloc::Global;
 
-/// Behind steps, predicates aside.
-pub(crate) fn behind_steps(
+/// After steps, predicates aside.
+pub(crate) fn after_steps(
     alloc: Global,
     frames: Vec<Frame>,
     joint: Joint,
@@ -35,7 +35,7 @@ pub(crate) fn behind_steps(
     }
 }
 
-/// `contains`, where something is open, or what may stand behind a condition.
+/// `contains`, where something is open, or what may stand after a condition.
 fn contained(
     alloc: Global,
     frames: Vec<Frame>,
@@ -47,7 +47,7 @@ fn contained(
 {
     if !is_word(symbol, "contains") {
         let exists = Condition::Exists(Items::from_vec(before));
-        return behind_condition(alloc, frames, joint, exists, symbol);
+        return after_condition(alloc, frames, joint, exists, symbol);
     }
     if frames.is_empty() {
         return Ok(None);
@@ -55,7 +55,7 @@ fn contained(
     Ok(Some(stand(frames, joint, Stage::Contains(before))))
 }
 
-/// Behind a step, to which further predicates may belong.
+/// After a step, to which further predicates may belong.
 pub(crate) fn stepped(
     alloc: Global,
     frames: Vec<Frame>,
@@ -71,12 +71,12 @@ pub(crate) fn stepped(
         Symbol::OpenBracket => opened(alloc, frames, Frame::Brackets(joint, last), true),
         _ => {
             let before = all_steps(last)?;
-            behind_steps(alloc, frames, joint, before, symbol)
+            after_steps(alloc, frames, joint, before, symbol)
         }
     }
 }
 
-/// Behind `not`, in the place of a condition.
+/// After `not`, in the place of a condition.
 pub(crate) fn not_name(
     alloc: Global,
     frames: Vec<Frame>,
@@ -96,7 +96,7 @@ pub(crate) fn not_name(
     }
 }
 
-/// A test of names behind these steps.
+/// A test of names after these steps.
 pub(crate) fn test(
     alloc: Global,
     frames: Vec<Frame>,

@@ -7,17 +7,17 @@ ghost use Rattle.path_subset.specs.steps.State.{frames_of, inner_of, joint_of, r
 ghost use Rattle.path_subset.specs.steps.Turns.{closed_root, opened_root};
 
 use crate::building::no_joint;
-use crate::closing::{behind_condition, stand};
+use crate::closing::{after_condition, stand};
 use crate::conditions::{at_sign, attribute, equals, numbered, wanted};
 use crate::heads::is_word;
 use crate::state::{Frame, Inner, Joint, RootStage, Stage, State, Way};
-use crate::stepping::{behind_steps, not_name, stepped, test};
+use crate::stepping::{after_steps, not_name, stepped, test};
 use ft_base::{Line, Memory};
 use path_grammar::{PathRoot, Step};
 use selection_grammar::{Placed, Symbol};
 use std::alloc::Global;
 
-/// Where a symbol leads behind the root.
+/// Where a symbol leads after the root.
 pub(crate) fn inner_turn(
     alloc: Global,
     inner: Inner,
@@ -32,7 +32,7 @@ pub(crate) fn inner_turn(
     } = inner;
     let symbol = &placed.symbol;
     match stage {
-        Stage::NoStep => Ok(on(behind_steps(alloc, frames, joint, Vec::new(alloc), symbol)?)),
+        Stage::NoStep => Ok(on(after_steps(alloc, frames, joint, Vec::new(alloc), symbol)?)),
         Stage::Slashes(before, deep) => Ok(on(test(alloc, frames, joint, before, deep, symbol)?)),
         Stage::Stepped(last) => Ok(on(stepped(alloc, frames, joint, last, symbol)?)),
         Stage::Wanted(first) => Ok(on(wanted(alloc, frames, joint, first, symbol)?)),
@@ -41,7 +41,7 @@ pub(crate) fn inner_turn(
         Stage::AtSign => Ok(on(at_sign(alloc, frames, joint, symbol)?)),
         Stage::Attribute(name) => Ok(on(attribute(alloc, frames, joint, name, symbol)?)),
         Stage::Equals(name) => Ok(on(equals(alloc, frames, joint, name, symbol)?)),
-        Stage::Ended(whole) => Ok(on(behind_condition(alloc, frames, joint, whole, symbol)?)),
+        Stage::Ended(whole) => Ok(on(after_condition(alloc, frames, joint, whole, symbol)?)),
         Stage::Contains(before) => Ok(text(frames, joint, before, symbol)),
     }
 }
@@ -55,7 +55,7 @@ fn on(there: Option<Inner>) -> Option<Way>
     }
 }
 
-/// `text`, behind `contains`.
+/// `text`, after `contains`.
 fn text(frames: Vec<Frame>, joint: Joint, before: Vec<Step>, symbol: &Symbol) -> Option<Way>
     ensures { option_map way_of result ≡ m.text_next (frames_of frames.items) (joint_of joint) [] (steps_of before.items) symbol.now }
 {
@@ -105,7 +105,7 @@ fn opens(symbol: &Symbol, inside: RootStage) -> Option<State>
     }
 }
 
-/// Behind the root, if the symbol closes its parenthesis.
+/// After the root, if the symbol closes its parenthesis.
 fn closes(alloc: Global, symbol: &Symbol, root: PathRoot) -> Option<State>
     ensures { option_map state_of result ≡ closed_root symbol.now root }
 {

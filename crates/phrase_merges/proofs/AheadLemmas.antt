@@ -34,7 +34,7 @@ pub goes_at : (edge : Edge) (unit : TextUnit) (a b : Hit) → goes_on a b ≡ tr
 goes_at Start unit a b h = leb-true (start_in unit a) (start_in unit b) (and_parts (nat_le (start_in unit a) (start_in unit b)) (nat_le (end_in unit a) (end_in unit b)) (goes_in unit a b h)).0
 goes_at End unit a b h = leb-true (end_in unit a) (end_in unit b) (and_parts (nat_le (start_in unit a) (start_in unit b)) (nat_le (end_in unit a) (end_in unit b)) (goes_in unit a b h)).1
 
--- the first hit that begins at the place or behind it is reached
+-- the first hit that begins at the place or after it is reached
 pub reached : (by : Edge) (unit : TextUnit) (place : ℕ) (hits : List Hit) (hit : Hit) → is_rising hits ≡ true → Some hit ≡ first_hit hits → place ≤ number_at by unit hit → from_on by unit place hits ≡ hits
 reached by unit place [] hit h first le = absurd (none-some hit (sym first))
 reached by unit place (own ∷ hits) hit h first le =
@@ -44,7 +44,7 @@ reached by unit place (own ∷ hits) hit h first le =
     filter_all (λ other. nat_le place (number_at by unit other)) (own ∷ hits)
     (and_from (nat_le place (number_at by unit own)) (list_all (λ other. nat_le place (number_at by unit other)) hits) (le-leb place (number_at by unit own) own_from)
     (all_with (goes_on own) (λ other. nat_le place (number_at by unit other)) hits
-    (λ other on. let behind = goes_at by unit own other on in le-leb place (number_at by unit other) (omega (arith, own_from, behind))) parts.0))
+    (λ other on. let after = goes_at by unit own other on in le-leb place (number_at by unit other) (omega (arith, own_from, after))) parts.0))
 
 pub from_again : (by : Edge) (unit : TextUnit) (place later : ℕ) → place ≤ later → (hits : List Hit) → from_on by unit later (from_on by unit place hits) ≡ from_on by unit later hits
 from_again by unit place later h hits =
@@ -243,7 +243,7 @@ module _ {P : Type 0} (state : P → PhraseState) (by : Edge) (unit : TextUnit) 
 
   -- ---- list after list
 
-  -- the lists in front of the number were reached
+  -- the lists before the number were reached
   pub record Gathering (number_of : Hit → ℕ) (place : ℕ) (old now : List P) (number : ℕ) (least : Option ℕ) (start end : ℕ) : Type 0 where
     pub least_is : sooner least (least_of number_of (drop number (lists_from state by unit place old))) ≡ least_of number_of (lists_from state by unit place old)
     pub left : lists_from state by unit place now ≡ lists_from state by unit place old
@@ -262,13 +262,13 @@ module _ {P : Type 0} (state : P → PhraseState) (by : Edge) (unit : TextUnit) 
       let within : number < length lists = omega (arith, h, many) in
       let here : view x ≡ get_or lists number (view x) =
       ap view read ∙ sym (get_or-map view now number x) ∙ ap (λ (views : List (List Hit)). get_or views number (view x)) so_far.left in
-      let told : option_map (number_at edge unit) first ≡ least_in (number_at edge unit) (get_or lists number (view x)) =
+      let known : option_map (number_at edge unit) first ≡ least_in (number_at edge unit) (get_or lists number (view x)) =
       ap (option_map (number_at edge unit)) is ∙ least_first edge unit (state y).rest rises ∙ ap (least_in (number_at edge unit)) (rest ∙ here) in
       let again : view y ≡ view x =
       ap (from_on by unit place) rest ∙ from_again by unit place place (omega arith) (state x).rest in
       record {
         least_is =
-            ap (λ one. sooner (sooner least one) (least_of (number_at edge unit) (drop (number + 1) lists))) told
+            ap (λ one. sooner (sooner least one) (least_of (number_at edge unit) (drop (number + 1) lists))) known
             ∙ sooner_turn least (least_in (number_at edge unit) (get_or lists number (view x))) (least_of (number_at edge unit) (drop (number + 1) lists))
             ∙ ap (λ (views : List (List Hit)). sooner least (least_of (number_at edge unit) views)) (sym (drop_more lists number (view x) within))
             ∙ so_far.least_is;

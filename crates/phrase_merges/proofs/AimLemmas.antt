@@ -2,7 +2,7 @@
 use Rattle.std.proofs.Common.{◌≡◌, refl, sym, ap, ◌∙◌, ℕ, ◌+◌, ◌<◌, ◌≤◌, Bool, true, ◌&&◌, List, [], ◌∷◌, ◌++◌, map, flat_map, length, get_or, set, take, Vec, Global, arith}
 use Rattle.std.specs.List.{list_all}
 use Rattle.std.proofs.Math.ListN.{get_or-map}
-use Rattle.std.proofs.lemmas.List.Folds.{list_all-map}
+use Rattle.std.proofs.lemmas.List.Folds.{flat_map-map, list_all-map}
 use Rattle.std.proofs.lemmas.List.{length-map, map_more, map_push, take_more_set, take_all}
 use Rattle.ft_base.specs.declared.hit.Hit.{Hit}
 use Rattle.ft_base.specs.declared.span.Span.{Span}
@@ -11,7 +11,7 @@ use Rattle.place_merges.proofs.MoveLemmas.{all_at, map_set}
 use Rattle.phrase_merges.specs.Rows.{all_hits, all_rising, hits_there, is_rising, rise_there}
 
 module _ {A C D : Type 0} (view : A → C) (made : A → D) (to_make : C → D) where
-  -- the parts look as they did, and those in front of the number are made
+  -- the parts look as they did, and those before the number are made
   pub record Making (views : List C) (now : List A) (number start end : ℕ) : Type 0 where
     pub same : map view now ≡ views
     pub done : map made (take number now) ≡ map to_make (take number views)
@@ -55,10 +55,6 @@ module _ {A C D : Type 0} (view : A → C) (made : A → D) (to_make : C → D) 
 
 -- ---- phrases that are aimed
 
-pub flat : {A B : Type 0} (f : A → List B) (xs : List A) → flat_map (λ ys. ys) (map f xs) ≡ flat_map f xs
-flat f [] = refl
-flat f (x ∷ xs) = ap (λ rest. f x ++ rest) (flat f xs)
-
 module _ {P : Type 0} (state : P → PhraseState) (doc : ℕ) (span : Span) where
   abbrev pub rests : Vec P Global → List (List Hit)
   rests phrase = map (λ source. (state source).rest) phrase.items
@@ -69,11 +65,11 @@ module _ {P : Type 0} (state : P → PhraseState) (doc : ℕ) (span : Span) wher
     where
       from_rests : (own : List (Vec P Global)) → map (flat_map (λ hits. hits)) (map rests own) ≡ all_hits state own
       from_rests [] = refl
-      from_rests (phrase ∷ own) = λ i. flat (λ source. (state source).rest) phrase.items i ∷ from_rests own i
+      from_rests (phrase ∷ own) = λ i. flat_map-map (λ own. own) (λ source. (state source).rest) phrase.items i ∷ from_rests own i
 
       from_aims : (own : List (List PhraseAims)) → map (flat_map (λ hits. hits)) (map (map (λ one. one.hits doc span)) own) ≡ map (hits_there doc span) own
       from_aims [] = refl
-      from_aims (lists ∷ own) = λ i. flat (λ (one : PhraseAims). one.hits doc span) lists i ∷ from_aims own i
+      from_aims (lists ∷ own) = λ i. flat_map-map (λ own. own) (λ (one : PhraseAims). one.hits doc span) lists i ∷ from_aims own i
 
   pub rising_aimed : (phrases : List (Vec P Global)) (aims : List (List PhraseAims)) → map rests phrases ≡ map (map (λ one. one.hits doc span)) aims
       → rise_there doc span aims ≡ true → all_rising state phrases ≡ true

@@ -1,4 +1,4 @@
--- Distances of at most so much: what is left behind the farthest of the places at which the phrases begin.
+-- Distances of at most so much: what is left after the farthest of the places at which the phrases begin.
 use Rattle.std.proofs.Common.{◌≡◌, refl, ℕ, suc, ◌+◌, ◌-◌, ◌<◌, ◌≤◌, Bool, true, ◌&&◌, List, [], ◌∷◌, map, length, arith}
 use Rattle.std.specs.Prelude.{nat_le, nat_lt}
 use Rattle.std.specs.List.{list_all}
@@ -15,7 +15,7 @@ use Rattle.phrase_merges.proofs.WithinLemmas.{all_from_least, greatest_is, least
 abbrev pub ends_from : TextUnit → ℕ → Hit → Bool
 ends_from unit place hit = nat_le place (end_in unit hit)
 
--- hits that end at a place or behind it and begin near it are near one another
+-- hits that end at a place or after it and begin near it are near one another
 pub found_near : (size : ℕ) (unit : TextUnit) (low far : ℕ) (chosen : List Hit) → far ≤ low + (size + 1) → (list_all (ends_from unit low) chosen && nat_lt 0 (length chosen)) ≡ true
     → nat_le (latest (λ hit. start_in unit hit) chosen) far ≡ true → are_near size unit chosen ≡ true
 found_near size unit low far [] near good short = absurd (empty (ltb-true 0 0 (and_parts true (nat_lt 0 0) good).1))

@@ -1,4 +1,4 @@
--- Phrases in order: the first hit that doesn't begin in front of the last one serves best.
+-- Phrases in order: the first hit that doesn't begin before the last one serves best.
 use Rattle.std.proofs.Common.{◌≡◌, refl, sym, ap, ◌∙◌, ℕ, ◌+◌, ◌<◌, ◌≤◌, Bool, true, false, ◌&&◌, eqb, true≢false, List, [], ◌∷◌, map, length, get_or, drop, set, length-set, Some, None, Vec, Global, arith}
 use Rattle.std.specs.Prelude.{nat_le}
 use Rattle.std.specs.List.{list_any, list_all}
@@ -85,7 +85,7 @@ none_of hits place is other from there =
 -- ---- phrase after phrase
 
 module _ {P : Type 0} (state : P → PhraseState) where
-  -- the phrases in front of the number have hits in order, up to the place
+  -- the phrases before the number have hits in order, up to the place
   pub record Rising (old now : List (Vec P Global)) (place number start end : ℕ) : Type 0 where
     pub ordered : rising firsts place (drop number (all_hits state old)) ≡ some_choice begin_in_order (all_hits state old)
     pub unmoved : drop number now ≡ drop number old
@@ -97,7 +97,7 @@ module _ {P : Type 0} (state : P → PhraseState) where
   pub rising_starts : (old : List (Vec P Global)) (steps : ℕ) → all_rising state old ≡ true → Rising old old 0 0 steps steps
   rising_starts old steps h = record { ordered = sym (in_order_is (all_hits state old)); unmoved = refl; long = refl; rises = h; aims = refl; grown = omega arith }
 
-  -- the phrase at the number, and those behind it
+  -- the phrase at the number, and those after it
   at_number : (old now : List (Vec P Global)) (place number start end : ℕ) (x : Vec P Global) → Rising old now place number start end → number < length now → x ≡ get_or now number x
       → drop number (all_hits state old) ≡ hits_left state x.items ∷ drop (number + 1) (all_hits state old)
   at_number old now place number start end x so_far h read =

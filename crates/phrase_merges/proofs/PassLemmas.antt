@@ -1,4 +1,4 @@
--- Passes: what is left of the choices behind the farthest of the numbers that each phrase has.
+-- Passes: what is left of the choices after the farthest of the numbers that each phrase has.
 use Rattle.std.proofs.Common.{◌≡◌, refl, sym, ap, ◌∙◌, ℕ, ◌<◌, ◌≤◌, Bool, true, ◌&&◌, List, [], ◌∷◌, map, length, Some, arith}
 use Rattle.std.specs.Prelude.{nat_le, nat_lt}
 use Rattle.std.specs.List.{list_all}

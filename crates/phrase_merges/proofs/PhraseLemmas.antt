@@ -23,7 +23,7 @@ farther_turn a b (Some c) = ap Some (turn a b c)
     turn x y z = omega arith
 
 module _ {P : Type 0} (state : P → PhraseState) (by : Edge) (unit : TextUnit) where
-  -- the phrases in front of the number reach so far
+  -- the phrases before the number reach so far
   pub record Reaching (number_of : Hit → ℕ) (place : ℕ) (old now : List (Vec P Global)) (number far start end : ℕ) : Type 0 where
     pub far_is : farther (Some far) (farthest_of number_of (drop number (phrases_from state by unit place old))) ≡ farthest_of number_of (phrases_from state by unit place old)
     pub left : phrases_from state by unit place now ≡ phrases_from state by unit place old
@@ -102,7 +102,7 @@ module _ {P : Type 0} (state : P → PhraseState) (by : Edge) (unit : TextUnit) 
       ∙ length-map old (λ (phrase : Vec P Global). lists_from state by unit low phrase.items)
 
   module _ (number_of : Hit → ℕ) (test : List Hit → Bool) where
-    -- no choice passes that has a hit in front of the place
+    -- no choice passes that has a hit before the place
     pub record Narrowing (old now : List (Vec P Global)) (low start end : ℕ) : Type 0 where
       pub passes : some_choice test (map (from_on by unit low) (all_hits state now)) ≡ some_choice test (all_hits state old)
       pub some : 0 < length now
@@ -143,10 +143,10 @@ module _ {P : Type 0} (state : P → PhraseState) (by : Edge) (unit : TextUnit) 
     narrow_goes_on old now after low later far start middle end so_far is order small rule left rises aims more =
         let many = same_length low now after left in
         let own = same_hits low now after left in
-        let told = ap (λ (phrases : List (List (List Hit))). farthest_of number_of phrases) left in
+        let known = ap (λ (phrases : List (List (List Hit))). farthest_of number_of phrases) left in
         record {
           passes =
-              pass_moves by unit number_of test low later far (all_hits state after) (sym (farthest_from state by unit number_of low after) ∙ told ∙ sym is) order rule
+              pass_moves by unit number_of test low later far (all_hits state after) (sym (farthest_from state by unit number_of low after) ∙ known ∙ sym is) order rule
               ∙ ap (some_choice test) own
               ∙ so_far.passes;
           some = omega (arith, so_far.some, many);

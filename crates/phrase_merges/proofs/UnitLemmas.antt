@@ -20,7 +20,7 @@ use Rattle.window_merges.specs.Words.{are_numbered, filtered_words}
 use Rattle.window_merges.proofs.ChoiceLemmas.{least_first}
 use Rattle.window_merges.proofs.ChoiceTests.{any_on, choice_map, choice_on}
 use Rattle.window_merges.proofs.FilterLemmas.{filtered_choices, ordered_choices}
-use Rattle.phrase_merges.specs.Choices.{are_within, begin_in_order, ends_behind}
+use Rattle.phrase_merges.specs.Choices.{are_within, begin_in_order, ends_after}
 use Rattle.phrase_merges.proofs.AheadLemmas.{latest}
 use Rattle.phrase_merges.proofs.ChoiceLemmas.{all_both, all_with}
 use Rattle.phrase_merges.proofs.WithinLemmas.{all_from_least, begins_from, found_within, greatest_is, within_is}
@@ -65,7 +65,7 @@ module _ (unit : TextUnit) where
       (eq-eqb (start_in unit a) (end_in unit a) (a_start ∙ sym a_end)) (eq-eqb (start_in unit b) (end_in unit b) (b_start ∙ sym b_end)))
       (eq-eqb (start_in unit a) (start_in unit b) (a_start ∙ sym b_start))
 
-  placed : (place : ℕ) (other : Hit) → ends_behind unit other ≡ true → (begins_from unit place other && nat_le (end_in unit other) place) ≡ true → at_place place other ≡ true
+  placed : (place : ℕ) (other : Hit) → ends_after unit other ≡ true → (begins_from unit place other && nat_le (end_in unit other) place) ≡ true → at_place place other ≡ true
   placed place other e k =
       let parts = and_parts (begins_from unit place other) (nat_le (end_in unit other) place) k in
       let from = leb-true place (start_in unit other) parts.0 in
@@ -74,7 +74,7 @@ module _ (unit : TextUnit) where
       and_from (eqb (start_in unit other) place) (eqb (end_in unit other) place)
       (eq-eqb (start_in unit other) place (omega (arith, from, to, order))) (eq-eqb (end_in unit other) place (omega (arith, from, to, order)))
 
-  one_window : (hit : Hit) (hits : List Hit) → list_all (ends_behind unit) (hit ∷ hits) ≡ true → all_in_one unit (hit ∷ hits) ≡ are_within 1 unit (hit ∷ hits)
+  one_window : (hit : Hit) (hits : List Hit) → list_all (ends_after unit) (hit ∷ hits) ≡ true → all_in_one unit (hit ∷ hits) ≡ are_within 1 unit (hit ∷ hits)
   one_window hit hits well = same_tests (all_in_one unit chosen) (are_within 1 unit chosen) to back
     where
       chosen : List Hit
@@ -108,24 +108,24 @@ module _ (unit : TextUnit) where
           let both = all_both (begins_from unit place) (λ other. nat_le (end_in unit other) place) (λ other. begins_from unit place other && nat_le (end_in unit other) place) chosen
           (λ other a b. and_from (begins_from unit place other) (nat_le (end_in unit other) place) a b) starts ends in
           let there : list_all (at_place place) chosen ≡ true =
-          all_both (ends_behind unit) (λ other. begins_from unit place other && nat_le (end_in unit other) place) (at_place place) chosen (λ other e k. placed place other e k) well both in
+          all_both (ends_after unit) (λ other. begins_from unit place other && nat_le (end_in unit other) place) (at_place place) chosen (λ other e k. placed place other e k) well both in
           all_with (at_place place) (λ a. list_all (share_one unit a) chosen) chosen (λ a e. all_with (at_place place) (share_one unit a) chosen (λ b k. at_one place a b e k) there) there
 
   one_unit : (kind : Filter) (item : Span) (hits : List Hit) (phrases : List (List Hit)) → ((includes : List Hit) → passes kind includes item ≡ all_in_one unit includes)
-      → list_all (list_all (ends_behind unit)) (hits ∷ phrases) ≡ true
+      → list_all (list_all (ends_after unit)) (hits ∷ phrases) ≡ true
       → satisfied (matches_of item (filtered_words kind (hits ∷ phrases))) ≡ some_choice (are_within 1 unit) (hits ∷ phrases)
   one_unit kind item hits phrases is well =
-      let parts = and_parts (list_all (ends_behind unit) hits) (list_all (list_all (ends_behind unit)) phrases) well in
+      let parts = and_parts (list_all (ends_after unit) hits) (list_all (list_all (ends_after unit)) phrases) well in
       filtered_choices kind item hits phrases
-      ∙ any_on (ends_behind unit) (λ hit. some_choice (λ chosen. passes kind (hit ∷ chosen) item) phrases) (λ hit. some_choice (λ chosen. are_within 1 unit (hit ∷ chosen)) phrases) hits parts.0
-      (λ hit one. choice_on (ends_behind unit) (λ chosen. passes kind (hit ∷ chosen) item) (λ chosen. are_within 1 unit (hit ∷ chosen)) phrases parts.1
-      (λ chosen all. is (hit ∷ chosen) ∙ one_window hit chosen (and_from (ends_behind unit hit) (list_all (ends_behind unit) chosen) one all)))
+      ∙ any_on (ends_after unit) (λ hit. some_choice (λ chosen. passes kind (hit ∷ chosen) item) phrases) (λ hit. some_choice (λ chosen. are_within 1 unit (hit ∷ chosen)) phrases) hits parts.0
+      (λ hit one. choice_on (ends_after unit) (λ chosen. passes kind (hit ∷ chosen) item) (λ chosen. are_within 1 unit (hit ∷ chosen)) phrases parts.1
+      (λ chosen all. is (hit ∷ chosen) ∙ one_window hit chosen (and_from (ends_after unit hit) (list_all (ends_after unit) chosen) one all)))
 
-pub same_sentence : (item : Span) (hits : List Hit) (phrases : List (List Hit)) → list_all (list_all (ends_behind Sentences)) (hits ∷ phrases) ≡ true
+pub same_sentence : (item : Span) (hits : List Hit) (phrases : List (List Hit)) → list_all (list_all (ends_after Sentences)) (hits ∷ phrases) ≡ true
     → satisfied (matches_of item (filtered_words F.SameSentence (hits ∷ phrases))) ≡ some_choice (are_within 1 Sentences) (hits ∷ phrases)
 same_sentence item hits phrases well = one_unit Sentences F.SameSentence item hits phrases (λ includes. refl) well
 
-pub same_paragraph : (item : Span) (hits : List Hit) (phrases : List (List Hit)) → list_all (list_all (ends_behind Paragraphs)) (hits ∷ phrases) ≡ true
+pub same_paragraph : (item : Span) (hits : List Hit) (phrases : List (List Hit)) → list_all (list_all (ends_after Paragraphs)) (hits ∷ phrases) ≡ true
     → satisfied (matches_of item (filtered_words F.SameParagraph (hits ∷ phrases))) ≡ some_choice (are_within 1 Paragraphs) (hits ∷ phrases)
 same_paragraph item hits phrases well = one_unit Paragraphs F.SameParagraph item hits phrases (λ includes. refl) well
 

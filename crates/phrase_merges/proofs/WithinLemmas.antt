@@ -1,4 +1,4 @@
--- Windows: what is left of them behind the farthest of the places up to which the phrases reach.
+-- Windows: what is left of them after the farthest of the places up to which the phrases reach.
 use Rattle.std.proofs.Common.{◌≡◌, refl, sym, ◌∙◌, ℕ, ◌+◌, ◌-◌, ◌<◌, ◌≤◌, min, max, Bool, true, ◌&&◌, List, [], ◌∷◌, map, length, arith}
 use Rattle.std.specs.Prelude.{nat_le, nat_lt}
 use Rattle.std.specs.List.{list_all}
@@ -41,7 +41,7 @@ all_from_least number low first (hit ∷ hits) h =
     and_from (nat_le low (number hit)) (list_all (λ other. nat_le low (number other)) hits) (le-leb low (number hit) (omega (arith, h, own)))
     (all_from_least number low (min first (number hit)) hits h)
 
--- hits that begin at a place or behind it and end near it are in one window
+-- hits that begin at a place or after it and end near it are in one window
 pub found_within : (size : ℕ) (unit : TextUnit) (low far : ℕ) (chosen : List Hit) → far < low + size → (list_all (begins_from unit low) chosen && nat_lt 0 (length chosen)) ≡ true
     → nat_le (latest (λ hit. end_in unit hit) chosen) far ≡ true → are_within size unit chosen ≡ true
 found_within size unit low far [] near good short = absurd (empty (ltb-true 0 0 (and_parts true (nat_lt 0 0) good).1))

@@ -13,24 +13,24 @@ use Rattle.window_merges.specs.Choices.{are_in_order}
 abbrev pub are_within : ℕ → TextUnit → List Hit → Bool
 are_within size unit hits = fits_window size unit (join hits)
 
--- whether no hit begins more than so many words, sentences or paragraphs behind the end of another: in `a x b` there is one between
+-- whether no hit begins more than so many words, sentences or paragraphs after the end of another: in `a x b` there is one between
 -- "a" and "b"
 abbrev pub are_near : ℕ → TextUnit → List Hit → Bool
 are_near size unit [] = false
 are_near size unit (first ∷ rest) =
     nat_le (greatest (start_in unit first) (map (λ hit. start_in unit hit) rest)) (suc (least (end_in unit first) (map (λ hit. end_in unit hit) rest) + size))
 
--- whether the second hit begins behind the end of the first, with at least so many words, sentences or paragraphs between them, and at
+-- whether the second hit begins after the end of the first, with at least so many words, sentences or paragraphs between them, and at
 -- most so many, if there is a most
-abbrev pub is_behind : ℕ → Option ℕ → TextUnit → Hit → Hit → Bool
-is_behind low None unit a b = nat_le (suc (end_in unit a + low)) (start_in unit b)
-is_behind low (Some high) unit a b = nat_le (suc (end_in unit a + low)) (start_in unit b) && nat_le (start_in unit b) (suc (end_in unit a + high))
+abbrev pub is_after : ℕ → Option ℕ → TextUnit → Hit → Hit → Bool
+is_after low None unit a b = nat_le (suc (end_in unit a + low)) (start_in unit b)
+is_after low (Some high) unit a b = nat_le (suc (end_in unit a + low)) (start_in unit b) && nat_le (start_in unit b) (suc (end_in unit a + high))
 
--- whether there are two hits, one of which is so far behind the other
+-- whether there are two hits, one of which is so far after the other
 abbrev pub are_between : ℕ → Option ℕ → TextUnit → List Hit → Bool
 are_between low high unit [] = false
 are_between low high unit (a ∷ []) = false
-are_between low high unit (a ∷ b ∷ []) = is_behind low high unit a b || is_behind low high unit b a
+are_between low high unit (a ∷ b ∷ []) = is_after low high unit a b || is_after low high unit b a
 are_between low high unit (a ∷ b ∷ c ∷ rest) = false
 
 -- whether hits are as far from one another as a range tells: those that overlap are so under `at most` alone
@@ -40,10 +40,10 @@ are_apart (AtLeast size) unit hits = are_between size None unit hits
 are_apart (AtMost size) unit hits = are_near size unit hits
 are_apart (FromTo low high) unit hits = are_between low (Some high) unit hits
 
--- whether no hit begins in front of one that comes earlier in the list
+-- whether no hit begins before one that comes earlier in the list
 abbrev pub begin_in_order : List Hit → Bool
 begin_in_order hits = are_in_order (map (λ hit. hit.from) hits)
 
 -- whether a hit ends no earlier than it begins
-abbrev pub ends_behind : TextUnit → Hit → Bool
-ends_behind unit hit = nat_le (start_in unit hit) (end_in unit hit)
+abbrev pub ends_after : TextUnit → Hit → Bool
+ends_after unit hit = nat_le (start_in unit hit) (end_in unit hit)

@@ -26,14 +26,14 @@ aims_of state sources = map (λ source. (state source).aims) sources
 abbrev pub all_aims : {P : Type 0} → (P → PhraseState) → List (Vec P Global) → List (List PhraseAims)
 all_aims state phrases = map (λ phrase. aims_of state phrase.items) phrases
 
--- whether the second hit neither begins nor ends in front of the first, in words, sentences or paragraphs
+-- whether the second hit neither begins nor ends before the first, in words, sentences or paragraphs
 abbrev pub goes_on_in : TextUnit → Hit → Hit → Bool
 goes_on_in unit a b = nat_le (start_in unit a) (start_in unit b) && nat_le (end_in unit a) (end_in unit b)
 
 abbrev pub goes_on : Hit → Hit → Bool
 goes_on a b = goes_on_in Words a b && (goes_on_in Sentences a b && goes_on_in Paragraphs a b)
 
--- whether no hit of a list begins or ends in front of an earlier one: so it is where all have as many words
+-- whether no hit of a list begins or ends before an earlier one: so it is where all have as many words
 abbrev pub is_rising : List Hit → Bool
 is_rising hits = every_two goes_on hits
 

@@ -4,7 +4,7 @@ ghost use Rattle.std.specs.Prelude.{◌≡◌, ◌≤◌, map, true};
 ghost use Rattle.window_merges.specs.Choices.{some_choice};
 ghost use Rattle.phrase_merges.specs.Choices.{are_apart, are_between};
 ghost use Rattle.phrase_merges.specs.Rows.{aims_of, all_aims, all_may, are_rising, hits_left, hits_there, rise_there};
-ghost use Rattle.phrase_merges.specs.steps.Ahead.{some_behind};
+ghost use Rattle.phrase_merges.specs.steps.Ahead.{some_after};
 
 use crate::aiming::aim_all;
 use crate::edge::Edge;
@@ -17,7 +17,7 @@ use std::sync::ledger::Ledger;
 /// Whether one hit of each of two phrases, in the span of the document, can be chosen so that as many words, sentences or paragraphs
 /// are between them as the range tells.
 ///
-/// Either phrase may stand in front, and the lists go forward only, so they are aimed at the span for each of the two orders.
+/// Either phrase may stand before, and the lists go forward only, so they are aimed at the span for each of the two orders.
 pub fn stand_apart<P: PhraseHits, L: Ledger>(
     phrases: &mut Vec<Vec<P>>,
     doc: DocId,
@@ -63,20 +63,20 @@ fn stand_between<P: PhraseHits, L: Ledger>(
     }
     aim_all(phrases, doc, span, steps);
     let (first, second) = phrases.split_at_mut(1);
-    if stands_behind(&mut first[0], &mut second[0], low, high, unit, steps) {
+    if stands_after(&mut first[0], &mut second[0], low, high, unit, steps) {
         return true;
     }
     aim_all(phrases, doc, span, steps);
     let (first, second) = phrases.split_at_mut(1);
-    stands_behind(&mut second[0], &mut first[0], low, high, unit, steps)
+    stands_after(&mut second[0], &mut first[0], low, high, unit, steps)
 }
 
-/// Whether a hit of the second phrase stands behind one of the first, with at least `low` words, sentences or paragraphs between
+/// Whether a hit of the second phrase stands after one of the first, with at least `low` words, sentences or paragraphs between
 /// them, and at most `high`, if there is a most.
 ///
 /// Of the hits of the first phrase that are left the one that ends first lets the second begin first. If even that begins too far
-/// on, whatever ends too far in front of it is left behind.
-fn stands_behind<P: PhraseHits, L: Ledger>(
+/// on, whatever ends too far before it is left behind.
+fn stands_after<P: PhraseHits, L: Ledger>(
     first: &mut Vec<P>,
     second: &mut Vec<P>,
     low: u32,
@@ -86,15 +86,15 @@ fn stands_behind<P: PhraseHits, L: Ledger>(
 ) -> bool
     requires first { are_rising P.state first.old.items ≡ true }
     requires second { are_rising P.state second.old.items ≡ true }
-    ensures behind { result ≡ some_behind low high unit (hits_left P.state first.old.items) (hits_left P.state second.old.items) }
+    ensures after { result ≡ some_after low high unit (hits_left P.state first.old.items) (hits_left P.state second.old.items) }
     ensures first_aims { aims_of P.state first.new.items ≡ aims_of P.state first.old.items }
     ensures second_aims { aims_of P.state second.new.items ≡ aims_of P.state second.old.items }
     ensures grown { steps.old ≤ steps.new }
 {
     let mut place: u64 = 0;
     while let Some(end) = least_number(first, Edge::End, Edge::End, unit, place, steps) {
-        let behind = u64::from(end) + 1;
-        let from = behind + u64::from(low);
+        let after = u64::from(end) + 1;
+        let from = after + u64::from(low);
         let start = match least_number(second, Edge::Start, Edge::Start, unit, from, steps) {
             None => return false,
             Some(start) => u64::from(start),
@@ -103,7 +103,7 @@ fn stands_behind<P: PhraseHits, L: Ledger>(
             None => return true,
             Some(high) => u64::from(high),
         };
-        if start <= behind + reach {
+        if start <= after + reach {
             return true;
         }
         place = start - 1 - reach;

@@ -33,9 +33,9 @@ pub fn sentences()
 
 /// Only where phrases begin counts for their order.
 pub fn order()
-    ensures one_behind_the_other { some_choice begin_in_order ((hit 1 1 2 ∷ []) ∷ (hit 2 4 5 ∷ []) ∷ []) ≡ true }
+    ensures one_after_the_other { some_choice begin_in_order ((hit 1 1 2 ∷ []) ∷ (hit 2 4 5 ∷ []) ∷ []) ≡ true }
     ensures one_within_the_other { some_choice begin_in_order ((hit 1 1 5 ∷ []) ∷ (hit 2 2 3 ∷ []) ∷ []) ≡ true }
-    ensures in_front { some_choice begin_in_order ((hit 1 4 5 ∷ []) ∷ (hit 2 1 9 ∷ []) ∷ []) ≡ false }
+    ensures before { some_choice begin_in_order ((hit 1 4 5 ∷ []) ∷ (hit 2 1 9 ∷ []) ∷ []) ≡ false }
     ensures by_ways { satisfied (matches_of item (filtered_words F.Ordered ((hit 1 4 5 ∷ []) ∷ (hit 2 1 6 ∷ []) ∷ []))) ≡ false }
 {}
 
@@ -43,14 +43,14 @@ pub fn order()
 pub fn rising()
     ensures of_as_many_words { is_rising (hit 1 1 2 ∷ hit 1 2 3 ∷ hit 1 5 6 ∷ []) ≡ true }
     ensures one_within_another { is_rising (hit 1 1 4 ∷ hit 1 2 3 ∷ []) ≡ false }
-    ensures in_front { is_rising (hit 1 2 3 ∷ hit 1 1 3 ∷ []) ≡ false }
+    ensures before { is_rising (hit 1 2 3 ∷ hit 1 1 3 ∷ []) ≡ false }
 {}
 
 /// In `a b x c d` one word stands between "a b" and "c d"; phrases that overlap have none between them.
 pub fn distances()
     ensures one_between { some_choice (are_near 1 Words) ((hit 1 1 2 ∷ []) ∷ (hit 2 4 5 ∷ []) ∷ []) ≡ true }
     ensures not_none_between { some_choice (are_near 0 Words) ((hit 1 1 2 ∷ []) ∷ (hit 2 4 5 ∷ []) ∷ []) ≡ false }
-    ensures in_front { some_choice (are_near 1 Words) ((hit 1 4 5 ∷ []) ∷ (hit 2 1 2 ∷ []) ∷ []) ≡ true }
+    ensures before { some_choice (are_near 1 Words) ((hit 1 4 5 ∷ []) ∷ (hit 2 1 2 ∷ []) ∷ []) ≡ true }
     ensures overlapping { some_choice (are_near 0 Words) ((hit 1 1 5 ∷ []) ∷ (hit 2 2 3 ∷ []) ∷ []) ≡ true }
     ensures no_phrases { some_choice (are_near 9 Words) [] ≡ false }
 {}
@@ -61,7 +61,7 @@ pub fn ranges()
     ensures exactly_two { some_choice (are_apart (Exactly 2) Words) ((hit 1 1 2 ∷ []) ∷ (hit 2 5 6 ∷ []) ∷ []) ≡ true }
     ensures not_exactly_one { some_choice (are_apart (Exactly 1) Words) ((hit 1 1 2 ∷ []) ∷ (hit 2 5 6 ∷ []) ∷ []) ≡ false }
     ensures not_exactly_three { some_choice (are_apart (Exactly 3) Words) ((hit 1 1 2 ∷ []) ∷ (hit 2 5 6 ∷ []) ∷ []) ≡ false }
-    ensures in_front { some_choice (are_apart (Exactly 2) Words) ((hit 1 5 6 ∷ []) ∷ (hit 2 1 2 ∷ []) ∷ []) ≡ true }
+    ensures before { some_choice (are_apart (Exactly 2) Words) ((hit 1 5 6 ∷ []) ∷ (hit 2 1 2 ∷ []) ∷ []) ≡ true }
     ensures at_least_two { some_choice (are_apart (AtLeast 2) Words) ((hit 1 1 2 ∷ []) ∷ (hit 2 5 6 ∷ []) ∷ []) ≡ true }
     ensures not_at_least_three { some_choice (are_apart (AtLeast 3) Words) ((hit 1 5 6 ∷ []) ∷ (hit 2 1 2 ∷ []) ∷ []) ≡ false }
     ensures from_one_to_two { some_choice (are_apart (FromTo 1 2) Words) ((hit 1 1 2 ∷ []) ∷ (hit 2 5 6 ∷ []) ∷ []) ≡ true }

@@ -11,7 +11,7 @@ use ft_operators::PhraseHits;
 use std::sync::ledger::Ledger;
 
 /// The farthest of the least first or last numbers that each phrase has, among its hits that begin, or else end, at the place or
-/// behind it. `None` is given exactly where a phrase has no such hit.
+/// after it. `None` is given exactly where a phrase has no such hit.
 pub(crate) fn farthest<P: PhraseHits, L: Ledger>(
     phrases: &mut Vec<Vec<P>>,
     by: Edge,

@@ -11,9 +11,9 @@ use ft_base::{Steps, Unit};
 use ft_operators::PhraseHits;
 use std::sync::ledger::Ledger;
 
-/// Whether one hit of each phrase can be chosen so that none begins in front of one of an earlier phrase.
+/// Whether one hit of each phrase can be chosen so that none begins before one of an earlier phrase.
 ///
-/// The lists go forward only: for each phrase in turn the first hit is taken that doesn't begin in front of the last one.
+/// The lists go forward only: for each phrase in turn the first hit is taken that doesn't begin before the last one.
 pub fn begin_in_order<P: PhraseHits, L: Ledger>(
     phrases: &mut Vec<Vec<P>>,
     steps: &mut Steps<L>,

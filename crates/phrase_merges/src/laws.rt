@@ -12,7 +12,7 @@ ghost use Rattle.all_matches.specs.Boolean.{satisfied};
 ghost use Rattle.all_matches.specs.Ways.{matches_of};
 ghost use Rattle.window_merges.specs.Choices.{some_choice};
 ghost use Rattle.window_merges.specs.Words.{are_numbered, filtered_words};
-ghost use Rattle.phrase_merges.specs.Choices.{are_apart, are_within, begin_in_order, ends_behind};
+ghost use Rattle.phrase_merges.specs.Choices.{are_apart, are_within, begin_in_order, ends_after};
 
 /// Under a window, in words, sentences or paragraphs, some choice of their hits has to fit into the window.
 pub fn window_law()
@@ -26,17 +26,17 @@ pub fn ordered_law()
         → satisfied (matches_of item (filtered_words F.Ordered (hits ∷ phrases))) ≡ some_choice begin_in_order (hits ∷ phrases) }
 {}
 
-/// Under `same sentence` and `same paragraph`, where no hit ends in front of its beginning, some choice has to fit into a window of one.
+/// Under `same sentence` and `same paragraph`, where no hit ends before its beginning, some choice has to fit into a window of one.
 pub fn unit_law()
-    ensures sentence { (item : Span) (hits : List Hit) (phrases : List (List Hit)) → list_all (list_all (ends_behind Sentences)) (hits ∷ phrases) ≡ true
+    ensures sentence { (item : Span) (hits : List Hit) (phrases : List (List Hit)) → list_all (list_all (ends_after Sentences)) (hits ∷ phrases) ≡ true
         → satisfied (matches_of item (filtered_words F.SameSentence (hits ∷ phrases))) ≡ some_choice (are_within 1 Sentences) (hits ∷ phrases) }
-    ensures paragraph { (item : Span) (hits : List Hit) (phrases : List (List Hit)) → list_all (list_all (ends_behind Paragraphs)) (hits ∷ phrases) ≡ true
+    ensures paragraph { (item : Span) (hits : List Hit) (phrases : List (List Hit)) → list_all (list_all (ends_after Paragraphs)) (hits ∷ phrases) ≡ true
         → satisfied (matches_of item (filtered_words F.SameParagraph (hits ∷ phrases))) ≡ some_choice (are_within 1 Paragraphs) (hits ∷ phrases) }
 {}
 
-/// Under a distance, two phrases, where no hit ends in front of its beginning, have to be as far from one another as its range tells.
+/// Under a distance, two phrases, where no hit ends before its beginning, have to be as far from one another as its range tells.
 pub fn distance_law()
-    ensures { (range : Range) (item : Span) (first second : List Hit) → list_all (list_all (ends_behind Words)) (first ∷ second ∷ []) ≡ true
+    ensures { (range : Range) (item : Span) (first second : List Hit) → list_all (list_all (ends_after Words)) (first ∷ second ∷ []) ≡ true
         → satisfied (matches_of item (filtered_words (F.Distance range Words) (first ∷ second ∷ [])))
         ≡ some_choice (are_apart range Words) (first ∷ second ∷ []) }
 {}

@@ -14,7 +14,7 @@ use std::sync::ledger::Ledger;
 /// Whether one hit of each phrase can be chosen so that no two of them have more than `size` words, sentences or paragraphs between
 /// them.
 ///
-/// The lists go forward only: as long as the hits that begin first begin too far on, those that end too far in front of the farthest
+/// The lists go forward only: as long as the hits that begin first begin too far on, those that end too far before the farthest
 /// of them are left behind.
 pub fn stand_near<P: PhraseHits, L: Ledger>(
     phrases: &mut Vec<Vec<P>>,

@@ -11,7 +11,7 @@ use ft_operators::PhraseHits;
 use std::sync::ledger::Ledger;
 use window_distance::{end_in, start_in};
 
-/// Moves the list to its first hit that begins, or else ends, at the place or behind it.
+/// Moves the list to its first hit that begins, or else ends, at the place or after it.
 pub(crate) fn reach<P: PhraseHits, L: Ledger>(
     source: &mut P,
     by: Edge,
@@ -35,7 +35,7 @@ pub(crate) fn reach<P: PhraseHits, L: Ledger>(
     None
 }
 
-/// The least first or last number of the hits that begin, or else end, at the place or behind it, if there are any.
+/// The least first or last number of the hits that begin, or else end, at the place or after it, if there are any.
 pub(crate) fn least_number<P: PhraseHits, L: Ledger>(
     sources: &mut Vec<P>,
     by: Edge,

@@ -1,4 +1,4 @@
--- One source: the first hit from a place on, and the hits behind it.
+-- One source: the first hit from a place on, and the hits after it.
 use Rattle.std.proofs.Common.{◌≡◌, ℕ, zero, suc, ◌+◌, ◌<◌, ◌≤◌, min, Bool, true, false, cond, ◌||◌, ◌==◌, nat_lt, IsTrue, List, [], ◌∷◌, map, length, drop, Option, Some, None, slice_get, option_map, refl, sym, ap, subst, ◌∙◌, arith, inl, inr, one-add, drop-drop, length-drop}
 use Rattle.std.specs.List.{list_all, prefix_len}
 use Rattle.std.proofs.lemmas.Bool.{cases_lt, lt-ltb, le-ltb, eq-eqb, ne_eqb, and_parts, or_left}
@@ -10,9 +10,9 @@ use Rattle.ft_base.specs.Hits.{HitPlace, hit_at, hits_passed, sought, is_sorted,
 use Rattle.place_merges.specs.Sources.{places_left}
 use Rattle.place_merges.specs.steps.Searching.{Leads, SameFrom, Moved, has, shown_source}
 
--- how many hits are in front of a place, of those up to the first that isn't
-abbrev in_front : ℕ → List Hit → ℕ
-in_front place xs = prefix_len (λ hit. nat_lt hit.from place) xs
+-- how many hits are before a place, of those up to the first that isn't
+abbrev count_before : ℕ → List Hit → ℕ
+count_before place xs = prefix_len (λ hit. nat_lt hit.from place) xs
 
 abbrev froms : List Hit → List ℕ
 froms xs = map (λ hit. hit.from) xs
@@ -29,17 +29,17 @@ sorted_drop (x ∷ xs) (suc n) h = sorted_drop xs n (and_parts (list_all (comes_
 
 -- ---- the hits from a place on
 
-drop_same : (place : ℕ) (xs : List Hit) (other : ℕ) → place ≤ other → has (froms (drop (in_front place xs) xs)) other ≡ has (froms xs) other
+drop_same : (place : ℕ) (xs : List Hit) (other : ℕ) → place ≤ other → has (froms (drop (count_before place xs) xs)) other ≡ has (froms xs) other
 drop_same place [] other h = refl
 drop_same place (x ∷ xs) other h = elim (cases_lt x.from place) [
   | inl less ↦
-      let front : in_front place (x ∷ xs) ≡ suc (in_front place xs) = ap (λ b. cond b (1 + in_front place xs) 0) (lt-ltb x.from place less) ∙ one-add (in_front place xs) in
+      let prefix : count_before place (x ∷ xs) ≡ suc (count_before place xs) = ap (λ b. cond b (1 + count_before place xs) 0) (lt-ltb x.from place less) ∙ one-add (count_before place xs) in
       let not_here : (x.from == other) ≡ false = ne_eqb x.from other (λ e. absurd (omega (arith, e))) in
-      ap (λ n. has (froms (drop n (x ∷ xs))) other) front ∙ drop_same place xs other h ∙ sym (ap (λ b. b || has (froms xs) other) not_here)
-  | inr le ↦ ap (λ b. has (froms (drop (cond b (1 + in_front place xs) 0) (x ∷ xs))) other) (le-ltb x.from place le)
+      ap (λ n. has (froms (drop n (x ∷ xs))) other) prefix ∙ drop_same place xs other h ∙ sym (ap (λ b. b || has (froms xs) other) not_here)
+  | inr le ↦ ap (λ b. has (froms (drop (cond b (1 + count_before place xs) 0) (x ∷ xs))) other) (le-ltb x.from place le)
 ]
 
--- none of the hits behind a hit begins in front of it
+-- none of the hits after a hit begins before it
 none_below : (x : Hit) (xs : List Hit) (other : ℕ) → list_all (comes_before x) xs ≡ true → other < x.from → has (froms xs) other ≡ false
 none_below x [] other h less = refl
 none_below x (y ∷ xs) other h less =
@@ -55,23 +55,23 @@ limited : ℕ → Option Hit → ℕ
 limited limit None = limit
 limited limit (Some hit) = min hit.from limit
 
-first_leads : (place limit : ℕ) → place < limit → (xs : List Hit) → is_sorted xs ≡ true → Leads (has (froms xs)) place limit (limited limit (slice_get xs (in_front place xs)))
+first_leads : (place limit : ℕ) → place < limit → (xs : List Hit) → is_sorted xs ≡ true → Leads (has (froms xs)) place limit (limited limit (slice_get xs (count_before place xs)))
 unfolding limited
 first_leads place limit h [] sorted = record { from = omega arith; to = omega arith; there = λ e. absurd (omega (arith, e)); none = λ other a b. refl }
 first_leads place limit h (x ∷ xs) sorted = elim (cases_lt x.from place) [
   | inl less ↦
       let parts = and_parts (list_all (comes_before x) xs) (is_sorted xs) sorted in
-      let front : suc (in_front place xs) ≡ in_front place (x ∷ xs) = sym (ap (λ b. cond b (1 + in_front place xs) 0) (lt-ltb x.from place less) ∙ one-add (in_front place xs)) in
-      subst (λ n. Leads (has (froms (x ∷ xs))) place limit (limited limit (slice_get (x ∷ xs) n))) front (behind less (first_leads place limit h xs parts.1))
+      let prefix : suc (count_before place xs) ≡ count_before place (x ∷ xs) = sym (ap (λ b. cond b (1 + count_before place xs) 0) (lt-ltb x.from place less) ∙ one-add (count_before place xs)) in
+      subst (λ n. Leads (has (froms (x ∷ xs))) place limit (limited limit (slice_get (x ∷ xs) n))) prefix (past less (first_leads place limit h xs parts.1))
   | inr le ↦
       let parts = and_parts (list_all (comes_before x) xs) (is_sorted xs) sorted in
-      let front : 0 ≡ in_front place (x ∷ xs) = sym (ap (λ b. cond b (1 + in_front place xs) 0) (le-ltb x.from place le)) in
-      subst (λ n. Leads (has (froms (x ∷ xs))) place limit (limited limit (slice_get (x ∷ xs) n))) front (here le parts.0)
+      let prefix : 0 ≡ count_before place (x ∷ xs) = sym (ap (λ b. cond b (1 + count_before place xs) 0) (le-ltb x.from place le)) in
+      subst (λ n. Leads (has (froms (x ∷ xs))) place limit (limited limit (slice_get (x ∷ xs) n))) prefix (here le parts.0)
 ]
   where
-    behind : x.from < place → Leads (has (froms xs)) place limit (limited limit (slice_get xs (in_front place xs)))
-        → Leads (has (froms (x ∷ xs))) place limit (limited limit (slice_get xs (in_front place xs)))
-    behind less rest = record {
+    past : x.from < place → Leads (has (froms xs)) place limit (limited limit (slice_get xs (count_before place xs)))
+        → Leads (has (froms (x ∷ xs))) place limit (limited limit (slice_get xs (count_before place xs)))
+    past less rest = record {
       from = rest.from;
       to = rest.to;
       there = λ e. or_true (x.from == place) (has (froms xs) place) (rest.there e);
@@ -93,16 +93,16 @@ first_leads place limit h (x ∷ xs) sorted = elim (cases_lt x.from place) [
 
 -- ---- a source
 
-passed_is : (place : ℕ) (at : HitPlace) → hits_passed place at ≡ in_front place (drop at.place at.hits)
+passed_is : (place : ℕ) (at : HitPlace) → hits_passed place at ≡ count_before place (drop at.place at.hits)
 passed_is place at = length-prefix_len (λ hit. nat_lt hit.from place) (drop at.place at.hits)
 
-left_is : (place : ℕ) (at : HitPlace) → places_left (sought place at) ≡ froms (drop (in_front place (drop at.place at.hits)) (drop at.place at.hits))
+left_is : (place : ℕ) (at : HitPlace) → places_left (sought place at) ≡ froms (drop (count_before place (drop at.place at.hits)) (drop at.place at.hits))
 left_is place at =
     ap (λ n. froms (drop (at.place + n) at.hits)) (passed_is place at)
-    ∙ ap froms (sym (drop-drop (in_front place (drop at.place at.hits)) at.place at.hits))
+    ∙ ap froms (sym (drop-drop (count_before place (drop at.place at.hits)) at.place at.hits))
 
-read_is : (place : ℕ) (at : HitPlace) → hit_at (sought place at) ≡ slice_get (drop at.place at.hits) (in_front place (drop at.place at.hits))
-read_is place at = ap (λ n. slice_get at.hits (at.place + n)) (passed_is place at) ∙ slice_drop at.hits at.place (in_front place (drop at.place at.hits))
+read_is : (place : ℕ) (at : HitPlace) → hit_at (sought place at) ≡ slice_get (drop at.place at.hits) (count_before place (drop at.place at.hits))
+read_is place at = ap (λ n. slice_get at.hits (at.place + n)) (passed_is place at) ∙ slice_drop at.hits at.place (count_before place (drop at.place at.hits))
 
 pub source_same : (place : ℕ) (at after : HitPlace) → after ≡ sought place at → SameFrom place (has (places_left after)) (has (places_left at))
 source_same place at after e = record {
@@ -112,7 +112,7 @@ source_same place at after e = record {
 module _ (place limit : ℕ) (order : place < limit) (at after : HitPlace) (reached : after ≡ sought place at) (sorted : is_sorted after.hits ≡ true) where
   source_leads : (o : Option Hit) → o ≡ hit_at after → Leads (has (places_left at)) place limit (limited limit o)
   source_leads o e =
-      let read : o ≡ slice_get (drop at.place at.hits) (in_front place (drop at.place at.hits)) = e ∙ ap hit_at reached ∙ read_is place at in
+      let read : o ≡ slice_get (drop at.place at.hits) (count_before place (drop at.place at.hits)) = e ∙ ap hit_at reached ∙ read_is place at in
       let hits : after.hits ≡ at.hits = ap (λ a. a.hits) reached in
       let rest = sorted_drop at.hits at.place (sym (ap is_sorted hits) ∙ sorted) in
       subst (λ r. Leads (has (places_left at)) place limit (limited limit r)) (sym read) (first_leads place limit order (drop at.place at.hits) rest)
@@ -132,8 +132,8 @@ pub record Told (at : HitPlace) (first : ℕ) : Type 0 where
   pub is : Some hit ≡ hit_at at
   pub from : hit.from ≡ first
 
-pub told : (at : HitPlace) (first : ℕ) → Some first ≡ option_map (λ hit. hit.from) (hit_at at) → Told at first
-told at first e = by (hit_at at) refl e
+pub known : (at : HitPlace) (first : ℕ) → Some first ≡ option_map (λ hit. hit.from) (hit_at at) → Told at first
+known at first e = by (hit_at at) refl e
   where
     by : (o : Option Hit) → o ≡ hit_at at → Some first ≡ option_map (λ hit. hit.from) o → Told at first
     by None same e = cc
@@ -148,41 +148,41 @@ none_told at e = by (hit_at at) refl e
 
 -- ---- moves
 
--- a source that stands behind the place is where it is sought
+-- a source that stands after the place is where it is sought
 stays : (place : ℕ) (at : HitPlace) → hits_passed place at ≡ 0 → at ≡ sought place at
 stays place at e = let sum : at.place ≡ at.place + hits_passed place at = omega (arith, e) in λ i. record { hits = at.hits; place = sum i }
 
-none_in_front : (place : ℕ) (xs : List Hit) (hit : Hit) → slice_get xs 0 ≡ Some hit → place ≤ hit.from → in_front place xs ≡ 0
-none_in_front place [] hit e h = refl
-none_in_front place (x ∷ xs) hit e h = let same : x ≡ hit = cc in ap (λ b. cond b (1 + in_front place xs) 0) (le-ltb x.from place (subst (λ y. place ≤ y.from) (sym same) h))
+none_before : (place : ℕ) (xs : List Hit) (hit : Hit) → slice_get xs 0 ≡ Some hit → place ≤ hit.from → count_before place xs ≡ 0
+none_before place [] hit e h = refl
+none_before place (x ∷ xs) hit e h = let same : x ≡ hit = cc in ap (λ b. cond b (1 + count_before place xs) 0) (le-ltb x.from place (subst (λ y. place ≤ y.from) (sym same) h))
 
-one_in_front : (place : ℕ) (xs : List Hit) (hit : Hit) → slice_get xs 0 ≡ Some hit → hit.from < place → 0 < in_front place xs
-one_in_front place [] hit e h = cc
-one_in_front place (x ∷ xs) hit e h =
+one_before : (place : ℕ) (xs : List Hit) (hit : Hit) → slice_get xs 0 ≡ Some hit → hit.from < place → 0 < count_before place xs
+one_before place [] hit e h = cc
+one_before place (x ∷ xs) hit e h =
     let same : x ≡ hit = cc in
-    let front = ap (λ b. cond b (1 + in_front place xs) 0) (lt-ltb x.from place (subst (λ y. y.from < place) (sym same) h)) in
-    omega (arith, front)
+    let prefix = ap (λ b. cond b (1 + count_before place xs) 0) (lt-ltb x.from place (subst (λ y. y.from < place) (sym same) h)) in
+    omega (arith, prefix)
 
-read_front : (at : HitPlace) → slice_get (drop at.place at.hits) 0 ≡ hit_at at
-read_front at = let sum : at.place + 0 ≡ at.place = omega arith in sym (slice_drop at.hits at.place 0) ∙ ap (slice_get at.hits) sum
+read_prefix : (at : HitPlace) → slice_get (drop at.place at.hits) 0 ≡ hit_at at
+read_prefix at = let sum : at.place + 0 ≡ at.place = omega arith in sym (slice_drop at.hits at.place 0) ∙ ap (slice_get at.hits) sum
 
 pub stays_at_hit : (place : ℕ) (at : HitPlace) (hit : Hit) → Some hit ≡ hit_at at → place ≤ hit.from → at ≡ sought place at
-stays_at_hit place at hit e h = stays place at (passed_is place at ∙ none_in_front place (drop at.place at.hits) hit (read_front at ∙ sym e) h)
+stays_at_hit place at hit e h = stays place at (passed_is place at ∙ none_before place (drop at.place at.hits) hit (read_prefix at ∙ sym e) h)
 
 fewer_left : (place : ℕ) (at : HitPlace) → length (places_left (sought place at)) + hits_passed place at ≡ length (places_left at)
 fewer_left place at =
     let rest = drop at.place at.hits in
-    let short = ap length (left_is place at) ∙ length-map (drop (in_front place rest) rest) (λ hit. hit.from) ∙ length-drop (in_front place rest) rest in
+    let short = ap length (left_is place at) ∙ length-map (drop (count_before place rest) rest) (λ hit. hit.from) ∙ length-drop (count_before place rest) rest in
     let all = length-map rest (λ hit. hit.from) in
     let passed = passed_is place at in
     let most = at_most place rest in
     omega (arith, short, all, passed, most)
   where
-    at_most : (place : ℕ) (xs : List Hit) → in_front place xs ≤ length xs
+    at_most : (place : ℕ) (xs : List Hit) → count_before place xs ≤ length xs
     at_most place [] = omega arith
     at_most place (x ∷ xs) = one (nat_lt x.from place) (at_most place xs)
       where
-        one : (b : Bool) → in_front place xs ≤ length xs → cond b (1 + in_front place xs) 0 ≤ suc (length xs)
+        one : (b : Bool) → count_before place xs ≤ length xs → cond b (1 + count_before place xs) 0 ≤ suc (length xs)
         one true h = omega arith
         one false h = omega arith
 
@@ -198,7 +198,7 @@ source_sought stand plain before after place start end hit e less moved same cou
       let steps = counted h in
       let left = ap (λ a. length (places_left a)) moved in
       let fewer = fewer_left place (stand before) in
-      let some = one_in_front place (drop (stand before).place (stand before).hits) hit (read_front (stand before) ∙ sym e) less in
+      let some = one_before place (drop (stand before).place (stand before).hits) hit (read_prefix (stand before) ∙ sym e) less in
       let passed = passed_is place (stand before) in
       omega (arith, steps, left, fewer, some, passed);
   grown = grown;
@@ -207,7 +207,7 @@ source_sought stand plain before after place start end hit e less moved same cou
 -- ---- a hit that is found
 
 there_at_hit : (at : HitPlace) (hit : Hit) → Some hit ≡ hit_at at → has (places_left at) hit.from ≡ true
-there_at_hit at hit e = first (drop at.place at.hits) (read_front at ∙ sym e)
+there_at_hit at hit e = first (drop at.place at.hits) (read_prefix at ∙ sym e)
   where
     first : (xs : List Hit) → slice_get xs 0 ≡ Some hit → has (froms xs) hit.from ≡ true
     first [] none = cc

@@ -1,29 +1,29 @@
--- Lists of spots: what is left behind a spot where nothing stands up to another one.
+-- Lists of spots: what is left after a spot where nothing stands up to another one.
 use Rattle.std.proofs.Common.{◌≡◌, refl, sym, ap, ◌∙◌, ℕ, zero, suc, ◌+◌, ◌-◌, ◌<◌, ◌≤◌, Bool, true, false, cond, ◌&&◌, List, [], ◌∷◌, ◌++◌, map, filter, flat_map, arith, inl, inr}
 use Rattle.std.specs.List.{list_all, range_with_len}
 use Rattle.std.proofs.lemmas.Bool.{cases_lt, and_parts}
 use Rattle.std.proofs.lemmas.Bool.Decides.{nat_tests}
 use Rattle.std.proofs.lemmas.List.Folds.{list_all-append}
 use Rattle.place_merges.specs.declared.spot.Spot.{Spot}
-use Rattle.place_merges.specs.Spots.{spot, spots_at, spots_between, spots_behind}
-use Rattle.place_merges.specs.steps.Spotting.{LeadsBehind, SameBehind, is_before}
+use Rattle.place_merges.specs.Spots.{spot, spots_at, spots_between, spots_after}
+use Rattle.place_merges.specs.steps.Spotting.{LeadsAfter, SameAfter, is_before}
 
--- ---- the first spots behind one
+-- ---- the first spots after one
 
 module _ (to : ℕ) where
   -- where there is room for a word more
-  one_spot : (place words : ℕ) → place + suc words ≤ to → spots_behind to (spot place words) ≡ spot place (suc words) ∷ spots_behind to (spot place (suc words))
+  one_spot : (place words : ℕ) → place + suc words ≤ to → spots_after to (spot place words) ≡ spot place (suc words) ∷ spots_after to (spot place (suc words))
   one_spot place words h =
       let many : (to - place) - words ≡ suc ((to - place) - suc words) = omega arith in
       let next : suc words + 1 ≡ suc (suc words) = omega arith in
       ap (λ n. map (spot place) (range_with_len (suc words) n) ++ spots_between (suc place) to) many
       ∙ ap (λ n. spot place (suc words) ∷ (map (spot place) (range_with_len n ((to - place) - suc words)) ++ spots_between (suc place) to)) next
 
-  -- the spots of a place, and those behind it
-  pub from_place : (place : ℕ) → spots_between place to ≡ spots_behind to (spot place 0)
+  -- the spots of a place, and those after it
+  pub from_place : (place : ℕ) → spots_between place to ≡ spots_after to (spot place 0)
   from_place place = by_size (to - place) refl
     where
-      by_size : (n : ℕ) → to - place ≡ n → spots_between place to ≡ spots_behind to (spot place 0)
+      by_size : (n : ℕ) → to - place ≡ n → spots_between place to ≡ spots_after to (spot place 0)
       by_size zero e =
           let none : (to - place) - 0 ≡ 0 = omega arith in
           let later : to - suc place ≡ 0 = omega arith in
@@ -37,12 +37,12 @@ module _ (to : ℕ) where
           ∙ (λ i. map (spot place) (range_with_len 1 (all i)) ++ flat_map (spots_at to) (range_with_len (next i) (later i)))
 
   -- where there is room for none
-  row_ends : (place words : ℕ) → to ≤ place + words → spots_behind to (spot place words) ≡ spots_behind to (spot (suc place) 0)
+  row_ends : (place words : ℕ) → to ≤ place + words → spots_after to (spot place words) ≡ spots_after to (spot (suc place) 0)
   row_ends place words h =
       let none : (to - place) - words ≡ 0 = omega arith in
       ap (λ n. map (spot place) (range_with_len (suc words) n) ++ spots_between (suc place) to) none ∙ from_place (suc place)
 
-  pub no_spots : (place words : ℕ) → to ≤ place → spots_behind to (spot place words) ≡ []
+  pub no_spots : (place words : ℕ) → to ≤ place → spots_after to (spot place words) ≡ []
   no_spots place words h =
       let none : (to - place) - words ≡ 0 = omega arith in
       let later : to - suc place ≡ 0 = omega arith in
@@ -52,7 +52,7 @@ module _ (to : ℕ) where
 
 module _ (test : Spot → Bool) (to : ℕ) where
   abbrev left : ℕ → ℕ → List Spot
-  left place words = filter test (spots_behind to (spot place words))
+  left place words = filter test (spots_after to (spot place words))
 
   row_jump : (k place words : ℕ) → place + (words + k) ≤ to → ((n : ℕ) → words < n → n ≤ words + k → test (spot place n) ≡ false) → left place words ≡ left place (words + k)
   row_jump zero place words h none = let e : words ≡ words + 0 = omega arith in ap (left place) e
@@ -81,30 +81,30 @@ module _ (test : Spot → Bool) (to : ℕ) where
       ∙ ap (λ p. left p 0) e
 
   -- a spot that is led to comes next but for one word
-  module _ (at result : Spot) (leads : LeadsBehind test at to result) where
+  module _ (at result : Spot) (leads : LeadsAfter test at to result) where
     less_here : (n : ℕ) → at.place ≡ result.place → at.words < n → n < result.words → test (spot at.place n) ≡ false
     less_here n same low high =
-        let behind : is_before at (spot at.place n) ≡ true = grind (arith, nat_tests) in
+        let past : is_before at (spot at.place n) ≡ true = grind (arith, nat_tests) in
         let before : is_before (spot at.place n) result ≡ true = grind (arith, nat_tests) in
-        leads.none (spot at.place n) behind before (omega arith)
+        leads.none (spot at.place n) past before (omega arith)
 
     longer_here : (n : ℕ) → at.place < result.place → at.words < n → test (spot at.place n) ≡ false
     longer_here n less low =
-        let behind : is_before at (spot at.place n) ≡ true = grind (arith, nat_tests) in
+        let past : is_before at (spot at.place n) ≡ true = grind (arith, nat_tests) in
         let before : is_before (spot at.place n) result ≡ true = grind (arith, nat_tests) in
-        leads.none (spot at.place n) behind before (omega arith)
+        leads.none (spot at.place n) past before (omega arith)
 
     between : (q n : ℕ) → at.place < q → q < result.place → 1 ≤ n → test (spot q n) ≡ false
     between q n low high some =
-        let behind : is_before at (spot q n) ≡ true = grind (arith, nat_tests) in
+        let past : is_before at (spot q n) ≡ true = grind (arith, nat_tests) in
         let before : is_before (spot q n) result ≡ true = grind (arith, nat_tests) in
-        leads.none (spot q n) behind before some
+        leads.none (spot q n) past before some
 
     shorter_there : (n : ℕ) → at.place < result.place → 1 ≤ n → n < result.words → test (spot result.place n) ≡ false
     shorter_there n less some high =
-        let behind : is_before at (spot result.place n) ≡ true = grind (arith, nat_tests) in
+        let past : is_before at (spot result.place n) ≡ true = grind (arith, nat_tests) in
         let before : is_before (spot result.place n) result ≡ true = grind (arith, nat_tests) in
-        leads.none (spot result.place n) behind before some
+        leads.none (spot result.place n) past before some
 
     same_place : result.place ≤ at.place → (at.place ≡ result.place) × (at.words < result.words)
     same_place h = (grind (arith, nat_tests, leads.ahead), grind (arith, nat_tests, leads.ahead))
@@ -139,17 +139,17 @@ module _ (test : Spot → Bool) (to : ℕ) where
         let within = leads.last in
         reached
         ∙ ap (filter test) (one_spot to result.place (result.words - 1) (omega arith))
-        ∙ (λ i. filter test (spot result.place (size i) ∷ spots_behind to (spot result.place (size i))))
+        ∙ (λ i. filter test (spot result.place (size i) ∷ spots_after to (spot result.place (size i))))
         ∙ ap (λ b. cond b (result ∷ left result.place result.words) (left result.place result.words)) (leads.there some)
 
--- ---- tests that are the same behind a spot
+-- ---- tests that are the same after a spot
 
 module _ (to : ℕ) (at : Spot) where
-  row_behind : (place n k : ℕ) → at.place ≡ place → at.words < n → list_all (is_before at) (map (spot place) (range_with_len n k)) ≡ true
-  row_behind place n zero same h = refl
-  row_behind place n (suc k) same h =
+  row_after : (place n k : ℕ) → at.place ≡ place → at.words < n → list_all (is_before at) (map (spot place) (range_with_len n k)) ≡ true
+  row_after place n zero same h = refl
+  row_after place n (suc k) same h =
       let one : is_before at (spot place n) ≡ true = grind (arith, nat_tests) in
-      λ i. one i && row_behind place (n + 1) k same (omega arith) i
+      λ i. one i && row_after place (n + 1) k same (omega arith) i
 
   later_row : (place n k : ℕ) → at.place < place → list_all (is_before at) (map (spot place) (range_with_len n k)) ≡ true
   later_row place n zero h = refl
@@ -163,10 +163,10 @@ module _ (to : ℕ) (at : Spot) where
       list_all-append (is_before at) (spots_at to place) (flat_map (spots_at to) (range_with_len (place + 1) k))
       ∙ (λ i. later_row place 1 (to - place) h i && later_rows (place + 1) k (omega arith) i)
 
-  all_behind : list_all (is_before at) (spots_behind to at) ≡ true
-  all_behind =
+  all_after : list_all (is_before at) (spots_after to at) ≡ true
+  all_after =
       list_all-append (is_before at) (map (spot at.place) (range_with_len (suc at.words) ((to - at.place) - at.words))) (spots_between (suc at.place) to)
-      ∙ (λ i. row_behind at.place (suc at.words) ((to - at.place) - at.words) refl (omega arith) i && later_rows (suc at.place) (to - suc at.place) (omega arith) i)
+      ∙ (λ i. row_after at.place (suc at.words) ((to - at.place) - at.words) refl (omega arith) i && later_rows (suc at.place) (to - suc at.place) (omega arith) i)
 
 filter_on : {X : Type 0} (ok p q : X → Bool) → ((x : X) → ok x ≡ true → p x ≡ q x) → (xs : List X) → list_all ok xs ≡ true → filter p xs ≡ filter q xs
 filter_on ok p q same [] h = refl
@@ -174,5 +174,5 @@ filter_on ok p q same (x ∷ xs) h =
     let parts = and_parts (ok x) (list_all ok xs) h in
     λ i. cond (same x parts.0 i) (x ∷ filter_on ok p q same xs parts.1 i) (filter_on ok p q same xs parts.1 i)
 
-pub left_same : (to : ℕ) (at : Spot) (new old : Spot → Bool) → SameBehind at new old → filter new (spots_behind to at) ≡ filter old (spots_behind to at)
-left_same to at new old same = filter_on (is_before at) new old same.same (spots_behind to at) (all_behind to at)
+pub left_same : (to : ℕ) (at : Spot) (new old : Spot → Bool) → SameAfter at new old → filter new (spots_after to at) ≡ filter old (spots_after to at)
+left_same to at new old same = filter_on (is_before at) new old same.same (spots_after to at) (all_after to at)

@@ -1,4 +1,4 @@
--- A search through all variants for the first spot behind another one at which one of them stands.
+-- A search through all variants for the first spot after another one at which one of them stands.
 use Rattle.std.proofs.Common.{◌≡◌, refl, sym, ap, ◌∙◌, ℕ, ◌+◌, ◌<◌, ◌≤◌, ◌==◌, Bool, true, false, cond, ◌&&◌, ◌||◌, nat_lt, List, ◌∷◌, map, length, get_or, set, drop, subst, arith, length-set, drop-set-lt}
 use Rattle.std.specs.List.{list_any}
 use Rattle.std.proofs.lemmas.Bool.{and_left, and_right, eqb-true}
@@ -11,7 +11,7 @@ use Rattle.place_merges.specs.declared.spot.Spot.{Spot}
 use Rattle.place_merges.specs.Sources.{lists_of}
 use Rattle.place_merges.specs.Spots.{spot}
 use Rattle.place_merges.specs.steps.Searching.{Shown, Leads, SameFrom, Moved, shown_all, variant_stands}
-use Rattle.place_merges.specs.steps.Spotting.{LeadsBehind, SameBehind, is_before, variant_at}
+use Rattle.place_merges.specs.steps.Spotting.{LeadsAfter, SameAfter, is_before, variant_at}
 use Rattle.place_merges.proofs.MoveLemmas.{moved_on, moved_in, any_set}
 
 -- ---- the order of spots
@@ -31,7 +31,7 @@ module _ {H : Type 0} (stands : H → HitPlace) (to : ℕ) (variant : Variant H)
   abbrev is_at : Spot → Bool
   is_at other = variant_at stands to variant other
 
-  -- the first place at which so many words may stand behind the spot
+  -- the first place at which so many words may stand after the spot
   abbrev least : ℕ
   least = cond (nat_lt at.words long) at.place (at.place + 1)
 
@@ -56,7 +56,7 @@ module _ {H : Type 0} (stands : H → HitPlace) (to : ℕ) (variant : Variant H)
   ahead_of next h = grind (arith, nat_tests)
 
   module _ (next : ℕ) (leads : Leads (variant_stands stands to variant) least to next) where
-    pub jump_leads : (next ≡ least → ⊥) → LeadsBehind is_at at to (spot next 0)
+    pub jump_leads : (next ≡ least → ⊥) → LeadsAfter is_at at to (spot next 0)
     jump_leads other_place =
         let far = leads.from in
         let least = start_at in
@@ -74,9 +74,9 @@ module _ {H : Type 0} (stands : H → HitPlace) (to : ℕ) (variant : Variant H)
             (leads.none other.place (starts other a (eqb-true long other.words e)) (place_before other next b))
         by_size other a b false e = and_left (long == other.words) (variant_stands stands to variant other.place) e
 
-  pub same_behind : (after : Variant H) → map (lists_of stands) after.items.items ≡ map (lists_of stands) variant.items.items
-      → SameFrom least (variant_stands stands to after) (variant_stands stands to variant) → SameBehind at (variant_at stands to after) is_at
-  same_behind after lists same =
+  pub same_after : (after : Variant H) → map (lists_of stands) after.items.items ≡ map (lists_of stands) variant.items.items
+      → SameFrom least (variant_stands stands to after) (variant_stands stands to variant) → SameAfter at (variant_at stands to after) is_at
+  same_after after lists same =
       let size : length after.items.items ≡ long = sym (length-map after.items.items (lists_of stands)) ∙ ap length lists ∙ length-map variant.items.items (lists_of stands) in
       record {
         same = λ other a.
@@ -96,13 +96,13 @@ module _ {H : Type 0} (stands : H → HitPlace) (to : ℕ) (variant : Variant H)
     is_least : place ≡ least
     is_least = is ∙ ap (λ n. cond (nat_lt at.words n) at.place (at.place + 1)) size
 
-    pub jump_at : (next : ℕ) → Leads (variant_stands stands to variant) place to next → (next ≡ place → ⊥) → LeadsBehind is_at at to (spot next 0)
+    pub jump_at : (next : ℕ) → Leads (variant_stands stands to variant) place to next → (next ≡ place → ⊥) → LeadsAfter is_at at to (spot next 0)
     jump_at next leads other_place =
         jump_leads next (subst (λ p. Leads (variant_stands stands to variant) p to next) is_least leads) (λ same. other_place (same ∙ sym is_least))
 
     pub same_at : (after : Variant H) → map (lists_of stands) after.items.items ≡ map (lists_of stands) variant.items.items
-        → SameFrom place (variant_stands stands to after) (variant_stands stands to variant) → SameBehind at (variant_at stands to after) is_at
-    same_at after lists same = same_behind after lists (subst (λ p. SameFrom p (variant_stands stands to after) (variant_stands stands to variant)) is_least same)
+        → SameFrom place (variant_stands stands to after) (variant_stands stands to variant) → SameAfter at (variant_at stands to after) is_at
+    same_at after lists same = same_after after lists (subst (λ p. SameFrom p (variant_stands stands to after) (variant_stands stands to variant)) is_least same)
 
 -- ---- one after the other
 
@@ -110,20 +110,20 @@ module _ {H : Type 0} (stands : H → HitPlace) (to : ℕ) (variant : Variant H)
 abbrev pub some_pass : {A : Type 0} → (A → Spot → Bool) → List A → Spot → Bool
 some_pass passes xs at = list_any (λ x. passes x at) xs
 
--- the elements in front of the number pass at no spot between that one and the first one found
+-- the elements before the number pass at no spot between that one and the first one found
 pub record Passed {A L : Type 0} (passes : A → Spot → Bool) (shown : A → Shown L) (old now : List A) (at : Spot) (to : ℕ) (first : Spot) (number start end : ℕ) : Type 0 where
   pub long : length now ≡ length old
   pub ahead : is_before at first ≡ true
   pub last : first.place + first.words ≤ to
   pub there : 0 < first.words → some_pass passes old first ≡ true
   pub left : (other : Spot) → is_before at other ≡ true → is_before other first ≡ true → 1 ≤ other.words → some_pass passes old other ≡ some_pass passes (drop number now) other
-  pub same : SameBehind at (some_pass passes now) (some_pass passes old)
+  pub same : SameAfter at (some_pass passes now) (some_pass passes old)
   pub moved : Moved (shown_all shown old) (shown_all shown now) start end
 
 module _ {A L : Type 0} (passes : A → Spot → Bool) (shown : A → Shown L) where
   module _ (old now : List A) (at : Spot) (to : ℕ) (first : Spot) (number start middle end : ℕ) (so_far : Passed passes shown old now at to first number start middle)
-      (x y : A) (within : number < length now) (read : x ≡ get_or now number x) (next : Spot) (leads : LeadsBehind (passes x) at to next)
-      (same : SameBehind at (passes y) (passes x)) (moved : Moved (shown x) (shown y) middle end) where
+      (x y : A) (within : number < length now) (read : x ≡ get_or now number x) (next : Spot) (leads : LeadsAfter (passes x) at to next)
+      (same : SameAfter at (passes y) (passes x)) (moved : Moved (shown x) (shown y) middle end) where
     -- what is left begins with the element
     here : drop number now ≡ x ∷ drop (number + 1) now
     here = drop_more now number x within ∙ ap (λ z. z ∷ drop (number + 1) now) (sym read)
@@ -131,7 +131,7 @@ module _ {A L : Type 0} (passes : A → Spot → Bool) (shown : A → Shown L) w
     still : drop (number + 1) now ≡ drop (number + 1) (set now number y)
     still = sym (drop-set-lt (number + 1) now number y (omega arith))
 
-    -- nothing is passed in front of both
+    -- nothing is passed before both
     left_on : (other : Spot) → is_before at other ≡ true → is_before other first ≡ true → is_before other next ≡ true → 1 ≤ other.words
         → some_pass passes old other ≡ some_pass passes (drop (number + 1) (set now number y)) other
     left_on other a b c some =
@@ -151,7 +151,7 @@ module _ {A L : Type 0} (passes : A → Spot → Bool) (shown : A → Shown L) w
         still_long : length (set now number y) ≡ length old
         still_long = length-set now number y ∙ so_far.long
 
-        same_now : SameBehind at (some_pass passes (set now number y)) (some_pass passes old)
+        same_now : SameAfter at (some_pass passes (set now number y)) (some_pass passes old)
         same_now = record { same = λ other a. any_set (λ z. passes z other) now number x y within read (same.same other a) ∙ so_far.same.same other a }
 
         moved_now : Moved (shown_all shown old) (shown_all shown (set now number y)) start end
@@ -178,7 +178,7 @@ module _ {A L : Type 0} (passes : A → Spot → Bool) (shown : A → Shown L) w
         }
 
   pub pass_ends : (old now : List A) (at : Spot) (to : ℕ) (first : Spot) (number start end : ℕ) → Passed passes shown old now at to first number start end → length now ≤ number
-      → LeadsBehind (some_pass passes old) at to first
+      → LeadsAfter (some_pass passes old) at to first
   pass_ends old now at to first number start end so_far h = record {
     ahead = so_far.ahead;
     last = so_far.last;

@@ -11,7 +11,7 @@ use Rattle.place_merges.proofs.MoveLemmas.{moved_on, moved_in, same_on, any_set}
 abbrev pub some_pass : {A : Type 0} → (A → ℕ → Bool) → List A → ℕ → Bool
 some_pass passes xs place = list_any (λ x. passes x place) xs
 
--- the elements in front of the number pass nowhere from the place up to the first one found
+-- the elements before the number pass nowhere from the place up to the first one found
 pub record Searched {A L : Type 0} (passes : A → ℕ → Bool) (shown : A → Shown L) (old now : List A) (place limit first number start end : ℕ) : Type 0 where
   pub long : length now ≡ length old
   pub ahead : place < first
@@ -113,7 +113,7 @@ module _ {A L : Type 0} (passes : A → ℕ → Bool) (shown : A → Shown L) wh
         | inl before ↦
             let is : next ≡ sooner = omega (arith, e) in
             subst (λ p. some_pass passes old p ≡ true) is (found_next (omega (arith, is, less)))
-        | inr behind ↦
+        | inr past ↦
             let is : first ≡ sooner = omega (arith, e) in
             subst (λ p. some_pass passes old p ≡ true) is (so_far.found (omega (arith, is, less)))
       ];

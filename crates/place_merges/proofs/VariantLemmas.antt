@@ -59,7 +59,7 @@ module _ {A : Type 0} (want : A → Wanted) where
       let at : place + 1 + i ≡ place + suc i = omega arith in
       and_right (fits place (want z)) (stand xs (place + 1)) (unfit xs i (place + 1) x (omega arith) e (ap (λ p. fits p (want x)) at ∙ wrong))
 
--- the items in front of the number fit the words from the place on
+-- the items before the number fit the words from the place on
 pub record Fitted {A L : Type 0} (want : A → Wanted) (shown : A → Shown L) (old now : List A) (place number start end : ℕ) : Type 0 where
   pub long : length now ≡ length old
   pub left : stand want old place ≡ stand want (drop number old) (place + number)
@@ -104,11 +104,11 @@ module _ {A L : Type 0} (want : A → Wanted) (shown : A → Shown L) where
   module _ (old now : List A) (place limit number start middle end : ℕ) (so_far : Fitted want shown old now place number start middle)
       (x y : A) (within : number < length now) (read : x ≡ get_or now number x) (next : ℕ) (leads : Leads (λ other. fits other (want x)) (place + number) (limit + number) next)
       (same : SameFrom (place + number) (λ other. fits other (want y)) (λ other. fits other (want x))) (moved : Moved (shown x) (shown y) middle end) where
-    behind : drop (number + 1) now ≡ drop (number + 1) old
-    behind = sym (drop-drop 1 number now) ∙ ap (drop 1) so_far.rest ∙ drop-drop 1 number old
+    past : drop (number + 1) now ≡ drop (number + 1) old
+    past = sym (drop-drop 1 number now) ∙ ap (drop 1) so_far.rest ∙ drop-drop 1 number old
 
     here : drop number old ≡ x ∷ drop (number + 1) old
-    here = sym so_far.rest ∙ drop_more now number x within ∙ (λ i. sym read i ∷ behind i)
+    here = sym so_far.rest ∙ drop_more now number x within ∙ (λ i. sym read i ∷ past i)
 
     pub fit_goes_on : next ≡ place + number → Fitted want shown old (set now number y) place (number + 1) start end
     fit_goes_on at_place =
@@ -119,7 +119,7 @@ module _ {A L : Type 0} (want : A → Wanted) (shown : A → Shown L) where
               ∙ ap (λ l. stand want l (place + number)) here
               ∙ ap (λ b. b && stand want (drop (number + 1) old) (place + number + 1)) (leads.there at_place)
               ∙ ap (stand want (drop (number + 1) old)) at;
-          rest = drop-set-lt (number + 1) now number y (omega arith) ∙ behind;
+          rest = drop-set-lt (number + 1) now number y (omega arith) ∙ past;
           same = fit_same old now place limit number start middle end so_far.same so_far.moved x y within read next leads same moved;
           moved = fit_moved old now place limit number start middle end so_far.same so_far.moved x y within read next leads same moved;
         }

@@ -17,7 +17,7 @@ abbrev pub stands_at : ℕ → List Wanted → Bool
 stands_at place [] = true
 stands_at place (wanted ∷ rest) = fits place wanted && stands_at (place + 1) rest
 
--- whether they do so and all are in front of the end
+-- whether they do so and all are before the end
 abbrev pub stands_before : ℕ → ℕ → List Wanted → Bool
 stands_before to place variant = nat_le (place + length variant) to && stands_at place variant
 

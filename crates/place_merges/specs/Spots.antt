@@ -7,27 +7,27 @@ use Rattle.place_merges.specs.Places.{Wanted, stands_before}
 abbrev pub spot : ℕ → ℕ → Spot
 spot place words = record { place = place; words = words }
 
--- the spots at a place that end in front of `to`, of one word and more
+-- the spots at a place that end before `to`, of one word and more
 abbrev pub spots_at : ℕ → ℕ → List Spot
 spots_at to place = map (spot place) (range_with_len 1 (to - place))
 
--- all spots from one place on that end in front of another
+-- all spots from one place on that end before another
 abbrev pub spots_between : ℕ → ℕ → List Spot
 spots_between from to = flat_map (spots_at to) (range_with_len from (to - from))
 
--- those behind a spot: those of more words at its place, and those of the later places
-abbrev pub spots_behind : ℕ → Spot → List Spot
-spots_behind to at = map (spot at.place) (range_with_len (suc at.words) ((to - at.place) - at.words)) ++ spots_between (suc at.place) to
+-- those after a spot: those of more words at its place, and those of the later places
+abbrev pub spots_after : ℕ → Spot → List Spot
+spots_after to at = map (spot at.place) (range_with_len (suc at.words) ((to - at.place) - at.words)) ++ spots_between (suc at.place) to
 
--- whether one of the variants has as many words as the spot, and stands there, in front of the end
+-- whether one of the variants has as many words as the spot, and stands there, before the end
 abbrev pub some_at : ℕ → List (List Wanted) → Spot → Bool
 some_at to variants at = list_any (λ variant. (length variant == at.words) && stands_before to at.place variant) variants
 
--- the spots behind one at which one of the variants stands
+-- the spots after one at which one of the variants stands
 abbrev pub spots_left : ℕ → List (List Wanted) → Spot → List Spot
-spots_left to variants at = filter (some_at to variants) (spots_behind to at)
+spots_left to variants at = filter (some_at to variants) (spots_after to at)
 
--- a spot that was found, if there is one, with those that are left behind it
+-- a spot that was found, if there is one, with those that are left after it
 abbrev pub from_found : (Spot → List Spot) → Option Spot → List Spot
 from_found left None = []
 from_found left (Some at) = at ∷ left at

@@ -43,8 +43,8 @@ pub fn count_places<H: FirstWords, L: Ledger>(
     count
 }
 
-/// The place, where one of the variants begins there and ends in front of `to`; or else a later one, up to `to`, in
-/// front of which none does.
+/// The place, where one of the variants begins there and ends before `to`; or else a later one, up to `to`,
+/// before which none does.
 fn lead_of_variants<H: FirstWords, L: Ledger>(
     variants: &mut Vec<Variant<H>>,
     place: u32,

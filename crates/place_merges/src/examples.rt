@@ -4,7 +4,7 @@ ghost use Rattle.std.specs.declared.alloc.Global.{Global};
 ghost use Rattle.std.specs.declared.vec.Vec.{Vec};
 ghost use Rattle.ft_base.specs.Hits.{HitPlace, hit_place};
 ghost use Rattle.place_merges.specs.Places.{one_of, fits, stands_at, stands_before, places_between};
-ghost use Rattle.place_merges.specs.Spots.{from_found, some_at, spot, spots_behind, spots_between, spots_left};
+ghost use Rattle.place_merges.specs.Spots.{from_found, some_at, spot, spots_after, spots_between, spots_left};
 ghost use Rattle.place_merges.specs.Sources.{all_left, places_left, wanted_words};
 ghost use Rattle.place_merges.specs.declared.item.Item.{Item};
 ghost use Rattle.place_merges.specs.Examples.{a, b, any, hit};
@@ -18,7 +18,7 @@ pub fn items()
     ensures any_word { fits 9 any ≡ true }
 {}
 
-/// The words of a variant follow one another, and the last one is in front of the end.
+/// The words of a variant follow one another, and the last one is before the end.
 pub fn variants()
     ensures two_words { stands_at 1 (a ∷ b ∷ []) ≡ true }
     ensures a_word_between { stands_at 1 (a ∷ any ∷ b ∷ []) ≡ true }
@@ -48,9 +48,9 @@ pub fn counts()
     ensures no_word { places_between 1 4 ([] ∷ []) ≡ 3 }
 {}
 
-/// The hits in front of the place are no more wanted.
+/// The hits before the place are no more wanted.
 pub fn sources()
-    ensures at_the_front { places_left (hit_place (hit 2 2 ∷ hit 5 6 ∷ []) 0) ≡ 2 ∷ 5 ∷ [] }
+    ensures at_the_beginning { places_left (hit_place (hit 2 2 ∷ hit 5 6 ∷ []) 0) ≡ 2 ∷ 5 ∷ [] }
     ensures further_on { places_left (hit_place (hit 2 2 ∷ hit 5 6 ∷ []) 1) ≡ 5 ∷ [] }
     ensures at_the_end { places_left (hit_place (hit 2 2 ∷ hit 5 6 ∷ []) 2) ≡ [] }
 {}
@@ -61,13 +61,13 @@ pub fn variants_left_out()
     ensures left { (items : Vec (Item HitPlace) Global) → all_left (λ at. at) (record { items = items; lead = 0; counts = false } ∷ []) ≡ 0 }
 {}
 
-/// Spots come place after place, and at a place by their numbers of words; they end in front of the end.
+/// Spots come place after place, and at a place by their numbers of words; they end before the end.
 pub fn spots()
     ensures all { spots_between 1 3 ≡ spot 1 1 ∷ spot 1 2 ∷ spot 2 1 ∷ [] }
     ensures none { spots_between 3 3 ≡ [] }
-    ensures behind { spots_behind 4 (spot 2 1) ≡ spot 2 2 ∷ spot 3 1 ∷ [] }
-    ensures behind_no_words { spots_behind 4 (spot 2 0) ≡ spot 2 1 ∷ spot 2 2 ∷ spot 3 1 ∷ [] }
-    ensures behind_the_last { spots_behind 4 (spot 3 1) ≡ [] }
+    ensures past { spots_after 4 (spot 2 1) ≡ spot 2 2 ∷ spot 3 1 ∷ [] }
+    ensures after_no_words { spots_after 4 (spot 2 0) ≡ spot 2 1 ∷ spot 2 2 ∷ spot 3 1 ∷ [] }
+    ensures after_the_last { spots_after 4 (spot 3 1) ≡ [] }
 {}
 
 /// A variant stands on a spot of as many words, and a spot comes once, however many variants stand there.
@@ -78,6 +78,6 @@ pub fn variants_on_spots()
     ensures past_the_end { some_at 7 ((a ∷ b ∷ []) ∷ []) (spot 6 2) ≡ false }
     ensures left { spots_left 8 ((a ∷ b ∷ []) ∷ (a ∷ []) ∷ []) (spot 1 1) ≡ spot 1 2 ∷ spot 4 1 ∷ spot 6 1 ∷ spot 6 2 ∷ [] }
     ensures once { spots_left 6 ((a ∷ []) ∷ (a ∷ []) ∷ []) (spot 1 0) ≡ spot 1 1 ∷ spot 4 1 ∷ [] }
-    ensures found { from_found (spots_behind 4) (Some (spot 2 2)) ≡ spot 2 2 ∷ spot 3 1 ∷ [] }
-    ensures none_found { from_found (spots_behind 4) None ≡ [] }
+    ensures found { from_found (spots_after 4) (Some (spot 2 2)) ≡ spot 2 2 ∷ spot 3 1 ∷ [] }
+    ensures none_found { from_found (spots_after 4) None ≡ [] }
 {}

@@ -5,7 +5,7 @@ ghost use Rattle.std.specs.Option.{ForSome};
 ghost use Rattle.place_merges.specs.Sources.{all_left, all_lists, all_plain, wanted_words};
 ghost use Rattle.place_merges.specs.Spots.{from_found, spots_left};
 ghost use Rattle.place_merges.specs.steps.Searching.{Moved, shown_variant, shown_variants};
-ghost use Rattle.place_merges.specs.steps.Spotting.{IsInside, LeadsBehind, SameBehind, is_before, one_at, variant_at};
+ghost use Rattle.place_merges.specs.steps.Spotting.{IsInside, LeadsAfter, SameAfter, is_before, one_at, variant_at};
 
 use crate::first_words::FirstWords;
 use crate::variant::lead_of_variant;
@@ -13,30 +13,30 @@ use crate::{Spot, Variant};
 use ft_base::Steps;
 use std::sync::ledger::Ledger;
 
-/// The first spot behind that one at which one of the variants that count stands, in front of `to`: the shortest one at the
+/// The first spot after that one at which one of the variants that count stands, before `to`: the shortest one at the
 /// first place. `None` is given exactly where there is none.
 ///
-/// Spots come place after place, and at a place by their numbers of words. Behind a spot of no words are those of its place.
-/// The sources go forward only, so that the next call may ask behind the spot that was found. Of plain sources each hit that
+/// Spots come place after place, and at a place by their numbers of words. After a spot of no words are those of its place.
+/// The sources go forward only, so that the next call may ask after the spot that was found. Of plain sources each hit that
 /// is passed counts two steps at most.
 pub fn next_spot<H: FirstWords, L: Ledger>(
     variants: &mut Vec<Variant<H>>,
-    behind: Spot,
+    past: Spot,
     to: u32,
     steps: &mut Steps<L>,
 ) -> Option<Spot>
-    ensures spots { spots_left to (wanted_words H.stand variants.old.items) behind ≡
+    ensures spots { spots_left to (wanted_words H.stand variants.old.items) past ≡
         from_found (spots_left to (wanted_words H.stand variants.new.items)) result }
-    ensures inside { ForSome result (IsInside behind.place to) }
+    ensures inside { ForSome result (IsInside past.place to) }
     ensures lists { all_lists H.stand variants.new.items ≡ all_lists H.stand variants.old.items }
     ensures plain { all_plain H.plain variants.new.items ≡ all_plain H.plain variants.old.items }
     ensures counted { IsTrue (all_plain H.plain variants.old.items) →
         steps.new + 2 * all_left H.stand variants.new.items ≤ steps.old + 2 * all_left H.stand variants.old.items }
     ensures grown { steps.old ≤ steps.new }
 {
-    let mut at = behind;
+    let mut at = past;
     while at.place < to {
-        let next = lead_behind(variants, at, to, steps);
+        let next = lead_after(variants, at, to, steps);
         if next.words > 0 {
             return Some(next);
         }
@@ -45,17 +45,17 @@ pub fn next_spot<H: FirstWords, L: Ledger>(
     None
 }
 
-/// The first spot behind that one at which one of the variants stands; or else one of no words, at a later place up to `to`, in
-/// front of which none does.
-fn lead_behind<H: FirstWords, L: Ledger>(
+/// The first spot after that one at which one of the variants stands; or else one of no words, at a later place up to `to`,
+/// before which none does.
+fn lead_after<H: FirstWords, L: Ledger>(
     variants: &mut Vec<Variant<H>>,
     at: Spot,
     to: u32,
     steps: &mut Steps<L>,
 ) -> Spot
     requires { at.place < to }
-    ensures leads { LeadsBehind (one_at H.stand to variants.old.items) at to result }
-    ensures same { SameBehind at (one_at H.stand to variants.new.items) (one_at H.stand to variants.old.items) }
+    ensures leads { LeadsAfter (one_at H.stand to variants.old.items) at to result }
+    ensures same { SameAfter at (one_at H.stand to variants.new.items) (one_at H.stand to variants.old.items) }
     ensures moved { Moved (shown_variants H.stand H.plain variants.old.items) (shown_variants H.stand H.plain variants.new.items) steps.old steps.new }
 {
     let mut first = Spot {
@@ -63,7 +63,7 @@ fn lead_behind<H: FirstWords, L: Ledger>(
         words: 0,
     };
     for number in 0..variants.len() {
-        let next = lead_of_variant_behind(&mut variants[number], at, to, steps);
+        let next = lead_of_variant_after(&mut variants[number], at, to, steps);
         first = sooner(first, next);
     }
     first
@@ -83,15 +83,15 @@ fn sooner(first: Spot, second: Spot) -> Spot
 }
 
 /// The same of one variant.
-fn lead_of_variant_behind<H: FirstWords, L: Ledger>(
+fn lead_of_variant_after<H: FirstWords, L: Ledger>(
     variant: &mut Variant<H>,
     at: Spot,
     to: u32,
     steps: &mut Steps<L>,
 ) -> Spot
     requires { at.place < to }
-    ensures leads { LeadsBehind (variant_at H.stand to variant.old) at to result }
-    ensures same { SameBehind at (variant_at H.stand to variant.new) (variant_at H.stand to variant.old) }
+    ensures leads { LeadsAfter (variant_at H.stand to variant.old) at to result }
+    ensures same { SameAfter at (variant_at H.stand to variant.new) (variant_at H.stand to variant.old) }
     ensures moved { Moved (shown_variant H.stand H.plain variant.old) (shown_variant H.stand H.plain variant.new) steps.old steps.new }
 {
     if variant.items.len() > (to - at.place) as usize {
@@ -118,7 +118,7 @@ fn lead_of_variant_behind<H: FirstWords, L: Ledger>(
     }
 }
 
-/// The first place behind the spot at which so many words may stand: its own, where they are more than its words.
+/// The first place after the spot at which so many words may stand: its own, where they are more than its words.
 fn first_place(at: Spot, words: u32) -> u32
     requires { at.place < 2 ^ 32 - 1 }
     ensures { result ≡ cond (nat_lt at.words words) at.place (at.place + 1) }

@@ -4,7 +4,7 @@
 //! sources has a hit. `count_places` says at how many places of a span one of the variants stands, without a look at the
 //! words of the text.
 //!
-//! Each search begins at a place and ends there, or leads to a later place in front of which there is nothing to be
+//! Each search begins at a place and ends there, or leads to a later place before which there is nothing to be
 //! found: a source leads to its next hit (`source`), a variant to where its leading item leads, or else the first of its
 //! items that doesn't fit (`variant`), and several sources or variants to the first of the places of each. So where the
 //! rarest word leads, a frequent one is sought only at the places of the rare one. The sources go forward only, and no

@@ -26,7 +26,7 @@ fn reach<H: FirstWords, L: Ledger>(source: &mut H, place: u32, steps: &mut Steps
     source.first_word()
 }
 
-/// The first place from that one on at which the source has a hit, or the limit where there is none in front of it.
+/// The first place from that one on at which the source has a hit, or the limit where there is none before it.
 fn lead_of_source<H: FirstWords, L: Ledger>(
     source: &mut H,
     place: u32,
@@ -45,7 +45,7 @@ fn lead_of_source<H: FirstWords, L: Ledger>(
     }
 }
 
-/// The first place from that one on at which one of the sources has a hit, or the limit where there is none in front of
+/// The first place from that one on at which one of the sources has a hit, or the limit where there is none before
 /// it. Of plain sources each hit that is passed counts two steps at most.
 pub fn lead_of_sources<H: FirstWords, L: Ledger>(
     sources: &mut Vec<H>,

@@ -9,7 +9,7 @@ use crate::{Item, Variant};
 use ft_base::Steps;
 use std::sync::ledger::Ledger;
 
-/// The place, where the item fits the word there; or else a later one, up to the limit, in front of which it fits none.
+/// The place, where the item fits the word there; or else a later one, up to the limit, before which it fits none.
 fn lead_of_item<H: FirstWords, L: Ledger>(
     item: &mut Item<H>,
     place: u32,
@@ -27,7 +27,7 @@ fn lead_of_item<H: FirstWords, L: Ledger>(
     }
 }
 
-/// The place, where the items fit the words from it on; or else a later one, up to the limit, in front of which they fit
+/// The place, where the items fit the words from it on; or else a later one, up to the limit, before which they fit
 /// nowhere: the first item that doesn't fit says how far the place may jump.
 fn lead_of_items<H: FirstWords, L: Ledger>(
     items: &mut Vec<Item<H>>,
@@ -82,8 +82,8 @@ fn lead_with_first<H: FirstWords, L: Ledger>(
     lead_of_items(items, place, limit, steps)
 }
 
-/// The place, where the variant counts, begins there and ends in front of `to`; or else a later one, up to `to`, in
-/// front of which it doesn't.
+/// The place, where the variant counts, begins there and ends before `to`; or else a later one, up to `to`,
+/// before which it doesn't.
 pub(crate) fn lead_of_variant<H: FirstWords, L: Ledger>(
     variant: &mut Variant<H>,
     place: u32,
@@ -101,7 +101,7 @@ pub(crate) fn lead_of_variant<H: FirstWords, L: Ledger>(
     if variant.items.len() > (to - place) as usize {
         return to;
     }
-    let behind_first = variant.items.len().saturating_sub(1) as u32;
+    let after_first = variant.items.len().saturating_sub(1) as u32;
     let lead = variant.lead;
-    lead_with_first(&mut variant.items, lead, place, to - behind_first, steps)
+    lead_with_first(&mut variant.items, lead, place, to - after_first, steps)
 }

@@ -139,10 +139,10 @@ module _ (ts content new : List Tree) where
     after_child is =
         let d = Text [] in
         let more : suc i ≡ i + 1 = omega arith in
-        let front : row (take (suc i) ts) ≡ append (row (take i ts)) (only (node (get_or ts i d))) =
+        let prefix : row (take (suc i) ts) ≡ append (row (take i ts)) (only (node (get_or ts i d))) =
         ap (λ k. row (take k ts)) more ∙ ap row (take_more ts i d within) ∙ row_append (take i ts) (get_or ts i d ∷ []) in
         is
-        ∙ ap (λ z. joined (append z (append (row content) (row (drop (suc i) ts))))) front
+        ∙ ap (λ z. joined (append z (append (row content) (row (drop (suc i) ts))))) prefix
         ∙ ap joined (append_append (row (take i ts)) (only (node (get_or ts i d))) (append (row content) (row (drop (suc i) ts))))
         ∙ ap joined (sym (child_split (inserted H.After (row content)) ts i d within))
 

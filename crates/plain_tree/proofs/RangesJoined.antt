@@ -10,7 +10,7 @@ use Rattle.plain_tree.specs.View.{node}
 use Rattle.plain_tree.specs.declared.tree.Attr.{Attr}
 use Rattle.plain_tree.specs.declared.tree.Tree.{Tree}
 use Rattle.plain_tree.specs.declared.tree.Tree.TheVariants.{Elem, Text}
-use Rattle.plain_tree.proofs.JoiningLemmas.{append_append, joined_are, joined_same, joined_front, joined_rest, behind_element, before_text, before_element, front_joined, rest_joined, no_text_next, front, together}
+use Rattle.plain_tree.proofs.JoiningLemmas.{append_append, joined_are, joined_same, joined_prefix, joined_rest, after_element, before_text, before_element, prefix_joined, rest_joined, no_text_next, prefix, together}
 use Rattle.plain_tree.proofs.TreesJoined.{row, row_append}
 use Rattle.plain_tree.proofs.Views.{node_elem, node_text}
 
@@ -32,26 +32,26 @@ module _ (ts : List Tree) (joined_all : are_joined (row ts) ≡ true) (i : ℕ) 
       ap are_joined (sym (row_split ts i t h is ∙ ap (λ n. append (row (take i ts)) (node_then n (row (drop (i + 1) ts)))) (ap node text_is ∙ node_text bytes)))
       ∙ joined_all
 
-  pub front_of_text : (bytes : List ℕ) → t ≡ Text bytes → (ns : Nodes) → are_joined ns ≡ true → are_joined (append (row (take i ts)) ns) ≡ true
-  front_of_text bytes text_is ns z = before_text (row (take i ts)) (row (drop (i + 1) ts)) ns bytes (split_text bytes text_is) z
+  pub prefix_of_text : (bytes : List ℕ) → t ≡ Text bytes → (ns : Nodes) → are_joined ns ≡ true → are_joined (append (row (take i ts)) ns) ≡ true
+  prefix_of_text bytes text_is ns z = before_text (row (take i ts)) (row (drop (i + 1) ts)) ns bytes (split_text bytes text_is) z
 
-  pub behind_a_text : (bytes : List ℕ) → t ≡ Text bytes → begins_with_text (row (drop (i + 1) ts)) ≡ false
-  behind_a_text bytes text_is =
+  pub after_a_text : (bytes : List ℕ) → t ≡ Text bytes → begins_with_text (row (drop (i + 1) ts)) ≡ false
+  after_a_text bytes text_is =
       no_text_next bytes (row (drop (i + 1) ts)) (rest_joined (row (take i ts)) (node_then (text bytes) (row (drop (i + 1) ts))) (split_text bytes text_is))
 
-  pub behind_an_element : (name : List ℕ) (attrs : List Attr) (kids : List Tree) → t ≡ Elem name attrs kids
+  pub after_an_element : (name : List ℕ) (attrs : List Attr) (kids : List Tree) → t ≡ Elem name attrs kids
       → (ns : Nodes) → are_joined ns ≡ true → are_joined (append (row (take (i + 1) ts)) ns) ≡ true
-  behind_an_element name attrs kids elem_is ns z =
+  after_an_element name attrs kids elem_is ns z =
       let e : row (take (i + 1) ts) ≡ append (row (take i ts)) (only (element name attrs (row kids))) =
       ap row (take_more ts i t h) ∙ row_append (take i ts) (get_or ts i t ∷ [])
       ∙ ap (λ u. append (row (take i ts)) (only (node u))) (sym is ∙ elem_is)
       ∙ ap (λ n. append (row (take i ts)) (only n)) (node_elem name attrs kids) in
       ap (λ y. are_joined (append y ns)) e
-      ∙ behind_element (row (take i ts)) ns name attrs (row kids)
-      (ap are_joined (sym e) ∙ front_joined (row (take (i + 1) ts)) (row (drop (i + 1) ts)) (ap are_joined (sym (row_parts (i + 1) ts)) ∙ joined_all)) z
+      ∙ after_element (row (take i ts)) ns name attrs (row kids)
+      (ap are_joined (sym e) ∙ prefix_joined (row (take (i + 1) ts)) (row (drop (i + 1) ts)) (ap are_joined (sym (row_parts (i + 1) ts)) ∙ joined_all)) z
 
-  pub front_of_element : (name : List ℕ) (attrs : List Attr) (kids : List Tree) → t ≡ Elem name attrs kids → begins_with_text (row (drop i ts)) ≡ false
-  front_of_element name attrs kids elem_is =
+  pub prefix_of_element : (name : List ℕ) (attrs : List Attr) (kids : List Tree) → t ≡ Elem name attrs kids → begins_with_text (row (drop i ts)) ≡ false
+  prefix_of_element name attrs kids elem_is =
       ap (λ z. begins_with_text (row z)) (drop_more ts i t h) ∙ ap (λ u. is_text (node u)) (sym is ∙ elem_is) ∙ ap is_text (node_elem name attrs kids)
 
 -- ---- what is left when a range makes way
@@ -78,30 +78,30 @@ moved ts between first last n b turned cut grown new order within is_turned is_n
 
 joined_inside : (xs ys zs : Nodes) → joined (append xs (append (joined ys) zs)) ≡ joined (append xs (append ys zs))
 joined_inside xs ys zs =
-    sym (joined_rest xs (append (joined ys) zs)) ∙ ap (λ z. joined (append xs z)) (joined_front ys zs) ∙ joined_rest xs (append ys zs)
+    sym (joined_rest xs (append (joined ys) zs)) ∙ ap (λ z. joined (append xs z)) (joined_prefix ys zs) ∙ joined_rest xs (append ys zs)
 
 pub made_way : (ts content between new : List Tree) (from to first last : ℕ) → first ≤ from → from ≤ to → to ≤ last → are_joined (row ts) ≡ true
     → ((ns : Nodes) → are_joined ns ≡ true → are_joined (append (row (take first ts)) ns) ≡ true) → begins_with_text (row (drop last ts)) ≡ false
     → row between ≡ joined (append (row (slice_range ts first from)) (append (row content) (row (slice_range ts to last))))
     → new ≡ take first ts ++ (between ++ drop last ts)
     → row new ≡ joined (append (row (take from ts)) (append (row content) (row (drop to ts))))
-made_way ts content between new from to first last before order behind joined_all front_open back_closed between_is new_is =
-    let front = row (take first ts) in
+made_way ts content between new from to first last before order suffix joined_all prefix_open back_closed between_is new_is =
+    let prefix = row (take first ts) in
     let back = row (drop last ts) in
     let left = row (slice_range ts first from) in
     let right = row (slice_range ts to last) in
     let inner = append left (append (row content) right) in
-    let whole : are_joined (append front (append (joined inner) back)) ≡ true =
-    front_open (append (joined inner) back) (before_element (joined inner) back (joined_are inner) (rest_joined (row (take last ts)) back (ap are_joined (sym (row_parts last ts)) ∙ joined_all)) back_closed) in
+    let whole : are_joined (append prefix (append (joined inner) back)) ≡ true =
+    prefix_open (append (joined inner) back) (before_element (joined inner) back (joined_are inner) (rest_joined (row (take last ts)) back (ap are_joined (sym (row_parts last ts)) ∙ joined_all)) back_closed) in
     let from_is : first + (from - first) ≡ from = omega (arith, before) in
-    let front_is : append front left ≡ row (take from ts) =
+    let prefix_is : append prefix left ≡ row (take from ts) =
     sym (row_append (take first ts) (slice_range ts first from)) ∙ ap row (sym (take-add first (from - first) ts)) ∙ ap (λ k. row (take k ts)) from_is in
-    let back_is : append right back ≡ row (drop to ts) = sym (row_append (slice_range ts to last) (drop last ts)) ∙ ap row (sym (drop_split ts to last behind)) in
-    ap row new_is ∙ row_append (take first ts) (between ++ drop last ts) ∙ ap (append front) (row_append between (drop last ts) ∙ ap (λ z. append z back) between_is)
-    ∙ sym (joined_same (append front (append (joined inner) back)) whole)
-    ∙ joined_inside front inner back
-    ∙ ap (λ z. joined (append front z)) (append_append left (append (row content) right) back ∙ ap (append left) (append_append (row content) right back ∙ ap (append (row content)) back_is))
-    ∙ ap joined (sym (append_append front left (append (row content) (row (drop to ts)))) ∙ ap (λ z. append z (append (row content) (row (drop to ts)))) front_is)
+    let back_is : append right back ≡ row (drop to ts) = sym (row_append (slice_range ts to last) (drop last ts)) ∙ ap row (sym (drop_split ts to last suffix)) in
+    ap row new_is ∙ row_append (take first ts) (between ++ drop last ts) ∙ ap (append prefix) (row_append between (drop last ts) ∙ ap (λ z. append z back) between_is)
+    ∙ sym (joined_same (append prefix (append (joined inner) back)) whole)
+    ∙ joined_inside prefix inner back
+    ∙ ap (λ z. joined (append prefix z)) (append_append left (append (row content) right) back ∙ ap (append left) (append_append (row content) right back ∙ ap (append (row content)) back_is))
+    ∙ ap joined (sym (append_append prefix left (append (row content) (row (drop to ts)))) ∙ ap (λ z. append z (append (row content) (row (drop to ts)))) prefix_is)
 
 -- ---- a child by its number
 
@@ -118,25 +118,25 @@ row_set ts i new h = ap row (set_split ts i new h) ∙ row_append (take i ts) (n
 pub child_changed : (change : Node → Nodes) (ts : List Tree) (i : ℕ) (d new : Tree) → i < length ts → are_joined (row ts) ≡ true
     → only (node new) ≡ joined (change (node (get_or ts i d))) → is_text (node new) ≡ false → row (set ts i new) ≡ joined (at_child change (suc i) (row ts))
 child_changed change ts i d new h joined_all is elem =
-    let front_nodes = row (take i ts) in
+    let prefix_nodes = row (take i ts) in
     let back = row (drop (suc i) ts) in
     let old = node (get_or ts i d) in
     let more : suc i ≡ i + 1 = omega arith in
-    let own : is_joined (node new) ≡ true = (front (node new) no_nodes (ap are_joined is ∙ joined_are (change old))).own in
+    let own : is_joined (node new) ≡ true = (prefix (node new) no_nodes (ap are_joined is ∙ joined_are (change old))).own in
     let back_joined : are_joined back ≡ true = rest_joined (row (take (suc i) ts)) back (ap are_joined (sym (row_parts (suc i) ts)) ∙ joined_all) in
-    let front_is : are_joined front_nodes ≡ true = front_joined front_nodes (row (drop i ts)) (ap are_joined (sym (row_parts i ts)) ∙ joined_all) in
+    let prefix_is : are_joined prefix_nodes ≡ true = prefix_joined prefix_nodes (row (drop i ts)) (ap are_joined (sym (row_parts i ts)) ∙ joined_all) in
     let rest : are_joined (node_then (node new) back) ≡ true =
     together (node new) back (record { own = own; apart = ap (λ b. not (b && begins_with_text back)) elem; rest = back_joined }) in
     row_set ts i new h
-    ∙ sym (joined_same (append front_nodes (node_then (node new) back)) (before_element front_nodes (node_then (node new) back) front_is rest elem))
-    ∙ ap (λ z. joined (append front_nodes (append z back))) is
-    ∙ joined_inside front_nodes (change old) back
+    ∙ sym (joined_same (append prefix_nodes (node_then (node new) back)) (before_element prefix_nodes (node_then (node new) back) prefix_is rest elem))
+    ∙ ap (λ z. joined (append prefix_nodes (append z back))) is
+    ∙ joined_inside prefix_nodes (change old) back
     ∙ ap joined (sym (child_split change ts i d h))
 
 pub child_joined : (ts : List Tree) (i : ℕ) (d : Tree) → i < length ts → are_joined (row ts) ≡ true → is_joined (node (get_or ts i d)) ≡ true
 child_joined [] i d h joined_all = absurd (omega arith)
-child_joined (t ∷ ts) zero d h joined_all = (front (node t) (row ts) joined_all).own
-child_joined (t ∷ ts) (suc i) d h joined_all = child_joined ts i d (omega arith) (front (node t) (row ts) joined_all).rest
+child_joined (t ∷ ts) zero d h joined_all = (prefix (node t) (row ts) joined_all).own
+child_joined (t ∷ ts) (suc i) d h joined_all = child_joined ts i d (omega arith) (prefix (node t) (row ts) joined_all).rest
 
 -- a node that stays
 pub child_kept : (ts : List Tree) (i : ℕ) (d new : Tree) → i < length ts → node new ≡ node (get_or ts i d) → row (set ts i new) ≡ row ts

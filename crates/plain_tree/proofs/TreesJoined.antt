@@ -7,7 +7,7 @@ use Rattle.plain_tree.specs.View.{node}
 use Rattle.plain_tree.specs.declared.tree.Attr.{Attr}
 use Rattle.plain_tree.specs.declared.tree.Tree.{Tree}
 use Rattle.plain_tree.specs.declared.tree.Tree.TheVariants.{Elem, Text}
-use Rattle.plain_tree.proofs.JoiningLemmas.{append_none, append_append, nodes_append, joined_same, joined_front, nothing_behind, text_behind_text, text_behind_element, element_behind}
+use Rattle.plain_tree.proofs.JoiningLemmas.{append_none, append_append, nodes_append, joined_same, joined_prefix, nothing_after, text_following_text, text_following_element, element_following}
 use Rattle.plain_tree.proofs.Views.{node_elem, node_text}
 
 abbrev pub row : List Tree → Nodes
@@ -22,7 +22,7 @@ row_text ts bytes = row_append ts (Text bytes ∷ []) ∙ ap (λ n. append (row 
 pub row_elem : (ts : List Tree) (name : List ℕ) (attrs : List Attr) (kids : List Tree) → row (ts ++ Elem name attrs kids ∷ []) ≡ append (row ts) (only (element name attrs (row kids)))
 row_elem ts name attrs kids = row_append ts (Elem name attrs kids ∷ []) ∙ ap (λ n. append (row ts) (only n)) (node_elem name attrs kids)
 
--- ---- a text behind trees
+-- ---- a text after trees
 
 pub text_after_text : (old before : List Tree) (bytes more : List ℕ) → are_joined (row old) ≡ true → old ≡ before ++ Text bytes ∷ [] → (length more ≡ 0 → ⊥)
     → row (before ++ Text (bytes ++ more) ∷ []) ≡ joined (append (row old) (only (text more)))
@@ -30,7 +30,7 @@ text_after_text old before bytes [] h is some = absurd (some refl)
 text_after_text old before bytes (c ∷ more) h is some =
     let same = ap row is ∙ row_text before bytes in
     row_text before (bytes ++ c ∷ more)
-    ∙ text_behind_text (row before) bytes c more (ap are_joined (sym same) ∙ h)
+    ∙ text_following_text (row before) bytes c more (ap are_joined (sym same) ∙ h)
     ∙ ap (λ ns. joined (append ns (only (text (c ∷ more))))) (sym same)
 
 pub text_after_element : (old before : List Tree) (name : List ℕ) (attrs : List Attr) (kids : List Tree) (more : List ℕ)
@@ -41,7 +41,7 @@ text_after_element old before name attrs kids (c ∷ more) h is some =
     let same = ap row is ∙ row_elem before name attrs kids in
     row_text (before ++ Elem name attrs kids ∷ []) (c ∷ more)
     ∙ ap (λ ns. append ns (only (text (c ∷ more)))) (row_elem before name attrs kids)
-    ∙ text_behind_element (row before) name attrs (row kids) c more (ap are_joined (sym same) ∙ h)
+    ∙ text_following_element (row before) name attrs (row kids) c more (ap are_joined (sym same) ∙ h)
     ∙ ap (λ ns. joined (append ns (only (text (c ∷ more))))) (sym same)
 
 first_text : (bytes : List ℕ) → (length bytes ≡ 0 → ⊥) → row (Text bytes ∷ []) ≡ joined (only (text bytes))
@@ -55,17 +55,17 @@ text_alone [] (t ∷ before) more is none some = cc
 text_alone (o ∷ old) before more is none some = cc
 
 pub no_text_after : (old : List Tree) (more : List ℕ) → are_joined (row old) ≡ true → length more ≡ 0 → row old ≡ joined (append (row old) (only (text more)))
-no_text_after old [] h none = nothing_behind (row old) h
+no_text_after old [] h none = nothing_after (row old) h
 no_text_after old (c ∷ more) h none = cc
 
--- ---- an element behind trees
+-- ---- an element after trees
 
 pub element_after : (old : List Tree) (name : List ℕ) (attrs : List Attr) (kids made : List Tree) → are_joined (row old) ≡ true → row made ≡ joined (row kids)
     → row (old ++ Elem name attrs made ∷ []) ≡ joined (append (row old) (only (node (Elem name attrs kids))))
 element_after old name attrs kids made h is =
     row_elem old name attrs made
     ∙ ap (λ ns. append (row old) (only (element name attrs ns))) is
-    ∙ element_behind (row old) name attrs (row kids) h
+    ∙ element_following (row old) name attrs (row kids) h
     ∙ ap (λ n. joined (append (row old) (only n))) (sym (node_elem name attrs kids))
 
 -- ---- one tree more
@@ -77,18 +77,18 @@ pub one_more : (old now done : List Tree) (t : Tree) (new : List Tree) → row n
     → row new ≡ joined (append (row old) (row (done ++ t ∷ [])))
 one_more old now done t new before is =
     is ∙ ap (λ ns. joined (append ns (only (node t)))) before
-    ∙ joined_front (append (row old) (row done)) (only (node t))
+    ∙ joined_prefix (append (row old) (row done)) (only (node t))
     ∙ ap joined (append_append (row old) (row done) (only (node t)))
     ∙ ap (λ ns. joined (append (row old) ns)) (sym (row_append done (t ∷ [])))
 
 -- three lists, each joined to those before it
-pub three_joined : (front content back none first second third front_copy back_copy : List Tree) → none ≡ [] → map node front_copy ≡ map node front → map node back_copy ≡ map node back
-    → row first ≡ joined (append (row none) (row front_copy)) → row second ≡ joined (append (row first) (row content)) → row third ≡ joined (append (row second) (row back_copy))
-    → row third ≡ joined (append (row front) (append (row content) (row back)))
-three_joined front content back none first second third front_copy back_copy none_is front_is back_is first_is second_is third_is =
-    let one : row first ≡ joined (row front) = first_is ∙ ap (λ z. joined (append (row z) (row front_copy))) none_is ∙ ap (λ m. joined (nodes m)) front_is in
-    let two : row second ≡ joined (append (row front) (row content)) = second_is ∙ ap (λ z. joined (append z (row content))) one ∙ joined_front (row front) (row content) in
+pub three_joined : (prefix content back none first second third prefix_copy back_copy : List Tree) → none ≡ [] → map node prefix_copy ≡ map node prefix → map node back_copy ≡ map node back
+    → row first ≡ joined (append (row none) (row prefix_copy)) → row second ≡ joined (append (row first) (row content)) → row third ≡ joined (append (row second) (row back_copy))
+    → row third ≡ joined (append (row prefix) (append (row content) (row back)))
+three_joined prefix content back none first second third prefix_copy back_copy none_is prefix_is back_is first_is second_is third_is =
+    let one : row first ≡ joined (row prefix) = first_is ∙ ap (λ z. joined (append (row z) (row prefix_copy))) none_is ∙ ap (λ m. joined (nodes m)) prefix_is in
+    let two : row second ≡ joined (append (row prefix) (row content)) = second_is ∙ ap (λ z. joined (append z (row content))) one ∙ joined_prefix (row prefix) (row content) in
     third_is ∙ ap (λ z. joined (append z (row back_copy))) two
-    ∙ joined_front (append (row front) (row content)) (row back_copy)
-    ∙ ap joined (append_append (row front) (row content) (row back_copy))
-    ∙ ap (λ m. joined (append (row front) (append (row content) (nodes m)))) back_is
+    ∙ joined_prefix (append (row prefix) (row content)) (row back_copy)
+    ∙ ap joined (append_append (row prefix) (row content) (row back_copy))
+    ∙ ap (λ m. joined (append (row prefix) (append (row content) (nodes m)))) back_is

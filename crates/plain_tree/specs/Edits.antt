@@ -8,14 +8,14 @@ use Rattle.plain_tree.specs.declared.place.How.TheVariants as H
 abbrev pub only : Node → Nodes
 only n = node_then n no_nodes
 
--- nodes, and more behind them
+-- nodes, and more after them
 abbrev pub append : Nodes → Nodes → Nodes
 append no_nodes more = more
 append (node_then n ns) more = node_then n (append ns more)
 
 -- ---- texts that come beside each other are joined
 
--- a text in front of nodes: with a text at their front it is one text, and an empty one is dropped
+-- a text before nodes: with a text at their beginning it is one text, and an empty one is dropped
 abbrev pub text_then : List ℕ → Nodes → Nodes
 text_then bytes no_nodes = if is_empty bytes then no_nodes else only (text bytes)
 text_then bytes (node_then (text more) ns) = node_then (text (bytes ++ more)) ns
@@ -85,7 +85,7 @@ may_insert H.Last = names_element
 may_insert H.Before = names_inner
 may_insert H.After = names_inner
 
--- the nodes that stand where the root stood, behind an edit of the element at the place
+-- the nodes that stand where the root stood, after an edit of the element at the place
 abbrev pub insertion : How → Nodes → List ℕ → Node → Nodes
 insertion how content place root = joined (at_place (inserted how content) place root)
 

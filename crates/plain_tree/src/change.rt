@@ -19,7 +19,7 @@ pub(crate) enum End {
     Last,
 }
 
-/// In front of an element, behind it, or in its place.
+/// Before an element, after it, or in its place.
 #[derive(Clone, Copy)]
 pub(crate) enum Side {
     Before,

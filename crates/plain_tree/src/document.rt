@@ -66,7 +66,7 @@ impl PlainDoc {
         Ok(PlainDoc { root })
     }
 
-    /// Inserts content in front of the children of the element that the place names, behind them, in front of the element or behind
+    /// Inserts content before the children of the element that the place names, after them, before the element or after
     /// it (XQuery Update Facility 1.0, 2.4.1). A text that comes beside a text is joined with it, in the content too, and an empty
     /// one is dropped. `NoSuchPlace` comes exactly where the place names no element, or names the root and the content would stand
     /// beside it. After a fault the document is as it was. It takes a copy of a text that is joined; other nodes are moved.

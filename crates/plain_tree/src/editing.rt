@@ -177,7 +177,7 @@ fn edit_below(
     outcome
 }
 
-/// Inserts content in front of the children or behind them.
+/// Inserts content before the children or after them.
 fn edit_ends(alloc: Global, row: &mut Vec<Tree>, end: End, content: Kids) -> Result<(), Memory>
     requires { IsTrue (are_joined (nodes (map node row.old.items))) }
     ensures edited { OnOk result ((name : List ℕ) (attrs : List Attr) → only (element name attrs (nodes (map node row.new.items)))
@@ -193,7 +193,7 @@ fn edit_ends(alloc: Global, row: &mut Vec<Tree>, end: End, content: Kids) -> Res
     }
 }
 
-/// Puts content in front of the child of a number, counted from 1, behind it, or in its place.
+/// Puts content before the child of a number, counted from 1, after it, or in its place.
 fn edit_beside(
     alloc: Global,
     row: &mut Vec<Tree>,

@@ -6,7 +6,7 @@ ghost use Rattle.plain_tree.specs.EditExamples.{elem, b, c, between, letters, ne
 ghost use Rattle.plain_tree.specs.Edits.{only, insertion, replacement, removal, names_element, names_inner, may_insert};
 ghost use Rattle.plain_tree.specs.declared.place.How.TheVariants as H;
 
-/// Content stands in front of an element's children, behind them, in front of the element, or behind it.
+/// Content stands before an element's children, after them, before the element, or after it.
 pub fn inserted_nodes()
     ensures first { insertion H.First (only c) (2 ∷ []) letters ≡ only (between (b (c ∷ text (codes "y") ∷ []) ∷ [])) }
     ensures last { insertion H.Last (only c) (2 ∷ []) letters ≡ only (between (b (text (codes "y") ∷ c ∷ []) ∷ [])) }
@@ -52,9 +52,9 @@ pub fn replaced_and_removed()
 pub fn places_of_elements()
     ensures root { names_element [] letters ≡ true }
     ensures child { names_element (2 ∷ []) letters ≡ true }
-    ensures text_in_front { names_element (1 ∷ []) letters ≡ false }
+    ensures text_before { names_element (1 ∷ []) letters ≡ false }
     ensures zero { names_element (0 ∷ []) nested ≡ false }
-    ensures behind_the_last { names_element (3 ∷ []) nested ≡ false }
+    ensures after_the_last { names_element (3 ∷ []) nested ≡ false }
     ensures below { names_element (1 ∷ 1 ∷ []) nested ≡ true }
     ensures below_an_empty_one { names_element (2 ∷ 1 ∷ []) nested ≡ false }
     ensures below_a_text { names_element (1 ∷ 1 ∷ []) letters ≡ false }

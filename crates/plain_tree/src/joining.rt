@@ -56,7 +56,7 @@ fn join_text(list: &mut Vec<Tree>, more: Line) -> Result<(), Memory>
         return Ok(());
     }
     match list.pop() {
-        Some(last) => join_behind(list, last, more),
+        Some(last) => join_after(list, last, more),
         None => {
             push_text(list, more)?;
             Ok(())
@@ -64,9 +64,9 @@ fn join_text(list: &mut Vec<Tree>, more: Line) -> Result<(), Memory>
     }
 }
 
-/// Puts a node and a text behind it to the end, as one text where the node is one.
+/// Puts a node and a text after it to the end, as one text where the node is one.
 #[tactic(auto, using(crate::proofs::Views::views))]
-fn join_behind(list: &mut Vec<Tree>, last: Tree, more: Line) -> Result<(), Memory>
+fn join_after(list: &mut Vec<Tree>, last: Tree, more: Line) -> Result<(), Memory>
     requires { 0 < length more }
     ensures { OnOk result (IsTrue (are_joined (nodes (map node (list.old.items ++ last ∷ []))))
         → nodes (map node list.new.items) ≡ joined (append (nodes (map node (list.old.items ++ last ∷ []))) (only (text more)))) }
@@ -84,7 +84,7 @@ fn join_behind(list: &mut Vec<Tree>, last: Tree, more: Line) -> Result<(), Memor
     }
 }
 
-/// The text with more behind it.
+/// The text with more after it.
 fn one_text(text: Line, more: &str) -> Result<Line, Memory>
     ensures { IfOk result (λ line. line ≡ text ++ more.now) }
 {

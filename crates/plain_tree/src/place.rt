@@ -6,13 +6,13 @@ pub type Place = Items<u32>;
 /// Where an insertion puts its content.
 #[derive(Clone, Copy)]
 pub enum How {
-    /// In front of the element's children.
+    /// Before the element's children.
     First,
-    /// Behind the element's children.
+    /// After the element's children.
     Last,
-    /// In front of the element, among its siblings.
+    /// Before the element, among its siblings.
     Before,
-    /// Behind the element, among its siblings.
+    /// After the element, among its siblings.
     After,
 }
 

@@ -28,12 +28,12 @@ pub(crate) fn replace_range(
     ensures err { OnErr result (row.new.items ≡ row.old.items) }
 {
     let first = before_text(row.as_slice(), from);
-    let last = behind_text(row.as_slice(), to);
+    let last = after_text(row.as_slice(), to);
     let between = joined_nodes(alloc, &row[first..from], content, &row[to..last])?;
     put_between(row, first, last, between)
 }
 
-/// The number, or that of a text directly in front of it.
+/// The number, or that of a text directly before it.
 fn before_text(row: &[Tree], number: usize) -> usize
     requires within { number ≤ length row.now }
     requires joined { IsTrue (are_joined (nodes (map node row.now))) }
@@ -49,8 +49,8 @@ fn before_text(row: &[Tree], number: usize) -> usize
     }
 }
 
-/// The number, or that behind a text that it is the number of.
-fn behind_text(row: &[Tree], number: usize) -> usize
+/// The number, or that after a text that it is the number of.
+fn after_text(row: &[Tree], number: usize) -> usize
     requires within { number ≤ length row.now }
     requires joined { IsTrue (are_joined (nodes (map node row.now))) }
     ensures order { number ≤ result }
@@ -66,20 +66,20 @@ fn behind_text(row: &[Tree], number: usize) -> usize
     }
 }
 
-/// A copy of what stands in front, the content, and a copy of what stands behind it, joined.
+/// A copy of what stands before, the content, and a copy of what stands after it, joined.
 fn joined_nodes(
     alloc: Global,
-    front: &[Tree],
+    prefix: &[Tree],
     content: Kids,
-    behind: &[Tree],
+    suffix: &[Tree],
 ) -> Result<Vec<Tree>, Memory>
     ensures { IfOk result (λ list. nodes (map node list.items)
-        ≡ joined (append (nodes (map node front.now)) (append (nodes (map node content)) (nodes (map node behind.now))))) }
+        ≡ joined (append (nodes (map node prefix.now)) (append (nodes (map node content)) (nodes (map node suffix.now))))) }
 {
     let mut list = Vec::new(alloc);
-    join_all(alloc, &mut list, copy_kids(alloc, front)?)?;
+    join_all(alloc, &mut list, copy_kids(alloc, prefix)?)?;
     join_all(alloc, &mut list, content)?;
-    join_all(alloc, &mut list, copy_kids(alloc, behind)?)?;
+    join_all(alloc, &mut list, copy_kids(alloc, suffix)?)?;
     Ok(list)
 }
 
@@ -97,13 +97,13 @@ fn put_between(
     ensures err { OnErr result (row.new.items ≡ row.old.items) }
 {
     row.reserve(between.len())?;
-    // Those behind come first, then those in front, so that those that make way are the last.
+    // Those after come first, then those before, so that those that make way are the last.
     row.rotate_left(last);
     row.truncate(row.len() - (last - first));
-    let behind = row.len() - first;
+    let suffix = row.len() - first;
     let Ok(()) = row.append(&mut between) else {
         unreachable!()
     };
-    row.rotate_left(behind);
+    row.rotate_left(suffix);
     Ok(())
 }

@@ -6,11 +6,7 @@ use Rattle.std.proofs.lemmas.List.{take_more, map-append, length-map}
 use Rattle.std.proofs.lemmas.List.Sums.{fold_push}
 use Rattle.all_matches.specs.Counting.{put_variant, with_variant, by_length}
 use Rattle.indexmap.specs.IndexMap.{insert_entry}
-use Rattle.plan_compiler.specs.GroupedTests.{put_behind}
-
-pub flat_map-map : {X Y : Type 0} (f : X → List Y) (xs : List X) → flat_map (λ ys. ys) (map f xs) ≡ flat_map f xs
-flat_map-map f [] = refl
-flat_map-map f (x ∷ xs) = ap (λ ys. f x ++ ys) (flat_map-map f xs)
+use Rattle.plan_compiler.specs.GroupedTests.{put_after}
 
 -- one more of what a list's items become
 pub fold_more : {X Y Z R : Type 0} (step : R → Z → R) (a : R) (g : Y → Z) (h : X → Y) (xs : List X) (i : ℕ) (x : X) → i < length xs → x ≡ get_or xs i x
@@ -51,7 +47,7 @@ module _ {X Y : Type 0} (f : X → Y) where
   by_length-map lists = fold-map [] lists
 
 module _ {X : Type 0} where
-  -- behind the lists of its length
+  -- after the lists of its length
   pub put_found : (items : List X) (groups : List (ℕ × List (List X))) (found : List (List X)) → lookup (nat_eq (length items)) groups ≡ Some found
       → set_value (nat_eq (length items)) groups (found ++ items ∷ []) ≡ put_variant items groups
   put_found items [] found h = cc
@@ -79,10 +75,10 @@ module _ {X : Type 0} where
       by_test further false e h = ap (λ gs. group ∷ gs) (further h)
 
   -- either
-  pub put_either : (items : List X) (groups : List (ℕ × List (List X))) → 0 < length items → put_behind groups items (lookup (nat_eq (length items)) groups) ≡ with_variant groups items
+  pub put_either : (items : List X) (groups : List (ℕ × List (List X))) → 0 < length items → put_after groups items (lookup (nat_eq (length items)) groups) ≡ with_variant groups items
   put_either [] groups h = absurd (omega arith)
   put_either (item ∷ items) groups h = by_found (lookup (nat_eq (length (item ∷ items))) groups) refl
     where
-      by_found : (found : Option (List (List X))) → lookup (nat_eq (length (item ∷ items))) groups ≡ found → put_behind groups (item ∷ items) found ≡ put_variant (item ∷ items) groups
+      by_found : (found : Option (List (List X))) → lookup (nat_eq (length (item ∷ items))) groups ≡ found → put_after groups (item ∷ items) found ≡ put_variant (item ∷ items) groups
       by_found None e = put_first (item ∷ items) groups e
       by_found (Some found) e = put_found (item ∷ items) groups found e

@@ -3,15 +3,15 @@ use Rattle.std.proofs.Common.{◌≡◌, refl, ap, List, [], ◌∷◌, ◌++◌
 use Rattle.std.specs.Prelude.{fold}
 use Rattle.all_matches.specs.Ways.{Operator}
 use Rattle.plan_compiler.specs.Operators.{joined_of}
-use Rattle.plan_compiler.specs.steps.Joins.{joined, joined_behind, joined_from}
+use Rattle.plan_compiler.specs.steps.Joins.{joined, joined_after, joined_from}
 use Rattle.plan_compiler.specs.declared.joining.Join.{Join}
 use Rattle.plan_compiler.specs.declared.joining.Join.TheVariants.{Choice, Both}
 
 -- one operand more
 pub joined_more : (join : Join) (before : Option Operator) (operands : List Operator) (next : Operator)
-    → joined_from join before (operands ++ next ∷ []) ≡ Some (joined_behind join (joined_from join before operands) next)
+    → joined_from join before (operands ++ next ∷ []) ≡ Some (joined_after join (joined_from join before operands) next)
 joined_more join before [] next = refl
-joined_more join before (first ∷ rest) next = joined_more join (Some (joined_behind join before first)) rest next
+joined_more join before (first ∷ rest) next = joined_more join (Some (joined_after join before first)) rest next
 
 folded : (join : Join) (before : Operator) (rest : List Operator) → joined_from join (Some before) rest ≡ Some (fold (joined join) before rest)
 folded join before [] = refl

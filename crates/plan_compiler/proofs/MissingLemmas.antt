@@ -14,7 +14,7 @@ use Rattle.plan_compiler.specs.NamedLists.{NamedLists}
 use Rattle.plan_compiler.proofs.ServedLemmas.{form-Words, form-Not, form-Filtered, form-With}
 
 module _ (lists : NamedLists) where
-  -- the first of some names, or else of those behind them
+  -- the first of some names, or else of those after them
   pub missing_append : (prefix rest : List Named) → missing_among lists (prefix ++ rest) ≡ option_or (missing_among lists prefix) (missing_among lists rest)
   missing_append [] rest = refl
   missing_append (first ∷ prefix) rest =

@@ -119,9 +119,9 @@ phrases_more lists options tokens first (one ∷ phrases) items =
     (phrases_more lists options tokens (first + 1) phrases items
     ∙ ap (λ n. phrase_operators (lexicon lists) options tokens (first + 1) phrases ++ phrase (hits (lexicon lists) options n items tokens) ∷ []) at)
 
-length_behind : {X : Type 0} (xs : List X) (x : X) → length (xs ++ x ∷ []) ≡ length xs + 1
-length_behind [] x = refl
-length_behind (y ∷ xs) x = let more = length_behind xs x in omega (arith, more)
+length_after : {X : Type 0} (xs : List X) (x : X) → length (xs ++ x ∷ []) ≡ length xs + 1
+length_after [] x = refl
+length_after (y ∷ xs) x = let more = length_after xs x in omega (arith, more)
 
 pub phrases_compiled_more : (reading : Reading) (first middle next : ℕ) (before after : List OperatorPlan) (plan : OperatorPlan) (phrases : List (List Item)) (items : List Item) → after ≡ before ++ plan ∷ []
     → PhrasesCompileTo reading first middle before phrases → PhraseCompilesTo reading middle next plan items → PhrasesCompileTo reading first next after (phrases ++ items ∷ [])
@@ -133,10 +133,10 @@ phrases_compiled_more reading first middle next before after plan phrases items 
       ∙ (λ i. all.same lists options reads looks tokens served i ++ (one.same lists options reads looks tokens served ∙ ap (λ n. phrase (hits (lexicon lists) options n items tokens)) all.numbered) i ∷ [])
       ∙ sym (phrases_more lists options tokens first phrases items);
   numbered =
-      let behind = length_behind phrases items in
+      let past = length_after phrases items in
       let more = one.numbered in
       let many = all.numbered in
-      omega (arith, behind, more, many);
+      omega (arith, past, more, many);
   price = λ lists options reads looks terms text served.
       let cost : OperatorPlan → ℕ = operator_cost (compiled_price looks lists.stems terms text) in
       let made = ap (sum_by cost) pushed ∙ sum_by_push cost before plan in

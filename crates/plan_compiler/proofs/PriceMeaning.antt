@@ -149,40 +149,40 @@ module _ (looks : Looks) (lists : NamedLists) (terms : List Entry) (text : List 
         let once = (item ∷ phrase) ∷ map (map word) (in_order keys) in
         let same : phrases_for reading (item ∷ phrase) ≡ once =
         λ i. (item ∷ phrase) ∷ map (map word) (in_order (reached_keys (lexicon (reads.named i)) (reads.thesaurus i) (item ∷ phrase))) in
-        let told : sum_by (sum_by asked_price) (map (map (item_test reading)) (phrases_for reading (item ∷ phrase))) ≡ sum_by (sum_by priced) (map (map bare) once) =
+        let known : sum_by (sum_by asked_price) (map (map (item_test reading)) (phrases_for reading (item ∷ phrase))) ≡ sum_by (sum_by priced) (map (map bare) once) =
         ap (λ phrases. sum_by (sum_by asked_price) (map (map (item_test reading)) phrases)) same ∙ variants_priced once in
         let whole : phrase_price (lexicon lists) options terms text (item ∷ phrase)
         ≡ sum_by priced (map bare (item ∷ phrase)) + sum_by (λ key. sum_by priced (map bare (map word key))) keys = with_reached (item ∷ phrase) keys in
         let kept = with_reached (item ∷ phrase) (in_order keys) in
         let less = in_order_sum (λ key. sum_by priced (map bare (map word key))) keys in
-        omega (arith, told, whole, kept, less)
+        omega (arith, known, whole, kept, less)
 
     -- by length or not, the sum is the same
     phrase_priced : (phrase : List Item) → sum_by (sum_by (sum_by asked_price)) (grouped_tests reading phrase) ≤ phrase_price (lexicon lists) options terms text phrase
     phrase_priced phrase =
         let tests = map (map (item_test reading)) (phrases_for reading phrase) in
-        let told : sum_by (sum_by (sum_by asked_price)) (grouped_tests reading phrase) ≡ sum_by (sum_by asked_price) tests =
+        let known : sum_by (sum_by (sum_by asked_price)) (grouped_tests reading phrase) ≡ sum_by (sum_by asked_price) tests =
         sum_over (sum_by (sum_by asked_price)) (of_group (sum_by asked_price) refl) (λ group. group.1) (λ group. refl) (by_length tests)
         ∙ by_length-sum (sum_by asked_price) refl tests in
         let most = once_priced phrase in
-        omega (arith, told, most)
+        omega (arith, known, most)
 
     pub variants_cost : (variants : List (List ItemTest)) (phrase : List Item) → map (map passes) variants ≡ map (map (item_test reading)) (phrases_for reading phrase)
         → sum_by (sum_by (compiled_price looks lists.stems terms text)) variants ≤ phrase_price (lexicon lists) options terms text phrase
     variants_cost variants phrase is =
-        let told = sym (group_costs variants) ∙ ap (sum_by (sum_by asked_price)) is in
+        let known = sym (group_costs variants) ∙ ap (sum_by (sum_by asked_price)) is in
         let most = once_priced phrase in
-        omega (arith, told, most)
+        omega (arith, known, most)
 
   pub words_priced : (options : Options) (plan : WordsPlan) (value : Words) → IsCompiled plan lists options value → are_served looks options ≡ true
       → words_cost (compiled_price looks lists.stems terms text) plan ≤ value_price (lexicon lists) options terms text value
   words_priced options plan value compiled served =
       let reading = compiled.reading in
       let phrases = phrases_by value.mode (map (items_of reading.wildcards) value.values) in
-      let told : words_cost (compiled_price looks lists.stems terms text) plan ≡ sum_by (sum_by (sum_by (sum_by asked_price))) (map (grouped_tests reading) phrases) =
+      let known : words_cost (compiled_price looks lists.stems terms text) plan ≡ sum_by (sum_by (sum_by (sum_by asked_price))) (map (grouped_tests reading) phrases) =
       sym (sum_over (sum_by (sum_by (sum_by asked_price))) (phrase_cost (compiled_price looks lists.stems terms text)) plan_tests phrase_costs plan.phrases)
       ∙ ap (sum_by (sum_by (sum_by (sum_by asked_price)))) compiled.phrases in
       let most = sum_over_le (sum_by (sum_by (sum_by asked_price))) (phrase_price (lexicon lists) options terms text) (grouped_tests reading) (phrase_priced options reading compiled.reads served) phrases in
       let whole : sum_by (phrase_price (lexicon lists) options terms text) phrases ≡ value_price (lexicon lists) options terms text value =
       ap (λ wildcards. sum_by (phrase_price (lexicon lists) options terms text) (phrases_by value.mode (map (items_of wildcards) value.values))) compiled.reads.wildcards in
-      omega (arith, told, most, whole)
+      omega (arith, known, most, whole)

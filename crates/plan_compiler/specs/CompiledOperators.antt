@@ -27,7 +27,7 @@ use Rattle.plan_compiler.specs.declared.reading.Reading.{Reading}
 
 module _ (lists : NamedLists) (options : Options) where
   -- Over each text it is what the selection is there, and its tests have together at most the price of the selection. Its phrases have the
-  -- numbers from the first one on; behind them comes the next one
+  -- numbers from the first one on; after them comes the next one
   pub record CompilesTo (first next : ℕ) (plan : OperatorPlan) (selection : Form) : Type 0 where
     pub same : (looks : Looks) (tokens : List Token) → are_served looks options ≡ true → is_served looks selection ≡ true
         → operator_at (looked_text looks lists.stems tokens) plan ≡ operator_of (lexicon lists) options first tokens selection

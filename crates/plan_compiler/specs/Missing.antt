@@ -44,7 +44,7 @@ thesaurus_names (Some (Thesaurus.Uses uses)) = map (λ choice. thesaurus choice.
 abbrev pub option_names : Options → List Named
 option_names options = thesaurus_names options.thesaurus ++ stop_names options.stop_words
 
--- the options of an operand are printed before those behind it. One that is overridden names its list all the same
+-- the options of an operand are printed before those after it. One that is overridden names its list all the same
 unfoldable mutual
   pub names : Form → List Named
   names (words value) = option_names value.options

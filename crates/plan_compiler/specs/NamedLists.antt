@@ -20,7 +20,7 @@ abbrev pub list_named : {L : Type 0} → List ℕ → List (List ℕ × L) → O
 list_named name [] = None
 list_named name (first ∷ rest) = if bytes_eq name first.0 then Some first.1 else list_named name rest
 
--- a list put under a name: in the place of the one that has it, or behind the others
+-- a list put under a name: in the place of the one that has it, or after the others
 abbrev pub with_list : {L : Type 0} → List ℕ → L → List (List ℕ × L) → List (List ℕ × L)
 with_list name list [] = (name, list) ∷ []
 with_list name list (first ∷ rest) = if bytes_eq name first.0 then (first.0, list) ∷ rest else first ∷ with_list name list rest

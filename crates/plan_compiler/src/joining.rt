@@ -6,7 +6,7 @@ ghost use Rattle.all_matches.specs.Ways.{apart, negated, phrase, through_filter}
 ghost use Rattle.plan_compiler.specs.NodeCosts.{operator_cost};
 ghost use Rattle.plan_compiler.specs.Operators.{LookedText, joined_of, operator_at};
 ghost use Rattle.plan_compiler.specs.declared.item_matching.ItemTest.{ItemTest};
-ghost use Rattle.plan_compiler.specs.steps.Joins.{cost_before, joined, joined_behind, joined_from};
+ghost use Rattle.plan_compiler.specs.steps.Joins.{cost_before, joined, joined_after, joined_from};
 
 use crate::operator_plan::{FilteredPlan, NegatedPlan, OperatorPlan, OperatorSides, PhraseTests};
 use ft_base::{Filter, Items, Memory};
@@ -48,20 +48,20 @@ fn join_some(
 {
     let mut before = None;
     for next in operands.into_vec() {
-        before = Some(plan_behind(alloc, join, before, next)?);
+        before = Some(plan_after(alloc, join, before, next)?);
     }
     Ok(before)
 }
 
-/// An operand behind those that were joined before, if there were some.
-fn plan_behind(
+/// An operand after those that were joined before, if there were some.
+fn plan_after(
     alloc: Global,
     join: Join,
     before: Option<OperatorPlan>,
     next: OperatorPlan,
 ) -> Result<OperatorPlan, Memory>
     ensures same { IfOk result (λ plan. (text : LookedText)
-        → operator_at text plan ≡ joined_behind join (option_map (operator_at text) before) (operator_at text next)) }
+        → operator_at text plan ≡ joined_after join (option_map (operator_at text) before) (operator_at text next)) }
     ensures cost { IfOk result (λ plan. (cost : ItemTest → ℕ) → operator_cost cost plan ≡ cost_before cost before + operator_cost cost next) }
 {
     match before {

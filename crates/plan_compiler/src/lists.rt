@@ -72,7 +72,7 @@ impl Lists {
         }
     }
 
-    /// Puts a stop list under a name, in the place of the one that has it, or behind the others. Where memory runs out, the lists
+    /// Puts a stop list under a name, in the place of the one that has it, or after the others. Where memory runs out, the lists
     /// stay as they were.
     pub fn set_stop(&mut self, name: &str, list: StopList) -> Result<(), Memory>
         ensures ok { OnOk result (self.new ≡ with_stop_list name.now list self.old) }
@@ -81,7 +81,7 @@ impl Lists {
         put_list(self.alloc, &mut self.stops, name, list)
     }
 
-    /// Puts a thesaurus under a name, in the place of the one that has it, or behind the others. Where memory runs out, the lists
+    /// Puts a thesaurus under a name, in the place of the one that has it, or after the others. Where memory runs out, the lists
     /// stay as they were.
     pub fn set_thesaurus(&mut self, name: &str, list: Thesaurus) -> Result<(), Memory>
         ensures ok { OnOk result (self.new ≡ with_thesaurus name.now list self.old) }

@@ -5,7 +5,7 @@ ghost use Rattle.std.specs.Map.{lookup};
 ghost use Rattle.all_matches.specs.Counting.{by_length, with_variant};
 ghost use Rattle.match_options.specs.Items.{item};
 ghost use Rattle.plan_compiler.specs.ItemTests.{passes};
-ghost use Rattle.plan_compiler.specs.GroupedTests.{group_tests, put_behind};
+ghost use Rattle.plan_compiler.specs.GroupedTests.{group_tests, put_after};
 ghost use Rattle.plan_compiler.specs.WordsMeaning as spec;
 
 use crate::item_matching::ItemTest;
@@ -89,7 +89,7 @@ fn add_variant(
     Ok(())
 }
 
-/// Puts the tests behind those of their number, or as the first of it.
+/// Puts the tests after those of their number, or as the first of it.
 fn put_tests(
     alloc: Global,
     groups: &mut IndexMap<usize, Items<Items<ItemTest>>>,
@@ -97,7 +97,7 @@ fn put_tests(
     tests: Items<ItemTest>,
 ) -> Result<(), Memory>
     requires { count ≡ length tests }
-    ensures { OnOk result (groups.new.entries ≡ put_behind groups.old.entries tests (lookup (nat_eq (length tests)) groups.old.entries)) }
+    ensures { OnOk result (groups.new.entries ≡ put_after groups.old.entries tests (lookup (nat_eq (length tests)) groups.old.entries)) }
 {
     if let Some(variants) = groups.get_mut(&count) {
         return variants.push(tests);

@@ -11,15 +11,15 @@ use Rattle.plan_kinds.specs.declared.joined.Joined.{Joined}
 use Rattle.plan_kinds.specs.declared.merge_kind.MergeKind.{MergeKind}
 
 -- what is told of a filter by what is told of its operand is told of a plan that is one
-pub filtered_law : {X : Type 0} (told : OperatorPlan → X) (under : X → Filter → X) → ((p : _) (operand : OperatorPlan) (kind : Filter) → told (Filtered' p operand kind) ≡ under (told operand) kind)
-    → (plan : OperatorPlan) (own : FilteredPlan) → filtered_of plan ≡ Some own → told plan ≡ under (told own.operand) own.kind
-filtered_law told under each (Phrase found) own h = absurd (none-some own h)
-filtered_law told under each (Choice' p left right) own h = absurd (none-some own h)
-filtered_law told under each (Both' p left right) own h = absurd (none-some own h)
-filtered_law told under each (MildNot' p left right) own h = absurd (none-some own h)
-filtered_law told under each (Negated' p operand) own h = absurd (none-some own h)
-filtered_law told under each (Filtered' p operand kind) own h =
-    each p operand kind ∙ ap (λ (plan : FilteredPlan). under (told plan.operand) plan.kind) (same_Some (record { operand = operand; kind = kind }) own h)
+pub filtered_law : {X : Type 0} (known : OperatorPlan → X) (under : X → Filter → X) → ((p : _) (operand : OperatorPlan) (kind : Filter) → known (Filtered' p operand kind) ≡ under (known operand) kind)
+    → (plan : OperatorPlan) (own : FilteredPlan) → filtered_of plan ≡ Some own → known plan ≡ under (known own.operand) own.kind
+filtered_law known under each (Phrase found) own h = absurd (none-some own h)
+filtered_law known under each (Choice' p left right) own h = absurd (none-some own h)
+filtered_law known under each (Both' p left right) own h = absurd (none-some own h)
+filtered_law known under each (MildNot' p left right) own h = absurd (none-some own h)
+filtered_law known under each (Negated' p operand) own h = absurd (none-some own h)
+filtered_law known under each (Filtered' p operand kind) own h =
+    each p operand kind ∙ ap (λ (plan : FilteredPlan). under (known plan.operand) plan.kind) (same_Some (record { operand = operand; kind = kind }) own h)
 
 -- a filter over phrases, by which they have to stand like this
 pub record IsFiltered {K : Type 0} (kind_of : Filter → Joined → Option K) (plan : OperatorPlan) (kind : K) (operand : OperatorPlan) : Type 0 where

@@ -76,22 +76,22 @@ more_phrases p left found before joined next =
           ∙ fold-append together (phrase (hits joined.first)) (map phrase (map hits joined.rest)) (phrase (hits found) ∷ []));
     }
 
-behind : (p : _) (left right : OperatorPlan) (before joined : Joined) → AreJoined left before → one_more (Some before) (phrase_of right) ≡ Some joined
+after : (p : _) (left right : OperatorPlan) (before joined : Joined) → AreJoined left before → one_more (Some before) (phrase_of right) ≡ Some joined
     → AreJoined (Both' p left right) joined
-behind p left (Phrase found) before joined are h =
+after p left (Phrase found) before joined are h =
     let parts = cond_some (found.number - before.last == 1) (record { first = before.first; last = found.number; are_words = before.are_words && is_word found }) joined h in
     let next = eqb-true (found.number - before.last) 1 parts.0 in
     subst (AreJoined (Both' p left (Phrase found))) parts.1 (more_phrases p left found before are (omega (arith, next)))
-behind p left (Choice' q a b) before joined are h = absurd (none-some joined h)
-behind p left (Both' q a b) before joined are h = absurd (none-some joined h)
-behind p left (MildNot' q a b) before joined are h = absurd (none-some joined h)
-behind p left (Negated' q a) before joined are h = absurd (none-some joined h)
-behind p left (Filtered' q a kind) before joined are h = absurd (none-some joined h)
+after p left (Choice' q a b) before joined are h = absurd (none-some joined h)
+after p left (Both' q a b) before joined are h = absurd (none-some joined h)
+after p left (MildNot' q a b) before joined are h = absurd (none-some joined h)
+after p left (Negated' q a) before joined are h = absurd (none-some joined h)
+after p left (Filtered' q a kind) before joined are h = absurd (none-some joined h)
 
 both_sides : (p : _) (left right : OperatorPlan) (before : Option Joined) → joined_of left ≡ before → ((own : Joined) → joined_of left ≡ Some own → AreJoined left own)
     → (joined : Joined) → one_more before (phrase_of right) ≡ Some joined → AreJoined (Both' p left right) joined
 both_sides p left right None is each joined h = absurd (none-some joined h)
-both_sides p left right (Some before) is each joined h = behind p left right before joined (each before is) h
+both_sides p left right (Some before) is each joined h = after p left right before joined (each before is) h
 
 pub joined_law : (plan : OperatorPlan) (joined : Joined) → joined_of plan ≡ Some joined → AreJoined plan joined
 unfolding joined_of

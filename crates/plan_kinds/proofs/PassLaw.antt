@@ -11,7 +11,7 @@ use Rattle.ft_base.specs.declared.unit.TextUnit.{TextUnit}
 use Rattle.ft_base.specs.declared.unit.TextUnit.TheVariants as Unit
 use Rattle.all_matches.specs.Boolean.{satisfied}
 use Rattle.all_matches.specs.Ways.{matches_of}
-use Rattle.phrase_merges.specs.Choices.{are_apart, ends_behind}
+use Rattle.phrase_merges.specs.Choices.{are_apart, ends_after}
 use Rattle.phrase_merges.proofs.DistanceLemmas.{apart_phrases}
 use Rattle.phrase_merges.proofs.UnitLemmas.{in_window, ordered, same_paragraph, same_sentence}
 use Rattle.window_merges.specs.Choices.{some_choice}
@@ -23,20 +23,20 @@ use Rattle.plan_kinds.specs.declared.pass_kind.PassKind.{PassKind}
 use Rattle.plan_kinds.specs.declared.pass_kind.PassKind.TheVariants.{Within, Apart, InOrder}
 use Rattle.plan_kinds.proofs.JoinedLaw.{pair_count}
 
--- hits of phrases that are numbered from one on, none of which ends in front of its own beginning
+-- hits of phrases that are numbered from one on, none of which ends before its own beginning
 pub record AreOrdinary (number : ℕ) (lists : List (List Hit)) : Type 0 where
   pub numbered : are_numbered number lists ≡ true
-  pub ends : (unit : TextUnit) → list_all (list_all (ends_behind unit)) lists ≡ true
+  pub ends : (unit : TextUnit) → list_all (list_all (ends_after unit)) lists ≡ true
 
 -- a distance of two phrases
-two_phrases : (range : Range) (item : Span) (hits : List Hit) (lists : List (List Hit)) → length lists ≡ 1 → list_all (list_all (ends_behind Unit.Words)) (hits ∷ lists) ≡ true
+two_phrases : (range : Range) (item : Span) (hits : List Hit) (lists : List (List Hit)) → length lists ≡ 1 → list_all (list_all (ends_after Unit.Words)) (hits ∷ lists) ≡ true
     → satisfied (matches_of item (filtered_words (F.Distance range Unit.Words) (hits ∷ lists))) ≡ some_choice (are_apart range Unit.Words) (hits ∷ lists)
 two_phrases range item hits [] two ends = absurd (omega (arith, two))
 two_phrases range item hits (others ∷ []) two ends = apart_phrases range item hits others ends
 two_phrases range item hits (others ∷ more ∷ rest) two ends = absurd (omega (arith, two))
 
 module _ (joined : Joined) (item : Span) (hits : List Hit) (lists : List (List Hit)) (counted : joined.last ≡ joined.first + length lists) where
-  distance_says : (range : Range) (unit : TextUnit) (kind : PassKind) → apart_kind range unit joined ≡ Some kind → list_all (list_all (ends_behind Unit.Words)) (hits ∷ lists) ≡ true
+  distance_says : (range : Range) (unit : TextUnit) (kind : PassKind) → apart_kind range unit joined ≡ Some kind → list_all (list_all (ends_after Unit.Words)) (hits ∷ lists) ≡ true
       → satisfied (matches_of item (filtered_words (F.Distance range unit) (hits ∷ lists))) ≡ some_choice (hits_stand kind) (hits ∷ lists)
   distance_says range Unit.Words kind h ends =
       let made = cond_some (are_two joined) (Apart range Unit.Words) kind h in

@@ -39,7 +39,7 @@ fn joined_sides(sides: &OperatorSides) -> Option<Joined>
     }
 }
 
-/// The phrases with one more, if it has the number behind theirs.
+/// The phrases with one more, if it has the number after theirs.
 fn next_to(before: Joined, phrase: &PhraseTests) -> Option<Joined>
     ensures { result ≡ spec.next_to before phrase.now }
 {

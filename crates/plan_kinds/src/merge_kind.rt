@@ -3,7 +3,7 @@
 pub enum MergeKind {
     /// Among so many words of the text that follow one another.
     Close(u32),
-    /// None in front of one that comes earlier in the selection.
+    /// None before one that comes earlier in the selection.
     InOrder,
     /// In one sentence.
     InSentence,

@@ -7,6 +7,6 @@ pub enum PassKind {
     Within(u32, Unit),
     /// Two of them, with as much between them as that.
     Apart(Range, Unit),
-    /// None beginning in front of one of an earlier phrase.
+    /// None beginning before one of an earlier phrase.
     InOrder,
 }

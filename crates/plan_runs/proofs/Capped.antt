@@ -38,15 +38,15 @@ module _ {X : Type 0} (f : X → ℕ) (most : ℕ) (xs : List X) (i : ℕ) (x : 
   -- one factor more
   pub product_more : i < length xs → x ≡ get_or xs i x → total ≡ min (product (map f (take i xs))) most
       → min (total * min (f x) most) most ≡ min (product (map f (take (i + 1) xs))) most
-  product_more h is told =
-      ap (λ n. min (n * min (f x) most) most) told
+  product_more h is numbered_hit =
+      ap (λ n. min (n * min (f x) most) most) numbered_hit
       ∙ product_capped_both most (product (map f (take i xs))) (f x)
       ∙ ap (λ n. min n most) (sym (ap (λ ys. product (map f ys)) (take_more xs i x h ∙ ap (λ y. take i xs ++ y ∷ []) (sym is)) ∙ ap product (map_push f (take i xs) x) ∙ product-append (map f (take i xs)) (f x)))
 
   -- one summand more
   pub sum_more : i < length xs → x ≡ get_or xs i x → total ≡ min (sum (map f (take i xs))) most
       → min (total + min (f x) most) most ≡ min (sum (map f (take (i + 1) xs))) most
-  sum_more h is told =
+  sum_more h is numbered_hit =
       let whole : sum (map f (take (i + 1) xs)) ≡ sum (map f (take i xs)) + f x =
       ap (λ ys. sum (map f ys)) (take_more xs i x h ∙ ap (λ y. take i xs ++ y ∷ []) (sym is)) ∙ ap sum (map_push f (take i xs) x) ∙ sum-append (map f (take i xs)) (f x) in
       omega arith

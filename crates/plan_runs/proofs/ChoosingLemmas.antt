@@ -11,7 +11,7 @@ use Rattle.std.proofs.lemmas.Slice.Eq.{bytes_eq-Decides}
 use Rattle.text_forms.specs.Forms.{key_of}
 use Rattle.ft_base.specs.declared.span.Span.{Span}
 use Rattle.index_meaning.specs.Entries.{Entry, entry, found, same_keys, smaller_keys, span}
-use Rattle.term_dict.specs.declared.places.Place.TheVariants.{BehindKey}
+use Rattle.term_dict.specs.declared.places.Place.TheVariants.{AfterKey}
 use Rattle.term_dict.proofs.RankLemmas.{rank_within, upto_key}
 use Rattle.match_options.specs.TokenTest.{has_case, same_form}
 use Rattle.match_options.specs.WordTests as tests
@@ -72,6 +72,6 @@ found_within key es s is =
           let from = ap (λ (t : Span). t.from) e in
           let to = ap (λ (t : Span). t.to) e in
           let all = upto_key (entry key []) es in
-          let within = rank_within BehindKey (entry key []) es in
+          let within = rank_within AfterKey (entry key []) es in
           (omega arith, omega arith)
     ] is

@@ -4,9 +4,10 @@ use Rattle.std.specs.List.{list_any}
 use Rattle.std.proofs.lemmas.List.Folds.{list_any-append}
 use Rattle.ft_base.specs.declared.hit.Hit.{Hit}
 use Rattle.ft_base.specs.declared.span.Span.{Span}
+use Rattle.all_matches.proofs.WayLaws.{any_or}
 use Rattle.all_matches.proofs.ListTests.{list_any-alike, list_any-map, list_any-never}
 use Rattle.index_meaning.specs.Documents.{Numbered, breaks_of, document_at}
-use Rattle.index_phrases.specs.Phrases.{hits_in_span, phrase_hits, told, wanted_at}
+use Rattle.index_phrases.specs.Phrases.{hits_in_span, phrase_hits, numbered_hit, wanted_at}
 use Rattle.phrase_merges.specs.Rows.{hits_there}
 use Rattle.phrase_merges.proofs.ChoiceLemmas.{any_filter}
 use Rattle.place_merges.specs.Places.{Wanted, stands_before}
@@ -19,16 +20,6 @@ use Rattle.plan_compiler.specs.declared.looks.Looks.{Looks}
 use Rattle.plan_runs.specs.steps.OpenedItems.{opened_variant}
 use Rattle.plan_runs.specs.steps.Passes.{variant_aims}
 
-any_or : {A : Type 0} (p q : A → Bool) (xs : List A) → list_any (λ x. p x || q x) xs ≡ (list_any p xs || list_any q xs)
-any_or p q [] = refl
-any_or p q (x ∷ xs) = ap (λ b. (p x || q x) || b) (any_or p q xs) ∙ turn (p x) (q x) (list_any p xs) (list_any q xs)
-  where
-    turn : (a b c d : Bool) → ((a || b) || (c || d)) ≡ ((a || c) || (b || d))
-    turn true b c d = refl
-    turn false true true d = refl
-    turn false true false d = refl
-    turn false false c d = refl
-
 -- a test of the spots of several variants
 module _ (to : ℕ) (spots : List Spot) (test : Spot → Bool) where
   abbrev some_spot : List (List Wanted) → Bool
@@ -38,7 +29,7 @@ module _ (to : ℕ) (spots : List Spot) (test : Spot → Bool) where
   one_more variant variants =
       list_any-alike (λ at. some_at to (variant ∷ variants) at && test at) (λ at. (some_at to (variant ∷ []) at && test at) || (some_at to variants at && test at)) spots
       (λ at. split ((length variant == at.words) && stands_before to at.place variant) (some_at to variants at) (test at))
-      ∙ any_or (λ at. some_at to (variant ∷ []) at && test at) (λ at. some_at to variants at && test at) spots
+      ∙ sym (any_or (λ at. some_at to (variant ∷ []) at && test at) (λ at. some_at to variants at && test at) spots)
     where
       split : (a b c : Bool) → ((a || b) && c) ≡ (((a || false) && c) || (b && c))
       split true true true = refl
@@ -52,7 +43,7 @@ module _ (looks : Looks) (stems : List Stem) (version : List Numbered) (number d
   wanted tests = map (wanted_at version doc span) (opened_variant looks stems version tests)
 
   abbrev hit_at : Spot → Hit
-  hit_at at = told number (breaks_of (document_at doc version)) span at
+  hit_at at = numbered_hit number (breaks_of (document_at doc version)) span at
 
   abbrev spots : List Spot
   spots = spots_between span.from span.to

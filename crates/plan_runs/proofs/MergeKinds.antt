@@ -61,16 +61,16 @@ stand_in_span breaks from InOrder places = some_choice are_in_order places
 stand_in_span breaks from InSentence places = some_choice (are_in_one (own_unit breaks.sentences from)) places
 stand_in_span breaks from InParagraph places = some_choice (are_in_one (own_unit breaks.paragraphs from)) places
 
-all_less_behind : (low high : ℕ) (lists : List (List ℕ)) → low ≤ high → list_all (list_all (nat_le high)) lists ≡ true → list_all (list_all (nat_le low)) lists ≡ true
-all_less_behind low high [] h all = refl
-all_less_behind low high (xs ∷ lists) h all =
+all_less_after : (low high : ℕ) (lists : List (List ℕ)) → low ≤ high → list_all (list_all (nat_le high)) lists ≡ true → list_all (list_all (nat_le low)) lists ≡ true
+all_less_after low high [] h all = refl
+all_less_after low high (xs ∷ lists) h all =
     let parts = and_parts (list_all (nat_le high) xs) (list_all (list_all (nat_le high)) lists) all in
-    and_from (list_all (nat_le low) xs) (list_all (list_all (nat_le low)) lists) (later_all low high xs h parts.0) (all_less_behind low high lists h parts.1)
+    and_from (list_all (nat_le low) xs) (list_all (list_all (nat_le low)) lists) (later_all low high xs h parts.0) (all_less_after low high lists h parts.1)
 
 pub stand_counted : (breaks : Breaks) (from : ℕ) (kind : MergeKind) (lists : List (List ℕ)) → list_all (list_all (nat_le from)) lists ≡ true
     → stand_in_span breaks from kind (map (map (λ place. place - (from - 1))) lists) ≡ stand_as breaks kind lists
-stand_counted breaks from (Close size) lists h = close_counted (from - 1) size lists (all_less_behind (from - 1) from lists (omega arith) h)
-stand_counted breaks from InOrder lists h = order_counted (from - 1) lists (all_less_behind (from - 1) from lists (omega arith) h)
+stand_counted breaks from (Close size) lists h = close_counted (from - 1) size lists (all_less_after (from - 1) from lists (omega arith) h)
+stand_counted breaks from InOrder lists h = order_counted (from - 1) lists (all_less_after (from - 1) from lists (omega arith) h)
 stand_counted breaks from InSentence lists h =
     counted_units (own_unit breaks.sentences from) (started breaks.sentences) (from - 1) from lists h (own_same breaks.sentences from)
 stand_counted breaks from InParagraph lists h =

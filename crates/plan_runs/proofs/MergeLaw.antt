@@ -18,7 +18,7 @@ use Rattle.all_matches.specs.Ways.{phrase, together, through_filter, matches_of}
 use Rattle.index_meaning.specs.Documents.{Numbered, breaks_of, document_at}
 use Rattle.index_versions.specs.Terms.{VersionTerm, aimed_at, version_term}
 use Rattle.index_versions.specs.Versions.{term_hits}
-use Rattle.index_phrases.specs.Phrases.{own_number, phrase_hits, told, wanted_at}
+use Rattle.index_phrases.specs.Phrases.{own_number, phrase_hits, numbered_hit, wanted_at}
 use Rattle.index_phrases.specs.declared.word_terms.WordTerms.TheVariants as Terms
 use Rattle.place_merges.specs.Places.{Wanted, fits, one_of}
 use Rattle.place_merges.specs.Sources.{places_left}
@@ -82,15 +82,15 @@ all_within p q (x ∷ xs) h =
       | false ↦ rest
     ]
 
-range_behind : (offset from count : ℕ) → offset ≤ from → list_all (nat_le offset) (range_with_len from count) ≡ true
-range_behind offset from zero h = refl
-range_behind offset from (suc count) h =
-    and_from (nat_le offset from) (list_all (nat_le offset) (range_with_len (from + 1) count)) (le-leb offset from h) (range_behind offset (from + 1) count (omega (arith, h)))
+range_after : (offset from count : ℕ) → offset ≤ from → list_all (nat_le offset) (range_with_len from count) ≡ true
+range_after offset from zero h = refl
+range_after offset from (suc count) h =
+    and_from (nat_le offset from) (list_all (nat_le offset) (range_with_len (from + 1) count)) (le-leb offset from h) (range_after offset (from + 1) count (omega (arith, h)))
 
 -- the hits of a word at places of a span
 module _ (number : ℕ) (breaks : Breaks) (span : Span) where
   abbrev hits_on : List ℕ → List Hit
-  hits_on places = map (told number breaks span) (map (λ place. spot place 1) places)
+  hits_on places = map (numbered_hit number breaks span) (map (λ place. spot place 1) places)
 
   firsts : (places : List ℕ) → map (λ hit. hit.from) (hits_on places) ≡ map (λ place. place - (span.from - 1)) places
   firsts [] = refl
@@ -106,7 +106,7 @@ module _ (number : ℕ) (breaks : Breaks) (span : Span) where
   own_hits [] = refl
   own_hits (place ∷ places) = and_from (number == number) (list_all (λ hit. hit.query == number) (hits_on places)) (eq-eqb number number refl) (own_hits places)
 
-  -- a place behind the first of the span is told as it is counted
+  -- a place after the first of the span is told as it is counted
   told_place : (starts : List ℕ) (place : ℕ) → span.from ≤ place → own_number starts span.from place ≡ own_unit starts span.from (place - (span.from - 1))
   told_place starts place h = let is : place ≡ (place - (span.from - 1)) + (span.from - 1) = omega (arith, h) in ap (own_number starts span.from) is
 
@@ -193,8 +193,8 @@ module _ (looks : Looks) (stems : List Stem) (version : List Numbered) (asked : 
   phrase_on : (found : PhraseTests) → list_all is_single found.variants ≡ true
       → phrase_hits version found.number (map (opened_variant looks stems version) found.variants) asked.doc span ≡ hits_on found.number breaks span (fitting found)
   phrase_on found h =
-      ap (λ (variants : List (List Wanted)). map (told found.number breaks span) (filter (some_at span.to variants) (spots_between span.from span.to))) (single_wanted found.variants h)
-      ∙ ap (map (told found.number breaks span)) (single_spots span.to (wants found.variants) span.from)
+      ap (λ (variants : List (List Wanted)). map (numbered_hit found.number breaks span) (filter (some_at span.to variants) (spots_between span.from span.to))) (single_wanted found.variants h)
+      ∙ ap (map (numbered_hit found.number breaks span)) (single_spots span.to (wants found.variants) span.from)
 
   abbrev word_hits : PhraseTests → List Hit
   word_hits found = hits_on found.number breaks span (fitting found)
@@ -216,25 +216,25 @@ module _ (looks : Looks) (stems : List Stem) (version : List Numbered) (asked : 
       (subst (λ n. list_all (λ hit. hit.query == n) (word_hits found) ≡ true) (eqb-true found.number number parts.0) (own_hits found.number breaks span (fitting found)))
       (all_numbered (number + 1) phrases parts.1)
 
-  one_behind_first : (found : PhraseTests) → list_all (nat_le span.from) (fitting found) ≡ true
-  one_behind_first found =
+  one_after_first : (found : PhraseTests) → list_all (nat_le span.from) (fitting found) ≡ true
+  one_after_first found =
       all_within (nat_le span.from) (λ place. list_any (fits place) (wants found.variants)) (range_with_len span.from (span.to - span.from))
-      (range_behind span.from span.from (span.to - span.from) (omega arith))
+      (range_after span.from span.from (span.to - span.from) (omega arith))
 
-  all_behind : (phrases : List PhraseTests) → list_all (list_all (nat_le span.from)) (map fitting phrases) ≡ true
-  all_behind [] = refl
-  all_behind (found ∷ phrases) =
-      and_from (list_all (nat_le span.from) (fitting found)) (list_all (list_all (nat_le span.from)) (map fitting phrases)) (one_behind_first found) (all_behind phrases)
+  all_after : (phrases : List PhraseTests) → list_all (list_all (nat_le span.from)) (map fitting phrases) ≡ true
+  all_after [] = refl
+  all_after (found ∷ phrases) =
+      and_from (list_all (nat_le span.from) (fitting found)) (list_all (list_all (nat_le span.from)) (map fitting phrases)) (one_after_first found) (all_after phrases)
 
   all_in_sentences : (phrases : List PhraseTests) → are_told Unit.Sentences (own_unit breaks.sentences span.from) (map word_hits phrases) ≡ true
   all_in_sentences [] = refl
   all_in_sentences (found ∷ phrases) =
-      and_from _ _ (and_parts _ true (in_sentences found.number breaks span (fitting found) (one_behind_first found))).0 (all_in_sentences phrases)
+      and_from _ _ (and_parts _ true (in_sentences found.number breaks span (fitting found) (one_after_first found))).0 (all_in_sentences phrases)
 
   all_in_paragraphs : (phrases : List PhraseTests) → are_told Unit.Paragraphs (own_unit breaks.paragraphs span.from) (map word_hits phrases) ≡ true
   all_in_paragraphs [] = refl
   all_in_paragraphs (found ∷ phrases) =
-      and_from _ _ (and_parts _ true (in_paragraphs found.number breaks span (fitting found) (one_behind_first found))).0 (all_in_paragraphs phrases)
+      and_from _ _ (and_parts _ true (in_paragraphs found.number breaks span (fitting found) (one_after_first found))).0 (all_in_paragraphs phrases)
 
   word_places : (found : PhraseTests) (place : ℕ) → has (fitting found) place ≡ has (terms_places asked (terms_of found)) place
   word_places found place =
@@ -280,6 +280,6 @@ module _ (looks : Looks) (stems : List Stem) (version : List Numbered) (asked : 
           paragraphs = all_in_paragraphs phrases;
         })
         ∙ ap (stand_in_span breaks span.from kind) (all_firsts phrases)
-        ∙ stand_counted breaks span.from kind (map fitting phrases) (all_behind phrases)
+        ∙ stand_counted breaks span.from kind (map fitting phrases) (all_after phrases)
         ∙ stand_same breaks kind (map fitting phrases) (map (terms_places asked) (map terms_of phrases)) (all_long phrases) (all_places_same phrases)
         ∙ ap (λ (ps : List PhraseTests). stand_as breaks kind (map (terms_places asked) (map terms_of ps))) (sym own.phrases)

@@ -14,7 +14,7 @@ use Rattle.ft_operators.specs.Walk.{own_span}
 use Rattle.index_meaning.specs.Documents.{Numbered, breaks_of, document_at, has_document}
 use Rattle.index_phrases.specs.Cursors.{state_of}
 use Rattle.index_phrases.specs.Phrases.{phrase_hits, wanted_at}
-use Rattle.phrase_merges.specs.Choices.{ends_behind}
+use Rattle.phrase_merges.specs.Choices.{ends_after}
 use Rattle.phrase_merges.specs.Rows.{all_aims, all_may, hits_there, is_rising, rise_there}
 use Rattle.place_merges.specs.Spots.{some_at, spots_between}
 use Rattle.place_merges.specs.declared.spot.Spot.{Spot}
@@ -71,11 +71,11 @@ module _ (looks : Looks) (stems : List Stem) (version : List Numbered) where
         (all_told found.number (breaks_of (document_at doc version)) span (λ hit. hit.query == number) (λ at. parts.0) (spots_here found))
         (numbered_hits (number + 1) phrases parts.1)
 
-    ending_hits : (unit : TextUnit) (phrases : List PhraseTests) → list_all (list_all (ends_behind unit)) (map hits_here phrases) ≡ true
+    ending_hits : (unit : TextUnit) (phrases : List PhraseTests) → list_all (list_all (ends_after unit)) (map hits_here phrases) ≡ true
     ending_hits unit [] = refl
     ending_hits unit (found ∷ phrases) =
-        and_from (list_all (ends_behind unit) (hits_here found)) (list_all (list_all (ends_behind unit)) (map hits_here phrases))
-        (all_told found.number (breaks_of (document_at doc version)) span (ends_behind unit) (told_ends found.number (breaks_of (document_at doc version)) span unit) (spots_here found))
+        and_from (list_all (ends_after unit) (hits_here found)) (list_all (list_all (ends_after unit)) (map hits_here phrases))
+        (all_told found.number (breaks_of (document_at doc version)) span (ends_after unit) (told_ends found.number (breaks_of (document_at doc version)) span unit) (spots_here found))
         (ending_hits unit phrases)
 
     joined_hits : (phrases : List PhraseTests) → map (λ found. hits_there doc span (phrase_variants looks stems version found)) phrases ≡ map (hits_there doc span) (map (phrase_variants looks stems version) phrases)

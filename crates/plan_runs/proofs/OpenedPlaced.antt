@@ -6,7 +6,7 @@ use Rattle.all_matches.specs.Boolean.{satisfied}
 use Rattle.all_matches.specs.Ways.{matches_of, through_filter}
 use Rattle.ft_operators.specs.Walk.{own_span}
 use Rattle.index_meaning.specs.Documents.{Numbered, breaks_of, document_at}
-use Rattle.index_phrases.specs.Phrases.{told, wanted_at}
+use Rattle.index_phrases.specs.Phrases.{numbered_hit, wanted_at}
 use Rattle.index_phrases.specs.declared.word_terms.WordTerms.{WordTerms}
 use Rattle.place_merges.specs.Places.{Wanted}
 use Rattle.spot_merges.specs.Edges.{edge_filter}
@@ -59,7 +59,7 @@ module _ (looks : Looks) (stems : List Stem) (version : List Numbered) where
       → satisfied (matches_of (own_span asked.span) (through_filter ((phrase_opened looks stems version found).operators asked.doc asked.span) (edge_filter edge)))
       ≡ phrases_say version (at_edge edge (opened_group looks stems version found.variants)) asked
   at_edge_says edge found asked =
-      told_edge asked.span (told found.number (breaks_of (document_at asked.doc version)) asked.span) (λ at. record { from = refl; to = refl; whole = refl }) edge (wants asked found)
+      told_edge asked.span (numbered_hit found.number (breaks_of (document_at asked.doc version)) asked.span) (λ at. record { from = refl; to = refl; whole = refl }) edge (wants asked found)
 
   filtered_placed : (p : _) (kind : Filter) (edge : Edge) (found : PhraseTests) → kind ≡ edge_filter edge
       → IsPlaced (Filtered' p (Phrase found) kind) (at_edge edge (opened_group looks stems version found.variants))
@@ -92,7 +92,7 @@ module _ (looks : Looks) (stems : List Stem) (version : List Numbered) where
   both_placed p left right = record {
     groups = (group_fits looks stems version left.variants, group_fits looks stems version right.variants);
     says = λ asked.
-        told_apart asked.span (told left.number (breaks_of (document_at asked.doc version)) asked.span) (told right.number (breaks_of (document_at asked.doc version)) asked.span)
+        told_apart asked.span (numbered_hit left.number (breaks_of (document_at asked.doc version)) asked.span) (numbered_hit right.number (breaks_of (document_at asked.doc version)) asked.span)
         (λ at. record { from = refl; to = refl; whole = refl }) (λ at. record { from = refl; to = refl; whole = refl }) (wants asked left) (wants asked right);
     cost = λ word_cost test_cost most.
         let first = group_cheap looks stems version word_cost test_cost most left.variants in

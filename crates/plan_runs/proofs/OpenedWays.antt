@@ -15,7 +15,7 @@ use Rattle.ft_operators.specs.Walk.{own_span}
 use Rattle.index_meaning.specs.Documents.{Numbered, document_at, has_document}
 use Rattle.index_phrases.specs.Phrases.{phrase_hits}
 use Rattle.index_phrases.specs.Tokens.{passes_terms, stands_on}
-use Rattle.index_phrases.proofs.PhraseLaw.{front_stands, hits_by_terms}
+use Rattle.index_phrases.proofs.PhraseLaw.{prefix_stands, hits_by_terms}
 use Rattle.index_phrases.proofs.SpanTokens.{tokens_long, words_of_span}
 use Rattle.word_lists.specs.Stems.{Stem}
 use Rattle.plan_compiler.specs.ItemTests.{passes}
@@ -77,7 +77,7 @@ module _ (looks : Looks) (stems : List Stem) (version : List Numbered) where
         begins_same (passes_terms version) passes (opened_item looks stems version) (λ (token : Token). word_as looks stems token.word) tests tokens
         (λ k d lt test. wanted_same version (opened_item looks stems version test) (get_or tokens k d).word ∙ item_says looks stems version (get_or tokens k d).word (known k d lt) test) in
         ap (stands_on (passes_terms version) (opened_variant looks stems version tests)) (sym (take_all (length tokens) tokens (le_refl (length tokens))))
-        ∙ front_stands (passes_terms version) (opened_variant looks stems version tests) tokens (length tokens) (le_refl (length tokens))
+        ∙ prefix_stands (passes_terms version) (opened_variant looks stems version tests) tokens (length tokens) (le_refl (length tokens))
         ∙ (λ i. (length-map tests (opened_item looks stems version) i == sym (length-map tokens (λ (token : Token). word_as looks stems token.word)) i) && same i)
 
     some_stands : (variants : List (List ItemTest)) (tokens : List Token) → All (λ (token : Token). IsKnown version token.word) tokens

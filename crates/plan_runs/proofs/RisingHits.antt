@@ -1,4 +1,4 @@
--- The hits of one variant of a phrase, all of which have as many words, neither begin nor end in front of an earlier one.
+-- The hits of one variant of a phrase, all of which have as many words, neither begin nor end before an earlier one.
 use Rattle.std.proofs.Common.{◌≡◌, refl, sym, ap, ◌∙◌, ℕ, zero, suc, ◌+◌, ◌-◌, ◌==◌, ◌≤◌, Bool, true, false, ◌&&◌, cond, List, [], ◌∷◌, ◌++◌, map, filter, flat_map, length, arith, inl, inr}
 use Rattle.std.specs.Prelude.{nat_le}
 use Rattle.std.specs.List.{list_all, range_with_len}
@@ -9,8 +9,8 @@ use Rattle.ft_base.specs.declared.places.Breaks.{Breaks}
 use Rattle.ft_base.specs.declared.span.Span.{Span}
 use Rattle.ft_base.specs.declared.unit.TextUnit.{TextUnit}
 use Rattle.ft_base.specs.declared.unit.TextUnit.TheVariants.{Paragraphs, Sentences, Words}
-use Rattle.index_phrases.specs.Phrases.{hits_in_span, last_place, own_number, told}
-use Rattle.phrase_merges.specs.Choices.{ends_behind}
+use Rattle.index_phrases.specs.Phrases.{hits_in_span, last_place, own_number, numbered_hit}
+use Rattle.phrase_merges.specs.Choices.{ends_after}
 use Rattle.phrase_merges.specs.Rows.{goes_on, goes_on_in, is_rising}
 use Rattle.place_merges.specs.Places.{Wanted, stands_before}
 use Rattle.place_merges.specs.Spots.{some_at, spot, spots_at, spots_between}
@@ -22,11 +22,11 @@ own_rises starts from first second h = let rises = started_rises starts first se
 
 module _ (number : ℕ) (breaks : Breaks) (span : Span) where
   abbrev hit_at : Spot → Hit
-  hit_at at = told number breaks span at
+  hit_at at = numbered_hit number breaks span at
 
   -- ---- one hit
 
-  pub told_ends : (unit : TextUnit) (at : Spot) → ends_behind unit (hit_at at) ≡ true
+  pub told_ends : (unit : TextUnit) (at : Spot) → ends_after unit (hit_at at) ≡ true
   told_ends Words at = le-leb (at.place - (span.from - 1)) (last_place at - (span.from - 1)) (omega arith)
   told_ends Sentences at = le-leb (own_number breaks.sentences span.from at.place) (own_number breaks.sentences span.from (last_place at)) (own_rises breaks.sentences span.from at.place (last_place at) (omega arith))
   told_ends Paragraphs at = le-leb (own_number breaks.paragraphs span.from at.place) (own_number breaks.paragraphs span.from (last_place at)) (own_rises breaks.paragraphs span.from at.place (last_place at) (omega arith))
@@ -75,19 +75,19 @@ module _ (number : ℕ) (breaks : Breaks) (span : Span) where
       and_from (at.words == words) (nat_le place at.place && spots_rise words at.place spots) (eq-eqb at.words words is)
       (and_from (nat_le place at.place) (spots_rise words at.place spots) (le-leb place at.place from) rest)
 
-  all_behind : (words place : ℕ) (at : Spot) (spots : List Spot) → at.words ≡ words → at.place ≤ place → spots_rise words place spots ≡ true → list_all (goes_on (hit_at at)) (map hit_at spots) ≡ true
-  all_behind words place at [] is from h = refl
-  all_behind words place at (other ∷ spots) is from h =
+  all_after : (words place : ℕ) (at : Spot) (spots : List Spot) → at.words ≡ words → at.place ≤ place → spots_rise words place spots ≡ true → list_all (goes_on (hit_at at)) (map hit_at spots) ≡ true
+  all_after words place at [] is from h = refl
+  all_after words place at (other ∷ spots) is from h =
       let parts = parts_of words place other spots h in
       let further : at.place ≤ other.place = omega (arith, from, parts.1.0) in
       and_from (goes_on (hit_at at) (hit_at other)) (list_all (goes_on (hit_at at)) (map hit_at spots)) (told_goes_on at other further (is ∙ sym parts.0))
-      (all_behind words other.place at spots is further parts.1.1)
+      (all_after words other.place at spots is further parts.1.1)
 
   rising_told : (words place : ℕ) (spots : List Spot) → spots_rise words place spots ≡ true → is_rising (map hit_at spots) ≡ true
   rising_told words place [] h = refl
   rising_told words place (at ∷ spots) h =
       let parts = parts_of words place at spots h in
-      and_from (list_all (goes_on (hit_at at)) (map hit_at spots)) (is_rising (map hit_at spots)) (all_behind words at.place at spots parts.0 (omega arith) parts.1.1)
+      and_from (list_all (goes_on (hit_at at)) (map hit_at spots)) (is_rising (map hit_at spots)) (all_after words at.place at spots parts.0 (omega arith) parts.1.1)
       (rising_told words at.place spots parts.1.1)
 
   -- ---- the spots of a variant
@@ -106,16 +106,16 @@ module _ (number : ℕ) (breaks : Breaks) (span : Span) where
       | inr none ↦ cc
     ]
 
-    at_place : (place : ℕ) (counts : List ℕ) (behind : List Spot) → spots_rise (length variant) place behind ≡ true
-        → spots_rise (length variant) place (filter stands (map (spot place) counts) ++ behind) ≡ true
-    at_place place [] behind h = h
-    at_place place (count ∷ counts) behind h = elim (cases_Bool (stands (spot place count))) [
+    at_place : (place : ℕ) (counts : List ℕ) (after : List Spot) → spots_rise (length variant) place after ≡ true
+        → spots_rise (length variant) place (filter stands (map (spot place) counts) ++ after) ≡ true
+    at_place place [] after h = h
+    at_place place (count ∷ counts) after h = elim (cases_Bool (stands (spot place count))) [
       | inl there ↦
-          ap (λ b. spots_rise (length variant) place (cond b (spot place count ∷ filter stands (map (spot place) counts)) (filter stands (map (spot place) counts)) ++ behind)) there
-          ∙ from_parts (length variant) place (spot place count) (filter stands (map (spot place) counts) ++ behind) (as_long (spot place count) there) (omega arith) (at_place place counts behind h)
+          ap (λ b. spots_rise (length variant) place (cond b (spot place count ∷ filter stands (map (spot place) counts)) (filter stands (map (spot place) counts)) ++ after)) there
+          ∙ from_parts (length variant) place (spot place count) (filter stands (map (spot place) counts) ++ after) (as_long (spot place count) there) (omega arith) (at_place place counts after h)
       | inr none ↦
-          ap (λ b. spots_rise (length variant) place (cond b (spot place count ∷ filter stands (map (spot place) counts)) (filter stands (map (spot place) counts)) ++ behind)) none
-          ∙ at_place place counts behind h
+          ap (λ b. spots_rise (length variant) place (cond b (spot place count ∷ filter stands (map (spot place) counts)) (filter stands (map (spot place) counts)) ++ after)) none
+          ∙ at_place place counts after h
     ]
 
     all_spots : (place count : ℕ) → spots_rise (length variant) place (filter stands (flat_map (spots_at span.to) (range_with_len place count))) ≡ true

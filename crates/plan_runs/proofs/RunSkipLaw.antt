@@ -30,7 +30,7 @@ use Rattle.plan_runs.specs.steps.Merges.{MergeShape, merge_says, terms_places}
 use Rattle.plan_runs.specs.steps.RunSkips.{merge_skip, phrase_skip, skip, skips, terms_skip, words_skip}
 use Rattle.index_phrases.specs.steps.Aiming.{AreThere, variant_words}
 use Rattle.plan_runs.specs.steps.RunShapes.{GroupShape, WordsShape, Shape, Shapes, words, any_of, all_of, not_of, by_ways, by_hits, by_merge, none, more, group_shape, merge_shape, phrase_shape, shape, shapes_of, words_shape, by_spots}
-use Rattle.plan_runs.specs.steps.Skips.{IsWithin, ends_in_front, latest, skip_of, variant_skip, variants_skip, vectors_skip}
+use Rattle.plan_runs.specs.steps.Skips.{IsWithin, ends_before, latest, skip_of, variant_skip, variants_skip, vectors_skip}
 use Rattle.plan_runs.specs.steps.RunTruth.{AreSound, IsGroup, IsSound, IsWords, all_true, group_count, is_wanted, phrase_total, run_truth, some_true, words_say}
 use Rattle.plan_runs.specs.declared.run_node.RunGroup.{RunGroup}
 use Rattle.plan_runs.specs.declared.run_node.RunPhrase.{RunPhrase}
@@ -45,7 +45,7 @@ use Rattle.plan_runs.specs.declared.run_node.RunNode.{RunNode}
 use Rattle.plan_runs.specs.declared.run_node.RunNode as R
 use Rattle.index_phrases.specs.declared.word_terms.WordTerms.{WordTerms}
 use Rattle.index_phrases.specs.declared.word_terms.WordTerms.TheVariants as Terms
-use Rattle.plan_runs.proofs.SkipLemmas.{are_missing, ends_all, ends_any, ends_latest, ends_soonest, ends_variants, is_missing, none_there, nothing_in_front}
+use Rattle.plan_runs.proofs.SkipLemmas.{are_missing, ends_all, ends_any, ends_latest, ends_soonest, ends_variants, is_missing, none_there, nothing_before}
 use Rattle.plan_runs.proofs.RunViews.{shape-Words, shape-Or, shape-And, shape-Not, shape-Ways, shape-Hits, shape-Merge, shape-Placed}
 
 pub not_true : (b : Bool) → not b ≡ true → b ≡ false
@@ -54,13 +54,13 @@ not_true false h = refl
 
 -- ---- a term that has no place in a span is empty of its words
 
-is_no_word : (word : List ℕ) (span : Span) (place front count : ℕ) (ws : List (List ℕ)) → span.from ≤ place + front → place + front + count ≤ span.to
-    → filter (is_inside span) (places_from word place ws) ≡ [] → All (λ other. same_word word other ≡ false) (take count (drop front ws))
+is_no_word : (word : List ℕ) (span : Span) (place prefix count : ℕ) (ws : List (List ℕ)) → span.from ≤ place + prefix → place + prefix + count ≤ span.to
+    → filter (is_inside span) (places_from word place ws) ≡ [] → All (λ other. same_word word other ≡ false) (take count (drop prefix ws))
 is_no_word word span place zero zero ws from to h = λ k d lt. absurd (omega (arith, lt))
-is_no_word word span place (suc front) count [] from to h = All-take (λ other. same_word word other ≡ false) count [] (λ k d lt. absurd (omega (arith, lt)))
+is_no_word word span place (suc prefix) count [] from to h = All-take (λ other. same_word word other ≡ false) count [] (λ k d lt. absurd (omega (arith, lt)))
 is_no_word word span place zero (suc count) [] from to h = λ k d lt. absurd (omega (arith, lt))
-is_no_word word span place (suc front) count (w ∷ ws) from to h =
-    is_no_word word span (place + 1) front count ws (omega (arith, from)) (omega (arith, to)) (rest (same_word w word) h)
+is_no_word word span place (suc prefix) count (w ∷ ws) from to h =
+    is_no_word word span (place + 1) prefix count ws (omega (arith, from)) (omega (arith, to)) (rest (same_word w word) h)
   where
     rest : (b : Bool) → filter (is_inside span) (cond b (place ∷ places_from word (place + 1) ws) (places_from word (place + 1) ws)) ≡ []
         → filter (is_inside span) (places_from word (place + 1) ws) ≡ []
@@ -87,9 +87,9 @@ module _ (version : List Numbered) (doc : ℕ) (part span : Span) (within : IsWi
   abbrev missing : WordTerms → Bool
   missing = is_missing doc part span.to
 
-  -- whether a term has no place in the part in front of the end of the span
+  -- whether a term has no place in the part before the end of the span
   abbrev is_out : VersionTerm → Bool
-  is_out source = ends_in_front span.to (first_in doc part source)
+  is_out source = ends_before span.to (first_in doc part source)
 
   -- terms that have none stand nowhere in the text
   abbrev IsClear : List (List ℕ) → Type 0
@@ -123,7 +123,7 @@ module _ (version : List Numbered) (doc : ℕ) (part span : Span) (within : IsWi
 
   word_missing : (item : WordTerms) (word : List ℕ) (text : List (List ℕ)) → IsClear (word ∷ text) → AreThere version item → missing item ≡ true → is_wanted version item word ≡ false
   unfolding is_wanted
-  word_missing Terms.Any word text clear there h = absurd (true≢false (sym h ∙ nothing_in_front span.to))
+  word_missing Terms.Any word text clear there h = absurd (true≢false (sym h ∙ nothing_before span.to))
   word_missing (Terms.Of sources) word text clear there h = terms_missing sources word text clear there (sym (ends_soonest span.to (first_in doc part) sources) ∙ h)
 
   begins_nowhere : (items : List WordTerms) (text : List (List ℕ)) → IsClear text → All (AreThere version) items → list_any missing items ≡ true → begins_as (is_wanted version) items text ≡ false
@@ -153,7 +153,7 @@ module _ (version : List Numbered) (doc : ℕ) (part span : Span) (within : IsWi
   abbrev phrase_missing : List GroupShape → Bool
   phrase_missing phrase = list_all (λ group. are_missing doc part span.to group.terms) phrase
 
-  ends_phrase : (phrase : List GroupShape) → ends_in_front span.to (phrase_skip doc part phrase) ≡ phrase_missing phrase
+  ends_phrase : (phrase : List GroupShape) → ends_before span.to (phrase_skip doc part phrase) ≡ phrase_missing phrase
   ends_phrase phrase =
       ends_soonest span.to (λ group. variants_skip doc part group.terms) phrase
       ∙ (λ i. list_all (λ (group : GroupShape). ends_variants doc part span.to group.terms i) phrase)
@@ -185,10 +185,10 @@ module _ (version : List Numbered) (doc : ℕ) (part span : Span) (within : IsWi
             ∙ zero-mul (product (map (λ (p : List GroupShape). phrase_total version p text) phrases))
         by_test false is h rest = ap (λ n. phrase_total version phrase text * n) (rest h) ∙ mul-zero (phrase_total version phrase text)
 
-    no_words : (run : WordsShape) → IsWords version run → ends_in_front span.to (words_skip doc part run) ≡ true → words_say version run text ≡ false
+    no_words : (run : WordsShape) → IsWords version run → ends_before span.to (words_skip doc part run) ≡ true → words_say version run text ≡ false
     no_words run fits h = by (enough run.times 0) refl h
       where
-        total : (all : Bool) → ends_in_front span.to (cond all (latest (map (phrase_skip doc part) run.phrases)) (soonest (map (phrase_skip doc part) run.phrases))) ≡ true
+        total : (all : Bool) → ends_before span.to (cond all (latest (map (phrase_skip doc part) run.phrases)) (soonest (map (phrase_skip doc part) run.phrases))) ≡ true
             → joined all (map (λ phrase. phrase_total version phrase text) run.phrases) ≡ 0
         total true out =
             no_product run.phrases fits
@@ -198,9 +198,9 @@ module _ (version : List Numbered) (doc : ℕ) (part span : Span) (within : IsWi
             (sym (ends_soonest span.to (phrase_skip doc part) run.phrases ∙ (λ i. list_all (λ phrase. ends_phrase phrase i) run.phrases)) ∙ out)
 
         by : (b : Bool) → enough run.times 0 ≡ b
-            → ends_in_front span.to (cond b (Some 0) (cond run.all (latest (map (phrase_skip doc part) run.phrases)) (soonest (map (phrase_skip doc part) run.phrases)))) ≡ true
+            → ends_before span.to (cond b (Some 0) (cond run.all (latest (map (phrase_skip doc part) run.phrases)) (soonest (map (phrase_skip doc part) run.phrases)))) ≡ true
             → words_say version run text ≡ false
-        by true is out = absurd (true≢false (sym out ∙ nothing_in_front span.to))
+        by true is out = absurd (true≢false (sym out ∙ nothing_before span.to))
         by false is out = ap (enough run.times) (total run.all out) ∙ is
 
   -- ---- the kinds of a tree
@@ -208,7 +208,7 @@ module _ (version : List Numbered) (doc : ℕ) (part span : Span) (within : IsWi
   abbrev asked : AskedSpan
   asked = record { doc = doc; span = span }
 
-  no_term : (terms : List VersionTerm) → ends_in_front span.to (terms_skip doc part terms) ≡ true → terms_places asked terms ≡ []
+  no_term : (terms : List VersionTerm) → ends_before span.to (terms_skip doc part terms) ≡ true → terms_places asked terms ≡ []
   no_term terms h = ap (filter (λ place. nat_le span.from place && nat_lt place span.to)) (nowhere terms (sym (ends_soonest span.to (first_in doc part) terms) ∙ h))
     where
       nowhere : (ts : List VersionTerm) → list_all is_out ts ≡ true → flat_map (λ term. places_left (aimed_at doc span term)) ts ≡ []
@@ -218,7 +218,7 @@ module _ (version : List Numbered) (doc : ℕ) (part span : Span) (within : IsWi
           (λ i. map (λ (hit : Hit). hit.from) (map (word_hit (breaks_of (document_at doc term.version))) (none_there doc part span within term parts.0 i)) ++ nowhere ts parts.1 i)
 
   abbrev terms_out : List VersionTerm → Bool
-  terms_out terms = ends_in_front span.to (terms_skip doc part terms)
+  terms_out terms = ends_before span.to (terms_skip doc part terms)
 
   no_choice : (test : List ℕ → Bool) (wanted : List (List VersionTerm)) → list_any terms_out wanted ≡ true → some_choice test (map (terms_places asked) wanted) ≡ false
   no_choice test [] h = absurd (true≢false (sym h))
@@ -234,7 +234,7 @@ module _ (version : List Numbered) (doc : ℕ) (part span : Span) (within : IsWi
       by_test false is h rest = none_of (λ place. some_choice (λ chosen. test (place ∷ chosen)) (map (terms_places asked) wanted)) (terms_places asked terms) (rest h)
       by_test true is h rest = ap (list_any (λ place. some_choice (λ chosen. test (place ∷ chosen)) (map (terms_places asked) wanted))) (no_term terms is)
 
-  no_merge : (merge : MergeShape) → ends_in_front span.to (merge_skip doc part merge) ≡ true → merge_says version merge asked ≡ false
+  no_merge : (merge : MergeShape) → ends_before span.to (merge_skip doc part merge) ≡ true → merge_says version merge asked ≡ false
   no_merge merge h = by_kind merge.kind
     where
       out : list_any terms_out merge.words ≡ true
@@ -246,40 +246,40 @@ module _ (version : List Numbered) (doc : ℕ) (part span : Span) (within : IsWi
       by_kind InSentence = no_choice (are_in_one (started (breaks_of (document_at asked.doc version)).sentences)) merge.words out
       by_kind InParagraph = no_choice (are_in_one (started (breaks_of (document_at asked.doc version)).paragraphs)) merge.words out
 
-  ends_each_all : (parts : Shapes) → ends_in_front span.to (soonest (skips doc part parts)) ≡ list_all (ends_in_front span.to) (skips doc part parts)
+  ends_each_all : (parts : Shapes) → ends_before span.to (soonest (skips doc part parts)) ≡ list_all (ends_before span.to) (skips doc part parts)
   ends_each_all parts = ends_all span.to None (skips doc part parts)
 
-  ends_each_any : (parts : Shapes) → ends_in_front span.to (latest (skips doc part parts)) ≡ list_any (ends_in_front span.to) (skips doc part parts)
+  ends_each_any : (parts : Shapes) → ends_before span.to (latest (skips doc part parts)) ≡ list_any (ends_before span.to) (skips doc part parts)
   ends_each_any parts =
-      ends_any span.to (Some 0) (skips doc part parts) ∙ ap (λ b. b || list_any (ends_in_front span.to) (skips doc part parts)) (nothing_in_front span.to)
+      ends_any span.to (Some 0) (skips doc part parts) ∙ ap (λ b. b || list_any (ends_before span.to) (skips doc part parts)) (nothing_before span.to)
 
   mutual
     unfolding run_truth skip skips IsSound
 
     -- the tree says no of the span
-    pub skip_law : (run : Shape) → IsSound version run → ends_in_front span.to (skip doc part run) ≡ true → run_truth version run asked ≡ false
+    pub skip_law : (run : Shape) → IsSound version run → ends_before span.to (skip doc part run) ≡ true → run_truth version run asked ≡ false
     skip_law (words run) sound h = no_words (words_in version asked) span_clear run sound h
     skip_law (any_of parts) sound h = all_law parts sound (sym (ends_each_all parts) ∙ h)
     skip_law (all_of parts) sound h = some_law parts sound (sym (ends_each_any parts) ∙ h)
-    skip_law (not_of negated) sound h = absurd (true≢false (sym h ∙ nothing_in_front span.to))
+    skip_law (not_of negated) sound h = absurd (true≢false (sym h ∙ nothing_before span.to))
     skip_law (by_ways run) sound h = ap satisfied (sound.skipped doc part span within h)
     skip_law (by_hits run) sound h = sound.skipped doc part span within h
     skip_law (by_merge merge) sound h = no_merge merge h
     skip_law (by_spots run) sound h = sound.skipped doc part span within h
 
-    all_law : (parts : Shapes) → AreSound version parts → list_all (ends_in_front span.to) (skips doc part parts) ≡ true → some_true version parts asked ≡ false
+    all_law : (parts : Shapes) → AreSound version parts → list_all (ends_before span.to) (skips doc part parts) ≡ true → some_true version parts asked ≡ false
     all_law none sound h = refl
     all_law (more first rest) sound h =
-        let parts = and_parts (ends_in_front span.to (skip doc part first)) (list_all (ends_in_front span.to) (skips doc part rest)) h in
+        let parts = and_parts (ends_before span.to (skip doc part first)) (list_all (ends_before span.to) (skips doc part rest)) h in
         λ i. skip_law first sound.0 parts.0 i || all_law rest sound.1 parts.1 i
 
-    some_law : (parts : Shapes) → AreSound version parts → list_any (ends_in_front span.to) (skips doc part parts) ≡ true → all_true version parts asked ≡ false
+    some_law : (parts : Shapes) → AreSound version parts → list_any (ends_before span.to) (skips doc part parts) ≡ true → all_true version parts asked ≡ false
     some_law none sound h = absurd (true≢false (sym h))
-    some_law (more first rest) sound h = by_test (ends_in_front span.to (skip doc part first)) refl h (skip_law first sound.0) (some_law rest sound.1)
+    some_law (more first rest) sound h = by_test (ends_before span.to (skip doc part first)) refl h (skip_law first sound.0) (some_law rest sound.1)
       where
-        by_test : (b : Bool) → ends_in_front span.to (skip doc part first) ≡ b → (b || list_any (ends_in_front span.to) (skips doc part rest)) ≡ true
-            → (ends_in_front span.to (skip doc part first) ≡ true → run_truth version first asked ≡ false)
-            → (list_any (ends_in_front span.to) (skips doc part rest) ≡ true → all_true version rest asked ≡ false)
+        by_test : (b : Bool) → ends_before span.to (skip doc part first) ≡ b → (b || list_any (ends_before span.to) (skips doc part rest)) ≡ true
+            → (ends_before span.to (skip doc part first) ≡ true → run_truth version first asked ≡ false)
+            → (list_any (ends_before span.to) (skips doc part rest) ≡ true → all_true version rest asked ≡ false)
             → (run_truth version first asked && all_true version rest asked) ≡ false
         by_test true is h one then = and_left (run_truth version first asked) (all_true version rest asked) (one is)
         by_test false is h one then = and_right (run_truth version first asked) (all_true version rest asked) (then h)

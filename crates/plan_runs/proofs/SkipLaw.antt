@@ -13,7 +13,7 @@ use Rattle.all_matches.specs.MildNot.{ft_mild_not}
 use Rattle.all_matches.specs.Ways.{matches_of}
 use Rattle.index_cursors.specs.SpanHits.{word_hit}
 use Rattle.index_meaning.specs.Documents.{Numbered, breaks_of, document_at}
-use Rattle.index_phrases.specs.Phrases.{phrase_hits, told, wanted_at}
+use Rattle.index_phrases.specs.Phrases.{phrase_hits, numbered_hit, wanted_at}
 use Rattle.index_phrases.specs.declared.word_terms.WordTerms.{WordTerms}
 use Rattle.index_phrases.specs.declared.word_terms.WordTerms.TheVariants as Terms
 use Rattle.index_phrases.specs.steps.Aiming.{AreThere}
@@ -24,14 +24,14 @@ use Rattle.place_merges.specs.Spots.{some_at, spots_between}
 use Rattle.place_merges.specs.declared.spot.Spot.{Spot}
 use Rattle.word_lists.specs.Stems.{Stem}
 use Rattle.plan_kinds.specs.steps.AskedKeys.{asked_key}
-use Rattle.plan_runs.specs.steps.Skips.{IsWithin, ends_in_front, needed_item, opened_skip}
+use Rattle.plan_runs.specs.steps.Skips.{IsWithin, ends_before, needed_item, opened_skip}
 use Rattle.plan_runs.specs.steps.OpenedItems.{opened_item}
 use Rattle.plan_runs.specs.steps.OpenedOperators.{opened_aims}
 use Rattle.plan_compiler.specs.declared.item_matching.ItemTest.{ItemTest}
 use Rattle.plan_compiler.specs.declared.looks.Looks.{Looks}
 use Rattle.plan_compiler.specs.declared.operator_plan.OperatorPlan.{OperatorPlan, Phrase, Choice', Both', MildNot', Negated', Filtered'}
 use Rattle.plan_runs.proofs.OpenedLemmas.{variants_there}
-use Rattle.plan_runs.proofs.SkipLemmas.{are_missing, ends_later, ends_soonest, ends_sooner, ends_variants, is_missing, none_there, nothing_in_front}
+use Rattle.plan_runs.proofs.SkipLemmas.{are_missing, ends_later, ends_soonest, ends_sooner, ends_variants, is_missing, none_there, nothing_before}
 
 -- ---- lists and Matches
 
@@ -55,20 +55,20 @@ module _ (version : List Numbered) (doc : ℕ) (part span : Span) (within : IsWi
 
   -- ---- a phrase each variant of which has a word that is missing has no hit
 
-  no_hits : (number : ℕ) → ends_in_front span.to (first_in doc part (version_term version number)) ≡ true → term_hits number doc span version ≡ []
+  no_hits : (number : ℕ) → ends_before span.to (first_in doc part (version_term version number)) ≡ true → term_hits number doc span version ≡ []
   no_hits number out = ap (map (word_hit (breaks_of (document_at doc version)))) (none_there doc part span within (version_term version number) out)
 
   fits_nowhere : (place : ℕ) (sources : List VersionTerm) → All (λ source. source.version ≡ version) sources
-      → list_all (λ source. ends_in_front span.to (first_in doc part source)) sources ≡ true → fits place (wanted (Terms.Of sources)) ≡ false
+      → list_all (λ source. ends_before span.to (first_in doc part source)) sources ≡ true → fits place (wanted (Terms.Of sources)) ≡ false
   fits_nowhere place [] own h = refl
   fits_nowhere place (source ∷ sources) own h =
-      let parts = and_parts (ends_in_front span.to (first_in doc part source)) (list_all (λ s. ends_in_front span.to (first_in doc part s)) sources) h in
-      let out = sym (ap (λ v. ends_in_front span.to (first_in doc part (version_term v source.term))) (own 0 source (omega arith))) ∙ parts.0 in
+      let parts = and_parts (ends_before span.to (first_in doc part source)) (list_all (λ s. ends_before span.to (first_in doc part s)) sources) h in
+      let out = sym (ap (λ v. ends_before span.to (first_in doc part (version_term v source.term))) (own 0 source (omega arith))) ∙ parts.0 in
       λ i. list_any (λ other. other == place) (map (λ hit. hit.from) (no_hits source.term out i))
       || fits_nowhere place sources (λ k d lt. own (suc k) d (omega (arith, lt))) parts.1 i
 
   word_nowhere : (place : ℕ) (word : WordTerms) → AreThere version word → missing word ≡ true → fits place (wanted word) ≡ false
-  word_nowhere place Terms.Any there h = absurd (true≢false (sym h ∙ nothing_in_front span.to))
+  word_nowhere place Terms.Any there h = absurd (true≢false (sym h ∙ nothing_before span.to))
   word_nowhere place (Terms.Of sources) there h = fits_nowhere place sources there (sym (ends_soonest span.to (first_in doc part) sources) ∙ h)
 
   stands_nowhere : (place : ℕ) (words : List WordTerms) → All (AreThere version) words → list_any missing words ≡ true
@@ -76,8 +76,8 @@ module _ (version : List Numbered) (doc : ℕ) (part span : Span) (within : IsWi
   stands_nowhere place [] there h = absurd (true≢false (sym h))
   stands_nowhere place (word ∷ words) there h = elim (or_cases (missing word) (list_any missing words) h) [
     | inl here ↦ and_left (fits place (wanted word)) (stands_at (place + 1) (map wanted words)) (word_nowhere place word (there 0 word (omega arith)) here)
-    | inr behind ↦ and_right (fits place (wanted word)) (stands_at (place + 1) (map wanted words))
-        (stands_nowhere (place + 1) words (λ k d lt. there (suc k) d (omega (arith, lt))) behind)
+    | inr after ↦ and_right (fits place (wanted word)) (stands_at (place + 1) (map wanted words))
+        (stands_nowhere (place + 1) words (λ k d lt. there (suc k) d (omega (arith, lt))) after)
   ]
 
   none_at : (variants : List (List WordTerms)) → All (All (AreThere version)) variants → are_missing doc part span.to variants ≡ true → (at : Spot)
@@ -94,7 +94,7 @@ module _ (version : List Numbered) (doc : ℕ) (part span : Span) (within : IsWi
   no_phrase_hits : (number : ℕ) (variants : List (List WordTerms)) → All (All (AreThere version)) variants → are_missing doc part span.to variants ≡ true
       → phrase_hits version number variants doc span ≡ []
   no_phrase_hits number variants there h =
-      ap (map (told number (breaks_of (document_at doc version)) span))
+      ap (map (numbered_hit number (breaks_of (document_at doc version)) span))
       (filter_none (some_at span.to (map (map wanted) variants)) (none_at variants there h) (spots_between span.from span.to))
 
 module _ (looks : Looks) (stems : List Stem) (version : List Numbered) (doc : ℕ) (part span : Span) (within : IsWithin part span) where
@@ -108,7 +108,7 @@ module _ (looks : Looks) (stems : List Stem) (version : List Numbered) (doc : �
   absent = is_missing doc part span.to
 
   abbrev skips : OperatorPlan → Bool
-  skips plan = ends_in_front span.to (opened_skip looks stems version plan doc part)
+  skips plan = ends_before span.to (opened_skip looks stems version plan doc part)
 
   -- ---- a word that is needed and missing is missing
 
@@ -117,13 +117,13 @@ module _ (looks : Looks) (stems : List Stem) (version : List Numbered) (doc : �
     where
       by : (b : Bool) → absent (cond b (opened test) Terms.Any) ≡ true → absent (opened test) ≡ true
       by true h = h
-      by false h = absurd (true≢false (sym h ∙ nothing_in_front span.to))
+      by false h = absurd (true≢false (sym h ∙ nothing_before span.to))
 
   some_missing : (tests : List ItemTest) → list_any (absent) (map needed tests) ≡ true → list_any (absent) (map opened tests) ≡ true
   some_missing [] h = h
   some_missing (test ∷ tests) h = elim (or_cases (absent (needed test)) (list_any (absent) (map needed tests)) h) [
     | inl here ↦ or_left (absent (opened test)) (list_any (absent) (map opened tests)) (item_missing test here)
-    | inr behind ↦ or_right (absent (opened test)) (list_any (absent) (map opened tests)) (some_missing tests behind)
+    | inr after ↦ or_right (absent (opened test)) (list_any (absent) (map opened tests)) (some_missing tests after)
   ]
 
   all_missing : (variants : List (List ItemTest)) → are_missing doc part span.to (map (map needed) variants) ≡ true → are_missing doc part span.to (map (map opened) variants) ≡ true
@@ -141,7 +141,7 @@ module _ (looks : Looks) (stems : List Stem) (version : List Numbered) (doc : �
     abbrev skip_at : OperatorPlan → Option ℕ
     skip_at plan = opened_skip looks stems version plan doc part
 
-    pub nothing_there : (plan : OperatorPlan) → ends_in_front span.to (opened_skip looks stems version plan doc part) ≡ true
+    pub nothing_there : (plan : OperatorPlan) → ends_before span.to (opened_skip looks stems version plan doc part) ≡ true
         → matches_of item ((opened_aims looks stems version plan).operators doc span) ≡ []
     unfolding opened_skip opened_aims matches_of
     nothing_there (Phrase own) h =
@@ -156,5 +156,5 @@ module _ (looks : Looks) (stems : List Stem) (version : List Numbered) (doc : �
       | inr then ↦ ap (ft_and (found left)) (nothing_there right then) ∙ and_none (found left)
     ]
     nothing_there (MildNot' p left right) h = ap (λ ms. ft_mild_not ms (found right)) (nothing_there left h) ∙ mild_not_none (found right)
-    nothing_there (Negated' p operand) h = absurd (true≢false (sym h ∙ nothing_in_front span.to))
+    nothing_there (Negated' p operand) h = absurd (true≢false (sym h ∙ nothing_before span.to))
     nothing_there (Filtered' p operand kind) h = ap (ft_filtered kind item) (nothing_there operand h)

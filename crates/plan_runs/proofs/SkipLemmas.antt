@@ -20,15 +20,15 @@ use Rattle.index_phrases.specs.declared.word_terms.WordTerms.{WordTerms}
 use Rattle.index_versions.specs.FirstPlaces.{sooner, soonest}
 use Rattle.index_versions.specs.Terms.{VersionTerm, first_in}
 use Rattle.index_versions.specs.Versions.{term_at}
-use Rattle.plan_runs.specs.steps.Skips.{IsWithin, ends_in_front, later, latest, variant_skip, variants_skip, word_skip}
+use Rattle.plan_runs.specs.steps.Skips.{IsWithin, ends_before, later, latest, variant_skip, variants_skip, word_skip}
 
 -- ---- the first and the last of several
 
-pub nothing_in_front : (to : ℕ) → ends_in_front to (Some 0) ≡ false
-nothing_in_front to = le-ltb (to - 1) 0 (omega arith)
+pub nothing_before : (to : ℕ) → ends_before to (Some 0) ≡ false
+nothing_before to = le-ltb (to - 1) 0 (omega arith)
 
-min_front : (n a b : ℕ) → nat_lt n (min a b) ≡ (nat_lt n a && nat_lt n b)
-min_front n a b = both_ways (nat_lt n (min a b)) (nat_lt n a && nat_lt n b) from to
+min_prefix : (n a b : ℕ) → nat_lt n (min a b) ≡ (nat_lt n a && nat_lt n b)
+min_prefix n a b = both_ways (nat_lt n (min a b)) (nat_lt n a && nat_lt n b) from to
   where
     from : nat_lt n (min a b) ≡ true → (nat_lt n a && nat_lt n b) ≡ true
     from h =
@@ -42,8 +42,8 @@ min_front n a b = both_ways (nat_lt n (min a b)) (nat_lt n a && nat_lt n b) from
         let other : n + 1 ≤ b = omega (arith, ltb-true n b parts.1) in
         lt-ltb n (min a b) (omega (arith, le-min {k = n + 1} {a = a} {b = b} one other))
 
-max_front : (n a b : ℕ) → nat_lt n (max a b) ≡ (nat_lt n a || nat_lt n b)
-max_front n a b = both_ways (nat_lt n (max a b)) (nat_lt n a || nat_lt n b) from to
+max_prefix : (n a b : ℕ) → nat_lt n (max a b) ≡ (nat_lt n a || nat_lt n b)
+max_prefix n a b = both_ways (nat_lt n (max a b)) (nat_lt n a || nat_lt n b) from to
   where
     from : nat_lt n (max a b) ≡ true → (nat_lt n a || nat_lt n b) ≡ true
     from h = elim (cases_lt n a) [
@@ -61,39 +61,39 @@ max_front n a b = both_ways (nat_lt n (max a b)) (nat_lt n a || nat_lt n b) from
     ]
 
 module _ (to : ℕ) where
-  pub ends_sooner : (a b : Option ℕ) → ends_in_front to (sooner a b) ≡ (ends_in_front to a && ends_in_front to b)
+  pub ends_sooner : (a b : Option ℕ) → ends_before to (sooner a b) ≡ (ends_before to a && ends_before to b)
   ends_sooner None b = refl
   ends_sooner (Some a) None = sym (and-true (nat_lt (to - 1) a))
-  ends_sooner (Some a) (Some b) = min_front (to - 1) a b
+  ends_sooner (Some a) (Some b) = min_prefix (to - 1) a b
 
-  pub ends_later : (a b : Option ℕ) → ends_in_front to (later a b) ≡ (ends_in_front to a || ends_in_front to b)
+  pub ends_later : (a b : Option ℕ) → ends_before to (later a b) ≡ (ends_before to a || ends_before to b)
   ends_later None b = refl
   ends_later (Some a) None = sym (or_right (nat_lt (to - 1) a) true refl)
-  ends_later (Some a) (Some b) = max_front (to - 1) a b
+  ends_later (Some a) (Some b) = max_prefix (to - 1) a b
 
-  pub ends_all : (a : Option ℕ) (xs : List (Option ℕ)) → ends_in_front to (fold sooner a xs) ≡ (ends_in_front to a && list_all (ends_in_front to) xs)
-  ends_all a [] = sym (and-true (ends_in_front to a))
+  pub ends_all : (a : Option ℕ) (xs : List (Option ℕ)) → ends_before to (fold sooner a xs) ≡ (ends_before to a && list_all (ends_before to) xs)
+  ends_all a [] = sym (and-true (ends_before to a))
   ends_all a (x ∷ xs) =
       ends_all (sooner a x) xs
-      ∙ ap (λ b. b && list_all (ends_in_front to) xs) (ends_sooner a x)
-      ∙ and_assoc (ends_in_front to a) (ends_in_front to x) (list_all (ends_in_front to) xs)
+      ∙ ap (λ b. b && list_all (ends_before to) xs) (ends_sooner a x)
+      ∙ and_assoc (ends_before to a) (ends_before to x) (list_all (ends_before to) xs)
 
-  pub ends_any : (a : Option ℕ) (xs : List (Option ℕ)) → ends_in_front to (fold later a xs) ≡ (ends_in_front to a || list_any (ends_in_front to) xs)
-  ends_any a [] = sym (or-false (ends_in_front to a))
+  pub ends_any : (a : Option ℕ) (xs : List (Option ℕ)) → ends_before to (fold later a xs) ≡ (ends_before to a || list_any (ends_before to) xs)
+  ends_any a [] = sym (or-false (ends_before to a))
   ends_any a (x ∷ xs) =
       ends_any (later a x) xs
-      ∙ ap (λ b. b || list_any (ends_in_front to) xs) (ends_later a x)
-      ∙ or_assoc (ends_in_front to a) (ends_in_front to x) (list_any (ends_in_front to) xs)
+      ∙ ap (λ b. b || list_any (ends_before to) xs) (ends_later a x)
+      ∙ or_assoc (ends_before to a) (ends_before to x) (list_any (ends_before to) xs)
 
   module _ {X : Type 0} (f : X → Option ℕ) (xs : List X) where
-    pub ends_soonest : ends_in_front to (soonest (map f xs)) ≡ list_all (λ x. ends_in_front to (f x)) xs
-    ends_soonest = ends_all None (map f xs) ∙ list_all-map (ends_in_front to) f xs
+    pub ends_soonest : ends_before to (soonest (map f xs)) ≡ list_all (λ x. ends_before to (f x)) xs
+    ends_soonest = ends_all None (map f xs) ∙ list_all-map (ends_before to) f xs
 
-    pub ends_latest : ends_in_front to (latest (map f xs)) ≡ list_any (λ x. ends_in_front to (f x)) xs
+    pub ends_latest : ends_before to (latest (map f xs)) ≡ list_any (λ x. ends_before to (f x)) xs
     ends_latest =
         ends_any (Some 0) (map f xs)
-        ∙ ap (λ b. b || list_any (ends_in_front to) (map f xs)) (nothing_in_front to)
-        ∙ list_any-map (ends_in_front to) f xs
+        ∙ ap (λ b. b || list_any (ends_before to) (map f xs)) (nothing_before to)
+        ∙ list_any-map (ends_before to) f xs
 
 -- where one of several has no place, they have none together
 pub none_latest : (xs : List (Option ℕ)) → None ≡ fold later None xs
@@ -123,21 +123,21 @@ one_is_none f xs ys i x last same there is none so_far =
 module _ (doc : ℕ) (part : Span) (to : ℕ) where
   -- whether a word has no term there
   abbrev pub is_missing : WordTerms → Bool
-  is_missing word = ends_in_front to (word_skip doc part word)
+  is_missing word = ends_before to (word_skip doc part word)
 
   abbrev pub are_missing : List (List WordTerms) → Bool
   are_missing variants = list_all (λ words. list_any is_missing words) variants
 
-  pub ends_variants : (variants : List (List WordTerms)) → ends_in_front to (variants_skip doc part variants) ≡ are_missing variants
+  pub ends_variants : (variants : List (List WordTerms)) → ends_before to (variants_skip doc part variants) ≡ are_missing variants
   ends_variants variants =
       ends_soonest to (variant_skip doc part) variants
       ∙ (λ i. list_all (λ words. ends_latest to (word_skip doc part) words i) variants)
 
--- ---- a term has no place in a span of the part that ends in front of its first one there
+-- ---- a term has no place in a span of the part that ends before its first one there
 
 module _ (word : List ℕ) (part span : Span) (within : IsWithin part span) where
   apart : (place : ℕ) → span.to ≤ place → is_inside span place ≡ false
-  apart place behind = ap (λ b. nat_le span.from place && b) (le-ltb place span.to behind) ∙ and_none (nat_le span.from place)
+  apart place past = ap (λ b. nat_le span.from place && b) (le-ltb place span.to past) ∙ and_none (nat_le span.from place)
     where
       and_none : (b : Bool) → (b && false) ≡ false
       and_none true = refl
@@ -156,16 +156,16 @@ module _ (word : List ℕ) (part span : Span) (within : IsWithin part span) wher
           (le-leb part.from place (omega (arith, from, within.0))) (lt-ltb place part.to (omega (arith, end, within.1))) in
           absurd (true≢false (sym inside ∙ out))
 
-  none_behind : (place : ℕ) (ws : List (List ℕ)) → span.to ≤ place → filter (is_inside span) (places_from word place ws) ≡ []
-  none_behind place [] behind = refl
-  none_behind place (w ∷ ws) behind = by (same_word w word) (none_behind (place + 1) ws (omega (arith, behind)))
+  none_after : (place : ℕ) (ws : List (List ℕ)) → span.to ≤ place → filter (is_inside span) (places_from word place ws) ≡ []
+  none_after place [] past = refl
+  none_after place (w ∷ ws) past = by (same_word w word) (none_after (place + 1) ws (omega (arith, past)))
     where
       by : (b : Bool) → filter (is_inside span) (places_from word (place + 1) ws) ≡ []
           → filter (is_inside span) (cond b (place ∷ places_from word (place + 1) ws) (places_from word (place + 1) ws)) ≡ []
       by false rest = rest
-      by true rest = ap (λ b. cond b (place ∷ filter (is_inside span) (places_from word (place + 1) ws)) (filter (is_inside span) (places_from word (place + 1) ws))) (apart place behind) ∙ rest
+      by true rest = ap (λ b. cond b (place ∷ filter (is_inside span) (places_from word (place + 1) ws)) (filter (is_inside span) (places_from word (place + 1) ws))) (apart place past) ∙ rest
 
-  none_inside : (place : ℕ) (ws : List (List ℕ)) → ends_in_front span.to (slice_get (filter (is_inside part) (places_from word place ws)) 0) ≡ true
+  none_inside : (place : ℕ) (ws : List (List ℕ)) → ends_before span.to (slice_get (filter (is_inside part) (places_from word place ws)) 0) ≡ true
       → filter (is_inside span) (places_from word place ws) ≡ []
   none_inside place [] h = refl
   none_inside place (w ∷ ws) h = by (same_word w word) h (none_inside (place + 1) ws)
@@ -173,17 +173,17 @@ module _ (word : List ℕ) (part span : Span) (within : IsWithin part span) wher
       rest : List ℕ
       rest = places_from word (place + 1) ws
 
-      here : (b : Bool) → is_inside part place ≡ b → ends_in_front span.to (slice_get (cond b (place ∷ filter (is_inside part) rest) (filter (is_inside part) rest)) 0) ≡ true
-          → (ends_in_front span.to (slice_get (filter (is_inside part) rest) 0) ≡ true → filter (is_inside span) rest ≡ [])
+      here : (b : Bool) → is_inside part place ≡ b → ends_before span.to (slice_get (cond b (place ∷ filter (is_inside part) rest) (filter (is_inside part) rest)) 0) ≡ true
+          → (ends_before span.to (slice_get (filter (is_inside part) rest) 0) ≡ true → filter (is_inside span) rest ≡ [])
           → cond (is_inside span place) (place ∷ filter (is_inside span) rest) (filter (is_inside span) rest) ≡ []
       here true is h then =
-          let behind : span.to ≤ place = omega (arith, ltb-true (span.to - 1) place h) in
-          ap (λ b. cond b (place ∷ filter (is_inside span) rest) (filter (is_inside span) rest)) (apart place behind)
-          ∙ none_behind (place + 1) ws (omega (arith, behind))
+          let past : span.to ≤ place = omega (arith, ltb-true (span.to - 1) place h) in
+          ap (λ b. cond b (place ∷ filter (is_inside span) rest) (filter (is_inside span) rest)) (apart place past)
+          ∙ none_after (place + 1) ws (omega (arith, past))
       here false is h then = ap (λ b. cond b (place ∷ filter (is_inside span) rest) (filter (is_inside span) rest)) (outside place is) ∙ then h
 
-      by : (b : Bool) → ends_in_front span.to (slice_get (filter (is_inside part) (cond b (place ∷ rest) rest)) 0) ≡ true
-          → (ends_in_front span.to (slice_get (filter (is_inside part) rest) 0) ≡ true → filter (is_inside span) rest ≡ [])
+      by : (b : Bool) → ends_before span.to (slice_get (filter (is_inside part) (cond b (place ∷ rest) rest)) 0) ≡ true
+          → (ends_before span.to (slice_get (filter (is_inside part) rest) 0) ≡ true → filter (is_inside span) rest ≡ [])
           → filter (is_inside span) (cond b (place ∷ rest) rest) ≡ []
       by false h then = then h
       by true h then = here (is_inside part place) refl h then
@@ -196,9 +196,9 @@ first_found : (breaks : Breaks) (found : List ℕ) → option_map (λ (hit : Hit
 first_found breaks [] = refl
 first_found breaks (place ∷ found) = refl
 
-pub none_there : (doc : ℕ) (part span : Span) → IsWithin part span → (source : VersionTerm) → ends_in_front span.to (first_in doc part source) ≡ true
+pub none_there : (doc : ℕ) (part span : Span) → IsWithin part span → (source : VersionTerm) → ends_before span.to (first_in doc part source) ≡ true
     → filter (is_inside span) (places_there doc source) ≡ []
 none_there doc part span within source h =
     let document = document_at doc source.version in
     none_inside (term_at source.term source.version).word part span within 1 (words_of document)
-    (sym (ap (ends_in_front span.to) (first_found (breaks_of document) (filter (is_inside part) (places_there doc source)))) ∙ h)
+    (sym (ap (ends_before span.to) (first_found (breaks_of document) (filter (is_inside part) (places_there doc source)))) ∙ h)

@@ -74,8 +74,8 @@ module _ (word : List ℕ) where
     below_span : (ws : List (List ℕ)) → 1 + length ws ≤ span.from → filter (is_inside span) (places_from word 1 ws) ≡ []
     below_span ws h = none_inside 1 ws (λ p a b. and_left (nat_le span.from p) (nat_lt p span.to) (lt-leb span.from p (omega arith)))
 
-    behind_span : (place : ℕ) (ws : List (List ℕ)) → span.to ≤ place → filter (is_inside span) (places_from word place ws) ≡ []
-    behind_span place ws h = none_inside place ws (λ p a b. and_right (nat_le span.from p) (nat_lt p span.to) (le-ltb p span.to (omega arith)))
+    after_span : (place : ℕ) (ws : List (List ℕ)) → span.to ≤ place → filter (is_inside span) (places_from word place ws) ≡ []
+    after_span place ws h = none_inside place ws (λ p a b. and_right (nat_le span.from p) (nat_lt p span.to) (le-ltb p span.to (omega arith)))
 
     -- a term has at most so many hits in a span as its word stands there
     few_inside : (ws : List (List ℕ)) → 1 ≤ span.from → span.from ≤ span.to → span.to ≤ length ws + 1
@@ -83,24 +83,24 @@ module _ (word : List ℕ) where
     few_inside ws first order last =
         let n = span.from - 1 in
         let m = span.to - 1 - (span.from - 1) in
-        let front = take n ws in
+        let prefix = take n ws in
         let inner = take m (drop n ws) in
         let rest = drop m (drop n ws) in
         let short = length-take n ws in
         let left = length-drop n ws in
         let size = length-take m (drop n ws) in
-        let whole : ws ≡ front ++ (inner ++ rest) = sym (ap (λ l. front ++ l) (take-append-drop m (drop n ws)) ∙ take-append-drop n ws) in
-        let parts : filter (is_inside span) (places_from word 1 ws) ≡ filter (is_inside span) (places_from word (1 + length front) inner) =
+        let whole : ws ≡ prefix ++ (inner ++ rest) = sym (ap (λ l. prefix ++ l) (take-append-drop m (drop n ws)) ∙ take-append-drop n ws) in
+        let parts : filter (is_inside span) (places_from word 1 ws) ≡ filter (is_inside span) (places_from word (1 + length prefix) inner) =
         ap (λ l. filter (is_inside span) (places_from word 1 l)) whole
-        ∙ ap (filter (is_inside span)) (places-append 1 front (inner ++ rest) ∙ ap (λ l. places_from word 1 front ++ l) (places-append (1 + length front) inner rest))
-        ∙ filter-append (is_inside span) (places_from word 1 front) (places_from word (1 + length front) inner ++ places_from word (1 + length front + length inner) rest)
-        ∙ ap (λ l. l ++ filter (is_inside span) (places_from word (1 + length front) inner ++ places_from word (1 + length front + length inner) rest)) (below_span front (omega (arith, short)))
-        ∙ filter-append (is_inside span) (places_from word (1 + length front) inner) (places_from word (1 + length front + length inner) rest)
-        ∙ ap (λ l. filter (is_inside span) (places_from word (1 + length front) inner) ++ l) (behind_span (1 + length front + length inner) rest (omega (arith, short, left, size, first, order, last)))
-        ∙ append-nil (filter (is_inside span) (places_from word (1 + length front) inner)) in
-        let some = length-filter (is_inside span) (places_from word (1 + length front) inner) in
-        let most = count_by-le-length (is_inside span) (places_from word (1 + length front) inner) in
-        let all = length-places (1 + length front) inner in
+        ∙ ap (filter (is_inside span)) (places-append 1 prefix (inner ++ rest) ∙ ap (λ l. places_from word 1 prefix ++ l) (places-append (1 + length prefix) inner rest))
+        ∙ filter-append (is_inside span) (places_from word 1 prefix) (places_from word (1 + length prefix) inner ++ places_from word (1 + length prefix + length inner) rest)
+        ∙ ap (λ l. l ++ filter (is_inside span) (places_from word (1 + length prefix) inner ++ places_from word (1 + length prefix + length inner) rest)) (below_span prefix (omega (arith, short)))
+        ∙ filter-append (is_inside span) (places_from word (1 + length prefix) inner) (places_from word (1 + length prefix + length inner) rest)
+        ∙ ap (λ l. filter (is_inside span) (places_from word (1 + length prefix) inner) ++ l) (after_span (1 + length prefix + length inner) rest (omega (arith, short, left, size, first, order, last)))
+        ∙ append-nil (filter (is_inside span) (places_from word (1 + length prefix) inner)) in
+        let some = length-filter (is_inside span) (places_from word (1 + length prefix) inner) in
+        let most = count_by-le-length (is_inside span) (places_from word (1 + length prefix) inner) in
+        let all = length-places (1 + length prefix) inner in
         omega (arith, ap length parts, some, most, all)
 
 -- ---- a word is that of one term at most

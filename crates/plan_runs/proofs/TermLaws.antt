@@ -16,7 +16,7 @@ use Rattle.index_meaning.specs.Documents.{Numbered, document_at, has_document, t
 use Rattle.index_meaning.specs.Entries.{Entry, entry, entry_cmp, text_cmp, found, has_entry, is_sorted, same_keys, smaller_keys, span}
 use Rattle.index_meaning.specs.Index.{term_of}
 use Rattle.index_meaning.specs.Postings.{same_word}
-use Rattle.term_dict.specs.declared.places.Place.TheVariants.{AtKey, BehindKey}
+use Rattle.term_dict.specs.declared.places.Place.TheVariants.{AtKey, AfterKey}
 use Rattle.term_dict.proofs.RankLemmas.{rank_above, rank_upto, rank_within, upto_key}
 use Rattle.index_versions.specs.Terms.{version_term}
 use Rattle.index_versions.specs.Versions.{term_at, terms_of}
@@ -98,33 +98,33 @@ word_law version test doc k there within =
 -- ---- numbers of which only those from one on up to another can pass a test
 
 module _ (p : ℕ → Bool) where
-  none_in_front : (a k n : ℕ) → ((i : ℕ) → a ≤ i → i < a + k → p i ≡ false) → filter p (range_with_len a (k + n)) ≡ filter p (range_with_len (a + k) n)
-  none_in_front a zero n fails =
+  none_before : (a k n : ℕ) → ((i : ℕ) → a ≤ i → i < a + k → p i ≡ false) → filter p (range_with_len a (k + n)) ≡ filter p (range_with_len (a + k) n)
+  none_before a zero n fails =
       let start : a ≡ a + 0 = omega arith in
       let size : 0 + n ≡ n = omega arith in
       λ i. filter p (range_with_len (start i) (size i))
-  none_in_front a (suc k) n fails =
+  none_before a (suc k) n fails =
       let size : suc k + n ≡ suc (k + n) = omega arith in
       let start : (a + 1) + k ≡ a + suc k = omega arith in
       let first : p a ≡ false = fails a (omega arith) (omega arith) in
       ap (λ m. filter p (range_with_len a m)) size
       ∙ ap (λ b. cond b (a ∷ filter p (range_with_len (a + 1) (k + n))) (filter p (range_with_len (a + 1) (k + n)))) first
-      ∙ none_in_front (a + 1) k n (λ (i : ℕ) (from : a + 1 ≤ i) (to : i < (a + 1) + k). fails i (omega arith) (omega arith))
+      ∙ none_before (a + 1) k n (λ (i : ℕ) (from : a + 1 ≤ i) (to : i < (a + 1) + k). fails i (omega arith) (omega arith))
       ∙ ap (λ b. filter p (range_with_len b n)) start
 
-  none_behind : (a m n : ℕ) → ((i : ℕ) → a + m ≤ i → i < (a + m) + n → p i ≡ false) → filter p (range_with_len a (m + n)) ≡ filter p (range_with_len a m)
-  none_behind a zero zero fails = refl
-  none_behind a zero (suc n) fails =
+  none_after : (a m n : ℕ) → ((i : ℕ) → a + m ≤ i → i < (a + m) + n → p i ≡ false) → filter p (range_with_len a (m + n)) ≡ filter p (range_with_len a m)
+  none_after a zero zero fails = refl
+  none_after a zero (suc n) fails =
       let size : 0 + suc n ≡ suc (0 + n) = omega arith in
       let first : p a ≡ false = fails a (omega arith) (omega arith) in
       ap (λ m. filter p (range_with_len a m)) size
       ∙ ap (λ b. cond b (a ∷ filter p (range_with_len (a + 1) (0 + n))) (filter p (range_with_len (a + 1) (0 + n)))) first
-      ∙ none_behind (a + 1) zero n (λ (i : ℕ) (from : (a + 1) + 0 ≤ i) (to : i < ((a + 1) + 0) + n). fails i (omega arith) (omega arith))
-  none_behind a (suc m) n fails =
+      ∙ none_after (a + 1) zero n (λ (i : ℕ) (from : (a + 1) + 0 ≤ i) (to : i < ((a + 1) + 0) + n). fails i (omega arith) (omega arith))
+  none_after a (suc m) n fails =
       let size : suc m + n ≡ suc (m + n) = omega arith in
       ap (λ k. filter p (range_with_len a k)) size
       ∙ ap (λ rest. cond (p a) (a ∷ rest) rest)
-      (none_behind (a + 1) m n (λ (i : ℕ) (from : (a + 1) + m ≤ i) (to : i < ((a + 1) + m) + n). fails i (omega arith) (omega arith)))
+      (none_after (a + 1) m n (λ (i : ℕ) (from : (a + 1) + m ≤ i) (to : i < ((a + 1) + m) + n). fails i (omega arith) (omega arith)))
 
   only_between : (s m all : ℕ) → s + m ≤ all → ((i : ℕ) → i < all → p i ≡ true → (s ≤ i) × (i < s + m)) → filter p (range_with_len s m) ≡ filter p (range_with_len 0 all)
   only_between s m all within only =
@@ -133,9 +133,9 @@ module _ (p : ℕ → Bool) where
       let start : 0 + s ≡ s = omega arith in
       sym (
       ap (λ n. filter p (range_with_len 0 n)) sum
-      ∙ none_in_front 0 s (m + left) (λ (i : ℕ) (from : 0 ≤ i) (to : i < 0 + s). false_from_ne_true (p i) (λ passes. omega (arith, to, (only i (omega arith) passes).0)))
+      ∙ none_before 0 s (m + left) (λ (i : ℕ) (from : 0 ≤ i) (to : i < 0 + s). false_from_ne_true (p i) (λ passes. omega (arith, to, (only i (omega arith) passes).0)))
       ∙ ap (λ a. filter p (range_with_len a (m + left))) start
-      ∙ none_behind s m left (λ (i : ℕ) (from : s + m ≤ i) (to : i < (s + m) + left). false_from_ne_true (p i) (λ passes. omega (arith, from, (only i (omega arith) passes).1)))
+      ∙ none_after s m left (λ (i : ℕ) (from : s + m ≤ i) (to : i < (s + m) + left). false_from_ne_true (p i) (λ passes. omega (arith, from, (only i (omega arith) passes).1)))
       )
 
 -- ---- the numbers of a key
@@ -153,7 +153,7 @@ key_between : (key : List ℕ) (es : List Entry) (n : ℕ) (d : Entry) → is_so
 key_between key es n d sorted within is =
     let tied : text_cmp (get_or es n d).key key ≡ Equal = ap (λ other. text_cmp other key) is ∙ tied_itself nat_list_cmp_total key in (
       rank_upto AtKey (entry key []) es n d sorted within (ap is_lt tied),
-      omega (arith, rank_above BehindKey (entry key []) es n d sorted within (ap is_le tied), upto_key (entry key []) es),
+      omega (arith, rank_above AfterKey (entry key []) es n d sorted within (ap is_le tied), upto_key (entry key []) es),
     )
 
 -- where words that pass have one key, the terms of the key are enough
@@ -163,5 +163,5 @@ key_law version test key one =
     let es = terms_of version in
     ap (λ numbers. passing test version numbers) (numbers_found (smaller_keys key es) (same_keys key es))
     ∙ only_between (λ number. test (term_at number version).word) (smaller_keys key es) (same_keys key es) (length es)
-    (omega (arith, rank_within BehindKey (entry key []) es, upto_key (entry key []) es))
+    (omega (arith, rank_within AfterKey (entry key []) es, upto_key (entry key []) es))
     (λ n within passes. key_between key es n (entry [] []) (terms_sorted version) within (term_keyed version n within ∙ one (term_at n version).word passes))

@@ -11,7 +11,7 @@ ghost use Rattle.plan_compiler.specs.Lexicon.{lexicon};
 ghost use Rattle.plan_compiler.specs.NamedLists.{NamedLists};
 ghost use Rattle.plan_runs.specs.RunMeaning.{run_of};
 ghost use Rattle.plan_runs.specs.RunPrice.{price, price_at};
-ghost use Rattle.plan_runs.specs.steps.Skips.{ends_in_front, latest, variant_skip, variants_skip, word_skip};
+ghost use Rattle.plan_runs.specs.steps.Skips.{ends_before, latest, variant_skip, variants_skip, word_skip};
 
 /// The terms are those of all documents of the version, and the words those of the span.
 pub fn prices_at_spans()
@@ -23,15 +23,15 @@ pub fn prices_at_spans()
 /// A span can be skipped that ends at the first place of what it needs. Where all of several are needed the last one counts, and one that
 /// stands nowhere decides; of variants the first one counts.
 pub fn skips()
-    ensures ends_there { ends_in_front 4 (Some 4) ≡ true }
-    ensures ends_behind { ends_in_front 5 (Some 4) ≡ false }
-    ensures nothing_known { ends_in_front 1 (Some 0) ≡ false }
-    ensures nowhere { ends_in_front 9 None ≡ true }
+    ensures ends_there { ends_before 4 (Some 4) ≡ true }
+    ensures ends_after { ends_before 5 (Some 4) ≡ false }
+    ensures nothing_known { ends_before 1 (Some 0) ≡ false }
+    ensures nowhere { ends_before 9 None ≡ true }
     ensures last { latest (Some 3 ∷ Some 7 ∷ Some 5 ∷ []) ≡ Some 7 }
     ensures one_nowhere { latest (Some 3 ∷ None ∷ Some 5 ∷ []) ≡ None }
     ensures of_none { latest [] ≡ Some 0 }
     ensures word { word_skip 3 (span 1 9) (Terms.Of (version_term (short ∷ bare ∷ []) 0 ∷ [])) ≡ Some 1 }
-    ensures behind_the_word { word_skip 3 (span 2 9) (Terms.Of (version_term (short ∷ bare ∷ []) 0 ∷ [])) ≡ None }
+    ensures after_the_word { word_skip 3 (span 2 9) (Terms.Of (version_term (short ∷ bare ∷ []) 0 ∷ [])) ≡ None }
     ensures no_term { word_skip 3 (span 1 9) (Terms.Of []) ≡ None }
     ensures any_word { word_skip 3 (span 1 9) Terms.Any ≡ Some 0 }
     ensures with_any_word { variant_skip 3 (span 1 9) (Terms.Any ∷ Terms.Of (version_term (short ∷ bare ∷ []) 0 ∷ []) ∷ []) ≡ Some 1 }

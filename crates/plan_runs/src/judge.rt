@@ -34,7 +34,7 @@ pub trait Judge {
         ensures grown { moves.old ≤ moves.new }
         ensures price { moves.new ≤ moves.old + price_at run.old doc.0 span };
 
-    /// A place up to which the document can be skipped: of no span of it that starts at `from` or behind, and ends there or in front of
+    /// A place up to which the document can be skipped: of no span of it that starts at `from` or after, and ends there or before
     /// it, does `judge` say that its tokens satisfy the selection of the run. 0 says nothing, and the greatest number says that nothing
     /// is left in the document. It moves no cursor and takes no memory.
     fn skip_to(&self, run: &Run<'_>, doc: DocId, from: u32) -> u32

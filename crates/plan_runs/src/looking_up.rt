@@ -1,5 +1,5 @@
 //! The terms that `skip` asks for, looked up in a document, so that it finds them kept. Each result says whether the words may be
-//! there at all: behind words that are needed and aren't there nothing is looked up.
+//! there at all: after words that are needed and aren't there nothing is looked up.
 
 ghost use Rattle.std.specs.Prelude.{◌≡◌, map};
 ghost use Rattle.index_phrases.specs.steps.Aiming.{variant_words};

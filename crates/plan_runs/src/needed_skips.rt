@@ -9,7 +9,7 @@ use crate::skipping::variants_skip;
 use ft_base::{DocId, Span};
 use index_versions::sooner;
 
-/// A place up to which the part can be skipped, as `skip` tells it: in no span of the part that ends there or in front of it does the
+/// A place up to which the part can be skipped, as `skip` tells it: in no span of the part that ends there or before it does the
 /// selection have a Match.
 #[cycle(needs_skips)]
 pub(crate) fn needs_skip(doc: DocId, part: Span, needs: &Needs<'_>) -> Option<u32>
@@ -31,7 +31,7 @@ pub(crate) fn needs_skip(doc: DocId, part: Span, needs: &Needs<'_>) -> Option<u3
     }
 }
 
-/// The place behind the other; there is none where one of them isn't there.
+/// The place after the other; there is none where one of them isn't there.
 fn later(first: Option<u32>, second: Option<u32>) -> Option<u32>
     ensures { result ≡ spec.later first second }
 {

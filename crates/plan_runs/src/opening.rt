@@ -193,7 +193,7 @@ fn sources_of<'v>(opening: &Opening<'v>, numbers: &[usize]) -> Result<TermSource
     Ok(sources)
 }
 
-/// Puts the terms of these numbers behind the others.
+/// Puts the terms of these numbers after the others.
 pub(crate) fn push_terms<'v>(
     opening: &Opening<'v>,
     numbers: &[usize],

@@ -78,7 +78,7 @@ fn open_phrases<'v>(
     }
 }
 
-/// Puts each phrase that is joined behind the others.
+/// Puts each phrase that is joined after the others.
 #[cycle(phrases)]
 fn push_phrases<'v>(
     opening: &Opening<'v>,

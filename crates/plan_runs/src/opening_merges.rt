@@ -55,7 +55,7 @@ fn open_operand<'v>(
     }
 }
 
-/// Puts the terms of each phrase that is joined behind the others.
+/// Puts the terms of each phrase that is joined after the others.
 #[cycle(words)]
 fn push_words<'v>(
     opening: &Opening<'v>,
@@ -117,7 +117,7 @@ fn terms_of_variants<'v>(
     Ok(terms)
 }
 
-/// Puts the terms of a variant's words behind the others.
+/// Puts the terms of a variant's words after the others.
 fn push_variant<'v>(
     opening: &Opening<'v>,
     tests: &[ItemTest],

@@ -87,15 +87,15 @@ impl<'v> Run<'v> {
     }
 
     /// Looks the words that the selection needs up in the document, so that `skip_to` finds them kept: who asks much of one document
-    /// looks each of them up there once. Behind words that are needed and aren't there nothing is looked up.
+    /// looks each of them up there once. After words that are needed and aren't there nothing is looked up.
     pub fn look_up(&mut self, doc: DocId)
         ensures { self.new ≡ self.old }
     {
         let _may = look_up(doc, &mut self.root);
     }
 
-    /// A place up to which the document can be skipped: no span of it that starts at `from` or behind, and ends there or in front of
-    /// it, satisfies the plan's selection, since words that it needs stand further behind. 0 says nothing, and the greatest number
+    /// A place up to which the document can be skipped: no span of it that starts at `from` or after, and ends there or before
+    /// it, satisfies the plan's selection, since words that it needs stand further on. 0 says nothing, and the greatest number
     /// says that nothing is left in the document. It moves no cursor and takes no memory.
     pub fn skip_to(&self, doc: DocId, from: u32) -> u32
         requires there { has_document doc.0 self.now.version ≡ true }

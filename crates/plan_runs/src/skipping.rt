@@ -15,7 +15,7 @@ use ft_base::{DocId, Span};
 use index_phrases::WordTerms;
 use index_versions::{TermSources, sooner};
 
-/// A place up to which the part of the document can be skipped: no span of the part that ends there or in front of it satisfies the
+/// A place up to which the part of the document can be skipped: no span of the part that ends there or before it satisfies the
 /// selection. 0 says nothing; `None` says that no span of the part does.
 #[cycle(skipping)]
 pub(crate) fn skip(doc: DocId, part: Span, node: &RunNode<'_>) -> Option<u32>

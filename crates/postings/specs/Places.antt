@@ -2,7 +2,7 @@
 use Rattle.std.specs.Prelude.{ℕ, List}
 use Rattle.postings.specs.declared.row.Row.{Row}
 
--- the rows of the list, and how many of them stand in front of the place
+-- the rows of the list, and how many of them stand before the place
 pub record RowPlace : Type 0 where
   pub rows : List Row
   pub place : ℕ

@@ -79,7 +79,7 @@ impl PostingList {
         &rows[at - start..]
     }
 
-    /// Puts a row at that place, counted from 0, in front of the one that is there. Counts one row, also where
+    /// Puts a row at that place, counted from 0, before the one that is there. Counts one row, also where
     /// memory runs out and the list stays as it was.
     pub fn put_row<L: Ledger>(
         &mut self,
@@ -123,7 +123,7 @@ fn block_of(rows: &SharedList<Row, BLOCK_ROWS>, at: usize) -> usize {
     let mut high = rows.block_count();
     while high.saturating_sub(low) > 1 {
         let middle = low + (high - low) / 2;
-        if starts_behind(rows, middle, at) {
+        if starts_after(rows, middle, at) {
             high = middle;
         } else {
             low = middle;
@@ -132,8 +132,8 @@ fn block_of(rows: &SharedList<Row, BLOCK_ROWS>, at: usize) -> usize {
     low
 }
 
-/// Whether the block of that number, if there is one, starts behind the place.
-fn starts_behind(rows: &SharedList<Row, BLOCK_ROWS>, number: usize, at: usize) -> bool {
+/// Whether the block of that number, if there is one, starts after the place.
+fn starts_after(rows: &SharedList<Row, BLOCK_ROWS>, number: usize, at: usize) -> bool {
     match rows.block(number) {
         Some((start, _)) => start > at,
         None => true,

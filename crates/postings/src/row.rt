@@ -2,7 +2,7 @@ use ft_base::{LeafId, Memory};
 use shared_list::Share;
 use std::alloc::Global;
 
-/// One place at which a word stands in a document (a posting): the leaf, and how many words of the leaf stand in front
+/// One place at which a word stands in a document (a posting): the leaf, and how many words of the leaf stand before
 /// of it.
 #[derive(Clone, Copy, PartialEq, Eq)]
 pub struct Row {

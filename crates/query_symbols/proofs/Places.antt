@@ -17,14 +17,14 @@ bytes_split m letters =
 pub bytes_of_first-le : (m : ℕ) (letters : List ℕ) → bytes_of_first m letters ≤ length (encode_utf8_all letters)
 bytes_of_first-le m letters = let all = bytes_split m letters in omega arith
 
--- the bytes of characters from a number on, and of those behind them
-pub left_behind : (next size : ℕ) (letters : List ℕ) → bytes_of_first size (drop next letters) + length (encode_utf8_all (drop (next + size) letters)) ≡ length (encode_utf8_all (drop next letters))
-left_behind next size letters = ap (λ xs. bytes_of_first size (drop next letters) + length (encode_utf8_all xs)) (sym (drop-drop size next letters)) ∙ bytes_split size (drop next letters)
+-- the bytes of characters from a number on, and of those after them
+pub left_after : (next size : ℕ) (letters : List ℕ) → bytes_of_first size (drop next letters) + length (encode_utf8_all (drop (next + size) letters)) ≡ length (encode_utf8_all (drop next letters))
+left_after next size letters = ap (λ xs. bytes_of_first size (drop next letters) + length (encode_utf8_all xs)) (sym (drop-drop size next letters)) ∙ bytes_split size (drop next letters)
 
 -- a character has a byte
 pub one_left : (next : ℕ) (letters : List ℕ) → next < length letters → length (encode_utf8_all (drop (next + 1) letters)) + 1 ≤ length (encode_utf8_all (drop next letters))
 one_left next letters h =
-    let split = left_behind next 1 letters in
+    let split = left_after next 1 letters in
     let some : length (take 1 (drop next letters)) ≤ bytes_of_first 1 (drop next letters) = length-le-encodes (take 1 (drop next letters)) in
     let one : 1 ≤ length (take 1 (drop next letters)) = simp (length-take, length-drop) (omega arith) in
     omega arith
@@ -35,7 +35,7 @@ slice_bytes next size letters =
     let same : (next + size) - next ≡ size = omega arith in
     ap (λ n. bytes_of_first n (drop next letters)) same
 
--- the place behind one more character
+-- the place after one more character
 pub one_more : (letters : List ℕ) (i c : ℕ) → i < length letters → c ≡ get_or letters i c → bytes_of_first (i + 1) letters ≡ bytes_of_first i letters + len_utf8 c
 one_more letters i c h is =
     ap length (encodes_more letters i c h is) ∙ length-append (encode_utf8_all (take i letters)) (encode_utf8 c) ∙ ap (λ n. bytes_of_first i letters + n) (length-encode c)

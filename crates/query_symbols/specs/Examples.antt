@@ -12,6 +12,6 @@ from_to from to symbol = record { symbol = symbol; from = from; to = to }
 abbrev pub whole : List Placed → Symbols
 whole placed = record { placed = placed; bad = None }
 
--- symbols in front of a place at which none begins
+-- symbols before a place at which none begins
 abbrev pub bad_at : ℕ → List Placed → Symbols
 bad_at place placed = record { placed = placed; bad = Some place }

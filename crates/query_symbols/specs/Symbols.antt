@@ -22,7 +22,7 @@ abbrev pub goes_on_as_name : List ℕ → Bool
 goes_on_as_name [] = false
 goes_on_as_name (c ∷ rest) = is_name_char c
 
--- a number, unless a name character stands directly behind it
+-- a number, unless a name character stands directly after it
 abbrev pub number_at : List ℕ → Option Lexeme
 number_at letters = if goes_on_as_name (drop (run_of is_digit letters) letters) then None
     else Some record { symbol = Number (number_of (take (run_of is_digit letters) letters)); size = run_of is_digit letters }
@@ -33,7 +33,7 @@ name_at letters = Some record { symbol = Name (encode_utf8_all (take (run_of is_
 abbrev pub with_letter : ℕ → ℕ → Option Quoted → Option Quoted
 with_letter c size rest = option_map (λ quoted. record { text = encode_utf8 c ++ quoted.text; size = size + quoted.size }) rest
 
--- a string behind its opening quote: a doubled quote stands for one, and a single one closes it
+-- a string after its opening quote: a doubled quote stands for one, and a single one closes it
 abbrev pub quoted_at : ℕ → List ℕ → Option Quoted
 quoted_at quote [] = None
 quoted_at quote (c ∷ []) = if c == quote then Some record { text = []; size = 1 } else None
@@ -95,14 +95,14 @@ before placed others = record { placed = placed ∷ others.placed; bad = others.
 abbrev pub bytes_of_first : ℕ → List ℕ → ℕ
 bytes_of_first size letters = length (encode_utf8_all (take size letters))
 
--- the symbols from a place on, where the first one is known and `further` gives those behind it
+-- the symbols from a place on, where the first one is known and `further` gives those after it
 abbrev pub with_further : ℕ → List ℕ → (ℕ → List ℕ → Symbols) → Option Lexeme → Symbols
 with_further place letters further None = stopped_at place
 with_further place letters further (Some lexeme) =
     before (record { symbol = lexeme.symbol; from = place; to = place + bytes_of_first lexeme.size letters })
     (further (place + bytes_of_first lexeme.size letters) (drop lexeme.size letters))
 
--- The symbols of characters that begin at a place: blanks are passed over, a symbol stands before the symbols behind it, and
+-- The symbols of characters that begin at a place: blanks are passed over, a symbol stands before the symbols after it, and
 -- a character that begins no symbol ends them. The first argument bounds the number of steps
 unfoldable pub symbols_within : ℕ → ℕ → List ℕ → Symbols
 symbols_within bound place [] = nothing_left
@@ -115,18 +115,18 @@ unfoldable pub symbols_of : List ℕ → Symbols
 symbols_of text = symbols_within (length (chars text)) 0 (chars text)
 
 -- symbols that were read, before those that are left
-abbrev pub behind_placed : List Placed → Symbols → Symbols
-behind_placed placed others = record { placed = placed ++ others.placed; bad = others.bad }
+abbrev pub after_placed : List Placed → Symbols → Symbols
+after_placed placed others = record { placed = placed ++ others.placed; bad = others.bad }
 
 -- what one step leaves of the text from the character `next` on, which begins at a place
 abbrev pub Steps_to : List ℕ → List Placed → ℕ → ℕ → List Placed → Turn → Type 0
 Steps_to letters old next place new (Passed next' place') =
     (bound : ℕ)
-    → behind_placed new (symbols_within bound place' (drop next' letters)) ≡ behind_placed old (symbols_within (suc bound) place (drop next letters))
+    → after_placed new (symbols_within bound place' (drop next' letters)) ≡ after_placed old (symbols_within (suc bound) place (drop next letters))
 Steps_to letters old next place new Bad =
-    (bound : ℕ) → record { placed = new; bad = Some place } ≡ behind_placed old (symbols_within (suc bound) place (drop next letters))
+    (bound : ℕ) → record { placed = new; bad = Some place } ≡ after_placed old (symbols_within (suc bound) place (drop next letters))
 
--- where a step leads lies in a text of so many bytes, with all characters behind it
+-- where a step leads lies in a text of so many bytes, with all characters after it
 abbrev pub Stays_within : List ℕ → ℕ → Turn → Type 0
 Stays_within letters bytes (Passed next place) = (next ≤ length letters) × (place + length (encode_utf8_all (drop next letters)) ≤ bytes)
 Stays_within letters bytes Bad = Unit {0}

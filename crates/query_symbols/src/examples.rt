@@ -5,15 +5,15 @@ ghost use Rattle.selection_grammar.specs.declared.symbol.Symbol.TheVariants as S
 ghost use Rattle.query_symbols.specs.Examples.{from_to, whole, bad_at};
 ghost use Rattle.query_symbols.specs.Symbols.{symbols_of};
 
-/// Names take periods, dashes and digits; a period in front of a digit is a mark.
+/// Names take periods, dashes and digits; a period before a digit is a mark.
 pub fn names_and_numbers()
     ensures dash { symbols_of (codes "x-1") ≡ whole (from_to 0 3 (S.Name (codes "x-1")) ∷ []) }
     ensures period { symbols_of (codes "a. b") ≡ whole (from_to 0 2 (S.Name (codes "a.")) ∷ from_to 3 4 (S.Name (codes "b")) ∷ []) }
     ensures period_first { symbols_of (codes ".5") ≡ whole (from_to 0 1 S.Period ∷ from_to 1 2 (S.Number 5) ∷ []) }
     ensures zeros { symbols_of (codes "0001000000") ≡ whole (from_to 0 10 (S.Number 1000000) ∷ []) }
     ensures past_a_million { symbols_of (codes "9000001") ≡ whole (from_to 0 7 (S.Number 1000001) ∷ []) }
-    ensures a_name_behind_a_number { symbols_of (codes "a 12x") ≡ bad_at 2 (from_to 0 1 (S.Name (codes "a")) ∷ []) }
-    ensures a_period_behind_a_number { symbols_of (codes "[1.]") ≡ bad_at 1 (from_to 0 1 S.OpenBracket ∷ []) }
+    ensures a_name_after_a_number { symbols_of (codes "a 12x") ≡ bad_at 2 (from_to 0 1 (S.Name (codes "a")) ∷ []) }
+    ensures a_period_after_a_number { symbols_of (codes "[1.]") ≡ bad_at 1 (from_to 0 1 S.OpenBracket ∷ []) }
 {}
 
 /// A quote is doubled inside its own kind of string.

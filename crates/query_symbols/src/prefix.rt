@@ -134,7 +134,7 @@ fn string(alloc: Global, letters: &[char], quote: char) -> Result<Option<Lexeme>
     }
 }
 
-/// A string behind its opening quote.
+/// A string after its opening quote.
 fn quoted(alloc: Global, letters: &[char], quote: char) -> Result<Option<Quoted>, Memory>
     ensures value { IfOk result (λ q. q ≡ spec.quoted_at quote letters.now) }
     ensures within { IfOk result (λ q. IfSome q (λ r. r.size ≤ length letters.now)) }

@@ -24,7 +24,7 @@ pub fn nots_deep_under_filters()
     ensures in_a_later_operand { is_allowed (filtered (two_and word_a (not_of (not_of word_b))) F.Ordered) ≡ false }
     ensures in_a_choice { is_allowed (filtered (two_or word_a (not_of (not_of word_b))) F.Ordered) ≡ false }
     ensures in_another_filter { is_allowed (filtered (filtered (not_of (not_of word_a)) F.Ordered) F.AtStart) ≡ false }
-    ensures behind_options { is_allowed (filtered (not_of (with_options (not_of word_a) no_options)) F.Ordered) ≡ false }
+    ensures after_options { is_allowed (filtered (not_of (with_options (not_of word_a) no_options)) F.Ordered) ≡ false }
     ensures on_the_left_of_mild_not { is_allowed (filtered (not_of (mild_not (not_of word_a) word_b)) F.Ordered) ≡ false }
     ensures on_the_right_of_mild_not { is_allowed (filtered (not_of (mild_not word_a (not_of word_b))) F.Ordered) ≡ false }
     ensures on_the_left_alone { is_allowed (filtered (mild_not (not_of word_a) word_b) F.Ordered) ≡ false }

@@ -9,12 +9,12 @@ ghost use Rattle.all_matches.specs.Examples.{plain, text, value, two_and, word_a
 ghost use Rattle.all_matches.specs.Meaning.{sat};
 ghost use Rattle.selection_examples.specs.Examples.{spaced_under_wildcards};
 
-/// The phrases of an operand are numbered behind all those of the operands in front of it.
-pub fn order_behind_operands()
-    ensures behind_mild_not { sat plain (filtered (two_and (mild_not word_a word_x) word_b) F.Ordered) (text (codes "b a")) ≡ false }
-    ensures behind_two_words_of_mild_not { sat plain (filtered (two_and (mild_not (two_and word_a word_c) word_x) word_b) F.Ordered)
+/// The phrases of an operand are numbered after all those of the operands before it.
+pub fn order_after_operands()
+    ensures after_mild_not { sat plain (filtered (two_and (mild_not word_a word_x) word_b) F.Ordered) (text (codes "b a")) ≡ false }
+    ensures after_two_words_of_mild_not { sat plain (filtered (two_and (mild_not (two_and word_a word_c) word_x) word_b) F.Ordered)
         (text (codes "a b c")) ≡ false }
-    ensures right_behind_not { sat plain (filtered (two_and (not_of word_x) word_a) F.Ordered) (text (codes "a x")) ≡ true }
-    ensures behind_words_under_options { sat spaced_under_wildcards
+    ensures right_after_not { sat plain (filtered (two_and (not_of word_x) word_a) F.Ordered) (text (codes "a x")) ≡ true }
+    ensures after_words_under_options { sat spaced_under_wildcards
         (filtered (two_and (with_options (value M.AnyWord None (codes "a b" ∷ [])) (with_wildcards true)) word_c) F.Ordered) (text (codes "c b")) ≡ false }
 {}

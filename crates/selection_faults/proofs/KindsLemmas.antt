@@ -30,10 +30,10 @@ least_placed kind (at ∷ rest) = ap (sooner (Some (placed kind at))) (least_pla
 -- the faults of one kind, and then the others
 next_kind : (kind : ℕ → QueryFault) (places : List ℕ) (others : List PlacedFault) {others_least : Option PlacedFault} → least (λ f. f.at) others ≡ others_least
     → least (λ f. f.at) (faults_at kind places ++ others) ≡ sooner (option_map (placed kind) (least_place places)) others_least
-next_kind kind places others told =
+next_kind kind places others shown =
     least_append (λ f. f.at) (faults_at kind places) others
     ∙ ap (λ first. sooner first (least (λ f. f.at) others)) (least_placed kind places)
-    ∙ ap (sooner (option_map (placed kind) (least_place places))) told
+    ∙ ap (sooner (option_map (placed kind) (least_place places))) shown
 
 regroup : (a b c d e : List PlacedFault) → a ++ b ++ c ++ d ++ e ≡ a ++ (b ++ (c ++ (d ++ e)))
 regroup a b c d e = simp append_assoc

@@ -22,12 +22,12 @@ quoted_with at text options = words (record { strings = string at text ∷ []; m
 abbrev pub quoted : ℕ → List ℕ → Tree
 quoted at text = quoted_with at text []
 
--- one string with `occurs` behind it
+-- one string with `occurs` after it
 abbrev pub counted : ℕ → List ℕ → ℕ → Tree
 counted at text times_at =
     words (record { strings = string at text ∷ []; mode = M.Any; times = Some record { at = times_at; range = AtLeast 1 }; options = [] })
 
--- so many strings of one letter, each nine bytes behind the one before
+-- so many strings of one letter, each nine bytes after the one before
 abbrev pub strings_from : ℕ → ℕ → List PlacedString
 strings_from at zero = []
 strings_from at (suc n) = string at (97 ∷ []) ∷ strings_from (at + 9) n

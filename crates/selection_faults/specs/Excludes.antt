@@ -24,7 +24,7 @@ abbrev pub not_place : Tree → List ℕ
 not_place (not_of at operand) = at ∷ []
 not_place other = []
 
--- the place of `occurs` behind words
+-- the place of `occurs` after words
 abbrev pub times_place : Tree → List ℕ
 times_place (words w) = option_to_list (option_map (λ times. times.at) w.times)
 times_place other = []

@@ -17,7 +17,7 @@ placed kind at = record { at = at; fault = kind at }
 abbrev pub faults_at : (ℕ → QueryFault) → List ℕ → List PlacedFault
 faults_at kind places = map (placed kind) places
 
--- all faults of a selection, one kind behind the other
+-- all faults of a selection, one kind after the other
 abbrev pub faults : Tree → List PlacedFault
 faults tree =
     faults_at F.Phrases (option_to_list (phrases_past 0 (strings_of tree)))

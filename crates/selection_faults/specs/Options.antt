@@ -24,12 +24,12 @@ abbrev pub is_second : List PlacedOption → PlacedOption → Bool
 is_second before o = list_any (λ other. same_group other.option o.option) before
 
 -- the `using` of the first option that has one of its group before it
-abbrev pub second_behind : List PlacedOption → List PlacedOption → Option ℕ
-second_behind before [] = None
-second_behind before (o ∷ rest) = if is_second before o then Some o.at else second_behind (before ++ o ∷ []) rest
+abbrev pub second_after : List PlacedOption → List PlacedOption → Option ℕ
+second_after before [] = None
+second_after before (o ∷ rest) = if is_second before o then Some o.at else second_after (before ++ o ∷ []) rest
 
 abbrev pub second_option : List PlacedOption → Option ℕ
-second_option options = second_behind [] options
+second_option options = second_after [] options
 
 -- of the options of this selection
 abbrev pub own_second_option : Tree → List ℕ

@@ -18,7 +18,7 @@ pub(crate) fn texts_of(alloc: Global, strings: Items<PlacedString>) -> Result<Li
     Ok(texts)
 }
 
-/// The options, one behind the other.
+/// The options, one after the other.
 pub(crate) fn options_of(given: Items<PlacedOption>) -> Options
     ensures { result ≡ spec.options_of given }
 {

@@ -83,7 +83,7 @@ fn pass_words(
     Ok(())
 }
 
-/// What is known behind a string.
+/// What is known after a string.
 fn after_string(
     alloc: Global,
     walk: StringWalk,

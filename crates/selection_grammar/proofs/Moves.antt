@@ -1,4 +1,4 @@
--- Wherever the machine stands, what may stand next leads to where it stands behind that.
+-- Wherever the machine stands, what may stand next leads to where it stands after that.
 use Rattle.std.proofs.Common.{◌≡◌, ℕ, Bool, true, false, List, [], ◌∷◌, ◌++◌, Option, Some, None, refl, sym, ◌∙◌, ap, subst, append_assoc}
 use Rattle.std.proofs.lemmas.List.{append-nil}
 use Rattle.std.specs.Prelude.{codes}
@@ -56,8 +56,8 @@ under_same {s = s} a e = subst (λ z. Under z s) e a
 pub leads : {u w : List Placed} {outer : List Frame} {left : Left} {stage : Stage} → In u outer left w → (v z : List Placed) → Under z stage → z ≡ w ++ v → Stands (u ++ v) (record { outer = outer; left = left; stage = stage })
 leads a v z x e = stands_in (grown a v) (under_same x e)
 
-abbrev pub Behind : List Placed → List Placed → State → Type 0
-Behind u v s = Stands (u ++ v) s
+abbrev pub After : List Placed → List Placed → State → Type 0
+After u v s = Stands (u ++ v) s
 
 -- a filter
 pub filter_leads : {u i o v : List Placed} {outer : List Frame} {x : Tree} {f : Filter} → Outer o outer → u ≡ o ++ i → Selection i x → Spelled filters v f → Stands (u ++ v) (filtered_state outer x f)
@@ -67,7 +67,7 @@ pub filter_leads_on : {u i o v : List Placed} {outer : List Frame} {x : Tree} {f
 filter_leads_on {u = u} {v = v} x e y h = stands_same (filter_leads x e y h) (ap (λ z. u ++ z) (sym (append-nil v)))
 
 -- a closing parenthesis
-pub close_moves : {u i o : List Placed} {outer : List Frame} {x : Tree} → Outer o outer → u ≡ o ++ i → Selection i x → Paths (m.close_next outer x) (Behind u)
+pub close_moves : {u i o : List Placed} {outer : List Frame} {x : Tree} → Outer o outer → u ≡ o ++ i → Selection i x → Paths (m.close_next outer x) (After u)
 close_moves Outer.none e y = tt
 close_moves {u = u} {i = i} (Outer.open_one {u = o} {v = l} {w = n} outer left negation p) e y = (
   (λ q. record {
@@ -83,8 +83,8 @@ close_moves {u = u} {i = i} (Outer.open_one {u = o} {v = l} {w = n} outer left n
     closed : (o l n i : List Placed) (p : Placed) (q : List Placed) → o ++ l ++ n ++ p ∷ [] ++ i ++ q ≡ o ++ (l ++ (n ++ (p ∷ i ++ q) ++ []))
     closed o l n i p q = simp (append_assoc, append-nil)
 
--- behind a whole operand
-pub joint_moves : {u w : List Placed} {outer : List Frame} {left : Left} {x : Tree} → In u outer left w → Unary w x → Paths (m.joint_next outer left x) (Behind u)
+-- after a whole operand
+pub joint_moves : {u w : List Placed} {outer : List Frame} {left : Left} {x : Tree} → In u outer left w → Unary w x → Paths (m.joint_next outer left x) (After u)
 joint_moves {u = u} {w = w} {outer = outer} a x = (
   (λ p. began (name p (codes "ftor") ∷ []) (left_or a.lefts x p)),
   (
@@ -108,7 +108,7 @@ terms_with TermsBefore.none x = g.Terms.first x
 terms_with {v = v} (TermsBefore.some {u = u} ts p except) x = terms_same (g.Terms.further ts p except x) (sym (append_assoc u (name p (joint except) ∷ []) v))
 
 pub term_moves : {u w v : List Placed} {outer : List Frame} {left : Left} {n : Option ℕ} {x : Primary} {os : List PlacedOption} {ts : List StopTerm} {except : Bool} (p q r : Spot) → In u outer left (w ++ using_stop p q r v) → Base w n x os → TermsBefore v ts except
-    → Paths (m.term_next outer left n x os p.0 ts except) (Behind u)
+    → Paths (m.term_next outer left n x os p.0 ts except) (After u)
 term_moves {w = w} {v = v} p q r a b before = (
   (λ i. ((λ j s. leads a (name i (codes "at") ∷ string j s ∷ []) _ (Under.stop_terms b p q r (terms_with before (g.Source.list i j s))) (sym (append_assoc w (using_stop p q r v) (name i (codes "at") ∷ string j s ∷ [])))), tt)),
   ((λ i. ((λ j s. leads a (at i S.OpenParenthesis ∷ string j s ∷ []) _ (Under.stop_strings b p q r before i (g.Strings.first j s)) (sym (append_assoc w (using_stop p q r v) (at i S.OpenParenthesis ∷ string j s ∷ [])))), tt)), tt),

@@ -26,7 +26,7 @@ use Rattle.selection_grammar.specs.steps.Machine.{Left, nothing_left_of, Frame, 
 use Rattle.selection_grammar.proofs.Walks.{st, Walks, stays, goes_on, walks_same, Takes, walk, walk_all, takes_own, takes_past, close_word}
 use Rattle.selection_grammar.proofs.PartRuns.{filters_run, times_run, option_run, thesaurus_filters_run, thesaurus_levels_run, thesauri_levels_run}
 
--- behind an operand with whole options
+-- after an operand with whole options
 pub record Ready (outer : List Frame) (left : Left) (n : Option ℕ) (x : Primary) (os : List PlacedOption) (s : State) : Type 0 where
   pub takes : Takes s (m.unfiltered_next outer left n x os)
   pub filter : (u : List Placed) (f : Filter) → Spelled filters u f → Walks s u (filtered_state outer (selection_with left (operand_of n x os)) f)
@@ -48,12 +48,12 @@ options_ready {outer = outer} {left = left} {n = n} {x = x} {os = os} takes same
     rest : Shape State
     rest = m.unfiltered_next outer left n x os
 
--- behind whole options, whatever they are
+-- after whole options, whatever they are
 pub given_ready : (outer : List Frame) (left : Left) (n : Option ℕ) (x : Primary) (os : List PlacedOption) → Ready outer left n x os (st outer left (m.given_options n x os))
 unfolding next
 given_ready outer left n x os = options_ready (takes_own (st outer left (m.given_options n x os)) (m.options_next outer left n x os) refl) refl refl
 
--- behind stop words
+-- after stop words
 stops_ready : (outer : List Frame) (left : Left) (n : Option ℕ) (x : Primary) (os : List PlacedOption) (at : ℕ) (ts : List StopTerm) → Ready outer left n x (os ++ stop_option at ts ∷ []) (st outer left (m.stop_terms n x os at ts))
 unfolding next
 stops_ready outer left n x os at ts = options_ready (takes_past (m.term_words outer left n x os at ts) (m.options_next outer left n x (os ++ stop_option at ts ∷ [])) (takes_own (st outer left (m.stop_terms n x os at ts)) (m.next_at outer left (m.stop_terms n x os at ts)) refl)
@@ -62,7 +62,7 @@ stops_ready outer left n x os at ts = options_ready (takes_past (m.term_words ou
     selection : Tree
     selection = selection_with left (operand_of n x (os ++ stop_option at ts ∷ []))
 
--- behind a thesaurus
+-- after a thesaurus
 thesaurus_takes : (outer : List Frame) (left : Left) (n : Option ℕ) (x : Primary) (os : List PlacedOption) (at : ℕ) (s : List ℕ) (r : Option (List ℕ)) → Takes (st outer left (m.thesaurus n x os at s r)) (m.thesaurus_rest outer left n x os at s r)
 unfolding next
 thesaurus_takes outer left n x os at s None = takes_past (m.relationship_word (λ t. st outer left (m.thesaurus n x os at s (Some t))) None) (m.thesaurus_rest outer left n x os at s None) (takes_own (st outer left (m.thesaurus n x os at s None)) (m.thesaurus_next outer left n x os at s None) refl)
@@ -88,7 +88,7 @@ thesaurus_ready outer left n x os at s r = record {
     rest : Shape State
     rest = m.unfiltered_next outer left n x (m.thesaurus_ended os at s r None)
 
--- how a thesaurus begins, in front of its relationship and its levels
+-- how a thesaurus begins, before its relationship and its levels
 named_walk : {outer : List Frame} {left : Left} {n : Option ℕ} {x : Primary} {os : List PlacedOption} {s : State} (p q : Spot) → Ready outer left n x os s → {v : List Placed} {t : List ℕ} {r : Option (List ℕ)} → Named v t r
     → Walks s (name p (codes "using") ∷ name q (codes "thesaurus") ∷ v) (st outer left (m.thesaurus n x os p.0 t r))
 unfolding next
@@ -97,7 +97,7 @@ named_walk {outer = outer} {left = left} {n = n} {x = x} {os = os} p q ready (Na
     goes_on (walk ready.takes (name p (codes "using")) (name q (codes "thesaurus") ∷ name i (codes "at") ∷ string j t ∷ []) (st outer left (m.thesaurus n x os p.0 t None)) refl)
     (walk (takes_own (st outer left (m.thesaurus n x os p.0 t None)) (m.thesaurus_next outer left n x os p.0 t None) refl) (name k (codes "relationship")) (string l r ∷ []) (st outer left (m.thesaurus n x os p.0 t (Some r))) refl)
 
--- a place behind one more option
+-- a place after one more option
 pub record OptionWalk (outer : List Frame) (left : Left) (n : Option ℕ) (x : Primary) (os : List PlacedOption) (s : State) (u : List Placed) : Type 0 where
   pub there : State
   pub walks : Walks s u there
@@ -112,7 +112,7 @@ one_thesaurus {outer = outer} {left = left} {n = n} {x = x} {os = os} p q ready 
   ready = given_ready outer left n x (m.thesaurus_ended os p.0 t r (Some l));
 }
 
--- thesauri in parentheses: behind one, where no more of it comes
+-- thesauri in parentheses: after one, where no more of it comes
 record UseWalk (outer : List Frame) (left : Left) (n : Option ℕ) (x : Primary) (os : List PlacedOption) (at : ℕ) (us : List ThesaurusUse) (s : State) (u : List Placed) : Type 0 where
   there : State
   walks : Walks s u there

@@ -18,11 +18,11 @@ use Rattle.selection_grammar.specs.steps.Machine.{Left, nothing_left_of, Frame, 
 use Rattle.selection_grammar.proofs.Paths.{Paths, along, run-append, paths_map}
 use Rattle.selection_grammar.proofs.Standing as st
 use Rattle.selection_grammar.proofs.Standing.{Lefts, Base, TermsBefore, UsesBefore, using_stop, using_thesaurus, Under, Within, Outer, Stands, left_selection, nothing_left, base_unary, base_option, selection_same}
-use Rattle.selection_grammar.proofs.Moves.{In, grown, in_same, leads, Behind, stands_same, filter_leads_on, close_moves, term_moves, terms_with}
+use Rattle.selection_grammar.proofs.Moves.{In, grown, in_same, leads, After, stands_same, filter_leads_on, close_moves, term_moves, terms_with}
 use Rattle.selection_grammar.proofs.OptionMoves.{base_words, options_moves, moded_moves, thesaurus_moves, thesaurus_in_moves, thesauri_moves, filters_then}
 
 -- where an operand is wanted
-operand_moves : {u w : List Placed} {outer : List Frame} {left : Left} {n : Option ℕ} → In u outer left w → Negation w n → Paths (m.operand_next outer left n) (Behind u)
+operand_moves : {u w : List Placed} {outer : List Frame} {left : Left} {n : Option ℕ} → In u outer left w → Negation w n → Paths (m.operand_next outer left n) (After u)
 operand_moves {u = u} {w = w} {outer = outer} {left = left} {n = n} a x = (
   (λ p s. leads a (string p s ∷ []) _ (Under.valued x (g.Value.one p s)) refl),
   (
@@ -46,19 +46,19 @@ operand_moves {u = u} {w = w} {outer = outer} {left = left} {n = n} a x = (
 no_negation : {w : List Placed} → Negation w None → w ≡ []
 no_negation g.Negation.none = refl
 
-wanted_moves : {u w : List Placed} {outer : List Frame} {left : Left} (n : Option ℕ) → In u outer left w → Negation w n → Paths (m.wanted_next outer left n) (Behind u)
+wanted_moves : {u w : List Placed} {outer : List Frame} {left : Left} (n : Option ℕ) → In u outer left w → Negation w n → Paths (m.wanted_next outer left n) (After u)
 wanted_moves None a x = ((λ p. leads a (name p (codes "ftnot") ∷ []) _ (Under.wanted (g.Negation.some p)) (ap (λ z. z ++ name p (codes "ftnot") ∷ []) (sym (no_negation x)))), operand_moves a x)
 wanted_moves (Some i) a x = operand_moves a x
 
 -- a further term of a stop word option
 further_term : {u w v : List Placed} {outer : List Frame} {left : Left} {n : Option ℕ} {x : Primary} {os : List PlacedOption} {ts : List StopTerm} (p q r j : Spot) (except : Bool) → In u outer left (w ++ using_stop p q r v) → Base w n x os → g.Terms v ts
-    → Paths (m.term_next outer left n x os p.0 ts except) (λ z s. Behind u (name j (g.joint except) ∷ z) s)
+    → Paths (m.term_next outer left n x os p.0 ts except) (λ z s. After u (name j (g.joint except) ∷ z) s)
 further_term {u = u} {w = w} {v = v} {outer = outer} {left = left} {n = n} {x = x} {os = os} {ts = ts} p q r j except a b terms =
-    paths_map (m.term_next outer left n x os p.0 ts except) (Behind (u ++ name j (g.joint except) ∷ [])) (λ z s. Behind u (name j (g.joint except) ∷ z) s) (λ z s h. stands_same h (append_assoc u (name j (g.joint except) ∷ []) z))
+    paths_map (m.term_next outer left n x os p.0 ts except) (After (u ++ name j (g.joint except) ∷ [])) (λ z s. After u (name j (g.joint except) ∷ z) s) (λ z s h. stands_same h (append_assoc u (name j (g.joint except) ∷ []) z))
     (term_moves p q r (in_same (grown a (name j (g.joint except) ∷ [])) (append_assoc w (using_stop p q r v) (name j (g.joint except) ∷ []))) b (TermsBefore.some terms j except))
 
 -- wherever the operand under way stands
-pub under_moves : {u w : List Placed} {outer : List Frame} {left : Left} {stage : Stage} → In u outer left w → Under w stage → Paths (next_at outer left stage) (Behind u)
+pub under_moves : {u w : List Placed} {outer : List Frame} {left : Left} {stage : Stage} → In u outer left w → Under w stage → Paths (next_at outer left stage) (After u)
 under_moves a (Under.wanted {n = n} x) = wanted_moves n a x
 under_moves a (Under.in_braces {u = i} {v = v} x p xs) = (
   (λ q. ((λ r s. leads a (at q S.Comma ∷ string r s ∷ []) _ (Under.in_braces x p (g.Strings.further xs q r s)) (sym (append_assoc i (at p S.OpenBrace ∷ v) (at q S.Comma ∷ string r s ∷ [])))), tt)),
@@ -96,24 +96,24 @@ under_moves a (Under.thesaurus {r = r} b p q named) = thesaurus_moves r p q a b 
 under_moves a (Under.thesaurus_in {r = r} b p q t before named) = thesaurus_in_moves r p q t a b before named
 under_moves a (Under.thesauri_in b p q t us) = thesauri_moves p q t a b us
 
-moves : {u : List Placed} (s : State) → Stands u s → Paths (next s) (Behind u)
+moves : {u : List Placed} (s : State) → Stands u s → Paths (next s) (After u)
 unfolding next
 moves {u = u} s x = within_moves x.within x.outer x.spelled
   where
-    within_moves : {i o : List Placed} {outer : List Frame} {left : Left} {stage : Stage} → Within i left stage → Outer o outer → u ≡ o ++ i → Paths (next_at outer left stage) (Behind u)
+    within_moves : {i o : List Placed} {outer : List Frame} {left : Left} {stage : Stage} → Within i left stage → Outer o outer → u ≡ o ++ i → Paths (next_at outer left stage) (After u)
     within_moves {o = o} (Within.operand {u = l} {v = w} before under) outer e = under_moves (record { outside = o; before = l; spelled = e; opened = outer; lefts = before }) under
-    within_moves {outer = outer} (Within.filtered {x = y} selection) opened e = filters_then (m.filtered_state outer y) (m.close_next outer y) (Behind u) (λ v f h. filter_leads_on opened e selection h) (close_moves opened e selection)
+    within_moves {outer = outer} (Within.filtered {x = y} selection) opened e = filters_then (m.filtered_state outer y) (m.close_next outer y) (After u) (λ v f h. filter_leads_on opened e selection h) (close_moves opened e selection)
 
 -- symbols up to a place between two constructs, and those of a construct under way
 pub record Partly (u : List Placed) (t : Shape State) : Type 0 where
   pub state : State
-  pub front : List Placed
+  pub prefix : List Placed
   pub part : List Placed
-  pub spelled : u ≡ front ++ part
-  pub stands : Stands front state
+  pub spelled : u ≡ prefix ++ part
+  pub stands : Stands prefix state
   pub runs : run (Some (next state)) part ≡ Some t
 
--- where the machine is behind symbols
+-- where the machine is after symbols
 abbrev pub Stood : List Placed → Shape State → Type 0
 Stood u (whole s) = Stands u s
 Stood u nothing = Partly u nothing
@@ -123,7 +123,7 @@ Stood u (text to rest) = Partly u (text to rest)
 Stood u (mark m to rest) = Partly u (mark m to rest)
 
 settled : {u : List Placed} (t : Shape State) → Partly u t → Stood u t
-settled (whole s) x = stands_same (along (next x.state) (Behind x.front) (moves x.state x.stands) x.part s x.runs) (sym x.spelled)
+settled (whole s) x = stands_same (along (next x.state) (After x.prefix) (moves x.state x.stands) x.part s x.runs) (sym x.spelled)
 settled nothing x = x
 settled (word key to rest) x = x
 settled (number to rest) x = x
@@ -137,15 +137,15 @@ run_on-nil (Some t) = refl
 further : {u : List Placed} {t r : Shape State} (p : Placed) → Partly u t → step t p ≡ Some r → Stood (u ++ p ∷ []) r
 further {t = t} {r = r} p x e = settled r (record {
   state = x.state;
-  front = x.front;
+  prefix = x.prefix;
   part = x.part ++ p ∷ [];
-  spelled = ap (λ z. z ++ p ∷ []) x.spelled ∙ append_assoc x.front x.part (p ∷ []);
+  spelled = ap (λ z. z ++ p ∷ []) x.spelled ∙ append_assoc x.prefix x.part (p ∷ []);
   stands = x.stands;
   runs = run-append (Some (next x.state)) x.part (p ∷ []) ∙ ap (λ o. run o (p ∷ [])) x.runs ∙ run_on-nil (step t p) ∙ e;
 })
 
 stood_further : (u : List Placed) (t r : Shape State) (p : Placed) → Stood u t → advance t p ≡ Some r → Stood (u ++ p ∷ []) r
-stood_further u (whole s) r p x e = settled r (record { state = s; front = u; part = p ∷ []; spelled = refl; stands = x; runs = run_on-nil (step (next s) p) ∙ e })
+stood_further u (whole s) r p x e = settled r (record { state = s; prefix = u; part = p ∷ []; spelled = refl; stands = x; runs = run_on-nil (step (next s) p) ∙ e })
 stood_further u nothing r p x e = cc
 stood_further u (word key to rest) r p x e = further p x e
 stood_further u (number to rest) r p x e = further p x e

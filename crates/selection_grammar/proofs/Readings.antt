@@ -32,7 +32,7 @@ pub same_cond : {A : Type 0} (b : Bool) (x x' y y' : A) → x ≡ x' → y ≡ y
 same_cond true x x' y y' e f = e
 same_cond false x x' y y' e f = f
 
--- one shape behind another
+-- one shape after another
 pub reading-and_then : {A B : Type 0} (t : Shape A) (k : A → Shape B) (w : List Placed) (i : ℕ) → reading (and_then t k) w i ≡ further (reading t w i) (λ a n. reading (k a) w n)
 reading-and_then (whole a) k w i = refl
 reading-and_then nothing k w i = refl
@@ -45,13 +45,13 @@ pub same_further : {A B : Type 0} (r : Result (A × ℕ) ℕ) (f g : A → ℕ �
 same_further (Ok (a, n)) f g h = h a n
 same_further (Err n) f g h = refl
 
--- symbols behind others go along a shape up to a number, and to where they lead
+-- symbols after others go along a shape up to a number, and to where they lead
 pub record Along {A : Type 0} (t : Shape A) (u v : List Placed) (n : ℕ) (r : Shape A) : Type 0 where
-  pub front : List Placed
+  pub prefix : List Placed
   pub back : List Placed
-  pub spelled : v ≡ front ++ back
-  pub counted : n ≡ length (u ++ front)
-  pub runs : run (Some t) front ≡ Some r
+  pub spelled : v ≡ prefix ++ back
+  pub counted : n ≡ length (u ++ prefix)
+  pub runs : run (Some t) prefix ≡ Some r
 
 abbrev pub is_whole : {A : Type 0} → Shape A → Bool
 is_whole (whole a) = true
@@ -73,7 +73,7 @@ Outcome t u v (Ok (a, n)) = Along t u v n (whole a)
 Outcome t u v (Err n) = Stopped t u v n
 
 along_cons : {A : Type 0} (t to r : Shape A) (u z : List Placed) (p : Placed) (n : ℕ) → step t p ≡ Some to → Along to (u ++ p ∷ []) z n r → Along t u (p ∷ z) n r
-along_cons t to r u z p n e a = record { front = p ∷ a.front; back = a.back; spelled = ap (λ w. p ∷ w) a.spelled; counted = a.counted ∙ ap length (append_assoc u (p ∷ []) a.front); runs = ap (λ o. run o a.front) e ∙ a.runs }
+along_cons t to r u z p n e a = record { prefix = p ∷ a.prefix; back = a.back; spelled = ap (λ w. p ∷ w) a.spelled; counted = a.counted ∙ ap length (append_assoc u (p ∷ []) a.prefix); runs = ap (λ o. run o a.prefix) e ∙ a.runs }
 
 outcome_cons : {A : Type 0} (t to : Shape A) (u z v : List Placed) (p : Placed) (r : Result (A × ℕ) ℕ) → v ≡ p ∷ z → step t p ≡ Some to → Outcome to (u ++ p ∷ []) z r → Outcome t u v r
 unfolding along_cons
@@ -82,21 +82,21 @@ outcome_cons t to u z v p (Err n) s e x = subst (λ w. Stopped t u w n) (sym s) 
 
 -- what goes along the rest of a choice goes along the choice
 along_past : {A : Type 0} (t rest r : Shape A) (u v : List Placed) (n : ℕ) (f : List Placed) (b : List Placed) → ((p : Placed) (z : List Placed) → v ≡ p ∷ z → step t p ≡ step rest p) → (p : Placed) → v ≡ (p ∷ f) ++ b → n ≡ length (u ++ p ∷ f) → run (Some rest) (p ∷ f) ≡ Some r → Along t u v n r
-along_past t rest r u v n f b same p s c e = record { front = p ∷ f; back = b; spelled = s; counted = c; runs = ap (λ o. run o f) (same p (f ++ b) s) ∙ e }
+along_past t rest r u v n f b same p s c e = record { prefix = p ∷ f; back = b; spelled = s; counted = c; runs = ap (λ o. run o f) (same p (f ++ b) s) ∙ e }
 
 outcome_past : {A : Type 0} (t rest : Shape A) (u v : List Placed) (r : Result (A × ℕ) ℕ) → is_whole t ≡ false → ((p : Placed) (z : List Placed) → v ≡ p ∷ z → step t p ≡ step rest p) → Ends true rest → Outcome rest u v r → Outcome t u v r
 unfolding along_past
-outcome_past t rest u v (Ok (a, n)) open_end same ends x = go x.front x.back x.spelled x.counted x.runs
+outcome_past t rest u v (Ok (a, n)) open_end same ends x = go x.prefix x.back x.spelled x.counted x.runs
   where
     go : (f b : List Placed) → v ≡ f ++ b → n ≡ length (u ++ f) → run (Some rest) f ≡ Some (whole a) → Along t u v n (whole a)
     go [] b s c e = let is_end : rest ≡ whole a = cc in absurd (subst (Ends true) is_end ends)
     go (p ∷ f) b s c e = along_past t rest (whole a) u v n f b same p s c e
-outcome_past {A = A} t rest u v (Err n) open_end same ends x = go x.last x.along.front x.along.back x.along.spelled x.along.counted x.along.runs x.stops x.unfinished
+outcome_past {A = A} t rest u v (Err n) open_end same ends x = go x.last x.along.prefix x.along.back x.along.spelled x.along.counted x.along.runs x.stops x.unfinished
   where
     go : (l : Shape A) (f b : List Placed) → v ≡ f ++ b → n ≡ length (u ++ f) → run (Some rest) f ≡ Some l → ((p : Placed) (z : List Placed) → b ≡ p ∷ z → step l p ≡ None) → is_whole l ≡ false → Stopped t u v n
     go l [] b s c e stops unfinished = record {
       last = t;
-      along = record { front = []; back = b; spelled = s; counted = c; runs = refl };
+      along = record { prefix = []; back = b; spelled = s; counted = c; runs = refl };
       stops = λ p z k. let same_last : rest ≡ l = cc in same p z (s ∙ k) ∙ ap (λ q. step q p) same_last ∙ stops p z k;
       unfinished = open_end;
     }
@@ -138,8 +138,8 @@ text_case (q ∷ w) x y r C there past e = go (text_of q.symbol) refl e
     go None k h = past (λ p z s. let same : q ≡ p = cc in subst (λ (o : Placed). text_of o.symbol ≡ None) same k) h
 
 pub outcome : {A : Type 0} (b : Bool) (t : Shape A) → Ends b t → (u v : List Placed) (r : Result (A × ℕ) ℕ) → reading t (u ++ v) (length u) ≡ r → Outcome t u v r
-outcome {A = A} b (whole a) h u v r e = subst (Outcome (whole a) u v) e (record { front = []; back = v; spelled = refl; counted = ap length (sym (append-nil u)); runs = refl })
-outcome {A = A} b nothing h u v r e = subst (Outcome nothing u v) e (record { last = nothing; along = record { front = []; back = v; spelled = refl; counted = ap length (sym (append-nil u)); runs = refl }; stops = λ p z k. refl; unfinished = refl })
+outcome {A = A} b (whole a) h u v r e = subst (Outcome (whole a) u v) e (record { prefix = []; back = v; spelled = refl; counted = ap length (sym (append-nil u)); runs = refl })
+outcome {A = A} b nothing h u v r e = subst (Outcome nothing u v) e (record { last = nothing; along = record { prefix = []; back = v; spelled = refl; counted = ap length (sym (append-nil u)); runs = refl }; stops = λ p z k. refl; unfinished = refl })
 outcome {A = A} b (word key to rest) h u v r e = word_case key v (λ i. reading (to i) (u ++ v) (length u + 1)) (reading rest (u ++ v) (length u)) r (Outcome (word key to rest) u v r)
     (λ p z s k i. outcome_cons (word key to rest) (to p.from) u z v p r s (ap (λ c. cond c (Some (to p.from)) (step rest p)) k) (outcome false (to p.from) (h.0 p.from) (u ++ p ∷ []) z r (shifted (to p.from) u z p ∙ ap (λ w. reading (to p.from) (u ++ w) (length u + 1)) (sym s) ∙ i)))
     (λ k i. outcome_past (word key to rest) rest u v r refl (λ p z s. ap (λ c. cond c (Some (to p.from)) (step rest p)) (k p z s)) h.1 (outcome true rest h.1 u v r i))

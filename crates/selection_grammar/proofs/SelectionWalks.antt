@@ -40,7 +40,7 @@ value_walk {outer = outer} {left = left} None (Value.one p s) = walk (takes_own 
 value_walk {outer = outer} {left = left} (Some i) (Value.one p s) = walk (takes_own (st outer left (m.wanted (Some i))) (m.wanted_next outer left (Some i)) refl) (string p s) [] (st outer left (m.valued (Some i) (g.placed p s ∷ []))) refl
 value_walk {outer = outer} {left = left} n (Value.several {xs = xs} p strings q) = goes_on (braces_walk p strings) (walk (takes_own (st outer left (m.in_braces n xs)) (m.next_at outer left (m.in_braces n xs)) refl) (at q S.CloseBrace) [] (st outer left (m.valued n xs)) refl)
 
--- behind a value and its mode
+-- after a value and its mode
 record ModeWalk (outer : List Frame) (left : Left) (n : Option ℕ) (xs : List PlacedString) (mode : Mode) (s : State) (u : List Placed) : Type 0 where
   there : State
   walks : Walks s u there
@@ -105,7 +105,7 @@ timed_walk {outer = outer} {left = left} {n = n} {xs = xs} {mode = mode} before 
   ready = given_ready outer left n (phrases xs mode (Some t)) [];
 }
 
--- behind a whole operand, and behind a whole selection
+-- after a whole operand, and after a whole selection
 record Joins (outer : List Frame) (left : Left) (x : Tree) (s : State) : Type 0 where
   takes : Takes s (m.joint_next outer left x)
   filter : (u : List Placed) (f : Filter) → Spelled filters u f → Walks s u (filtered_state outer (selection_with left x) f)
@@ -139,7 +139,7 @@ pub record CloseWalk (outer : List Frame) (x : Tree) (s : State) (u : List Place
   pub walks : Walks s u there
   pub closes : Closes outer x there
 
--- behind operands joined by `ftand`, and those joined by `ftor`
+-- after operands joined by `ftand`, and those joined by `ftor`
 record AndWalk (outer : List Frame) (ors : List Tree) (xs : List Tree) (s : State) (u : List Placed) : Type 0 where
   there : State
   walks : Walks s u there

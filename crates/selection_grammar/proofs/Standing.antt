@@ -17,7 +17,7 @@ use Rattle.selection_grammar.specs.Grammar.{Spot, at, name, joint, Strings, Valu
 use Rattle.selection_grammar.specs.steps.Machine as m
 use Rattle.selection_grammar.specs.steps.Machine.{Left, nothing_left_of, Frame, Stage, State, mild_with, ands_with, ors_with, selection_with, operand_of}
 
--- what stands before the last `ftor`, before the last `ftand` behind it, and before `not in` behind that
+-- what stands before the last `ftor`, before the last `ftand` after it, and before `not in` after that
 pub data LeftOrs : List Placed → List Tree → Type 0 where
   none : LeftOrs [] []
   some : {u : List Placed} {xs : List Tree} → Ors u xs → (p : Spot) → LeftOrs (u ++ name p (codes "ftor") ∷ []) xs
@@ -37,7 +37,7 @@ pub data Lefts : List Placed → Left → Type 0 where
 pub data Base : List Placed → Option ℕ → Primary → List PlacedOption → Type 0 where
   base : {u v w : List Placed} {n : Option ℕ} {x : Primary} {os : List PlacedOption} → Negation u n → Operand v x → Options w os → Base (u ++ v ++ w) n x os
 
--- stop terms before a further one, and whether that is behind `except`
+-- stop terms before a further one, and whether that is after `except`
 pub data TermsBefore : List Placed → List StopTerm → Bool → Type 0 where
   none : TermsBefore [] [] false
   some : {u : List Placed} {xs : List StopTerm} → Terms u xs → (p : Spot) (except : Bool) → TermsBefore (u ++ name p (joint except) ∷ []) xs except
@@ -129,7 +129,7 @@ left_selection {v = d} (lefts {u = a} {v = b} {w = c} x y z) e = selection_same 
     regroup : (a b c d : List Placed) → a ++ (b ++ (c ++ d)) ≡ a ++ b ++ c ++ d
     regroup a b c d = simp append_assoc
 
--- behind `ftor`, `ftand` and `not in`
+-- after `ftor`, `ftand` and `not in`
 pub left_or : {u v : List Placed} {left : Left} {y : Tree} → Lefts u left → Unary v y → (p : Spot) → Lefts (u ++ v ++ name p (codes "ftor") ∷ []) (record { ors = ors_with left y; ands = []; mild = None })
 left_or {v = d} (lefts {u = a} {v = b} {w = c} x y z) e p = lefts_same (lefts (some (with_ors x (with_ands y (with_mild z e))) p) none none) (regroup a b c d (name p (codes "ftor") ∷ []))
   where

@@ -20,7 +20,7 @@ with_option options (O.StopWords choice) = record options { stop_words = Some ch
 with_option options (O.Language name) = record options { language = Some name }
 with_option options (O.Wildcards on) = record options { wildcards = Some on }
 
--- options one behind the other
+-- options one after the other
 abbrev pub options_from : Options → List PlacedOption → Options
 options_from options [] = options
 options_from options (o ∷ rest) = options_from (with_option options o.option) rest

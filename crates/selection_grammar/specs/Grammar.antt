@@ -23,7 +23,7 @@ use Rattle.selection_grammar.specs.Keywords.{filters, times, levels, plain_optio
 use Rattle.selection_grammar.specs.Tree as tree
 use Rattle.selection_grammar.specs.Tree.{Tree, or_of, and_of, mild_not, joined, Primary, phrases, inner, optioned, negated}
 
--- where a symbol stands: its place, and the place behind it
+-- where a symbol stands: its place, and the place after it
 abbrev pub Spot : Type 0
 Spot = ℕ × ℕ
 

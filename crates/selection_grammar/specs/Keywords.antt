@@ -93,7 +93,7 @@ turned_off at =
     (word (codes "thesaurus") (λ p. whole (given at (O.Thesaurus Thesaurus.No)))
     (word (codes "stop") (λ p. key (codes "words") (whole (given at (O.StopWords Stop.No)))) nothing)))
 
--- an option without a list, behind its `using`
+-- an option without a list, after its `using`
 abbrev pub plain_option : ℕ → Shape PlacedOption
 plain_option at =
     word (codes "case") (λ p. sensitivity at (O.Case C.Insensitive) (O.Case C.Sensitive))

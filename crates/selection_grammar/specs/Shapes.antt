@@ -84,7 +84,7 @@ or_else (number to rest) other = number to (or_else rest other)
 or_else (text to rest) other = text to (or_else rest other)
 or_else (mark m to rest) other = mark m to (or_else rest other)
 
--- one shape, and behind it another, which what was spelled decides
+-- one shape, and after it another, which what was spelled decides
 abbrev pub and_then : {A B : Type 0} → Shape A → (A → Shape B) → Shape B
 and_then (whole a) further = further a
 and_then nothing further = nothing

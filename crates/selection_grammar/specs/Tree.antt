@@ -32,7 +32,7 @@ joined join [] = join none
 joined join (tree ∷ []) = tree
 joined join (tree ∷ next ∷ rest) = join (trees_of (tree ∷ next ∷ rest))
 
--- what options stand behind: words, or a selection in parentheses
+-- what options stand after: words, or a selection in parentheses
 pub data Primary : Type 0 where
   phrases : (strings : List PlacedString) (mode : Mode) (times : Option PlacedTimes) → Primary
   inner : Tree → Primary

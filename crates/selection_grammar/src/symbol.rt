@@ -5,7 +5,7 @@ use ft_base::{Items, Line};
 pub enum Symbol {
     /// The longest run of name characters.
     Name(Line),
-    /// A number; the one behind the greatest stands for every number past it.
+    /// A number; the one after the greatest stands for every number past it.
     Number(u32),
     /// The text of a string, its quotes taken away.
     Text(Line),
@@ -30,7 +30,7 @@ pub struct Placed {
     pub symbol: Symbol,
     /// The number of bytes before it.
     pub from: usize,
-    /// The number of bytes before what stands behind it.
+    /// The number of bytes before what stands after it.
     pub to: usize,
 }
 

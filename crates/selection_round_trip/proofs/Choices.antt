@@ -175,14 +175,14 @@ terms_printed first rest e h =
       good = λ d h. good_word o (codes "using") _ d refl (good_word o (codes "stop") _ d refl (good_word o (codes "words") _ d refl (good_append x.placed y.placed d (x.good d h.0) (y.good d h.1))));
     }
 
--- options one behind the other
-pub record Done (options : Options) (written : List (List ℕ)) (place_behind : ℕ) : Type 0 where
+-- options one after the other
+pub record Done (options : Options) (written : List (List ℕ)) (place_after : ℕ) : Type 0 where
   pub placed : List Placed
   pub all : List PlacedOption
   pub spells : g.Options placed all
   pub written_so : spellings placed ≡ written
   pub is : options_of all ≡ options
-  pub before : AllBefore place_behind all
+  pub before : AllBefore place_after all
   pub once : second_option all ≡ None
   pub good : (d : ℕ) → FitOptions options d → Good d placed
 

@@ -36,7 +36,7 @@ some_least place (x ∷ xs) = some_earlier place x (least place xs)
 some_first : {A B : Type 0} (xs : List A) (f : A → B) (place : A → ℕ) → is_some (option_map f (least place xs)) ≡ has_some xs
 some_first xs f place = some_mapped f (least place xs) ∙ some_least place xs
 
--- one kind of faults behind the other
+-- one kind of faults after the other
 some_places : (kind : ℕ → QueryFault) (places : List ℕ) → has_some (faults_at kind places) ≡ has_some places
 some_places kind [] = refl
 some_places kind (at ∷ rest) = refl

@@ -184,7 +184,7 @@ fit_weaker x wanted less d h k = go (nat_lt (level x) wanted) (nat_lt (level x) 
     go false false e f l = l
     go false true e f l = let two : true ≡ false = sym (lt-ltb (level x) wanted (omega (arith, h, ltb-true (level x) less f))) ∙ e in cc
 
--- options one behind the other
+-- options one after the other
 pub fit_with : (options : Options) (m : MatchOption) (d : ℕ) → FitOptions options d → FitOption m d → FitOptions (with_option options m) d
 fit_with options (O.Case case) d h k = h
 fit_with options (O.Diacritics sensitive) d h k = h

@@ -2,7 +2,7 @@
 use Rattle.std.proofs.Common.{◌≡◌, ◌≤◌, ◌+◌, ◌-◌, ℕ, true, false, ◌&&◌, List, [], ◌∷◌, ◌++◌, refl, sym, ◌∙◌, ap, subst, arith}
 use Rattle.std.proofs.lemmas.Bool.{and_left, and_right, le-ltb, or_from}
 use Rattle.std.specs.Prelude.{nat_le, nat_lt}
-use Rattle.ft_parser.specs.Limits.{open_behind, exceeds}
+use Rattle.ft_parser.specs.Limits.{depth_after, exceeds}
 use Rattle.ft_parser.specs.Selected.{open_after}
 use Rattle.ft_parser.proofs.SelectedLaws.{open_on}
 use Rattle.ft_base.specs.Limits.{max_number, max_open}
@@ -14,7 +14,7 @@ use Rattle.selection_round_trip.proofs.Fits.{Room}
 
 abbrev pub Within : ℕ → List Placed → Type 0
 Within d [] = Unit {0}
-Within d (p ∷ rest) = Printable p.symbol × (exceeds d p.symbol ≡ false) × Within (open_behind d p.symbol) rest
+Within d (p ∷ rest) = Printable p.symbol × (exceeds d p.symbol ≡ false) × Within (depth_after d p.symbol) rest
 
 pub record Good (d : ℕ) (u : List Placed) : Type 0 where
   pub within : Within d u
@@ -22,7 +22,7 @@ pub record Good (d : ℕ) (u : List Placed) : Type 0 where
 
 within_append : (u v : List Placed) (d : ℕ) → Within d u → Within (open_after d u) v → Within d (u ++ v)
 within_append [] v d h k = k
-within_append (p ∷ u) v d h k = (h.0, h.1, within_append u v (open_behind d p.symbol) h.2 k)
+within_append (p ∷ u) v d h k = (h.0, h.1, within_append u v (depth_after d p.symbol) h.2 k)
 
 pub good_nil : (d : ℕ) → Good d []
 good_nil d = record { within = tt; closed = refl }

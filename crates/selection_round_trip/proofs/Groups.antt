@@ -4,7 +4,7 @@ use Rattle.std.proofs.lemmas.List.{append-nil}
 use Rattle.selection_grammar.specs.declared.parsed.MatchOption.{MatchOption}
 use Rattle.selection_grammar.specs.declared.parsed.MatchOption.TheVariants as O
 use Rattle.selection_grammar.specs.declared.parsed.PlacedOption.{PlacedOption}
-use Rattle.selection_faults.specs.Options.{same_group, is_second, second_behind, second_option}
+use Rattle.selection_faults.specs.Options.{same_group, is_second, second_after, second_option}
 
 -- where the group stands in the printed form
 abbrev pub place : MatchOption → ℕ
@@ -84,13 +84,13 @@ first_of_group : (xs : List PlacedOption) (x : PlacedOption) → AllBefore (plac
 first_of_group [] x h = refl
 first_of_group (y ∷ ys) x h = ap (λ b. b || is_second ys x) (groups_apart y.option x.option h.0) ∙ first_of_group ys x h.1
 
-second_on : (before xs : List PlacedOption) (x : PlacedOption) → second_behind before xs ≡ None → is_second (before ++ xs) x ≡ false → second_behind before (xs ++ x ∷ []) ≡ None
+second_on : (before xs : List PlacedOption) (x : PlacedOption) → second_after before xs ≡ None → is_second (before ++ xs) x ≡ false → second_after before (xs ++ x ∷ []) ≡ None
 second_on before [] x e k = ap (λ b. cond b (Some x.at) None) (ap (λ w. is_second w x) (sym (append-nil before)) ∙ k)
 second_on before (y ∷ ys) x e k = go (is_second before y) refl e (λ i. second_on (before ++ y ∷ []) ys x i (ap (λ w. is_second w x) (append_assoc before (y ∷ []) ys) ∙ k))
   where
-    go : (b : Bool) → is_second before y ≡ b → cond b (Some y.at) (second_behind (before ++ y ∷ []) ys) ≡ None → (second_behind (before ++ y ∷ []) ys ≡ None → second_behind (before ++ y ∷ []) (ys ++ x ∷ []) ≡ None) → cond (is_second before y) (Some y.at) (second_behind (before ++ y ∷ []) (ys ++ x ∷ [])) ≡ None
+    go : (b : Bool) → is_second before y ≡ b → cond b (Some y.at) (second_after (before ++ y ∷ []) ys) ≡ None → (second_after (before ++ y ∷ []) ys ≡ None → second_after (before ++ y ∷ []) (ys ++ x ∷ []) ≡ None) → cond (is_second before y) (Some y.at) (second_after (before ++ y ∷ []) (ys ++ x ∷ [])) ≡ None
     go true f i on = cc
-    go false f i on = ap (λ b. cond b (Some y.at) (second_behind (before ++ y ∷ []) (ys ++ x ∷ []))) f ∙ on i
+    go false f i on = ap (λ b. cond b (Some y.at) (second_after (before ++ y ∷ []) (ys ++ x ∷ []))) f ∙ on i
 
 pub second_more : (xs : List PlacedOption) (x : PlacedOption) → second_option xs ≡ None → AllBefore (place x.option) xs → second_option (xs ++ x ∷ []) ≡ None
 second_more xs x e h = second_on [] xs x e (first_of_group xs x h)

@@ -47,7 +47,7 @@ negated_again (Some p) t h = let x = h.in_not.spells in
     from_unary (form.not_of (form_of t)) refl (record {
       placed = name o (codes "ftnot") ∷ h.in_not.placed;
       tree = tree.not_of 0 h.in_not.tree;
-      spells = parts.moved Unary (name o (codes "ftnot") ∷ x.front ++ x.back) (name o (codes "ftnot") ∷ h.in_not.placed) (tree.not_of 0 (optioned x.operand x.options)) (tree.not_of 0 h.in_not.tree) (Unary.unary (Negation.some o) x.spells x.chosen) (ap (λ z. name o (codes "ftnot") ∷ z) (sym x.split)) (ap (tree.not_of 0) (sym x.is));
+      spells = parts.moved Unary (name o (codes "ftnot") ∷ x.prefix ++ x.back) (name o (codes "ftnot") ∷ h.in_not.placed) (tree.not_of 0 (optioned x.operand x.options)) (tree.not_of 0 h.in_not.tree) (Unary.unary (Negation.some o) x.spells x.chosen) (ap (λ z. name o (codes "ftnot") ∷ z) (sym x.split)) (ap (tree.not_of 0) (sym x.is));
       written_so = ap (λ z. codes "ftnot" ∷ z) h.in_not.written_so;
       is = ap form.not_of h.in_not.is;
       once = once_not 0 h.in_not.tree h.in_not.once;

@@ -2,7 +2,7 @@
 use Rattle.std.proofs.Common.{◌≡◌, ◌≤◌, ◌+◌, ◌-◌, ℕ, Bool, true, false, cond, ◌||◌, ◌&&◌, List, [], ◌∷◌, ◌++◌, Option, Some, None, refl, ◌∙◌, ap, subst, arith}
 use Rattle.std.proofs.lemmas.Bool.{ltb-false, or_parts}
 use Rattle.std.specs.Prelude.{nat_le, nat_lt}
-use Rattle.ft_parser.specs.Limits.{open_behind, exceeds}
+use Rattle.ft_parser.specs.Limits.{depth_after, exceeds}
 use Rattle.ft_parser.specs.Selected.{open_after}
 use Rattle.ft_parser.proofs.SelectedLaws.{open_on}
 use Rattle.ft_base.specs.Limits.{max_number, max_open}
@@ -22,23 +22,23 @@ Content other = Unit {0}
 -- where so many parentheses are open before them
 abbrev pub Known : ℕ → List Placed → Type 0
 Known d [] = Unit {0}
-Known d (p ∷ rest) = Content p.symbol × (exceeds d p.symbol ≡ false) × Known (open_behind d p.symbol) rest
+Known d (p ∷ rest) = Content p.symbol × (exceeds d p.symbol ≡ false) × Known (depth_after d p.symbol) rest
 
--- what follows of symbols that are known, with all parentheses closed behind them
+-- what follows of symbols that are known, with all parentheses closed after them
 abbrev pub Kept : (ℕ → Type 0) → List Placed → Type 0
 Kept F u = (d : ℕ) → Known d u → F d × (open_after d u ≡ d)
 
-known_front : (u v : List Placed) (d : ℕ) → Known d (u ++ v) → Known d u
-known_front [] v d h = tt
-known_front (p ∷ u) v d h = (h.0, h.1, known_front u v (open_behind d p.symbol) h.2)
+known_prefix : (u v : List Placed) (d : ℕ) → Known d (u ++ v) → Known d u
+known_prefix [] v d h = tt
+known_prefix (p ∷ u) v d h = (h.0, h.1, known_prefix u v (depth_after d p.symbol) h.2)
 
 known_back : (u v : List Placed) (d : ℕ) → Known d (u ++ v) → Known (open_after d u) v
 known_back [] v d h = h
-known_back (p ∷ u) v d h = known_back u v (open_behind d p.symbol) h.2
+known_back (p ∷ u) v d h = known_back u v (depth_after d p.symbol) h.2
 
 pub kept_both : {F G : ℕ → Type 0} (u v : List Placed) → Kept F u → Kept G v → Kept (λ d. F d × G d) (u ++ v)
 kept_both u v f g d h =
-    let x = f d (known_front u v d h) in
+    let x = f d (known_prefix u v d h) in
     let y = g d (subst (λ n. Known n v) x.1 (known_back u v d h)) in
     ((x.0, y.0), open_on u v d ∙ ap (λ n. open_after n v) x.1 ∙ y.1)
 
@@ -57,13 +57,13 @@ kept_nothing d h = (tt, refl)
 pub kept_braces : {F : ℕ → Type 0} (p q : Spot) (u : List Placed) → Kept F u → Kept F (at p S.OpenBrace ∷ u ++ at q S.CloseBrace ∷ [])
 kept_braces {F} p q u f d h =
     let last : List Placed = at q S.CloseBrace ∷ [] in
-    let x = f d (known_front u last d h.2) in
+    let x = f d (known_prefix u last d h.2) in
     (x.0, open_on u last d ∙ x.1)
 
 pub kept_closed : {F : ℕ → Type 0} (p q : Spot) (u : List Placed) → Kept F u → Kept (λ d. Room d × F (d + 1)) (at p S.OpenParenthesis ∷ u ++ at q S.CloseParenthesis ∷ [])
 kept_closed {F} p q u f d h =
     let last : List Placed = at q S.CloseParenthesis ∷ [] in
-    let x = f (d + 1) (known_front u last (d + 1) h.2) in
+    let x = f (d + 1) (known_prefix u last (d + 1) h.2) in
     let room : Room d = one (nat_le max_open d) h.1 in
     ((room, x.0), open_on u last (d + 1) ∙ ap (λ n. n - 1) x.1 ∙ back)
   where
@@ -88,9 +88,9 @@ Ends P (s.mark m to rest) = ⊥
 
 abbrev StepEnds : {A : Type 0} → (A → Type 0) → ℕ → Symbol → Option (Shape A) → Type 0
 StepEnds P d symbol None = Unit {0}
-StepEnds P d symbol (Some x) = Ends P x × (open_behind d symbol ≡ d)
+StepEnds P d symbol (Some x) = Ends P x × (depth_after d symbol ≡ d)
 
-word_open : (key : List ℕ) (symbol : Symbol) (d : ℕ) → is_word key symbol ≡ true → open_behind d symbol ≡ d
+word_open : (key : List ℕ) (symbol : Symbol) (d : ℕ) → is_word key symbol ≡ true → depth_after d symbol ≡ d
 word_open key (S.Name text) d h = refl
 word_open key other d h = cc
 
@@ -124,7 +124,7 @@ run_ends {A = A} P (p ∷ u) (Some x) a d h e k = go (step x p) (step_ends P d p
     none [] l = cc
     none (q ∷ w) l = cc
 
-    go : (y : Option (Shape A)) → StepEnds P d p.symbol y → run y u ≡ Some (s.whole a) → ((y : Shape A) → Ends P y → run (Some y) u ≡ Some (s.whole a) → Known d u → P a × (open_after d u ≡ d)) → P a × (open_after (open_behind d p.symbol) u ≡ d)
+    go : (y : Option (Shape A)) → StepEnds P d p.symbol y → run y u ≡ Some (s.whole a) → ((y : Shape A) → Ends P y → run (Some y) u ≡ Some (s.whole a) → Known d u → P a × (open_after d u ≡ d)) → P a × (open_after (depth_after d p.symbol) u ≡ d)
     go None i l more = absurd (none u l)
     go (Some y) i l more = let z = more y i.0 l (subst (λ n. Known n u) i.1 k.2) in (z.0, ap (λ n. open_after n u) i.1 ∙ z.1)
 

@@ -26,7 +26,7 @@ abbrev ClosesFirst : List Placed → Type 0
 ClosesFirst [] = ⊥
 ClosesFirst (q ∷ rest) = closes (spelling q.symbol) ≡ true
 
--- what stands first may stand directly behind others
+-- what stands first may stand directly after others
 abbrev FirstApart : List ℕ → Type 0
 FirstApart [] = ⊥
 FirstApart (c ∷ rest) = (is_name_char c ≡ false) × (eqb c 34 ≡ false)
@@ -58,7 +58,7 @@ unfolding symbols_within
 read_blank letters u further zero place h = absurd (omega (arith, h))
 read_blank letters u further (suc bound) place h = let y = further bound (place + 1) (omega (arith, h)) in record { placed = y.placed; all = y.all; are = y.are }
 
--- a symbol, and others close behind it or behind a space
+-- a symbol, and others close after it or after a space
 laid_close : (p q : Placed) (rest : List Placed) → Readable p.symbol → Laid (q ∷ rest) → (opens (spelling p.symbol) || closes (spelling q.symbol)) ≡ true → (opens (spelling p.symbol) ≡ false → closes (spelling q.symbol) ≡ true) → Laid (p ∷ q ∷ rest)
 unfolding set_out
 laid_close p q rest x y e f =

@@ -32,11 +32,11 @@ pub record Again (Kind : List Placed → Tree → Type 0) (Fits : ℕ → Type 0
 pub record Operated (u : List Placed) (t : Tree) : Type 0 where
   pub operand : Primary
   pub options : List PlacedOption
-  pub front : List Placed
+  pub prefix : List Placed
   pub back : List Placed
-  pub spells : Operand front operand
+  pub spells : Operand prefix operand
   pub chosen : g.Options back options
-  pub split : u ≡ front ++ back
+  pub split : u ≡ prefix ++ back
   pub is : t ≡ optioned operand options
 
 -- one selection, or several that are joined by `ftand`
@@ -55,7 +55,7 @@ with_kind : (Kind Other : List Placed → Tree → Type 0) {F : ℕ → Type 0} 
 with_kind Kind Other x s f a = record { placed = a.placed; tree = a.tree; spells = f a.placed a.tree a.spells; written_so = a.written_so; is = a.is; once = a.once; good = a.good }
 
 unary_of : (u : List Placed) (t : Tree) → Operated u t → Unary u t
-unary_of u t x = moved Unary (x.front ++ x.back) u (optioned x.operand x.options) t (Unary.unary Negation.none x.spells x.chosen) (sym x.split) (sym x.is)
+unary_of u t x = moved Unary (x.prefix ++ x.back) u (optioned x.operand x.options) t (Unary.unary Negation.none x.spells x.chosen) (sym x.split) (sym x.is)
 
 ands_of : (u : List Placed) (t : Tree) → Mild u t → Anded u t
 ands_of u t a = record { operands = t ∷ []; spells = Ands.first_and a; is = refl }
@@ -77,7 +77,7 @@ enclosed : {F : ℕ → Type 0} (x : Form) (s : List (List ℕ)) → Again Selec
 enclosed x s a = record {
   placed = enclosed_placed a.placed;
   tree = a.tree;
-  spells = record { operand = inner a.tree; options = []; front = enclosed_placed a.placed; back = []; spells = Operand.parentheses o a.spells o; chosen = g.Options.none; split = sym (append-nil (enclosed_placed a.placed)); is = refl };
+  spells = record { operand = inner a.tree; options = []; prefix = enclosed_placed a.placed; back = []; spells = Operand.parentheses o a.spells o; chosen = g.Options.none; split = sym (append-nil (enclosed_placed a.placed)); is = refl };
   written_so = in_marks (at o S.OpenParenthesis) (at o S.CloseParenthesis) a.placed s a.written_so;
   is = a.is;
   once = a.once;

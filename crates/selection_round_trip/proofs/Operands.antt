@@ -1,4 +1,4 @@
--- Words, options behind parentheses, and operands that are joined, each spelled again in the place that its form has.
+-- Words, options after parentheses, and operands that are joined, each spelled again in the place that its form has.
 use Rattle.std.proofs.Common.{◌≡◌, ◌+◌, ℕ, true, List, [], ◌∷◌, ◌++◌, Option, Some, None, refl, sym, ◌∙◌, ap, append_assoc}
 use Rattle.std.proofs.lemmas.List.{append-nil}
 use Rattle.std.specs.Prelude.{flat_map, option_map}
@@ -42,18 +42,18 @@ words_again s rest mode times options h =
     let m = mode_printed mode in
     let t = times_printed times in
     let d = options_printed options h in
-    let front = v.placed ++ m.placed ++ t.placed in
+    let prefix = v.placed ++ m.placed ++ t.placed in
     record {
-      placed = front ++ d.placed;
+      placed = prefix ++ d.placed;
       tree = tree.words (record { strings = placed_strings (s ∷ rest); mode = mode; times = placed_times times; options = d.all });
-      spells = record { operand = phrases (placed_strings (s ∷ rest)) mode (placed_times times); options = d.all; front = front; back = d.placed; spells = Operand.words v.spells m.spells t.spells; chosen = d.spells; split = refl; is = refl };
-      written_so = parts.joined front d.placed _ _ (parts.joined (v.placed ++ m.placed) t.placed _ _ (parts.joined v.placed m.placed _ _ v.is m.is) t.is) d.written_so;
+      spells = record { operand = phrases (placed_strings (s ∷ rest)) mode (placed_times times); options = d.all; prefix = prefix; back = d.placed; spells = Operand.words v.spells m.spells t.spells; chosen = d.spells; split = refl; is = refl };
+      written_so = parts.joined prefix d.placed _ _ (parts.joined (v.placed ++ m.placed) t.placed _ _ (parts.joined v.placed m.placed _ _ v.is m.is) t.is) d.written_so;
       is =
           ap (λ (z : List (List ℕ)). form.words (record { values = z; mode = mode; times = option_map (λ (x : PlacedTimes). x.range) (placed_times times); options = options_of d.all })) (texts_same (s ∷ rest))
           ∙ ap (λ (z : Option Range). form.words (record { values = s ∷ rest; mode = mode; times = z; options = options_of d.all })) (times_same times)
           ∙ ap (λ (z : Options). form.words (record { values = s ∷ rest; mode = mode; times = times; options = z })) d.is;
       once = once_words (record { strings = placed_strings (s ∷ rest); mode = mode; times = placed_times times; options = d.all }) d.once;
-      good = λ n h. good_append front d.placed n (good_append (v.placed ++ m.placed) t.placed n (good_append v.placed m.placed n (v.good n h.0) (m.good n tt)) (t.good n h.1)) (d.good n h.2);
+      good = λ n h. good_append prefix d.placed n (good_append (v.placed ++ m.placed) t.placed n (good_append v.placed m.placed n (v.good n h.0) (m.good n tt)) (t.good n h.1)) (d.good n h.2);
     }
 
 -- a selection in parentheses with options
@@ -66,7 +66,7 @@ closed_again {F = F} x options s t some a d = go d.all d.spells d.is d.once
     go (first ∷ rest) k e l = record {
       placed = enclosed_placed a.placed ++ d.placed;
       tree = tree.with_options a.tree (first ∷ rest);
-      spells = record { operand = inner a.tree; options = first ∷ rest; front = enclosed_placed a.placed; back = d.placed; spells = Operand.parentheses o a.spells o; chosen = k; split = refl; is = refl };
+      spells = record { operand = inner a.tree; options = first ∷ rest; prefix = enclosed_placed a.placed; back = d.placed; spells = Operand.parentheses o a.spells o; chosen = k; split = refl; is = refl };
       written_so = parts.joined (enclosed_placed a.placed) d.placed (in_parentheses s) t (in_marks (at o S.OpenParenthesis) (at o S.CloseParenthesis) a.placed s a.written_so) d.written_so;
       is = ap (λ z. form.with_options z (options_of (first ∷ rest))) a.is ∙ ap (λ z. form.with_options x z) e;
       once = once_with a.tree (first ∷ rest) a.once l;

@@ -15,7 +15,7 @@ use Rattle.selection_grammar.specs.Grammar.{texts_of}
 use Rattle.selection_grammar.specs.Tree as tree
 use Rattle.selection_grammar.specs.Tree.{Tree, Trees, trees_of, joined, Primary, phrases, inner, optioned, negated}
 use Rattle.selection_faults.specs.Excludes.{within, within_all}
-use Rattle.selection_faults.specs.Options.{same_group, is_second, second_behind, second_option, own_second_option, options_twice}
+use Rattle.selection_faults.specs.Options.{same_group, is_second, second_after, second_option, own_second_option, options_twice}
 use Rattle.selection_round_trip.proofs.Faultless.{some_option}
 use Rattle.selection_round_trip.proofs.Marks.{has_some, some_append, either, some_in}
 use Rattle.selection_round_trip.proofs.Strings.{past_by}
@@ -123,17 +123,17 @@ second_placeless : (before : List PlacedOption) (o : PlacedOption) → is_second
 second_placeless [] o = refl
 second_placeless (x ∷ before) o = ap (λ b. same_group x.option o.option || b) (second_placeless before o)
 
-behind_placeless : (os before : List PlacedOption) → is_some (second_behind (map no_option before) (map no_option os)) ≡ is_some (second_behind before os)
-behind_placeless [] before = refl
-behind_placeless (o ∷ os) before =
-    ap (λ b. is_some (cond b (Some 0) (second_behind (map no_option before ++ no_option o ∷ []) (map no_option os)))) (second_placeless before o)
-    ∙ ap (λ w. is_some (cond (is_second before o) (Some 0) (second_behind w (map no_option os)))) (sym (map-append no_option before (o ∷ [])))
-    ∙ past_by (is_second before o) 0 o.at _ _ (behind_placeless os (before ++ o ∷ []))
+after_placeless : (os before : List PlacedOption) → is_some (second_after (map no_option before) (map no_option os)) ≡ is_some (second_after before os)
+after_placeless [] before = refl
+after_placeless (o ∷ os) before =
+    ap (λ b. is_some (cond b (Some 0) (second_after (map no_option before ++ no_option o ∷ []) (map no_option os)))) (second_placeless before o)
+    ∙ ap (λ w. is_some (cond (is_second before o) (Some 0) (second_after w (map no_option os)))) (sym (map-append no_option before (o ∷ [])))
+    ∙ past_by (is_second before o) 0 o.at _ _ (after_placeless os (before ++ o ∷ []))
 
 own_placeless : (os : List PlacedOption) (xs ys : List ℕ) → has_some xs ≡ has_some ys → has_some (option_to_list (second_option (map no_option os)) ++ xs) ≡ has_some (option_to_list (second_option os) ++ ys)
 own_placeless os xs ys e =
     some_append (option_to_list (second_option (map no_option os))) xs
-    ∙ either (some_option (second_option (map no_option os)) ∙ behind_placeless os [] ∙ sym (some_option (second_option os))) e
+    ∙ either (some_option (second_option (map no_option os)) ∙ after_placeless os [] ∙ sym (some_option (second_option os))) e
     ∙ sym (some_append (option_to_list (second_option os)) ys)
 
 both_placeless : (xs ys vs ws : List Tree) → has_some (flat_map own_second_option xs) ≡ has_some (flat_map own_second_option vs) → has_some (flat_map own_second_option ys) ≡ has_some (flat_map own_second_option ws) → has_some (flat_map own_second_option (xs ++ ys)) ≡ has_some (flat_map own_second_option (vs ++ ws))

@@ -27,7 +27,7 @@ use Rattle.selection_round_trip.proofs.Faultless.{same_fault}
 use Rattle.selection_round_trip.proofs.Filters.{filters_same}
 use Rattle.selection_round_trip.proofs.Marks.{has_some}
 use Rattle.selection_round_trip.proofs.Placeless.{no_string, no_option, no_times, no_negation, placeless, no_place, placeless_optioned, placeless_negated, placeless_and, placeless_or, placeless_mild, placeless_filtered, texts_placeless, form_placeless, twice_placeless}
-use Rattle.selection_round_trip.proofs.Shapes.{set, behind, set_append, Same, SameRange, SameOption, spelled_there, times_alike, levels_alike, filters_alike, option_alike}
+use Rattle.selection_round_trip.proofs.Shapes.{set, suffix, set_append, Same, SameRange, SameOption, spelled_there, times_alike, levels_alike, filters_alike, option_alike}
 
 -- at other places, something that is the same without them
 record Moved {A : Type 0} (Kind : List Placed → A → Type 0) (without : A → A) (u : List Placed) (a : A) : Type 0 where
@@ -35,8 +35,8 @@ record Moved {A : Type 0} (Kind : List Placed → A → Type 0) (without : A →
   spells : Kind u value
   same : without value ≡ without a
 
--- what is spelled by symbols in front and those behind
-both : {A : Type 0} (Kind : List Placed → A → Type 0) (f : ℕ → Spot) (n : ℕ) (u v : List Placed) (a : A) → Kind (set f n u ++ set f (behind n u) v) a → Kind (set f n (u ++ v)) a
+-- what is spelled by symbols before and those after
+both : {A : Type 0} (Kind : List Placed → A → Type 0) (f : ℕ → Spot) (n : ℕ) (u v : List Placed) (a : A) → Kind (set f n u ++ set f (suffix n u) v) a → Kind (set f n (u ++ v)) a
 both Kind f n u v a x = subst (λ w. Kind w a) (sym (set_append f n u v)) x
 
 more : {A : Type 0} (without : A → A) (xs ys : List A) (x y : A) → map without xs ≡ map without ys → without x ≡ without y → map without (xs ++ x ∷ []) ≡ map without (ys ++ y ∷ [])
@@ -50,7 +50,7 @@ strings_moved : (f : ℕ → Spot) (n : ℕ) {u : List Placed} {xs : List Placed
 strings_moved f n (Strings.first p s) = record { value = g.placed (f n) s ∷ []; spells = Strings.first (f n) s; same = refl }
 strings_moved f n (Strings.further {u = u} {xs = xs} a p q s) =
     let x = strings_moved f n a in
-    let m = behind n u in
+    let m = suffix n u in
     record {
       value = x.value ++ g.placed (f (suc m)) s ∷ [];
       spells = both Strings f n u (at p S.Comma ∷ string q s ∷ []) (x.value ++ g.placed (f (suc m)) s ∷ []) (Strings.further x.spells (f m) (f (suc m)) s);
@@ -63,7 +63,7 @@ value_moved f n (Value.several {u = u} {xs = xs} p a q) =
     let x = strings_moved f (suc n) a in
     record {
       value = x.value;
-      spells = both (λ w ys. Value (at (f n) S.OpenBrace ∷ w) ys) f (suc n) u (at q S.CloseBrace ∷ []) x.value (Value.several (f n) x.spells (f (behind (suc n) u)));
+      spells = both (λ w ys. Value (at (f n) S.OpenBrace ∷ w) ys) f (suc n) u (at q S.CloseBrace ∷ []) x.value (Value.several (f n) x.spells (f (suffix (suc n) u)));
       same = x.same;
     }
 
@@ -92,24 +92,24 @@ levels_moved f n v range a = let x = spelled_there Same f v n levels levels rang
 thesaurus_moved : (f : ℕ → Spot) (n : ℕ) {u : List Placed} {x : ThesaurusUse} → Thesaurus u x → Thesaurus (set f n u) x
 thesaurus_moved f n (Thesaurus.all_levels a) = Thesaurus.all_levels (named_moved f n a)
 thesaurus_moved f n (Thesaurus.some_levels {u = u} {v = v} {s = s} {r = r} {range = range} a b) =
-    both Thesaurus f n u v (record { name = s; relationship = r; levels = Some range }) (Thesaurus.some_levels (named_moved f n a) (levels_moved f (behind n u) v range b))
+    both Thesaurus f n u v (record { name = s; relationship = r; levels = Some range }) (Thesaurus.some_levels (named_moved f n a) (levels_moved f (suffix n u) v range b))
 
 thesauri_moved : (f : ℕ → Spot) (n : ℕ) {u : List Placed} {xs : List ThesaurusUse} → Thesauri u xs → Thesauri (set f n u) xs
 thesauri_moved f n (Thesauri.first a) = Thesauri.first (thesaurus_moved f n a)
 thesauri_moved f n (Thesauri.further {u = u} {v = v} {xs = xs} {x = x} a p b) =
-    both Thesauri f n u (at p S.Comma ∷ v) (xs ++ x ∷ []) (Thesauri.further (thesauri_moved f n a) (f (behind n u)) (thesaurus_moved f (suc (behind n u)) b))
+    both Thesauri f n u (at p S.Comma ∷ v) (xs ++ x ∷ []) (Thesauri.further (thesauri_moved f n a) (f (suffix n u)) (thesaurus_moved f (suc (suffix n u)) b))
 
 source_moved : (f : ℕ → Spot) (n : ℕ) {u : List Placed} {x : StopSource} → Source u x → Source (set f n u) x
 source_moved f n (Source.list p q s) = Source.list (f n) (f (suc n)) s
 source_moved f n (Source.written {u = u} {xs = xs} p a q) =
     let x = strings_moved f (suc n) a in
     subst (λ (t : List (List ℕ)). Source (set f n (at p S.OpenParenthesis ∷ u ++ at q S.CloseParenthesis ∷ [])) (source.Written t)) (texts_same x.value xs x.same)
-    (both (λ w ys. Source (at (f n) S.OpenParenthesis ∷ w) ys) f (suc n) u (at q S.CloseParenthesis ∷ []) (source.Written (texts_of x.value)) (Source.written (f n) x.spells (f (behind (suc n) u))))
+    (both (λ w ys. Source (at (f n) S.OpenParenthesis ∷ w) ys) f (suc n) u (at q S.CloseParenthesis ∷ []) (source.Written (texts_of x.value)) (Source.written (f n) x.spells (f (suffix (suc n) u))))
 
 terms_moved : (f : ℕ → Spot) (n : ℕ) {u : List Placed} {xs : List StopTerm} → Terms u xs → Terms (set f n u) xs
 terms_moved f n (Terms.first a) = Terms.first (source_moved f n a)
 terms_moved f n (Terms.further {u = u} {v = v} {xs = xs} {x = x} a p except b) =
-    both Terms f n u (name p (joint except) ∷ v) (xs ++ record { except = except; source = x } ∷ []) (Terms.further (terms_moved f n a) (f (behind n u)) except (source_moved f (suc (behind n u)) b))
+    both Terms f n u (name p (joint except) ∷ v) (xs ++ record { except = except; source = x } ∷ []) (Terms.further (terms_moved f n a) (f (suffix n u)) except (source_moved f (suc (suffix n u)) b))
 
 given_moved : (f : ℕ → Spot) (n : ℕ) {u : List Placed} {o : PlacedOption} → Given u o → Moved Given no_option (set f n u) o
 given_moved f n (Given.plain {u = u} {o = o} p a) =
@@ -119,7 +119,7 @@ given_moved f n (Given.thesaurus {u = u} {x = x} p q a) = record { value = _; sp
 given_moved f n (Given.thesauri {u = u} {xs = xs} p q r a t) = record {
   value = _;
   spells = both (λ w o. Given (name (f n) (codes "using") ∷ name (f (suc n)) (codes "thesaurus") ∷ at (f (suc (suc n))) S.OpenParenthesis ∷ w) o) f (suc (suc (suc n))) u (at t S.CloseParenthesis ∷ []) _
-      (Given.thesauri (f n) (f (suc n)) (f (suc (suc n))) (thesauri_moved f (suc (suc (suc n))) a) (f (behind (suc (suc (suc n))) u)));
+      (Given.thesauri (f n) (f (suc n)) (f (suc (suc n))) (thesauri_moved f (suc (suc (suc n))) a) (f (suffix (suc (suc (suc n))) u)));
   same = refl;
 }
 given_moved f n (Given.stop_words {u = u} {xs = xs} p q r a) = record { value = _; spells = Given.stop_words (f n) (f (suc n)) (f (suc (suc n))) (terms_moved f (suc (suc (suc n))) a); same = refl }
@@ -128,7 +128,7 @@ options_moved : (f : ℕ → Spot) (n : ℕ) {u : List Placed} {os : List Placed
 options_moved f n g.Options.none = record { value = []; spells = g.Options.none; same = refl }
 options_moved f n (g.Options.further {u = u} {v = v} {os = os} {o = o} a b) =
     let x = options_moved f n a in
-    let y = given_moved f (behind n u) b in
+    let y = given_moved f (suffix n u) b in
     record {
       value = x.value ++ y.value ∷ [];
       spells = both g.Options f n u v (x.value ++ y.value ∷ []) (g.Options.further x.spells y.spells);
@@ -168,30 +168,30 @@ mutual
   operand_moved : (f : ℕ → Spot) {u : List Placed} {x : Primary} → Operand u x → (n : ℕ) → Moved Operand no_place (set f n u) x
   operand_moved f (Operand.words {u = u} {v = v} {w = w} {xs = xs} {mode = mode} {t = t} a b c) n =
       let x = value_moved f n a in
-      let y = moded_moved f (behind n u) b in
-      let z = timed_moved f (behind n (u ++ v)) c in
+      let y = moded_moved f (suffix n u) b in
+      let z = timed_moved f (suffix n (u ++ v)) c in
       record {
         value = phrases x.value mode z.value;
-        spells = both Operand f n (u ++ v) w (phrases x.value mode z.value) (both (λ k p. Operand (k ++ set f (behind n (u ++ v)) w) p) f n u v (phrases x.value mode z.value) (Operand.words x.spells y z.spells));
+        spells = both Operand f n (u ++ v) w (phrases x.value mode z.value) (both (λ k p. Operand (k ++ set f (suffix n (u ++ v)) w) p) f n u v (phrases x.value mode z.value) (Operand.words x.spells y z.spells));
         same = λ i. phrases (x.same i) mode (z.same i);
       }
   operand_moved f (Operand.parentheses {u = u} {x = t} p a q) n =
       let x = selection_moved f a (suc n) in
       record {
         value = inner x.value;
-        spells = both (λ w y. Operand (at (f n) S.OpenParenthesis ∷ w) y) f (suc n) u (at q S.CloseParenthesis ∷ []) (inner x.value) (Operand.parentheses (f n) x.spells (f (behind (suc n) u)));
+        spells = both (λ w y. Operand (at (f n) S.OpenParenthesis ∷ w) y) f (suc n) u (at q S.CloseParenthesis ∷ []) (inner x.value) (Operand.parentheses (f n) x.spells (f (suffix (suc n) u)));
         same = ap inner x.same;
       }
 
   unary_moved : (f : ℕ → Spot) {u : List Placed} {t : Tree} → Unary u t → (n : ℕ) → TreeMoved Unary (set f n u) t
   unary_moved f (Unary.unary {u = u} {v = v} {w = w} {n = m} {x = x} {os = os} a b c) n =
       let i = negation_moved f n a in
-      let j = operand_moved f b (behind n u) in
-      let k = options_moved f (behind n (u ++ v)) c in
+      let j = operand_moved f b (suffix n u) in
+      let k = options_moved f (suffix n (u ++ v)) c in
       let whole = negated i.value (optioned j.value k.value) in
       record {
         value = whole;
-        spells = both Unary f n (u ++ v) w whole (both (λ l p. Unary (l ++ set f (behind n (u ++ v)) w) p) f n u v whole (Unary.unary i.spells j.spells k.spells));
+        spells = both Unary f n (u ++ v) w whole (both (λ l p. Unary (l ++ set f (suffix n (u ++ v)) w) p) f n u v whole (Unary.unary i.spells j.spells k.spells));
         same = unary_same i.value m j.value x k.value os i.same j.same k.same;
       }
 
@@ -199,7 +199,7 @@ mutual
   mild_moved f (Mild.first_mild a) n = let x = unary_moved f a n in record { value = x.value; spells = Mild.first_mild x.spells; same = x.same }
   mild_moved f (Mild.further_mild {u = u} {v = v} {x = s} {y = t} a p q b) n =
       let x = mild_moved f a n in
-      let m = behind n u in
+      let m = suffix n u in
       let y = unary_moved f b (suc (suc m)) in
       record {
         value = tree.mild_not x.value y.value;
@@ -211,10 +211,10 @@ mutual
   ands_moved f (Ands.first_and a) n = let x = mild_moved f a n in record { value = x.value ∷ []; spells = Ands.first_and x.spells; same = ap (λ t. t ∷ []) x.same }
   ands_moved f (Ands.further_and {u = u} {v = v} {xs = xs} {x = t} a p b) n =
       let x = ands_moved f a n in
-      let y = mild_moved f b (suc (behind n u)) in
+      let y = mild_moved f b (suc (suffix n u)) in
       record {
         value = x.value ++ y.value ∷ [];
-        spells = both Ands f n u (name p (codes "ftand") ∷ v) (x.value ++ y.value ∷ []) (Ands.further_and x.spells (f (behind n u)) y.spells);
+        spells = both Ands f n u (name p (codes "ftand") ∷ v) (x.value ++ y.value ∷ []) (Ands.further_and x.spells (f (suffix n u)) y.spells);
         same = more placeless x.value xs y.value t x.same y.same;
       }
 
@@ -222,10 +222,10 @@ mutual
   ors_moved f (Ors.first_or {xs = xs} a) n = let x = ands_moved f a n in record { value = joined tree.and_of x.value ∷ []; spells = Ors.first_or x.spells; same = ap (λ t. t ∷ []) (and_same x.value xs x.same) }
   ors_moved f (Ors.further_or {u = u} {v = v} {xs = xs} {ys = ys} a p b) n =
       let x = ors_moved f a n in
-      let y = ands_moved f b (suc (behind n u)) in
+      let y = ands_moved f b (suc (suffix n u)) in
       record {
         value = x.value ++ joined tree.and_of y.value ∷ [];
-        spells = both Ors f n u (name p (codes "ftor") ∷ v) (x.value ++ joined tree.and_of y.value ∷ []) (Ors.further_or x.spells (f (behind n u)) y.spells);
+        spells = both Ors f n u (name p (codes "ftor") ∷ v) (x.value ++ joined tree.and_of y.value ∷ []) (Ors.further_or x.spells (f (suffix n u)) y.spells);
         same = more placeless x.value xs (joined tree.and_of y.value) (joined tree.and_of ys) x.same (and_same y.value ys y.same);
       }
 
@@ -233,7 +233,7 @@ mutual
   selection_moved f (Selection.plain {xs = xs} a) n = let x = ors_moved f a n in record { value = joined tree.or_of x.value; spells = Selection.plain x.spells; same = or_same x.value xs x.same }
   selection_moved f (Selection.filtered {u = u} {v = v} {x = t} {f = filter} a b) n =
       let x = selection_moved f a n in
-      let y = spelled_there Same f v (behind n u) filters filters filter filters_alike b in
+      let y = spelled_there Same f v (suffix n u) filters filters filter filters_alike b in
       record {
         value = tree.filtered x.value y.value;
         spells = both Selection f n u v (tree.filtered x.value y.value) (Selection.filtered x.spells y.spells);

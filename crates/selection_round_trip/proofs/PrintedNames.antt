@@ -33,7 +33,7 @@ not_blank c h true b e f = let two : is_name_start 32 ≡ true = ap is_name_star
 not_blank c h false true e f = let two : is_name_start 9 ≡ true = ap is_name_start (sym (eqb-true c 9 f)) ∙ h in cc
 not_blank c h false false e f = ap (λ a. a || eqb c 9) e ∙ f
 
--- a name with these letters, and what is left behind it
+-- a name with these letters, and what is left after it
 abbrev named : ℕ → ℕ → List ℕ → List ℕ → Symbols
 named bound place taken left = with_symbol bound place (Name (encode_utf8_all taken)) (encode_utf8_all taken) left
 

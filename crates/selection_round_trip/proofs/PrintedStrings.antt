@@ -69,8 +69,8 @@ pub take_prefix : (xs ys : List ℕ) → take (length xs) (xs ++ ys) ≡ xs
 take_prefix [] ys = refl
 take_prefix (x ∷ xs) ys = ap (λ w. x ∷ w) (take_prefix xs ys)
 
-abbrev behind : ℕ → ℕ → List ℕ → List ℕ → List ℕ → Symbols
-behind bound place letters taken left = before (record { symbol = S.Text (encode_utf8_all letters); from = place; to = place + length (encode_utf8_all taken) }) (symbols_within bound (place + length (encode_utf8_all taken)) left)
+abbrev suffix : ℕ → ℕ → List ℕ → List ℕ → List ℕ → Symbols
+suffix bound place letters taken left = before (record { symbol = S.Text (encode_utf8_all letters); from = place; to = place + length (encode_utf8_all taken) }) (symbols_within bound (place + length (encode_utf8_all taken)) left)
 
 pub string_read : (bound place : ℕ) (letters rest : List ℕ) → begins_with 34 rest ≡ false → symbols_within (suc bound) place (34 ∷ flat_map in_quotes letters ++ 34 ∷ rest) ≡ with_string bound place (encode_utf8_all letters) rest
 unfolding symbols_within first_lexeme is_name_start
@@ -79,8 +79,8 @@ string_read bound place letters rest h =
     let split : 34 ∷ flat_map in_quotes letters ++ 34 ∷ rest ≡ word ++ rest = sym (append_assoc (34 ∷ flat_map in_quotes letters) (34 ∷ []) rest) in
     let size : (length (flat_map in_quotes letters) + 1) + 1 ≡ length word = omega (arith, length-append (34 ∷ flat_map in_quotes letters) (34 ∷ [])) in
     ap (λ q. with_further place (34 ∷ flat_map in_quotes letters ++ 34 ∷ rest) (symbols_within bound) (option_map (λ z. record { symbol = S.Text z.text; size = z.size + 1 }) q)) (quoted_letters letters rest h)
-    ∙ ap (λ n. behind bound place letters (take n (34 ∷ flat_map in_quotes letters ++ 34 ∷ rest)) (drop n (34 ∷ flat_map in_quotes letters ++ 34 ∷ rest))) size
-    ∙ ap (λ w. behind bound place letters (take (length word) w) (drop (length word) w)) split
-    ∙ ap (λ w. behind bound place letters w (drop (length word) (word ++ rest))) (take_prefix word rest)
-    ∙ ap (λ w. behind bound place letters word w) (drop-append_seam word rest)
+    ∙ ap (λ n. suffix bound place letters (take n (34 ∷ flat_map in_quotes letters ++ 34 ∷ rest)) (drop n (34 ∷ flat_map in_quotes letters ++ 34 ∷ rest))) size
+    ∙ ap (λ w. suffix bound place letters (take (length word) w) (drop (length word) w)) split
+    ∙ ap (λ w. suffix bound place letters w (drop (length word) (word ++ rest))) (take_prefix word rest)
+    ∙ ap (λ w. suffix bound place letters word w) (drop-append_seam word rest)
     ∙ ap (λ w. before (record { symbol = S.Text (encode_utf8_all letters); from = place; to = place + length w }) (symbols_within bound (place + length w) rest)) (string_written letters)

@@ -6,7 +6,7 @@ use Rattle.ft_base.proofs.Truth.{none_from_test}
 use Rattle.ft_syntax.specs.Spacing.{set_out}
 use Rattle.ft_syntax.specs.Symbols.{symbols, printed}
 use Rattle.ft_parser.specs.Answer.{selection_read, symbols_read}
-use Rattle.ft_parser.specs.Limits.{open_behind}
+use Rattle.ft_parser.specs.Limits.{depth_after}
 use Rattle.ft_parser.specs.Selected.{Selects}
 use Rattle.query_symbols.specs.Symbols.{symbols_of}
 use Rattle.ft_parser.proofs.SelectedExact.{selects_read}
@@ -24,7 +24,7 @@ use Rattle.selection_round_trip.proofs.Reading.{limited, printing, whole_again, 
 
 printable : (u : List Placed) (d : ℕ) → Within d u → AllPrintable u
 printable [] d h = tt
-printable (p ∷ u) d h = (h.0, printable u (open_behind d p.symbol) h.2)
+printable (p ∷ u) d h = (h.0, printable u (depth_after d p.symbol) h.2)
 
 -- the symbols of the printed form select the form
 selects_back : (u : List Placed) (bad : Option ℕ) (form : Form) → AllContent u → Selects u bad form → (v : List Placed) × (symbols_of (printed form) ≡ record { placed = v; bad = None }) × Selects v None form

@@ -25,7 +25,7 @@ use Rattle.selection_round_trip.proofs.PrintedNames.{name_read}
 use Rattle.selection_round_trip.proofs.PrintedNumbers.{number_read}
 use Rattle.selection_round_trip.proofs.PrintedStrings.{string_written, string_read}
 
--- what may stand directly behind names, numbers and strings
+-- what may stand directly after names, numbers and strings
 abbrev pub Apart : List ℕ → Type 0
 Apart rest = (goes_on_as_name rest ≡ false) × (begins_with 34 rest ≡ false)
 

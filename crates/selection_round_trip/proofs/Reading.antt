@@ -4,7 +4,7 @@ use Rattle.std.specs.Prelude.{chars}
 use Rattle.ft_base.specs.Selection.{Form}
 use Rattle.ft_syntax.specs.Symbols.{symbols}
 use Rattle.ft_parser.specs.Answer.{selection_read}
-use Rattle.ft_parser.specs.Limits.{open_behind, exceeds}
+use Rattle.ft_parser.specs.Limits.{depth_after, exceeds}
 use Rattle.ft_parser.specs.Selected.{Selects, IsWhole, open_after}
 use Rattle.query_symbols.specs.Symbols.{symbols_of}
 use Rattle.ft_parser.proofs.SelectedLaws.{Outcome, all_read}
@@ -30,7 +30,7 @@ Limited d u = (before : List Placed) (p : Placed) (rest : List Placed) → u ≡
 
 known : (u : List Placed) (d : ℕ) → AllContent u → Limited d u → Known d u
 known [] d h k = tt
-known (p ∷ u) d h k = (h.0, k [] p u refl, known u (open_behind d p.symbol) h.1 (λ before q rest e. k (p ∷ before) q rest (ap (λ w. p ∷ w) e)))
+known (p ∷ u) d h k = (h.0, k [] p u refl, known u (depth_after d p.symbol) h.1 (λ before q rest e. k (p ∷ before) q rest (ap (λ w. p ∷ w) e)))
 
 -- the same symbols at other places
 pub limited : (u v : List Placed) (d : ℕ) → Within d u → symbols_in v ≡ symbols_in u → Limited d v
@@ -47,7 +47,7 @@ limited (q ∷ u) (r ∷ v) d h e (s ∷ before) p rest k =
     let others : symbols_in v ≡ symbols_in u = cc in
     let one : s ≡ r = cc in
     let left : v ≡ before ++ p ∷ rest = cc in
-    ap (λ n. exceeds (open_after n before) p.symbol) (ap (λ (x : Placed). open_behind d x.symbol) one ∙ ap (open_behind d) same) ∙ limited u v (open_behind d q.symbol) h.2 others before p rest left
+    ap (λ n. exceeds (open_after n before) p.symbol) (ap (λ (x : Placed). depth_after d x.symbol) one ∙ ap (depth_after d) same) ∙ limited u v (depth_after d q.symbol) h.2 others before p rest left
 
 -- a selection that is printed within the limits
 pub record Printing (t : Tree) : Type 0 where

@@ -18,12 +18,12 @@ abbrev pub set : (ℕ → Spot) → ℕ → List Placed → List Placed
 set f n [] = []
 set f n (p ∷ rest) = at (f n) p.symbol ∷ set f (suc n) rest
 
--- the number behind symbols
-abbrev pub behind : ℕ → List Placed → ℕ
-behind n [] = n
-behind n (p ∷ rest) = behind (suc n) rest
+-- the number after symbols
+abbrev pub suffix : ℕ → List Placed → ℕ
+suffix n [] = n
+suffix n (p ∷ rest) = suffix (suc n) rest
 
-pub set_append : (f : ℕ → Spot) (n : ℕ) (u v : List Placed) → set f n (u ++ v) ≡ set f n u ++ set f (behind n u) v
+pub set_append : (f : ℕ → Spot) (n : ℕ) (u v : List Placed) → set f n (u ++ v) ≡ set f n u ++ set f (suffix n u) v
 set_append f n [] v = refl
 set_append f n (p ∷ u) v = ap (λ w. at (f n) p.symbol ∷ w) (set_append f (suc n) u v)
 
@@ -93,7 +93,7 @@ ended R (Some x) (Some y) a (AlikeSome.some h) e = let same : x ≡ s.whole a = 
 pub spelled_there : {A : Type 0} (R : A → A → Type 0) (f : ℕ → Spot) (u : List Placed) (n : ℕ) (x y : Shape A) (a : A) → Alike R x y → Spelled x u a → There R y (set f n u) a
 spelled_there R f u n x y a h k = let e = ended R (run (Some x) u) (run (Some y) (set f n u)) a (run_alike R f u n (Some x) (Some y) (AlikeSome.some h)) k.runs in record { value = e.0; spells = record { runs = e.1 }; same = e.2 }
 
--- one shape, and behind it another
+-- one shape, and after it another
 then_alike : {A B : Type 0} (R : A → A → Type 0) (Q : B → B → Type 0) (f g : A → Shape B) → ((a b : A) → R a b → Alike Q (f a) (g b)) → {x y : Shape A} → Alike R x y → Alike Q (and_then x f) (and_then y g)
 then_alike R Q f g h (Alike.whole {a = a} {b = b} k) = h a b k
 then_alike R Q f g h Alike.nothing = Alike.nothing

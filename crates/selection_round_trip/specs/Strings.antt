@@ -1,4 +1,4 @@
--- What is read of symbols one behind the other.
+-- What is read of symbols one after the other.
 use Rattle.std.specs.Prelude.{ℕ, ◌+◌, List, length}
 use Rattle.query_symbols.specs.Symbols.{before, symbols_within}
 use Rattle.ft_syntax.specs.OptionSymbols.{string_symbol}
@@ -6,7 +6,7 @@ use Rattle.selection_grammar.specs.declared.symbol.Symbol.{Symbol}
 use Rattle.selection_grammar.specs.declared.symbol.Symbol.TheVariants.{Text}
 use Rattle.selection_grammar.specs.declared.symbol.Symbols.{Symbols}
 
--- a symbol at a place, as many bytes long as these, and what is left behind it
+-- a symbol at a place, as many bytes long as these, and what is left after it
 abbrev pub with_symbol : ℕ → ℕ → Symbol → List ℕ → List ℕ → Symbols
 with_symbol bound place symbol bytes left =
     before (record { symbol = symbol; from = place; to = place + length bytes }) (symbols_within bound (place + length bytes) left)

@@ -6,10 +6,10 @@ use Rattle.ordered_tree.specs.Stands.{span}
 use Rattle.path_nodes.specs.References.{Spot, spot_reference, spots_in}
 use Rattle.session_state.specs.SelectionTests.{span_among, span_at}
 
-ends-behind : (r : NodeRef) (spots : List Spot) → 0 < (span_among r spots).to
-ends-behind r [] = omega arith
-ends-behind r (s ∷ rest) = elim ((spot_reference s).0 == r.0) as (λ t. 0 < (if t then span s.stand else span_among r rest).to) [ true ↦ omega arith | false ↦ ends-behind r rest ]
+ends-suffix : (r : NodeRef) (spots : List Spot) → 0 < (span_among r spots).to
+ends-suffix r [] = omega arith
+ends-suffix r (s ∷ rest) = elim ((spot_reference s).0 == r.0) as (λ t. 0 < (if t then span s.stand else span_among r rest).to) [ true ↦ omega arith | false ↦ ends-suffix r rest ]
 
 -- no span ends at 0
-pub span-behind : (root : Numbered) (r : NodeRef) → 0 < (span_at root r).to
-span-behind root r = ends-behind r (spots_in root)
+pub span-suffix : (root : Numbered) (r : NodeRef) → 0 < (span_at root r).to
+span-suffix root r = ends-suffix r (spots_in root)

@@ -260,7 +260,7 @@ const RULED_OUT: [RuledOut; 14] = [
             0,
         ),
     ),
-    // a predicate behind others
+    // a predicate after others
     (
         &[0],
         (

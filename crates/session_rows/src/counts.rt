@@ -168,8 +168,8 @@ fn what_is_held_is_counted(rt: HostRuntime) -> Result<(), Fail> {
 #[test]
 fn so_many_plans_are_kept(rt: HostRuntime) -> Result<(), Fail> {
     let alloc = rt.alloc();
-    let front = "query collection()/a[. contains text \"w";
-    let queries = numbered_lines(alloc, front, 1, 65, "\"]")?;
+    let prefix = "query collection()/a[. contains text \"w";
+    let queries = numbered_lines(alloc, prefix, 1, 65, "\"]")?;
     let further = "query collection()/a[. contains text \"w1\"]\nstats\n\
                    query collection()/a[. contains text \"w65\"]\nstats\n";
     let session = joined(alloc, &[queries.as_str(), further])?;

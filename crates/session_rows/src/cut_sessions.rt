@@ -106,12 +106,12 @@ fn finish(out: &mut Vec<u8>, reader: &mut Lines_) -> Result<(), Fail> {
 }
 
 /// Feeds the session in two pieces, and adds its commands.
-fn feed_cut(out: &mut Vec<u8>, reader: &mut Lines_, front: &[u8], back: &[u8]) -> Result<(), Fail>
+fn feed_cut(out: &mut Vec<u8>, reader: &mut Lines_, prefix: &[u8], back: &[u8]) -> Result<(), Fail>
     requires fresh { reader.old.bytes ≡ 0 }
-    requires front { length front.now < 2 ^ 62 }
+    requires prefix { length prefix.now < 2 ^ 62 }
     requires back { length back.now < 2 ^ 62 }
 {
-    feed(out, reader, front)?;
+    feed(out, reader, prefix)?;
     feed(out, reader, back)?;
     finish(out, reader)
 }
@@ -127,21 +127,21 @@ fn feed_pieces(
 {
     let mut rest = session;
     for turn in 0..session.len() {
-        let (piece, behind) = rest.split_at(size.min(rest.len()));
+        let (piece, suffix) = rest.split_at(size.min(rest.len()));
         feed(out, reader, piece)?;
-        rest = behind;
+        rest = suffix;
     }
     finish(out, reader)
 }
 
 /// The commands of the session, fed in two pieces.
-fn read_cut(alloc: Global, front: &[u8], back: &[u8]) -> Result<Vec<u8>, Fail>
-    requires front { length front.now < 2 ^ 62 }
+fn read_cut(alloc: Global, prefix: &[u8], back: &[u8]) -> Result<Vec<u8>, Fail>
+    requires prefix { length prefix.now < 2 ^ 62 }
     requires back { length back.now < 2 ^ 62 }
 {
     let mut out = Vec::new(alloc);
     let mut reader = Lines_::new(alloc);
-    let fed = feed_cut(&mut out, &mut reader, front, back);
+    let fed = feed_cut(&mut out, &mut reader, prefix, back);
     std::mem::drop(reader);
     fed?;
     Ok(out)

@@ -149,12 +149,12 @@ fn faults_are_where_the_text_goes_wrong(rt: HostRuntime) -> Result<(), Fail> {
     Ok(())
 }
 
-/// A text that stands behind `<a>` so many times, what stands behind it, and the reply.
+/// A text that stands after `<a>` so many times, what stands after it, and the reply.
 type Repeated = (&'static str, usize, &'static str, &'static str);
 
 fn expect_repeated(rt: &impl Abort, alloc: Global, row: &Repeated) -> Result<(), Fail> {
-    let (piece, count, behind, reply) = row;
-    let session = repeated(alloc, "load x\n<a>", *count, piece, behind)?;
+    let (piece, count, suffix, reply) = row;
+    let session = repeated(alloc, "load x\n<a>", *count, piece, suffix)?;
     let answered = is_answered(
         alloc,
         session.as_bytes(),
@@ -167,7 +167,7 @@ fn expect_repeated(rt: &impl Abort, alloc: Global, row: &Repeated) -> Result<(),
     Ok(())
 }
 
-// The 1,000,001st node is an element behind a text, or what stands where it would begin is no node.
+// The 1,000,001st node is an element after a text, or what stands where it would begin is no node.
 const FULL: [Repeated; 2] = [
     (
         "x<b/>",

@@ -50,12 +50,12 @@ const ATTRIBUTES: &str =
     "a='' b='' c='' d='' e='' f='' g='' h='' i='' j='' k='' l='' m='' n='' o='' p='' q='' r='' s='' t='' u='' v='' w='' x='' \
      y='' z='' A='' B='' C='' D='' E='' F='' G='' H='' I='' J='' K='' L='' M=''";
 
-/// What stands behind these attributes in the tag of an element that is in one with the same; the reply, and how the session ends.
+/// What stands after these attributes in the tag of an element that is in one with the same; the reply, and how the session ends.
 type AttributeRow = (&'static str, &'static str, Status);
 
 const REPEATED: &str = "! 6 document: syntax at 397\n";
 
-// The name of the last attribute is new, is among the first of the tag, or among those behind them.
+// The name of the last attribute is new, is among the first of the tag, or among those after them.
 const MANY_ATTRIBUTES: [AttributeRow; 5] = [
     (" N=''", "ok\n", Status::Done),
     (" a=''", REPEATED, Status::SomeRefused),

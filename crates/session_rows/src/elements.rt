@@ -183,7 +183,7 @@ fn a_line_names_each_step_or_prints_all_below(rt: HostRuntime) -> Result<(), Fai
 }
 
 /// How many elements `a` a document has, each the only child of the one before it, how many predicates `[.//a ..]` stand one inside the
-/// other behind `/a`, and the reply.
+/// other after `/a`, and the reply.
 type Chained = (usize, usize, &'static str);
 
 const CHAINS: [Chained; 5] = [

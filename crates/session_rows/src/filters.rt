@@ -1,5 +1,5 @@
 // Positional filters and `not in`: which Matches they keep, and which excludes.
-use crate::rows::{Row, TruthRow, expect_rows, expect_truths, expect_truths_behind};
+use crate::rows::{Row, TruthRow, expect_rows, expect_truths, expect_truths_after};
 use ft_session::Status;
 use std::test::Fail;
 
@@ -14,7 +14,7 @@ const ORDERED: [TruthRow; 8] = [
         r#"("b" ftand "a") ordered distance exactly 1 words"#,
         false,
     ),
-    // behind a distance stands one include, which is in order
+    // after a distance stands one include, which is in order
     (
         "a x b",
         r#"("b" ftand "a") distance exactly 1 words ordered"#,
@@ -222,7 +222,7 @@ const ANCHORS: [TruthRow; 19] = [
         r#""t.{2,2}t" using wildcards entire content"#,
         false,
     ),
-    // excludes stay behind anchors
+    // excludes stay after anchors
     ("a b", r#"("a" ftand ftnot "b") at start"#, false),
     ("a b", r#"("b" ftand ftnot "a") at end"#, false),
     ("a b", r#"("a b" ftand ftnot "a") entire content"#, false),
@@ -449,7 +449,7 @@ fn filters_stand_in_selections(rt: HostRuntime) -> Result<(), Fail> {
 #[test]
 fn variants_of_phrases_are_filtered(rt: HostRuntime) -> Result<(), Fail> {
     let thesaurus = "thesaurus t\nr | ny | ny city\n.\n";
-    expect_truths_behind(&rt, rt.alloc(), thesaurus, "ok\n", &VARIANTS)
+    expect_truths_after(&rt, rt.alloc(), thesaurus, "ok\n", &VARIANTS)
 }
 
 #[test]

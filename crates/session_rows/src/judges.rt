@@ -238,7 +238,7 @@ fn expect_judged<J: Judge + Drop>(
     expect_judged_of(rt, alloc, judge, LOAD, command, reply)
 }
 
-/// The same behind another load.
+/// The same after another load.
 fn expect_judged_of<J: Judge + Drop>(
     rt: &impl Abort,
     alloc: Global,
@@ -340,11 +340,11 @@ const OTHERS: &str =
 type SkippedRow = (&'static str, &'static str, u32);
 
 const SKIPPED: [SkippedRow; 9] = [
-    // nothing is asked in front of a place where a paragraph may have what is asked for, nor between two such places
+    // nothing is asked before a place where a paragraph may have what is asked for, nor between two such places
     ("\"rare\"", BOTH_HITS, 2),
     ("\"b rare\"", SECOND, 1),
     ("\"d\" ftand \"rare\"", FOURTH, 1),
-    // where answers lead not far, one behind the other, some elements are tested before it is asked again
+    // where answers lead not far, one after the other, some elements are tested before it is asked again
     ("\"d\" ftor \"rare\"", BOTH_HITS, 3),
     ("{\"rare\", \"d\"} all", FOURTH, 1),
     ("(\"d\" ftand \"rare\") window 2 words", FOURTH, 1),

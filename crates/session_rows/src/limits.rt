@@ -6,7 +6,7 @@ use std::alloc::{AllocError, Global};
 use std::process::Abort;
 use std::test::Fail;
 
-/// What stands before and behind number signs, so that there are that many bytes; what is written, and how it ends.
+/// What stands before and after number signs, so that there are that many bytes; what is written, and how it ends.
 type LengthRow = (&'static str, &'static str, usize, &'static str, Status);
 
 const HELLO: &str =
@@ -45,10 +45,12 @@ const TOO_LONG: [LengthRow; 3] = [
 
 const SIGNS: &str = "################################################################";
 
-/// The front, number signs, which are a comment of one line, and the back: so many bytes, or no signs where these are too few.
-fn filled(alloc: Global, front: &str, back: &str, count: usize) -> Result<String, AllocError> {
-    let mut session = String::from_str(alloc, front)?;
-    let signs = count.saturating_sub(front.len()).saturating_sub(back.len());
+/// The prefix, number signs, which are a comment of one line, and the back: so many bytes, or no signs where these are too few.
+fn filled(alloc: Global, prefix: &str, back: &str, count: usize) -> Result<String, AllocError> {
+    let mut session = String::from_str(alloc, prefix)?;
+    let signs = count
+        .saturating_sub(prefix.len())
+        .saturating_sub(back.len());
     for _ in 0..signs / 64 {
         session.push_str(SIGNS)?;
     }
@@ -60,10 +62,10 @@ fn filled(alloc: Global, front: &str, back: &str, count: usize) -> Result<String
 }
 
 fn expect_length(rt: &impl Abort, alloc: Global, row: LengthRow) -> Result<(), Fail> {
-    let (front, back, count, output, status) = row;
-    let session = filled(alloc, front, back, count)?;
+    let (prefix, back, count, output, status) = row;
+    let session = filled(alloc, prefix, back, count)?;
     let answered = is_answered(alloc, session.as_bytes(), NEVER, NEVER, &[output], status)?;
-    assert!(rt; answered, "{front} {count}");
+    assert!(rt; answered, "{prefix} {count}");
     Ok(())
 }
 
@@ -207,8 +209,8 @@ const REPEATED: [RepeatedRow; 11] = [
 ];
 
 fn expect_repeated(rt: &impl Abort, alloc: Global, row: RepeatedRow) -> Result<(), Fail> {
-    let (before, count, piece, behind, output, status) = row;
-    let session = repeated(alloc, before, count, piece, behind)?;
+    let (before, count, piece, suffix, output, status) = row;
+    let session = repeated(alloc, before, count, piece, suffix)?;
     let answered = is_answered(alloc, session.as_bytes(), NEVER, NEVER, &[output], status)?;
     assert!(rt; answered, "{before} {count}");
     Ok(())
@@ -274,7 +276,7 @@ fn a_document_has_a_million_nodes_at_most(rt: HostRuntime) -> Result<(), Fail> {
     Ok(())
 }
 
-/// What stands before and behind levels, how one is opened and closed, how many there are, and what is written.
+/// What stands before and after levels, how one is opened and closed, how many there are, and what is written.
 type NestedRow = (
     &'static str,
     &'static str,
@@ -343,9 +345,9 @@ const LEVELS: [NestedRow; 6] = [
 ];
 
 fn expect_nested(rt: &impl Abort, alloc: Global, row: NestedRow) -> Result<(), Fail> {
-    let (before, open, inside, close, behind, count, output) = row;
-    let front = repeated(alloc, before, count, open, inside)?;
-    let session = repeated(alloc, front.as_str(), count, close, behind)?;
+    let (before, open, inside, close, suffix, count, output) = row;
+    let prefix = repeated(alloc, before, count, open, inside)?;
+    let session = repeated(alloc, prefix.as_str(), count, close, suffix)?;
     expect_output(rt, alloc, session.as_str(), &[output], Status::SomeRefused)
 }
 
@@ -397,7 +399,7 @@ fn numbered(
     command: &str,
     block: &str,
     count: usize,
-    behind: &str,
+    suffix: &str,
 ) -> Result<String, AllocError> {
     let mut session = String::new(alloc);
     for number in 0..count {
@@ -406,7 +408,7 @@ fn numbered(
         session.push_str(block)?;
         session.push_str("\n.\n")?;
     }
-    session.push_str(behind)?;
+    session.push_str(suffix)?;
     Ok(session)
 }
 

@@ -5,7 +5,7 @@ use std::alloc::Global;
 use std::process::Abort;
 use std::test::Fail;
 
-/// A line of a session, the block behind it, and the reply.
+/// A line of a session, the block after it, and the reply.
 type ListRow = (&'static str, &'static [u8], &'static str);
 
 fn expect_list(rt: &impl Abort, alloc: Global, row: &ListRow, status: Status) -> Result<(), Fail> {

@@ -193,7 +193,7 @@ fn naming(alloc: Global, names: [&'static str; 4]) -> Result<String, AllocError>
     )
 }
 
-/// Asks for the selection, alone and behind another.
+/// Asks for the selection, alone and after another.
 fn expect_missing(rt: &impl Abort, alloc: Global, row: MissingRow) -> Result<(), Fail> {
     let (names, missing) = row;
     let selection = naming(alloc, names)?;

@@ -1,5 +1,5 @@
 // Options that name lists: when words are the same under them.
-use crate::rows::{TruthRow, expect_truths_behind};
+use crate::rows::{TruthRow, expect_truths_after};
 use std::test::Fail;
 
 const FEW_LISTS: &str = r#"stems
@@ -264,25 +264,25 @@ const STOP_LIST_ROWS: [TruthRow; 9] = [
 
 #[test]
 fn words_are_compared_under_the_lists(rt: HostRuntime) -> Result<(), Fail> {
-    expect_truths_behind(&rt, rt.alloc(), FEW_LISTS, "ok\nok\nok\n", &FEW_LISTS_ROWS)
+    expect_truths_after(&rt, rt.alloc(), FEW_LISTS, "ok\nok\nok\n", &FEW_LISTS_ROWS)
 }
 
 #[test]
 fn words_are_compared_by_their_stems(rt: HostRuntime) -> Result<(), Fail> {
-    expect_truths_behind(&rt, rt.alloc(), LISTS, "ok\nok\nok\nok\n", &STEMMING_ROWS)
+    expect_truths_after(&rt, rt.alloc(), LISTS, "ok\nok\nok\nok\n", &STEMMING_ROWS)
 }
 
 #[test]
 fn a_thesaurus_is_followed_by_its_levels(rt: HostRuntime) -> Result<(), Fail> {
-    expect_truths_behind(&rt, rt.alloc(), LISTS, "ok\nok\nok\nok\n", &LEVEL_ROWS)
+    expect_truths_after(&rt, rt.alloc(), LISTS, "ok\nok\nok\nok\n", &LEVEL_ROWS)
 }
 
 #[test]
 fn phrases_that_are_reached_are_found_and_counted(rt: HostRuntime) -> Result<(), Fail> {
-    expect_truths_behind(&rt, rt.alloc(), LISTS, "ok\nok\nok\nok\n", &THESAURUS_ROWS)
+    expect_truths_after(&rt, rt.alloc(), LISTS, "ok\nok\nok\nok\n", &THESAURUS_ROWS)
 }
 
 #[test]
 fn stop_lists_are_taken_together(rt: HostRuntime) -> Result<(), Fail> {
-    expect_truths_behind(&rt, rt.alloc(), LISTS, "ok\nok\nok\nok\n", &STOP_LIST_ROWS)
+    expect_truths_after(&rt, rt.alloc(), LISTS, "ok\nok\nok\nok\n", &STOP_LIST_ROWS)
 }

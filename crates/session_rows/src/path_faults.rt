@@ -54,7 +54,7 @@ const SYNTAX: [FaultRow; 29] = [
 ];
 
 // Numbers over a million, and the faults of selections: the first selection that has one counts, and it comes before what stands
-// behind the selection.
+// after the selection.
 const FURTHER: [FaultRow; 18] = [
     ("1000001", "number at 0"),
     ("collection()//1000001", "number at 14"),
@@ -172,7 +172,7 @@ fn no_text_is_no_path(rt: HostRuntime) -> Result<(), Fail> {
     Ok(())
 }
 
-// What opens a 65th level behind 64 brackets.
+// What opens a 65th level after 64 brackets.
 const OPENINGS: [&str; 4] = ["a[", "@(", "@[", "b["];
 
 /// Tries openings one after the other.

@@ -12,7 +12,7 @@ use std::test::Fail;
 /// A text, its fault, and the fault's place in the text.
 type FaultRow = (&'static str, &'static str, usize);
 
-/// A text, a piece that stands behind it so many times, what stands behind these, the fault of it all, and its place.
+/// A text, a piece that stands after it so many times, what stands after these, the fault of it all, and its place.
 type RepeatedRow = (
     &'static str,
     usize,
@@ -227,8 +227,8 @@ fn faults_in_paths_have_their_places(rt: HostRuntime) -> Result<(), Fail> {
 
 /// Compares the fault of a text with repeated pieces.
 fn expect_repeated(rt: &impl Abort, alloc: Global, row: RepeatedRow) -> Result<(), Fail> {
-    let (before, count, piece, behind, words, place) = row;
-    let text = repeated(alloc, before, count, piece, behind)?;
+    let (before, count, piece, suffix, words, place) = row;
+    let text = repeated(alloc, before, count, piece, suffix)?;
     expect_fault(rt, alloc, text.as_str(), words, place)
 }
 

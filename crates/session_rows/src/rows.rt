@@ -19,12 +19,12 @@ pub(crate) type TruthRow = (&'static str, &'static str, bool);
 /// The number of a call, or a count of bytes, that is never reached.
 pub(crate) const NEVER: u64 = u64::MAX;
 
-/// Whether the bytes are these texts, one behind the other.
+/// Whether the bytes are these texts, one after the other.
 fn are_parts(bytes: &[u8], parts: &[&str]) -> bool {
     let mut rest = bytes;
     for part in parts {
         match rest.strip_prefix(part.as_bytes()) {
-            Some(behind) => rest = behind,
+            Some(suffix) => rest = suffix,
             None => return false,
         }
     }
@@ -92,7 +92,7 @@ pub(crate) fn expect_rows(rt: &impl Abort, alloc: Global, rows: &[Row]) -> Resul
 }
 
 /// Carries out the commands, loads the text as the element `a` of document `x`, and compares whether it satisfies the selection.
-fn expect_truth_behind(
+fn expect_truth_after(
     rt: &impl Abort,
     alloc: Global,
     commands: &'static str,
@@ -119,8 +119,8 @@ fn expect_truth_behind(
     expect_output(rt, alloc, session.as_str(), &[replies, found], Status::Done)
 }
 
-/// Tries rows one after the other, each behind the commands.
-pub(crate) fn expect_truths_behind(
+/// Tries rows one after the other, each after the commands.
+pub(crate) fn expect_truths_after(
     rt: &impl Abort,
     alloc: Global,
     commands: &'static str,
@@ -128,27 +128,27 @@ pub(crate) fn expect_truths_behind(
     rows: &[TruthRow],
 ) -> Result<(), Fail> {
     for row in rows {
-        expect_truth_behind(rt, alloc, commands, replies, *row)?;
+        expect_truth_after(rt, alloc, commands, replies, *row)?;
     }
     Ok(())
 }
 
 /// The same with no commands before.
 pub(crate) fn expect_truths(rt: &impl Abort, alloc: Global, rows: &[TruthRow]) -> Result<(), Fail> {
-    expect_truths_behind(rt, alloc, "", "", rows)
+    expect_truths_after(rt, alloc, "", "", rows)
 }
 
 /// Lines that differ in a number, which goes from the first one on: so many of them.
 pub(crate) fn numbered_lines(
     alloc: Global,
-    front: &str,
+    prefix: &str,
     first: usize,
     count: usize,
     back: &str,
 ) -> Result<String, AllocError> {
     let mut lines = String::new(alloc);
     for number in first..first.saturating_add(count) {
-        lines.push_str(front)?;
+        lines.push_str(prefix)?;
         write!(lines, "{number}")?;
         lines.push_str(back)?;
         lines.push('\n')?;

@@ -99,7 +99,7 @@ doc("n")/p[1]
 "#,
         Status::Done,
     ),
-    // roots alone are looked at behind one slash
+    // roots alone are looked at after one slash
     (
         r#"load m
 <d><p>New Mexico</p><p>New York</p></d>

@@ -14,7 +14,7 @@ use Rattle.session_text.specs.declared.reply.Reply.{Reply}
 use Rattle.session_state.specs.declared.edit.Targets.{Targets}
 use Rattle.session_state.specs.declared.planned.PlannedPath.{PlannedPath}
 use Rattle.session_state.specs.Edits.{edit_path, edit_placed, edit_read, edit_selected, stays_if_refused, target_refusal, touched_path, touched_placed, touched_read}
-use Rattle.session_state.specs.KeptTexts.{keep_plans, kept_behind, kept_by, selection_texts}
+use Rattle.session_state.specs.KeptTexts.{keep_plans, kept_after, kept_by, selection_texts}
 use Rattle.session_state.specs.Paths.{missing_document, missing_list, selections_of}
 use Rattle.session_state.specs.PlannedPaths.{IsPlanOf}
 use Rattle.session_state.specs.State.{State, with_documents}
@@ -23,15 +23,15 @@ use Rattle.session_state.specs.steps.Chosen.{planned_places}
 use Rattle.session_state.proofs.ChosenLemmas.{planned-places}
 use Rattle.session_state.proofs.PathLemmas.{all-found}
 
--- the state with what is prepared behind a command
+-- the state with what is prepared after a command
 abbrev pub with_prepared_in : State → Preparation → State
 with_prepared_in state q = record { documents = state.documents; lists = q.lists; marks = state.marks; kept = q.kept }
 
 abbrev pub replied : State → Reply → State × Reply
 replied state reply = (state, reply)
 
--- what is kept behind a reply is what the state behind it keeps
-pub kept-state : (state : State) (q : Preparation) (text : List ℕ) (texts : List (List ℕ)) (reply : Reply) → kept_behind text (path_read text) state.kept ≡ all_used texts state.kept
+-- what is kept after a reply is what the state after it keeps
+pub kept-state : (state : State) (q : Preparation) (text : List ℕ) (texts : List (List ℕ)) (reply : Reply) → kept_after text (path_read text) state.kept ≡ all_used texts state.kept
     → q ≡ kept_by texts reply (prepared_of state) → replied (with_prepared_in state q) reply ≡ keep_plans text (state, reply)
 kept-state state q text texts reply used is =
     ap (λ (x : Preparation). replied (with_prepared_in state x) reply) is
@@ -53,8 +53,8 @@ module _ (says : Judgement) (state : State) (targets : Targets) (edit : Edit) (t
       ap (λ places. touched_placed state.documents edit places (target_refusal targets edit places)) (planned-places says state p planned plan)
       ∙ sym (ap (touched_read says state targets edit) read)
 
-  pub used-texts : kept_behind text (path_read text) state.kept ≡ all_used (selection_texts text p) state.kept
-  used-texts = ap (λ r. kept_behind text r state.kept) read
+  pub used-texts : kept_after text (path_read text) state.kept ≡ all_used (selection_texts text p) state.kept
+  used-texts = ap (λ r. kept_after text r state.kept) read
 
   -- the documents were edited, and the plans are kept
   pub edit-kept : (planned : PlannedPath) → IsPlanOf state.lists p planned

@@ -129,7 +129,7 @@ module _ (lists : NamedLists) (text : List ℕ) (all : List PlacedForm) (k : ℕ
       ∙ (ap (λ (s : PlacedForm). map (plan_under lists text) (take k all) ++ plan_under lists text s ∷ []) (sym is_placed)
       ∙ sym (map_more (plan_under lists text) all k placed within))
 
--- the fault of a selection, where lists that others behind it name may be missing too
+-- the fault of a selection, where lists that others after it name may be missing too
 pub missing-first : (fault : CompileFault) (a b all : Option (List ℕ)) → all ≡ option_or a b → IsMissing fault a → IsMissing fault all
 missing-first (Fault.NoSuchList name) a b all is found = is ∙ ap (λ o. option_or o b) found
 missing-first Fault.Memory a b all is found = tt

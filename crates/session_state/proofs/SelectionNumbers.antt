@@ -17,7 +17,7 @@ use Rattle.path_subset.proofs.Spelled.{spelled}
 use Rattle.path_nodes.specs.Asked.{OfEach, OfStep, OfPredicates, OfPredicate, OfCondition, OfConditions}
 use Rattle.session_state.specs.Paths.{selections_of}
 
--- one more behind a list
+-- one more after a list
 module _ (P : ℕ → Type 0) where
   one_more_step : (xs : List form.Step) (x : form.Step) → OfEach P (form.steps xs) → OfStep P x → OfEach P (form.steps (xs ++ x ∷ []))
   unfolding OfEach

@@ -196,7 +196,7 @@ pub skipped : (says : Judgement) (runs : List RunMeaning) (root : Numbered) (k :
     → ((at : Span) → (1 ≤ at.from) × (at.from ≤ at.to) × (at.to ≤ token_count (document_at doc run.version) + 1)
     → from ≤ at.from → at.to ≤ to → says run.form run.lists (span_tokens at (document_at doc run.version)) ≡ false)
     → (r : NodeRef) → IsTrue (may_ask runs root k r) → from ≤ (span_at root r).from → (span_at root r).to ≤ to → is_meant says (map run_meant runs) k (element_of root r) ≡ false
-skipped says runs root k run doc from to is over none r asked behind in_front =
+skipped says runs root k run doc from to is over none r asked suffix ahead =
     let n = asked-node runs root k r asked in
     let among = spot-stand root n.spot n.among in
     let less = asked-run runs root k r asked in
@@ -207,7 +207,7 @@ skipped says runs root k run doc from to is over none r asked behind in_front =
     let same = tokens-at-span run.version doc root (span n.spot.stand) ts follows (span-there run.version doc root follows n.spot.stand among) here in
     met-at says runs k run (element_of root r) less is
     ∙ (ap (λ (e : Element). says run.form run.lists (tokens e.node)) n.is
-    ∙ (ap (says run.form run.lists) (sym same) ∙ none (span n.spot.stand) (omega arith, omega arith, below) (subst (λ (s : Span). from ≤ s.from) n.at behind) (subst (λ (s : Span). s.to ≤ to) n.at in_front)))
+    ∙ (ap (says run.form run.lists) (sym same) ∙ none (span n.spot.stand) (omega arith, omega arith, below) (subst (λ (s : Span). from ≤ s.from) n.at suffix) (subst (λ (s : Span). s.to ≤ to) n.at ahead)))
 
 -- ---- runs of plans over one version
 

@@ -1,4 +1,4 @@
--- The state behind a command that changes what is prepared: lists that come, and plans that are kept behind the reply to a path.
+-- The state after a command that changes what is prepared: lists that come, and plans that are kept after the reply to a path.
 use Rattle.std.proofs.Common.{◌≡◌, ◌∙◌, sym, ap, refl, subst, ℕ, true, false, cond, List}
 use Rattle.std.specs.Prelude.{Option, Some, None, Result, Ok, Err, IfOk}
 use Rattle.std.specs.Map.{lookup}
@@ -18,7 +18,7 @@ use Rattle.session_state.specs.declared.shown.Shown.{Shown}
 use Rattle.session_state.specs.declared.shown.Shown.TheVariants.{Names}
 use Rattle.session_state.specs.Held.{Held}
 use Rattle.session_state.specs.KeptMarks.{marks_of, versions_of}
-use Rattle.session_state.specs.KeptTexts.{keep_plans, kept_behind}
+use Rattle.session_state.specs.KeptTexts.{keep_plans, kept_after}
 use Rattle.session_state.specs.Marks.{at_mark, mark_named, version_of_mark}
 use Rattle.session_state.specs.PathPrices.{held_at, price_at, read_price}
 use Rattle.session_state.specs.Paths.{answer, answer_read}
@@ -54,8 +54,8 @@ pub kept-by-reply : (state : State) (q : Preparation) (text : List ℕ) (reply :
     → replied (with_prepared_in state q) reply ≡ keep_plans text (state, reply)
 kept-by-reply state q text reply is =
     ap (λ (x : Preparation). replied (with_prepared_in state x) reply) is
-    ∙ elim (is_refusal reply) as (λ b. replied (with_prepared_in state (cond b (prepared_of state) (with_kept (kept_behind text (path_read text) state.kept) (prepared_of state)))) reply
-    ≡ replied (cond b state (record state { kept = kept_behind text (path_read text) state.kept })) reply) [ true ↦ refl | false ↦ refl ]
+    ∙ elim (is_refusal reply) as (λ b. replied (with_prepared_in state (cond b (prepared_of state) (with_kept (kept_after text (path_read text) state.kept) (prepared_of state)))) reply
+    ≡ replied (cond b state (record state { kept = kept_after text (path_read text) state.kept })) reply) [ true ↦ refl | false ↦ refl ]
 
 -- a path that goes along a collection is answered as in a state of its documents
 module _ (says : Judgement) (what : Shown) (collection : Indexed) (state at : State) (text : List ℕ) (documents : collection.documents ≡ at.documents) (lists : state.lists ≡ at.lists) where

@@ -22,7 +22,7 @@ use Rattle.ordered_tree.specs.Numbered.{Numbered, plain}
 use Rattle.ordered_tree.specs.Part.{counted_from, part, renumbered}
 use Rattle.tokenizer.specs.Gaps.{gap, ends_paragraph, ends_sentence}
 use Rattle.tokenizer.specs.Parts.{Part, word, gap_characters, gap_tag, parts}
-use Rattle.tokenizer.specs.Tokens.{paragraph_starts, raised, sentence_starts, starts, tokens, tokens_from}
+use Rattle.tokenizer.specs.Tokens.{paragraph_starts, shifted, sentence_starts, starts, tokens, tokens_from}
 
 -- ---- the number of a token is how many sentences or paragraphs start up to its place
 
@@ -47,8 +47,8 @@ module _ (number : Token → ℕ) where
           → up_to last ((if same then [] else place ∷ []) ++ starts number (number t) (place + 1) ts) ≡ 0
       by true rest = rest
       by false rest =
-          let behind = up_to last (starts number (number t) (place + 1) ts) in
-          cond-false (nat_le place last) (1 + behind) behind (lt-leb place last h) ∙ rest
+          let suffix = up_to last (starts number (number t) (place + 1) ts) in
+          cond-false (nat_le place last) (1 + suffix) suffix (lt-leb place last h) ∙ rest
 
   number-up_to : (before place : ℕ) (ts : List Token) (i : ℕ) → Rises number before ts → i < length ts
       → number (get_or ts i no_token) ≡ before + up_to (place + i) (starts number before place ts)
@@ -64,8 +64,8 @@ module _ (number : Token → ℕ) where
           let least = rises.0 in
           let most = rises.1 in
           let next : number t ≡ before + 1 = grind (arith, nat_tests, e, least, most) in
-          let behind = up_to (place + 0) (starts number (number t) (place + 1) ts) in
-          let one = cond-true (nat_le place (place + 0)) (1 + behind) behind (le-leb place (place + 0) (omega arith)) in
+          let suffix = up_to (place + 0) (starts number (number t) (place + 1) ts) in
+          let one = cond-true (nat_le place (place + 0)) (1 + suffix) suffix (le-leb place (place + 0) (omega arith)) in
           omega (arith, next, one, none)
   number-up_to before place (t ∷ ts) (suc i) rises h =
       let at : place + 1 + i ≡ place + suc i = omega arith in
@@ -80,25 +80,25 @@ module _ (number : Token → ℕ) where
           let least = rises.0 in
           let most = rises.1 in
           let next : number t ≡ before + 1 = grind (arith, nat_tests, e, least, most) in
-          let behind = up_to (place + suc i) (starts number (number t) (place + 1) ts) in
-          let one = cond-true (nat_le place (place + suc i)) (1 + behind) behind (le-leb place (place + suc i) (omega arith)) in
+          let suffix = up_to (place + suc i) (starts number (number t) (place + 1) ts) in
+          let one = cond-true (nat_le place (place + suc i)) (1 + suffix) suffix (le-leb place (place + suc i) (omega arith)) in
           omega (arith, next, one, rest)
 
 -- ---- the tokens of a document rise, from 1 on
 
-raised-from : (ended : Bool) (n : ℕ) → n ≤ raised ended n
-raised-from true n = omega arith
-raised-from false n = omega arith
+shifted-from : (ended : Bool) (n : ℕ) → n ≤ shifted ended n
+shifted-from true n = omega arith
+shifted-from false n = omega arith
 
-raised-to : (ended : Bool) (n : ℕ) → raised ended n ≤ n + 1
-raised-to true n = omega arith
-raised-to false n = omega arith
+shifted-to : (ended : Bool) (n : ℕ) → shifted ended n ≤ n + 1
+shifted-to true n = omega arith
+shifted-to false n = omega arith
 
 sentences-rise : (xs : List Part) (s p before : ℕ) → before ≤ s → s ≤ before + 1 → Rises (λ token. token.sentence) before (tokens_from s p xs)
 unfolding tokens_from
 sentences-rise [] s p before least most = tt
 sentences-rise (word bytes ∷ xs) s p before least most =
-    (least, most, sentences-rise xs _ _ s (raised-from (ends_sentence (gap xs)) s) (raised-to (ends_sentence (gap xs)) s))
+    (least, most, sentences-rise xs _ _ s (shifted-from (ends_sentence (gap xs)) s) (shifted-to (ends_sentence (gap xs)) s))
 sentences-rise (gap_characters bytes ∷ xs) s p before least most = sentences-rise xs s p before least most
 sentences-rise (gap_tag name ∷ xs) s p before least most = sentences-rise xs s p before least most
 
@@ -106,7 +106,7 @@ paragraphs-rise : (xs : List Part) (s p before : ℕ) → before ≤ p → p ≤
 unfolding tokens_from
 paragraphs-rise [] s p before least most = tt
 paragraphs-rise (word bytes ∷ xs) s p before least most =
-    (least, most, paragraphs-rise xs _ _ p (raised-from (ends_paragraph (gap xs)) p) (raised-to (ends_paragraph (gap xs)) p))
+    (least, most, paragraphs-rise xs _ _ p (shifted-from (ends_paragraph (gap xs)) p) (shifted-to (ends_paragraph (gap xs)) p))
 paragraphs-rise (gap_characters bytes ∷ xs) s p before least most = paragraphs-rise xs s p before least most
 paragraphs-rise (gap_tag name ∷ xs) s p before least most = paragraphs-rise xs s p before least most
 
@@ -119,8 +119,8 @@ are-counted : (xs : List Part) (s p : ℕ) → 1 ≤ s → 1 ≤ p → All IsCou
 unfolding tokens_from
 are-counted [] s p hs hp = All-nil IsCounted
 are-counted (word bytes ∷ xs) s p hs hp =
-    let more = raised-from (ends_sentence (gap xs)) s in
-    let further = raised-from (ends_paragraph (gap xs)) p in
+    let more = shifted-from (ends_sentence (gap xs)) s in
+    let further = shifted-from (ends_paragraph (gap xs)) p in
     All-cons IsCounted _ _ (record { sentence = hs; paragraph = hp }) (are-counted xs _ _ (omega (arith, hs, more)) (omega (arith, hp, further)))
 are-counted (gap_characters bytes ∷ xs) s p hs hp = are-counted xs s p hs hp
 are-counted (gap_tag name ∷ xs) s p hs hp = are-counted xs s p hs hp
@@ -191,13 +191,13 @@ module _ (root : Numbered) (at : Span) (inside : IsSpan at (tree_document root))
   own-part (first ∷ rest) is =
       let size : length (in_span at all) ≡ suc (length rest) = ap length is in
       let there : 0 < length (in_span at all) = omega (arith, size) in
-      let front : at.from + 0 ≡ at.from = omega arith in
+      let prefix : at.from + 0 ≡ at.from = omega arith in
       let head : get_or (in_span at all) 0 no_token ≡ first = ap (λ ts. get_or ts 0 no_token) is in
       let least = subst IsCounted head (part-counted 0 no_token there) in
       let sentence : first.sentence ≡ started document.sentences at.from =
-      ap (λ (t : Token). t.sentence) (sym head) ∙ part_sentence document all at (text-of-tree root) inside 0 there ∙ ap (started document.sentences) front in
+      ap (λ (t : Token). t.sentence) (sym head) ∙ part_sentence document all at (text-of-tree root) inside 0 there ∙ ap (started document.sentences) prefix in
       let paragraph : first.paragraph ≡ started document.paragraphs at.from =
-      ap (λ (t : Token). t.paragraph) (sym head) ∙ part_paragraph document all at (text-of-tree root) inside 0 there ∙ ap (started document.paragraphs) front in
+      ap (λ (t : Token). t.paragraph) (sym head) ∙ part_paragraph document all at (text-of-tree root) inside 0 there ∙ ap (started document.paragraphs) prefix in
       counted-each own_sentence own_paragraph first (first ∷ rest)
       (λ n. from-first n first.sentence (started document.sentences at.from) sentence least.sentence)
       (λ n. from-first n first.paragraph (started document.paragraphs at.from) paragraph least.paragraph)

@@ -61,7 +61,7 @@ targets_refused targets how count rooted =
 abbrev pub target_refusal : Targets → Edit → List (List (List ℕ)) → Option Refusal
 target_refusal targets edit places = targets_refused targets edit.how (target_count places) (has_root places)
 
--- the documents behind an edit, or a limit that one of them would exceed
+-- the documents after an edit, or a limit that one of them would exceed
 abbrev pub if_within : List Named × Option LimitOf → List Named × Reply
 if_within (documents, Some what) = (documents, Refused (refusal.Limit what))
 if_within (documents, None) = (documents, Done)

@@ -18,14 +18,14 @@ text_at text extent = take (extent.to - extent.from) (drop extent.from text)
 abbrev pub selection_texts : List ℕ → PathForm → List (List ℕ)
 selection_texts text p = map (λ s. text_at text s.extent) p.selections
 
-abbrev pub kept_behind : List ℕ → Result PathForm QueryFault → Kept → Kept
-kept_behind text (Err fault) kept = kept
-kept_behind text (Ok p) kept = all_used (selection_texts text p) kept
+abbrev pub kept_after : List ℕ → Result PathForm QueryFault → Kept → Kept
+kept_after text (Err fault) kept = kept
+kept_after text (Ok p) kept = all_used (selection_texts text p) kept
 
 -- a state and the reply to a command with that path: where it isn't refused, the plans of the path's selections are kept
 abbrev pub keep_plans : List ℕ → State × Reply → State × Reply
 keep_plans path (state, reply) =
-    ((if is_refusal reply then state else record state { kept = kept_behind path (path_read path) state.kept }), reply)
+    ((if is_refusal reply then state else record state { kept = kept_after path (path_read path) state.kept }), reply)
 
 -- the same of plans that are kept, by the texts of the path's selections
 abbrev pub kept_by : List (List ℕ) → Reply → Preparation → Preparation

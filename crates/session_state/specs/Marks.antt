@@ -23,7 +23,7 @@ abbrev pub without_mark : List ℕ → List Mark → List Mark
 without_mark name [] = []
 without_mark name (m ∷ ms) = if bytes_eq name m.name then ms else m ∷ without_mark name ms
 
--- a mark comes behind the others, which keeps these documents, unless its name is taken or there are as many as there may be
+-- a mark comes after the others, which keeps these documents, unless its name is taken or there are as many as there may be
 abbrev pub mark_put : List Mark → List ℕ → List Named → List Mark × Reply
 mark_put marks name documents =
     if has_mark name marks then (marks, Refused (refusal.NameTaken name))

@@ -35,7 +35,7 @@ named_b =
     ∷ placed (3 ∷ 1 ∷ []) (elem (codes "b") (text (codes "x y") ∷ []))
     ∷ []
 
--- `letters` as the document `l`, and behind it `nested` as `n`
+-- `letters` as the document `l`, and after it `nested` as `n`
 abbrev pub two_held : NamedLists → List Numbered → Held
 two_held lists version = record {
   state = record opening { documents = record { name = codes "l"; root = letters } ∷ record { name = codes "n"; root = nested } ∷ []; lists = lists };

@@ -16,7 +16,7 @@ use Rattle.session_state.specs.declared.paths.PlanFault.TheVariants as fault
 use Rattle.session_state.specs.declared.paths.Ready.{Ready}
 use Rattle.session_state.specs.declared.paths.Ready.TheVariants as ready
 use Rattle.session_state.specs.declared.paths.ReadyPath.{ReadyPath}
-use Rattle.session_state.specs.KeptTexts.{kept_behind}
+use Rattle.session_state.specs.KeptTexts.{kept_after}
 use Rattle.session_state.specs.Paths.{missing_document, missing_list, missing_refusal, selections_of}
 use Rattle.session_state.specs.PlannedPaths.{plans_under, AskBelow}
 
@@ -43,6 +43,6 @@ abbrev pub IsReady : List Named → Preparation → List ℕ → Ready → Type 
 IsReady documents prepared text (ready.Path p) = IsReadyPath documents prepared text p
 IsReady documents prepared text (ready.Refused why) = path_refusal documents prepared.lists (path_read text) ≡ Some why
 
--- what is kept behind the reply to a command with that path
+-- what is kept after the reply to a command with that path
 abbrev pub kept_for : List ℕ → Reply → Preparation → Preparation
-kept_for text reply prepared = if is_refusal reply then prepared else with_kept (kept_behind text (path_read text) prepared.kept) prepared
+kept_for text reply prepared = if is_refusal reply then prepared else with_kept (kept_after text (path_read text) prepared.kept) prepared

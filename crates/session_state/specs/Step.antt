@@ -31,7 +31,7 @@ abbrev pub with_lists : State → NamedLists × Reply → State × Reply
 with_lists state (lists, reply) =
     ((if is_refusal reply then state else record state { lists = lists; kept = emptied state.kept }), reply)
 
--- the state behind an answer to a path
+-- the state after an answer to a path
 abbrev pub shown : Judgement → Shown → State → List ℕ → State × Reply
 shown says what state path = keep_plans path (state, answer says what state path)
 

@@ -38,7 +38,7 @@ pub(crate) struct SelectionTest<'j, 't, 'r, 'v, 'm, J: Judge, B: Loan, M: Ledger
     pub(crate) loan: PhantomData<B>,
     ghost over: { AreOver B.runs (doc.0, tree.now.root) },
     ghost same: { runs.now ≡ B.runs },
-    ghost raised: { B.moves ≤ moves.now },
+    ghost shifted: { B.moves ≤ moves.now },
 }
 
 impl<'j, 't, 'r, 'v, 'm, J: Judge, B: Loan, M: Ledger> TextTest

@@ -58,12 +58,12 @@ pub(crate) fn plan_selections(
 fn text_at(text: &[u8], extent: Extent) -> &[u8]
     ensures { result.now ≡ texts.text_at text.now extent }
 {
-    let behind = &text[extent.from.min(text.len())..];
+    let suffix = &text[extent.from.min(text.len())..];
     let count = extent.to.saturating_sub(extent.from);
-    &behind[..count.min(behind.len())]
+    &suffix[..count.min(suffix.len())]
 }
 
-/// The plans with one more behind them.
+/// The plans with one more after them.
 fn with_plan(plans: Vec<KeptPlan>, plan: KeptPlan) -> Result<Vec<KeptPlan>, Memory>
     ensures { IfOk result (λ all. all.items ≡ plans.items ++ plan ∷ []) }
 {
@@ -87,7 +87,7 @@ pub(crate) fn open_runs<'v>(
     Ok(runs)
 }
 
-/// Puts the run of a plan over the version behind the others.
+/// Puts the run of a plan over the version after the others.
 fn push_run<'v>(
     alloc: Global,
     plan: &'v KeptPlan,

@@ -140,7 +140,7 @@ fn collect_from<J: Judge, M: Ledger>(
     Ok(lines)
 }
 
-/// Puts the lines of these elements of a document behind those found so far.
+/// Puts the lines of these elements of a document after those found so far.
 fn push_lines(
     alloc: Global,
     name: &str,

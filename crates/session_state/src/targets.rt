@@ -94,7 +94,7 @@ fn leads_through(root: &PathRoot, name: &Line) -> bool
 }
 
 impl Chosen {
-    /// Puts the elements of one more document behind the others.
+    /// Puts the elements of one more document after the others.
     fn add(&mut self, document: &Loaded, found: NodeRefs) -> Result<(), Memory>
         requires { All (IsElement document.now.tree.root) found }
         ensures refs { OnOk result (self.new.refs ≡ self.old.refs ++ found ∷ []) }

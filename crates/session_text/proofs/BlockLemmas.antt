@@ -3,10 +3,10 @@ use Rattle.std.proofs.Common.{◌≡◌, ◌∙◌, sym, ap, refl, ℕ, ◌+◌,
 use Rattle.std.specs.Prelude.{Some, None, if◌then◌else◌}
 use Rattle.std.specs.List.{list_any, take_while, prefix_len, join_with_byte}
 use Rattle.std.proofs.lemmas.List.{take_at, append-nil}
-use Rattle.session_text.specs.steps.Blocks.{without_last, block_behind}
+use Rattle.session_text.specs.steps.Blocks.{without_last, block_after}
 use Rattle.session_text.specs.Commands.{block_of, closes_block, unquoted}
 
--- lines one after the other, each with a line feed behind it
+-- lines one after the other, each with a line feed after it
 abbrev written : List (List ℕ) → List ℕ
 written [] = []
 written (line ∷ lines) = (line ++ 10 ∷ []) ++ written lines
@@ -30,21 +30,21 @@ without_last-written (line ∷ lines) = ap without_last (written-join line lines
 abbrev inside : List (List ℕ) → List (List ℕ)
 inside lines = map unquoted (take_while (λ line. not (closes_block line)) lines)
 
--- the block behind the lines that were read
-block_behind-written : (read lines : List (List ℕ)) → block_behind (written read) lines ≡ (if list_any closes_block lines then Some (join_with_byte 10 (read ++ inside lines)) else None)
-block_behind-written read [] = refl
-block_behind-written read (line ∷ lines) =
+-- the block after the lines that were read
+block_after-written : (read lines : List (List ℕ)) → block_after (written read) lines ≡ (if list_any closes_block lines then Some (join_with_byte 10 (read ++ inside lines)) else None)
+block_after-written read [] = refl
+block_after-written read (line ∷ lines) =
     let n = prefix_len (λ line. not (closes_block line)) lines in
     elim (closes_block line) as (λ t.
-    cond t (Some (without_last (written read))) (block_behind (written read ++ unquoted line ++ 10 ∷ []) lines)
+    cond t (Some (without_last (written read))) (block_after (written read ++ unquoted line ++ 10 ∷ []) lines)
     ≡ cond (t || list_any closes_block lines) (Some (join_with_byte 10 (read ++ map unquoted (take (cond (not t) (1 + n) 0) (line ∷ lines))))) None) [
       | true ↦ ap Some (without_last-written read ∙ ap (join_with_byte 10) (sym (append-nil read)))
       | false ↦
-          ap (λ w. block_behind w lines) (sym (written-push read (unquoted line)))
-          ∙ (block_behind-written (read ++ unquoted line ∷ []) lines
+          ap (λ w. block_after w lines) (sym (written-push read (unquoted line)))
+          ∙ (block_after-written (read ++ unquoted line ∷ []) lines
           ∙ ap (λ ls. if list_any closes_block lines then Some (join_with_byte 10 ls) else None)
           (append_assoc read (unquoted line ∷ []) (inside lines) ∙ ap (λ k. read ++ map unquoted (take k (line ∷ lines))) (let e : suc n ≡ 1 + n = omega arith in e)))
     ]
 
-pub block_of-lines : (lines : List (List ℕ)) → block_of lines ≡ block_behind [] lines
-block_of-lines lines = sym (block_behind-written [] lines)
+pub block_of-lines : (lines : List (List ℕ)) → block_of lines ≡ block_after [] lines
+block_of-lines lines = sym (block_after-written [] lines)

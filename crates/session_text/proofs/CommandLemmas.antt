@@ -1,4 +1,4 @@
--- Each command that is read has names that are names, texts that aren't empty, and no block but the one behind its line.
+-- Each command that is read has names that are names, texts that aren't empty, and no block but the one after its line.
 use Rattle.std.proofs.Common.{◌≡◌, refl, ℕ, Bool, true, false, not, cond, List}
 use Rattle.std.specs.Prelude.{Option, Some, None, Ok, Err, codes}
 use Rattle.ft_base.specs.Lists.{is_empty}
@@ -6,7 +6,7 @@ use Rattle.session_text.specs.declared.command.Command.{Command}
 use Rattle.session_text.specs.declared.command.Command.TheVariants as command
 use Rattle.plain_tree.specs.declared.place.How.{How}
 use Rattle.session_text.specs.Commands.{made, named, with_text, how_of, insertion, query_at, command_of_line, command_of_block}
-use Rattle.text_lines.specs.Lines.{trimmed_line, first_word, behind_first_word}
+use Rattle.text_lines.specs.Lines.{trimmed_line, first_word, after_first_word}
 use Rattle.session_text.specs.Words.{is_text, is_name, is_one_word, is_command_line}
 
 -- what holds of both holds of the one that is chosen
@@ -69,9 +69,9 @@ query_at_holds P h number name path = by (is_empty path) (is_name name) refl ref
 pub holds_of_line : (P : Command → Type 0) → HoldsOfLines P → (number : ℕ) (line : List ℕ) → P (command_of_line number line)
 holds_of_line P h number line =
     let word = first_word (trimmed_line line) in
-    let rest = behind_first_word (trimmed_line line) in
+    let rest = after_first_word (trimmed_line line) in
     chosen P (is_command_line line) _ _
-    (chosen P (is_text word (codes "query")) _ _ (chosen P (is_text (first_word rest) (codes "at")) _ _ (query_at_holds P h number (first_word (behind_first_word rest)) (behind_first_word (behind_first_word rest))) (of_text P number rest command.Query h.bad h.query))
+    (chosen P (is_text word (codes "query")) _ _ (chosen P (is_text (first_word rest) (codes "at")) _ _ (query_at_holds P h number (first_word (after_first_word rest)) (after_first_word (after_first_word rest))) (of_text P number rest command.Query h.bad h.query))
     (chosen P (is_text word (codes "print")) _ _ (of_text P number rest command.Print h.bad h.print)
     (chosen P (is_text word (codes "explain")) _ _ (of_text P number rest command.Explain h.bad h.explain)
     (chosen P (is_text word (codes "delete")) _ _ (of_text P number rest command.Delete h.bad h.delete)
@@ -88,10 +88,10 @@ insertion_holds P block h number (Some how) path = of_text P number path (λ p. 
 pub holds_of_block : (P : Command → Type 0) (block : List ℕ) → HoldsOfBlocks P block → (number : ℕ) (line : List ℕ) → P (command_of_block number line block)
 holds_of_block P block h number line =
     let word = first_word (trimmed_line line) in
-    let rest = behind_first_word (trimmed_line line) in
+    let rest = after_first_word (trimmed_line line) in
     chosen P (is_command_line line) _ _
     (chosen P (is_text word (codes "load")) _ _ (of_name P number rest (λ name. command.Load name block) h.bad h.bad_name h.load)
-    (chosen P (is_text word (codes "insert")) _ _ (insertion_holds P block h number (how_of (first_word rest)) (behind_first_word rest))
+    (chosen P (is_text word (codes "insert")) _ _ (insertion_holds P block h number (how_of (first_word rest)) (after_first_word rest))
     (chosen P (is_text word (codes "replace")) _ _ (of_text P number rest (λ path. command.Replace path block) h.bad h.replace)
     (chosen P (is_text word (codes "stop")) _ _ (of_name P number rest (λ name. command.Stop name block) h.bad h.bad_name h.stop)
     (chosen P (is_text word (codes "stems")) _ _ (chosen P (is_empty rest) _ _ h.stems (h.bad number))

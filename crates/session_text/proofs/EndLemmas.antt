@@ -9,15 +9,15 @@ use Rattle.session_text.specs.steps.Blocks.{without_last}
 use Rattle.text_lines.specs.Lines.{is_skipped, lines}
 use Rattle.std.specs.List.{onto_first}
 use Rattle.std.proofs.lemmas.Bool.{and_parts, not-true}
-use Rattle.session_text.specs.steps.Reading.{Opened, Place, behind_lines, commands_on, commands_from, ended_at, line_ended, open_at_end, place_behind, is_unended}
-use Rattle.session_text.proofs.ReadingLemmas.{commands_on-line, unended_behind}
+use Rattle.session_text.specs.steps.Reading.{Opened, Place, after_lines, commands_on, commands_from, ended_at, line_ended, open_at_end, place_after, is_unended}
+use Rattle.session_text.proofs.ReadingLemmas.{commands_on-line, unended_after}
 
--- an open block is all that is left behind the last line
+-- an open block is all that is left after the last line
 nothing_left : (number : ℕ) (before : Option Opened) → commands_on true number before [] ≡ open_at_end before
 nothing_left number None = refl
 nothing_left number (Some o) = refl
 
--- where a command is whole with a line, no block is open behind it
+-- where a command is whole with a line, no block is open after it
 nothing_open : (number : ℕ) (before : Option Opened) (line : List ℕ) (command : Command) → Some command ≡ (line_ended number before line).0 → (line_ended number before line).1 ≡ None
 nothing_open number None line command is = by (is_skipped line) (opens_block line) is
   where
@@ -47,33 +47,33 @@ last_line : (bytes : List ℕ) → is_unended bytes ≡ true → (length bytes =
 last_line [] h some = cc
 last_line (byte ∷ bytes) h some = one_line byte bytes h
 
--- where nothing stands behind the last line feed, an open block is all that is left
-pub ends_empty : (place : Place) (line : List ℕ) → line ≡ behind_lines place.lines place.rest → (length line == 0) ≡ true → commands_from true place [] ≡ open_at_end place.opened
+-- where nothing stands after the last line feed, an open block is all that is left
+pub ends_empty : (place : Place) (line : List ℕ) → line ≡ after_lines place.lines place.rest → (length line == 0) ≡ true → commands_from true place [] ≡ open_at_end place.opened
 ends_empty place line is empty =
     let nothing : line ≡ [] = nil_from_length line (eqb-true _ _ empty) in
-    ap (λ w. commands_on true (place.lines + 1) place.opened (lines (behind_lines place.lines w))) (append-nil place.rest)
+    ap (λ w. commands_on true (place.lines + 1) place.opened (lines (after_lines place.lines w))) (append-nil place.rest)
     ∙ (ap (λ w. commands_on true (place.lines + 1) place.opened (lines w)) (sym is ∙ nothing)
     ∙ nothing_left (place.lines + 1) place.opened)
 
 -- else that is a line
-last : (place : Place) (line : List ℕ) → is_unended place.rest ≡ true → line ≡ behind_lines place.lines place.rest → (length line == 0) ≡ false
+last : (place : Place) (line : List ℕ) → is_unended place.rest ≡ true → line ≡ after_lines place.lines place.rest → (length line == 0) ≡ false
     → commands_from true place [] ≡ option_to_list (ended_at place []).0 ++ open_at_end (ended_at place []).1
 last place line rest_open is some =
-    let bytes = behind_lines place.lines (place.rest ++ []) in
-    let same : line ≡ bytes = is ∙ ap (behind_lines place.lines) (sym (append-nil place.rest)) in
-    let line_open : is_unended bytes ≡ true = unended_behind place.lines (place.rest ++ []) (ap is_unended (append-nil place.rest) ∙ rest_open) in
+    let bytes = after_lines place.lines (place.rest ++ []) in
+    let same : line ≡ bytes = is ∙ ap (after_lines place.lines) (sym (append-nil place.rest)) in
+    let line_open : is_unended bytes ≡ true = unended_after place.lines (place.rest ++ []) (ap is_unended (append-nil place.rest) ∙ rest_open) in
     ap (commands_on true (place.lines + 1) place.opened) (last_line bytes line_open (ap (λ w. length w == 0) (sym same) ∙ some))
     ∙ (commands_on-line true (place.lines + 1) place.opened bytes []
     ∙ ap (λ w. option_to_list (ended_at place []).0 ++ w) (nothing_left (place.lines + 1 + 1) (ended_at place []).1))
 
-pub ends_whole : (place : Place) (line : List ℕ) (command : Command) → is_unended place.rest ≡ true → line ≡ behind_lines place.lines place.rest → (length line == 0) ≡ false → Some command ≡ (ended_at place []).0
+pub ends_whole : (place : Place) (line : List ℕ) (command : Command) → is_unended place.rest ≡ true → line ≡ after_lines place.lines place.rest → (length line == 0) ≡ false → Some command ≡ (ended_at place []).0
     → commands_from true place [] ≡ command ∷ []
 ends_whole place line command rest_open is some whole =
     last place line rest_open is some
     ∙ (ap (λ o. option_to_list o ++ open_at_end (ended_at place []).1) (sym whole)
-    ∙ ap (λ o. command ∷ open_at_end o) (nothing_open (place.lines + 1) place.opened (behind_lines place.lines (place.rest ++ [])) command whole))
+    ∙ ap (λ o. command ∷ open_at_end o) (nothing_open (place.lines + 1) place.opened (after_lines place.lines (place.rest ++ [])) command whole))
 
-pub ends_open : (place : Place) (line : List ℕ) → is_unended place.rest ≡ true → line ≡ behind_lines place.lines place.rest → (length line == 0) ≡ false → None ≡ (ended_at place []).0
-    → commands_from true place [] ≡ open_at_end (place_behind place []).opened
+pub ends_open : (place : Place) (line : List ℕ) → is_unended place.rest ≡ true → line ≡ after_lines place.lines place.rest → (length line == 0) ≡ false → None ≡ (ended_at place []).0
+    → commands_from true place [] ≡ open_at_end (place_after place []).opened
 ends_open place line rest_open is some still =
     last place line rest_open is some ∙ ap (λ o. option_to_list o ++ open_at_end (ended_at place []).1) (sym still)

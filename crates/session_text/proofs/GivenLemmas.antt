@@ -11,7 +11,7 @@ use Rattle.session_text.specs.steps.Blocks.{without_last}
 use Rattle.session_text.specs.Commands.{opens_block, closes_block, unquoted, command_of_line, command_of_block}
 use Rattle.text_lines.specs.Lines.{is_skipped}
 use Rattle.session_text.specs.Given.{block_length, block_lengths, is_readable}
-use Rattle.session_text.specs.steps.Reading.{Opened, Place, behind_lines, ended_at, held_length, line_ended, opened_length, place_behind}
+use Rattle.session_text.specs.steps.Reading.{Opened, Place, after_lines, ended_at, held_length, line_ended, opened_length, place_after}
 use Rattle.session_text.proofs.CommandLemmas.{holds_of_line, holds_of_block}
 
 line_readable : (number : ℕ) (line : List ℕ) → is_readable (command_of_line number line) ≡ true
@@ -89,8 +89,8 @@ length-unquoted line = by (starts_with nat_eq line (codes "."))
     by true = omega (arith, length-drop 1 line)
     by false = omega arith
 
-length-behind_lines : (n : ℕ) (bytes : List ℕ) → length (behind_lines n bytes) ≤ length bytes
-length-behind_lines n bytes = by (n == 0) (starts_with nat_eq bytes (239 ∷ 187 ∷ 191 ∷ []))
+length-after_lines : (n : ℕ) (bytes : List ℕ) → length (after_lines n bytes) ≤ length bytes
+length-after_lines n bytes = by (n == 0) (starts_with nat_eq bytes (239 ∷ 187 ∷ 191 ∷ []))
   where
     by : (b marked : Bool) → length (cond b (cond marked (drop 3 bytes) bytes) bytes) ≤ length bytes
     by true true = omega (arith, length-drop 3 bytes)
@@ -111,9 +111,9 @@ blocks_ended number (Some o) line = by (closes_block line)
     by true = omega (arith, block_within (without_last o.block) o.number o.line, length-take (length o.block - 1) o.block)
     by false = omega (arith, length-append (o.block ++ unquoted line) (10 ∷ []), length-append o.block (unquoted line), length-unquoted line)
 
-pub blocks_behind : (place : Place) (part : List ℕ) → block_lengths (option_to_list (ended_at place part).0) + held_length (place_behind place part) ≤ held_length place + length part + 1
-blocks_behind place part =
-    omega (arith, blocks_ended (place.lines + 1) place.opened (behind_lines place.lines (place.rest ++ part)), length-behind_lines place.lines (place.rest ++ part), length-append place.rest part)
+pub blocks_after : (place : Place) (part : List ℕ) → block_lengths (option_to_list (ended_at place part).0) + held_length (place_after place part) ≤ held_length place + length part + 1
+blocks_after place part =
+    omega (arith, blocks_ended (place.lines + 1) place.opened (after_lines place.lines (place.rest ++ part)), length-after_lines place.lines (place.rest ++ part), length-append place.rest part)
 
 -- the commands so far, and the one that a line makes whole
 pub added_readable : (place : Place) (part : List ℕ) (found after : List Command) (command : Option Command)
@@ -121,15 +121,15 @@ pub added_readable : (place : Place) (part : List ℕ) (found after : List Comma
 added_readable place part found after command says added readable =
     ap (list_all is_readable) (added ∙ ap (λ o. found ++ option_to_list o) says)
     ∙ (list_all-append is_readable found (option_to_list (ended_at place part).0)
-    ∙ and_from _ _ readable (readable_ended (place.lines + 1) place.opened (behind_lines place.lines (place.rest ++ part))))
+    ∙ and_from _ _ readable (readable_ended (place.lines + 1) place.opened (after_lines place.lines (place.rest ++ part))))
 
 pub added_blocks : (place new : Place) (part : List ℕ) (found after : List Command) (command : Option Command)
-    → command ≡ (ended_at place part).0 → new ≡ place_behind place part → after ≡ found ++ option_to_list command
+    → command ≡ (ended_at place part).0 → new ≡ place_after place part → after ≡ found ++ option_to_list command
     → block_lengths after + held_length new ≤ block_lengths found + held_length place + length part + 1
 added_blocks place new part found after command says moved added =
     let lengths : block_lengths after ≡ block_lengths found + block_lengths (option_to_list (ended_at place part).0) =
     ap block_lengths (added ∙ ap (λ o. found ++ option_to_list o) says) ∙ sum_by-append block_length found (option_to_list (ended_at place part).0) in
-    omega (arith, lengths, ap held_length moved, blocks_behind place part)
+    omega (arith, lengths, ap held_length moved, blocks_after place part)
 
 -- a block that a line closes was held
 pub whole_blocks : (number : ℕ) (before : Option Opened) (line : List ℕ) → block_lengths (option_to_list (line_ended number before line).0) ≤ opened_length before
@@ -148,8 +148,8 @@ whole_blocks number (Some o) line = by (closes_block line)
 -- the command that is whole with the last line
 pub last_readable : (place : Place) (command : Command) → Some command ≡ (ended_at place []).0 → list_all is_readable (option_to_list (Some command)) ≡ true
 last_readable place command whole =
-    ap (λ o. list_all is_readable (option_to_list o)) whole ∙ readable_ended (place.lines + 1) place.opened (behind_lines place.lines (place.rest ++ []))
+    ap (λ o. list_all is_readable (option_to_list o)) whole ∙ readable_ended (place.lines + 1) place.opened (after_lines place.lines (place.rest ++ []))
 
 pub last_blocks : (place : Place) (command : Command) → Some command ≡ (ended_at place []).0 → block_lengths (option_to_list (Some command)) ≤ held_length place
 last_blocks place command whole =
-    omega (arith, ap (λ o. block_lengths (option_to_list o)) whole, whole_blocks (place.lines + 1) place.opened (behind_lines place.lines (place.rest ++ [])))
+    omega (arith, ap (λ o. block_lengths (option_to_list o)) whole, whole_blocks (place.lines + 1) place.opened (after_lines place.lines (place.rest ++ [])))

@@ -10,14 +10,14 @@ use Rattle.session_text.specs.declared.command.Command.{Command}
 use Rattle.session_text.specs.Commands.{closes_block, unquoted, command_of_block}
 use Rattle.session_text.specs.steps.Blocks.{without_last}
 use Rattle.session_text.specs.Lines.{without_mark}
-use Rattle.session_text.specs.steps.Reading.{Opened, OpenLines, Place, behind_lines, between_lines, line_ended, open_lines, place_of}
+use Rattle.session_text.specs.steps.Reading.{Opened, OpenLines, Place, after_lines, between_lines, line_ended, open_lines, place_of}
 
 drop_further : (m n : ℕ) (xs : List ℕ) → drop m (drop n xs) ≡ drop (n + m) xs
 drop_further m zero xs = let same : m ≡ zero + m = omega arith in ap (λ k. drop k xs) same
 drop_further m (suc n) [] = drop-nil m ∙ sym (drop-nil (suc n + m))
 drop_further m (suc n) (x ∷ xs) = let same : suc (n + m) ≡ suc n + m = omega arith in drop_further m n xs ∙ ap (λ k. drop k (x ∷ xs)) same
 
--- what stands behind some first bytes
+-- what stands after some first bytes
 abbrev EndsIn : List ℕ → List ℕ → Type 0
 EndsIn bytes end = (n : ℕ) × (end ≡ drop n bytes)
 
@@ -28,9 +28,9 @@ chosen_end : (test : Bool) (bytes : List ℕ) (n : ℕ) → EndsIn bytes (cond t
 chosen_end true bytes n = (n, refl)
 chosen_end false bytes n = (0, refl)
 
-behind_end : (test : Bool) (bytes : List ℕ) → EndsIn bytes (cond test (without_mark bytes) bytes)
-behind_end true bytes = chosen_end (starts_with nat_eq bytes (239 ∷ 187 ∷ 191 ∷ [])) bytes 3
-behind_end false bytes = (0, refl)
+after_end : (test : Bool) (bytes : List ℕ) → EndsIn bytes (cond test (without_mark bytes) bytes)
+after_end true bytes = chosen_end (starts_with nat_eq bytes (239 ∷ 187 ∷ 191 ∷ [])) bytes 3
+after_end false bytes = (0, refl)
 
 beyond : (a b : ℕ) → nat_le a b ≡ false → b ≤ a
 beyond a b h = grind (arith, nat_tests)
@@ -49,13 +49,13 @@ end_is bytes end (n, e) = by (nat_le n (length bytes)) refl
         let all : length bytes - length end ≡ length bytes = omega (arith, none) in
         ap (λ k. drop k bytes) all ∙ (drop_all (length bytes) bytes (omega arith) ∙ sym (e ∙ drop_all n bytes (omega (arith, beyond n (length bytes) h))))
 
--- the bytes of the line behind a mark and a period
-pub kept_is : (lines : ℕ) (start : ℕ) (block : List ℕ) → drop (length block - length (unquoted (behind_lines lines (drop start block)))) block ≡ unquoted (behind_lines lines (drop start block))
+-- the bytes of the line after a mark and a period
+pub kept_is : (lines : ℕ) (start : ℕ) (block : List ℕ) → drop (length block - length (unquoted (after_lines lines (drop start block)))) block ≡ unquoted (after_lines lines (drop start block))
 kept_is lines start block =
     let rest = drop start block in
-    let line = behind_lines lines rest in
+    let line = after_lines lines rest in
     end_is block (unquoted line)
-    (ends_further block line (unquoted line) (ends_further block rest line (start, refl) (behind_end (lines == 0) rest)) (chosen_end (starts_with nat_eq line (codes ".")) line 1))
+    (ends_further block line (unquoted line) (ends_further block rest line (start, refl) (after_end (lines == 0) rest)) (chosen_end (starts_with nat_eq line (codes ".")) line 1))
 
 -- the block with the line, where it goes on
 pub goes_on : (o : Opened) (line kept : List ℕ) (removed : List ℕ) → closes_block line ≡ false → kept ≡ unquoted line → removed ≡ o.block ++ kept

@@ -8,7 +8,7 @@ use Rattle.std.proofs.lemmas.List.Sums.{split_at_first, passes_at_first}
 use Rattle.std.proofs.lemmas.Bool.{and_from}
 use Rattle.ft_base.specs.Characters.{is_line_feed}
 use Rattle.session_text.specs.declared.command.Command.{Command}
-use Rattle.session_text.specs.steps.Reading.{Place, commands_from, ended_at, place_behind, is_unended}
+use Rattle.session_text.specs.steps.Reading.{Place, commands_from, ended_at, place_after, is_unended}
 use Rattle.session_text.proofs.ReadingLemmas.{commands_from-line, unended_append}
 
 -- bytes up to the first line feed
@@ -26,36 +26,36 @@ unended_prefix (byte ∷ bytes) = by (is_line_feed byte) refl (unended_prefix by
         let next : 1 + feed_at bytes ≡ suc (feed_at bytes) = omega arith in
         ap (λ n. is_unended (take n (byte ∷ bytes))) next ∙ and_from (not (is_line_feed byte)) _ (ap not e) h
 
--- and the line feed stands behind them
+-- and the line feed stands after them
 at_feed : (bytes : List ℕ) → feed_at bytes < length bytes → bytes ≡ take (feed_at bytes) bytes ++ 10 ∷ drop (feed_at bytes + 1) bytes
 at_feed bytes within =
     let feed : get_or bytes (feed_at bytes) 0 ≡ 10 = eqb-true _ _ (passes_at_first is_line_feed bytes 0 within) in
     split_at_first is_line_feed bytes 0 within ∙ ap (λ b. take (feed_at bytes) bytes ++ b ∷ drop (feed_at bytes + 1) bytes) feed
 
--- the commands of a first line and of those behind it
+-- the commands of a first line and of those after it
 first_line : (at_end : Bool) (place : Place) (bytes more : List ℕ) → is_unended place.rest ≡ true → feed_at bytes < length bytes
-    → commands_from at_end place (bytes ++ more) ≡ option_to_list (ended_at place (take (feed_at bytes) bytes)).0 ++ commands_from at_end (place_behind place (take (feed_at bytes) bytes)) (drop (feed_at bytes + 1) bytes ++ more)
+    → commands_from at_end place (bytes ++ more) ≡ option_to_list (ended_at place (take (feed_at bytes) bytes)).0 ++ commands_from at_end (place_after place (take (feed_at bytes) bytes)) (drop (feed_at bytes + 1) bytes ++ more)
 first_line at_end place bytes more rest_open within =
     ap (λ w. commands_from at_end place (w ++ more)) (at_feed bytes within)
     ∙ (ap (commands_from at_end place) (append_assoc (take (feed_at bytes) bytes) (10 ∷ drop (feed_at bytes + 1) bytes) more)
     ∙ commands_from-line at_end place (take (feed_at bytes) bytes) (drop (feed_at bytes + 1) bytes ++ more) rest_open (unended_prefix bytes))
 
--- the commands so far and those of what is left, behind one more line
-pub line_added : (at_end : Bool) (place new : Place) (bytes behind more : List ℕ) (end : ℕ) (found after : List Command) (command : Option Command)
+-- the commands so far and those of what is left, after one more line
+pub line_added : (at_end : Bool) (place new : Place) (bytes suffix more : List ℕ) (end : ℕ) (found after : List Command) (command : Option Command)
     → is_unended place.rest ≡ true → end ≡ feed_at bytes → end < length bytes
-    → command ≡ (ended_at place (take end bytes)).0 → new ≡ place_behind place (take end bytes) → behind ≡ drop (end + 1) bytes → after ≡ found ++ option_to_list command
-    → found ++ commands_from at_end place (bytes ++ more) ≡ after ++ commands_from at_end new (behind ++ more)
-line_added at_end place new bytes behind more end found after command rest_open feed within says moved left added =
+    → command ≡ (ended_at place (take end bytes)).0 → new ≡ place_after place (take end bytes) → suffix ≡ drop (end + 1) bytes → after ≡ found ++ option_to_list command
+    → found ++ commands_from at_end place (bytes ++ more) ≡ after ++ commands_from at_end new (suffix ++ more)
+line_added at_end place new bytes suffix more end found after command rest_open feed within says moved left added =
     let first : feed_at bytes < length bytes = omega arith in
-    let line : commands_from at_end place (bytes ++ more) ≡ option_to_list (ended_at place (take end bytes)).0 ++ commands_from at_end (place_behind place (take end bytes)) (drop (end + 1) bytes ++ more) =
+    let line : commands_from at_end place (bytes ++ more) ≡ option_to_list (ended_at place (take end bytes)).0 ++ commands_from at_end (place_after place (take end bytes)) (drop (end + 1) bytes ++ more) =
     first_line at_end place bytes more rest_open first
-    ∙ ap (λ n. option_to_list (ended_at place (take n bytes)).0 ++ commands_from at_end (place_behind place (take n bytes)) (drop (n + 1) bytes ++ more)) (sym feed) in
+    ∙ ap (λ n. option_to_list (ended_at place (take n bytes)).0 ++ commands_from at_end (place_after place (take n bytes)) (drop (n + 1) bytes ++ more)) (sym feed) in
     ap (λ w. found ++ w) (line
-    ∙ (ap (λ o. option_to_list o ++ commands_from at_end (place_behind place (take end bytes)) (drop (end + 1) bytes ++ more)) (sym says)
+    ∙ (ap (λ o. option_to_list o ++ commands_from at_end (place_after place (take end bytes)) (drop (end + 1) bytes ++ more)) (sym says)
     ∙ (ap (λ p. option_to_list command ++ commands_from at_end p (drop (end + 1) bytes ++ more)) (sym moved)
     ∙ ap (λ b. option_to_list command ++ commands_from at_end new (b ++ more)) (sym left))))
-    ∙ (sym (append_assoc found (option_to_list command) (commands_from at_end new (behind ++ more)))
-    ∙ ap (λ commands. commands ++ commands_from at_end new (behind ++ more)) (sym added))
+    ∙ (sym (append_assoc found (option_to_list command) (commands_from at_end new (suffix ++ more)))
+    ∙ ap (λ commands. commands ++ commands_from at_end new (suffix ++ more)) (sym added))
 
-pub unended_rest : (rest behind : List ℕ) → is_unended rest ≡ true → length behind ≤ position_or_len is_line_feed behind → is_unended (rest ++ behind) ≡ true
-unended_rest rest behind rest_open past = unended_append rest behind rest_open (ap is_unended (sym (take_all (feed_at behind) behind past)) ∙ unended_prefix behind)
+pub unended_rest : (rest suffix : List ℕ) → is_unended rest ≡ true → length suffix ≤ position_or_len is_line_feed suffix → is_unended (rest ++ suffix) ≡ true
+unended_rest rest suffix rest_open past = unended_append rest suffix rest_open (ap is_unended (sym (take_all (feed_at suffix) suffix past)) ∙ unended_prefix suffix)

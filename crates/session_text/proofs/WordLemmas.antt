@@ -25,14 +25,14 @@ word_boundary text at within is = (
       absurd (omega arith),
 )
 
--- text behind blanks is text
+-- text after blanks is text
 pub trimmed_start-IsUtf8 : (text : List ℕ) → IsUtf8 text → IsUtf8 (trimmed_start text)
 trimmed_start-IsUtf8 [] utf8 = utf8
 trimmed_start-IsUtf8 (byte ∷ text) utf8 = by (trimmed_start-IsUtf8 text) (is_blank byte) refl
   where
     by : (IsUtf8 text → IsUtf8 (trimmed_start text)) → (b : Bool) → is_blank byte ≡ b → IsUtf8 (cond b (trimmed_start text) (byte ∷ text))
-    by behind true blank = behind (IsUtf8-drop (byte ∷ text) 1 utf8 (IsCharBoundary-after_ascii (byte ∷ text) 0 utf8 (omega arith) (blank_ascii byte blank)))
-    by behind false other = utf8
+    by suffix true blank = suffix (IsUtf8-drop (byte ∷ text) 1 utf8 (IsCharBoundary-after_ascii (byte ∷ text) 0 utf8 (omega arith) (blank_ascii byte blank)))
+    by suffix false other = utf8
 
 pub rest_boundary : (text : List ℕ) (at : ℕ) → IsUtf8 text → at ≤ length text → drop at text ≡ trimmed_start text → IsCharBoundary text at
 rest_boundary text at utf8 within is = IsCharBoundary-from_drop text at within (subst IsUtf8 (sym is) (trimmed_start-IsUtf8 text utf8))

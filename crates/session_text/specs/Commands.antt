@@ -6,7 +6,7 @@ use Rattle.session_text.specs.declared.command.Command.{Command}
 use Rattle.session_text.specs.declared.command.Command.TheVariants as command
 use Rattle.plain_tree.specs.declared.place.How.{How}
 use Rattle.plain_tree.specs.declared.place.How.TheVariants as how
-use Rattle.text_lines.specs.Lines.{behind_first_word, first_word, is_skipped, lines, trimmed_line, without_return}
+use Rattle.text_lines.specs.Lines.{after_first_word, first_word, is_skipped, lines, trimmed_line, without_return}
 use Rattle.session_text.specs.Lines.{lines_of, without_mark}
 use Rattle.session_text.specs.Words.{is_text, is_name, is_command_line, is_one_word}
 
@@ -20,7 +20,7 @@ opens_block line =
 abbrev pub closes_block : List ℕ → Bool
 closes_block line = is_text (without_return line) (codes ".")
 
--- a line of a block as it is meant: a period at its front goes
+-- a line of a block as it is meant: a period at its beginning goes
 abbrev pub unquoted : List ℕ → List ℕ
 unquoted line = if starts_with nat_eq line (codes ".") then drop 1 line else line
 
@@ -71,7 +71,7 @@ abbrev pub insertion : ℕ → Option How → List ℕ → List ℕ → Command
 insertion number None path block = command.BadCommand number
 insertion number (Some h) path block = with_text number path (λ p. command.Insert h p block)
 
--- the command with that first word and that rest, and the block behind it
+-- the command with that first word and that rest, and the block after it
 abbrev pub list_command : ℕ → List ℕ → List ℕ → List ℕ → Command
 list_command number word rest block =
     if is_text word (codes "stop") then named number rest (λ name. command.Stop name block)
@@ -82,7 +82,7 @@ list_command number word rest block =
 abbrev pub block_command : ℕ → List ℕ → List ℕ → List ℕ → Command
 block_command number word rest block =
     if is_text word (codes "load") then named number rest (λ name. command.Load name block)
-    else if is_text word (codes "insert") then insertion number (how_of (first_word rest)) (behind_first_word rest) block
+    else if is_text word (codes "insert") then insertion number (how_of (first_word rest)) (after_first_word rest) block
     else if is_text word (codes "replace") then with_text number rest (λ path. command.Replace path block)
     else list_command number word rest block
 
@@ -97,7 +97,7 @@ query_at number name path =
 abbrev pub query : ℕ → List ℕ → Command
 query number rest =
     if is_text (first_word rest) (codes "at")
-    then query_at number (first_word (behind_first_word rest)) (behind_first_word (behind_first_word rest))
+    then query_at number (first_word (after_first_word rest)) (after_first_word (after_first_word rest))
     else with_text number rest command.Query
 
 -- the command with that first word and that rest, without a block
@@ -120,13 +120,13 @@ line_command number word rest =
 -- the command of a line that no block follows
 abbrev pub command_of_line : ℕ → List ℕ → Command
 command_of_line number line =
-    if is_command_line line then line_command number (first_word (trimmed_line line)) (behind_first_word (trimmed_line line))
+    if is_command_line line then line_command number (first_word (trimmed_line line)) (after_first_word (trimmed_line line))
     else command.BadCommand number
 
--- the command of a line and the block behind it
+-- the command of a line and the block after it
 abbrev pub command_of_block : ℕ → List ℕ → List ℕ → Command
 command_of_block number line block =
-    if is_command_line line then block_command number (first_word (trimmed_line line)) (behind_first_word (trimmed_line line)) block
+    if is_command_line line then block_command number (first_word (trimmed_line line)) (after_first_word (trimmed_line line)) block
     else command.BadCommand number
 
 -- the same, where the block may be open: where the session ends, that is a bad command, and else no command yet
@@ -135,7 +135,7 @@ opened at_end number line (Some block) = command_of_block number line block ∷ 
 opened true number line None = command.BadCommand number ∷ []
 opened false number line None = []
 
--- The commands of lines, in order. The first test says whether the session ends behind the lines; the number is that of the
+-- The commands of lines, in order. The first test says whether the session ends after the lines; the number is that of the
 -- first line; the second test says whether that line stands in a block.
 abbrev pub commands_of_lines : Bool → ℕ → Bool → List (List ℕ) → List Command
 commands_of_lines at_end number in_block [] = []

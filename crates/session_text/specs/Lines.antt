@@ -4,11 +4,11 @@ use Rattle.std.specs.List.{starts_with}
 use Rattle.ft_base.specs.Characters.{is_line_feed}
 use Rattle.text_lines.specs.Lines.{lines}
 
--- a session's bytes behind the byte order mark, where one stands at its front
+-- a session's bytes after the byte order mark, where one stands at its beginning
 abbrev pub without_mark : List ℕ → List ℕ
 without_mark bytes = if starts_with nat_eq bytes (239 ∷ 187 ∷ 191 ∷ []) then drop 3 bytes else bytes
 
--- a byte in front of the first line, if there is one
+-- a byte before the first line, if there is one
 abbrev pub onto_ended : ℕ → List (List ℕ) → List (List ℕ)
 onto_ended byte [] = []
 onto_ended byte (line ∷ lines) = (byte ∷ line) ∷ lines

@@ -6,7 +6,7 @@ use Rattle.std.specs.Char.{is_ascii_alphanumeric}
 use Rattle.std.specs.Str.{is_utf8}
 use Rattle.ft_base.specs.Lists.{is_empty}
 use Rattle.ft_base.specs.Limits.{max_line_bytes, max_name_bytes}
-use Rattle.text_lines.specs.Lines.{without_return, trimmed_line, behind_first_word}
+use Rattle.text_lines.specs.Lines.{without_return, trimmed_line, after_first_word}
 
 -- whether two texts have the same bytes
 abbrev pub is_text : List ℕ → List ℕ → Bool
@@ -25,4 +25,4 @@ is_command_line line = nat_le (length (without_return line)) max_line_bytes && i
 
 -- a text that is exactly one word
 abbrev pub is_one_word : List ℕ → Bool
-is_one_word text = not (is_empty text) && is_empty (behind_first_word text)
+is_one_word text = not (is_empty text) && is_empty (after_first_word text)

@@ -2,7 +2,7 @@ ghost use Rattle.std.specs.Prelude.{◌≡◌};
 ghost use Rattle.session_text.specs.Words.{is_text};
 ghost use Rattle.session_text.specs.Lines.{without_mark};
 
-/// The bytes behind a byte order mark.
+/// The bytes after a byte order mark.
 pub(crate) fn skip_mark(bytes: &[u8]) -> &[u8]
     ensures { result.now ≡ without_mark bytes.now }
 {

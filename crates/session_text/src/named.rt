@@ -1,4 +1,4 @@
-//! Commands that one name or one text behind their word makes.
+//! Commands that one name or one text after their word makes.
 
 ghost use Rattle.std.specs.Prelude.{◌≡◌, IfOk};
 ghost use Rattle.session_text.specs.Commands.{name_in, named, text_in, with_text};

@@ -45,7 +45,7 @@ fn read_insertion(
     read_insert(alloc, number, how, path, block)
 }
 
-/// The command with that first word and that rest, and the block behind it.
+/// The command with that first word and that rest, and the block after it.
 fn read_block_command(
     alloc: Global,
     number: u64,
@@ -114,9 +114,9 @@ fn read_query_at(alloc: Global, number: u64, name: &str, path: &str) -> Result<C
 fn read_query(alloc: Global, number: u64, rest: &str) -> Result<Command, Memory>
     ensures { IfOk result (λ command. command ≡ query number rest.now) }
 {
-    let (second, behind) = split_word(rest);
+    let (second, suffix) = split_word(rest);
     if second == "at" {
-        let (name, path) = split_word(behind);
+        let (name, path) = split_word(suffix);
         return read_query_at(alloc, number, name, path);
     }
     read_plain_query(alloc, number, rest)
@@ -201,7 +201,7 @@ pub(crate) fn read_line(alloc: Global, number: u64, line: &[u8]) -> Result<Comma
     }
 }
 
-/// The command of the line of that number and the block behind it.
+/// The command of the line of that number and the block after it.
 pub(crate) fn read_block(
     alloc: Global,
     number: u64,

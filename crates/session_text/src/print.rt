@@ -36,7 +36,7 @@ fn print_lines(alloc: Global, lines: &TextList) -> Result<Line, Memory>
     Ok(Line::from_string(text))
 }
 
-/// The counts, each behind its word.
+/// The counts, each after its word.
 fn print_counts(alloc: Global, counts: &Counts) -> Result<Line, Memory>
     ensures { IfOk result (λ text. text ≡ ended_line (counts_line counts.now)) }
 {

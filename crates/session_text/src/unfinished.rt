@@ -5,8 +5,8 @@ ghost use Rattle.std.specs.Option.{option_map, option_to_list};
 ghost use Rattle.ft_base.specs.Characters.{is_line_feed};
 ghost use Rattle.session_text.specs.steps.Blocks.{without_last};
 ghost use Rattle.session_text.specs.Commands.{closes_block, unquoted};
-ghost use Rattle.session_text.specs.steps.Reading.{at_start, behind_lines, between_lines, commands_from, ended_at, held_length};
-ghost use Rattle.session_text.specs.steps.Reading.{is_unended, line_ended, open_at_end, open_lines, place_behind};
+ghost use Rattle.session_text.specs.steps.Reading.{at_start, after_lines, between_lines, commands_from, ended_at, held_length};
+ghost use Rattle.session_text.specs.steps.Reading.{is_unended, line_ended, open_at_end, open_lines, place_after};
 
 use crate::line::{is_word, skip_mark};
 use crate::parse::{opens_block, read_block, read_line};
@@ -17,7 +17,7 @@ use std::marker::Model;
 use text_lines::{drop_return, is_skipped, line_end};
 
 /// A command whose block is open: its line, and the block's lines so far, each with
-/// a line feed behind it. The bytes of the line that hasn't ended stand behind them.
+/// a line feed after it. The bytes of the line that hasn't ended stand after them.
 #[derive(Drop)]
 struct OpenBlock {
     line: Vec<u8>,
@@ -69,14 +69,14 @@ fn unquote(line: &[u8]) -> &[u8]
     }
 }
 
-/// The bytes behind that many lines, without a byte order mark at the session's start.
+/// The bytes after that many lines, without a byte order mark at the session's start.
 fn skip_mark_at_start(lines: u64, bytes: &[u8]) -> &[u8]
-    ensures { result.now ≡ behind_lines lines bytes.now }
+    ensures { result.now ≡ after_lines lines bytes.now }
 {
     if lines == 0 { skip_mark(bytes) } else { bytes }
 }
 
-/// The block's bytes: the line feed behind its last line goes.
+/// The block's bytes: the line feed after its last line goes.
 fn close(mut block: Vec<u8>) -> Bytes
     ensures { result ≡ without_last block.items }
 {
@@ -119,7 +119,7 @@ fn remove_bytes(block: &mut Vec<u8>, from: usize, to: usize)
     }
 }
 
-/// The block with a line feed behind the line that ended, which is the block's last.
+/// The block with a line feed after the line that ended, which is the block's last.
 fn with_line(line: Vec<u8>, number: u64, mut block: Vec<u8>) -> Result<OpenBlock, Memory>
     ensures { IfOk result (λ pending. pending ≡ open_lines line.items number 0 (block.items ++ 10 ∷ [])) }
 {
@@ -162,7 +162,7 @@ fn end_held_line(
     lines: u64,
     pending: OpenBlock,
 ) -> Result<(Option<Command>, Option<OpenBlock>), Memory>
-    ensures { IfOk result (λ ended. ended ≡ between_lines (line_ended pending.opened.number (Some pending.opened) (behind_lines lines pending.rest))) }
+    ensures { IfOk result (λ ended. ended ≡ between_lines (line_ended pending.opened.number (Some pending.opened) (after_lines lines pending.rest))) }
 {
     let line = skip_mark_at_start(lines, pending.rest());
     let is_end = closes(line);
@@ -216,7 +216,7 @@ fn end_inside(
     part: &[u8],
 ) -> Result<(Option<Command>, Option<OpenBlock>), Memory>
     ensures { IfOk result (λ ended. ended
-        ≡ between_lines (line_ended pending.opened.number (Some pending.opened) (behind_lines lines (pending.rest ++ part.now)))) }
+        ≡ between_lines (line_ended pending.opened.number (Some pending.opened) (after_lines lines (pending.rest ++ part.now)))) }
 {
     if pending.rest().is_empty() {
         return end_block_line(alloc, pending, skip_mark_at_start(lines, part));
@@ -259,11 +259,11 @@ impl Unfinished {
         }
     }
 
-    /// Takes the last part of the line, whose line feed is behind it, and gives the command that is whole with it.
+    /// Takes the last part of the line, whose line feed is after it, and gives the command that is whole with it.
     fn end_rest(&mut self, alloc: Global, part: &[u8]) -> Result<Option<Command>, Memory>
         requires { self.old.lines + 1 < 2 ^ 64 }
         ensures command { IfOk result (λ command. command ≡ (ended_at self.old part.now).0) }
-        ensures place { OnOk result (self.new ≡ place_behind self.old part.now) }
+        ensures place { OnOk result (self.new ≡ place_after self.old part.now) }
     {
         let lines = self.lines;
         let (command, opened) = self.end_part(alloc, part)?;
@@ -328,7 +328,7 @@ impl Unfinished {
         }
     }
 
-    /// Takes the first line, which ends at that place, adds the command that is whole with it, and gives what stands behind it.
+    /// Takes the first line, which ends at that place, adds the command that is whole with it, and gives what stands after it.
     fn take_line<'a>(
         &mut self,
         alloc: Global,
@@ -340,14 +340,14 @@ impl Unfinished {
         requires unended { is_unended self.old.rest ≡ true }
         requires feed { end ≡ position_or_len is_line_feed bytes.now }
         requires within { end < length bytes.now }
-        ensures commands { IfOk result (λ behind. (at_end : Bool) (more : List ℕ) →
-            found.old ++ commands_from at_end self.old (bytes.now ++ more) ≡ found.new ++ commands_from at_end self.new (behind.now ++ more)) }
+        ensures commands { IfOk result (λ suffix. (at_end : Bool) (more : List ℕ) →
+            found.old ++ commands_from at_end self.old (bytes.now ++ more) ≡ found.new ++ commands_from at_end self.new (suffix.now ++ more)) }
         ensures readable { OnOk result (list_all is_readable found.old ≡ true → list_all is_readable found.new ≡ true) }
-        ensures blocks { IfOk result (λ behind.
-            block_lengths found.new + held_length self.new + length behind.now ≤ block_lengths found.old + held_length self.old + length bytes.now) }
+        ensures blocks { IfOk result (λ suffix.
+            block_lengths found.new + held_length self.new + length suffix.now ≤ block_lengths found.old + held_length self.old + length bytes.now) }
         ensures unended { OnOk result (is_unended self.new.rest ≡ true) }
         ensures lines { OnOk result (self.new.lines ≡ self.old.lines + 1) }
-        ensures shorter { IfOk result (λ behind. length behind.now + end + 1 ≡ length bytes.now) }
+        ensures shorter { IfOk result (λ suffix. length suffix.now + end + 1 ≡ length bytes.now) }
     {
         let command = self.end_rest(alloc, &bytes[..end])?;
         add(found, command)?;
@@ -367,13 +367,13 @@ impl Unfinished {
         ensures lines { OnOk result (self.new.lines ≤ self.old.lines + length piece.now) }
     {
         let mut found = Commands::new(alloc);
-        let mut behind = piece;
-        let mut end = line_end(behind);
-        while end < behind.len() {
-            behind = self.take_line(alloc, behind, end, &mut found)?;
-            end = line_end(behind);
+        let mut suffix = piece;
+        let mut end = line_end(suffix);
+        while end < suffix.len() {
+            suffix = self.take_line(alloc, suffix, end, &mut found)?;
+            end = line_end(suffix);
         }
-        self.hold(behind)?;
+        self.hold(suffix)?;
         Ok(found)
     }
 

@@ -1,20 +1,20 @@
 ghost use Rattle.std.specs.Prelude.{◌≡◌, ◌≤◌, length, drop};
 ghost use Rattle.std.specs.List.{list_all};
-ghost use Rattle.text_lines.specs.Lines.{trimmed_line, first_word, behind_first_word};
+ghost use Rattle.text_lines.specs.Lines.{trimmed_line, first_word, after_first_word};
 ghost use Rattle.session_text.specs.Words.{is_name, is_name_byte, is_one_word};
 
 use ft_base::MAX_NAME_BYTES;
 use text_lines::{skip_blanks, word_end};
 
-/// The text's first word, and what stands behind it and the blanks after it.
+/// The text's first word, and what stands after it and the blanks after it.
 #[tactic(auto, using(crate::proofs::WordLemmas::word_boundary, crate::proofs::WordLemmas::rest_boundary))]
 pub(crate) fn split_word(text: &str) -> (&str, &str)
     ensures word { result.0.now ≡ first_word text.now }
-    ensures rest { result.1.now ≡ behind_first_word text.now }
+    ensures rest { result.1.now ≡ after_first_word text.now }
 {
     let at = word_end(text.as_bytes());
-    let behind = &text[at..];
-    (&text[..at], &behind[skip_blanks(behind.as_bytes())..])
+    let suffix = &text[at..];
+    (&text[..at], &suffix[skip_blanks(suffix.as_bytes())..])
 }
 
 /// Whether the text is exactly one word.

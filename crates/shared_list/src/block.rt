@@ -141,15 +141,15 @@ impl<T: Share> Block<T> {
         Ok(())
     }
 
-    /// The block as two blocks, the first of them with the items in front of the place.
+    /// The block as two blocks, the first of them with the items before the place.
     pub fn halves(&self, at: usize) -> Result<(Block<T>, Block<T>), Memory>
         requires { at ≤ length self.now }
         ensures { IfOk result (λ halves. (halves.0 ++ halves.1 ≡ self.now) × (length halves.0 ≡ at)) }
     {
         let alloc = *self.items.allocator();
         let items = self.items.as_slice();
-        let front = Block::new(T::copies(alloc, &items[..at])?)?;
+        let prefix = Block::new(T::copies(alloc, &items[..at])?)?;
         let back = Block::new(T::copies(alloc, &items[at..])?)?;
-        Ok((front, back))
+        Ok((prefix, back))
     }
 }

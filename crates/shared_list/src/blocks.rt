@@ -57,7 +57,7 @@ impl<T: Drop> Blocks<T> {
         self.blocks.len()
     }
 
-    /// The number of the block in which the place is: the last one that starts in front of it or at it.
+    /// The number of the block in which the place is: the last one that starts before it or at it.
     pub fn block_of(&self, at: usize) -> usize
         requires { 0 < length self.now }
         ensures { IsBlockOf self.now at result }
@@ -89,7 +89,7 @@ impl<T: Drop> Blocks<T> {
         self.blocks[number].as_slice()
     }
 
-    /// Puts an empty block behind the last one, where so many items are in front of it.
+    /// Puts an empty block after the last one, where so many items are before it.
     pub fn add_empty(&mut self, start: usize) -> Result<(), Memory>
         requires { start ≡ length (joined self.old) }
         ensures ok { OnOk result (self.new ≡ self.old ++ [] ∷ []) }
@@ -177,14 +177,14 @@ impl<T: Share> Blocks<T> {
         ensures more { OnOk result (length self.new ≡ length self.old + 1) }
     {
         let half = self.blocks[number].len() / 2;
-        let (front, back) = self.blocks[number].halves(half)?;
+        let (prefix, back) = self.blocks[number].halves(half)?;
         let Some(middle) = self.start(number).checked_add(half) else {
             return Err(Memory);
         };
         self.starts.insert(number + 1, middle)?;
         match self.blocks.insert(number + 1, back) {
             Ok(()) => {
-                self.blocks[number] = front;
+                self.blocks[number] = prefix;
                 Ok(())
             }
             Err(_) => {

@@ -1,4 +1,4 @@
-//! A list whose copies share their memory: its items stand in blocks, each behind a counted pointer. A copy of the
+//! A list whose copies share their memory: its items stand in blocks, each after a counted pointer. A copy of the
 //! list counts the blocks once more and copies no item, and a change to one of two such lists copies the block that
 //! it changes and leaves the other list as it was. Contracts see the plain list of the items.
 //!

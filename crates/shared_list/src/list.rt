@@ -93,7 +93,7 @@ impl<T: Drop, const BLOCK: usize> SharedList<T, BLOCK> {
 }
 
 impl<T: Share, const BLOCK: usize> SharedList<T, BLOCK> {
-    /// Puts the item behind the last one. Where memory runs out, the list stays as it was and the item is dropped.
+    /// Puts the item after the last one. Where memory runs out, the list stays as it was and the item is dropped.
     pub fn push(&mut self, item: T) -> Result<(), Memory>
         ensures ok { OnOk result (self.new ≡ self.old ++ item ∷ []) }
         ensures err { OnErr result (self.new ≡ self.old) }
@@ -101,7 +101,7 @@ impl<T: Share, const BLOCK: usize> SharedList<T, BLOCK> {
         self.insert(self.len, item)
     }
 
-    /// Puts the item at that place, counted from 0, in front of the one that is there. Where memory runs out, the
+    /// Puts the item at that place, counted from 0, before the one that is there. Where memory runs out, the
     /// list stays as it was and the item is dropped.
     pub fn insert(&mut self, at: usize, item: T) -> Result<(), Memory>
         requires { at ≤ length self.old }
@@ -141,7 +141,7 @@ impl<T: Share, const BLOCK: usize> SharedList<T, BLOCK> {
     }
 }
 
-/// The number of the block of that place where all blocks in front of it are full, as in a list that grew at its end.
+/// The number of the block of that place where all blocks before it are full, as in a list that grew at its end.
 fn block_if_full<const BLOCK: usize>(at: usize) -> usize {
     match at.checked_div(BLOCK) {
         Some(number) => number,
@@ -166,7 +166,7 @@ fn make_room<T: Share, const BLOCK: usize>(
     if blocks.items(number).len() < BLOCK {
         return Ok(());
     }
-    // Behind the last item a block begins anew, so that the blocks of a list that grows at its end are full.
+    // After the last item a block begins anew, so that the blocks of a list that grows at its end are full.
     if at == len {
         return blocks.add_empty(len);
     }

@@ -35,17 +35,17 @@ pub fn last_at_most_near(starts: &Vec<usize>, at: usize, likely: usize) -> usize
     last_at_most(starts, at)
 }
 
-/// The same where the start of that number is known to be behind the place.
-fn between(starts: &Vec<usize>, at: usize, behind: usize) -> usize
-    requires within { behind < length starts.now.items }
+/// The same where the start of that number is known to be after the place.
+fn between(starts: &Vec<usize>, at: usize, beyond: usize) -> usize
+    requires within { beyond < length starts.now.items }
     requires first { slice_index starts.now.items 0 ≤ at }
-    requires behind { at < slice_index starts.now.items behind }
+    requires beyond { at < slice_index starts.now.items beyond }
     ensures there { result < length starts.now.items }
     ensures from { slice_index starts.now.items result ≤ at }
     ensures to { at < slice_index starts.now.items (result + 1) }
 {
     let mut low = 0;
-    let mut high = behind;
+    let mut high = beyond;
     while high - low > 1 {
         let middle = low + (high - low) / 2;
         if starts[middle] <= at {

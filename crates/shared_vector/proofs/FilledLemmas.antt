@@ -5,7 +5,7 @@ use Rattle.shared_list.specs.Blocks.{joined, start_of, IsBlockOf}
 use Rattle.shared_list.proofs.JoinedLemmas.{start-next, take-place, replace-at, item-at}
 use Rattle.shared_vector.specs.Full.{IsFilled}
 
--- each block starts behind full ones
+-- each block starts after full ones
 start-filled : {T : Type 0} (blocks : List (List T)) → IsFilled blocks → (k : ℕ) → k < length blocks → start_of blocks k ≡ k * 64
 start-filled blocks filled zero there = refl
 start-filled blocks filled (suc k) there =

@@ -58,7 +58,7 @@ impl<T: Drop> Block<T> {
 }
 
 impl<T: Share> Block<T> {
-    /// Puts the item behind the last one. A block that other vectors hold is copied first, so that they keep theirs.
+    /// Puts the item after the last one. A block that other vectors hold is copied first, so that they keep theirs.
     pub(crate) fn push(&mut self, item: T) -> Result<(), Memory>
         ensures ok { OnOk result (self.new ≡ self.old ++ item ∷ []) }
         ensures err { OnErr result (self.new ≡ self.old) }
@@ -72,7 +72,7 @@ impl<T: Share> Block<T> {
         }
     }
 
-    /// Puts the item behind the last one of a copy of the block, which takes the block's place.
+    /// Puts the item after the last one of a copy of the block, which takes the block's place.
     fn push_in_copy(&mut self, item: T) -> Result<(), Memory>
         ensures ok { OnOk result (self.new ≡ self.old ++ item ∷ []) }
         ensures err { OnErr result (self.new ≡ self.old) }

@@ -1,4 +1,4 @@
-//! A vector whose copies share their memory: its items stand in blocks of one length, each behind a counted pointer. A
+//! A vector whose copies share their memory: its items stand in blocks of one length, each after a counted pointer. A
 //! copy of the vector counts the blocks once more and copies no item, and a change to one of two such vectors copies the
 //! block that it changes and leaves the other vector as it was. Contracts see the plain list of the items.
 //!

@@ -94,7 +94,7 @@ impl<T: Share> SharedVector<T> {
         Ok(vector)
     }
 
-    /// Puts the item behind the last one. Where memory runs out, the vector stays as it was and the item is dropped.
+    /// Puts the item after the last one. Where memory runs out, the vector stays as it was and the item is dropped.
     pub fn push(&mut self, item: T) -> Result<(), Memory>
         ensures ok { OnOk result (self.new ≡ self.old ++ item ∷ []) }
         ensures err { OnErr result (self.new ≡ self.old) }
@@ -130,7 +130,7 @@ fn shared<T: Drop>(blocks: &Vec<Block<T>>) -> Result<Vec<Block<T>>, Memory>
     Ok(copy)
 }
 
-/// Puts the item behind the last one, into a new block where the last block is full.
+/// Puts the item after the last one, into a new block where the last block is full.
 fn push_item<T: Share>(blocks: &mut Vec<Block<T>>, item: T) -> Result<(), Memory>
     requires filled { IsFilled blocks.old.items }
     ensures filled { IsFilled blocks.new.items }

@@ -1,4 +1,4 @@
--- Spots that are passed, and the first one that begins behind a place.
+-- Spots that are passed, and the first one that begins after a place.
 use Rattle.std.proofs.Common.{◌≡◌, refl, sym, ap, ◌∙◌, ℕ, ◌+◌, ◌<◌, ◌≤◌, Bool, true, ◌&&◌, ◌||◌, not, List, ◌∷◌, Option, Some, None, arith}
 use Rattle.std.specs.Prelude.{nat_le, nat_lt}
 use Rattle.std.specs.List.{list_all, list_any}
@@ -15,7 +15,7 @@ use Rattle.place_merges.specs.steps.Spotting.{is_before}
 use Rattle.spot_merges.specs.Apart.{lies_within}
 use Rattle.spot_merges.specs.declared.covering.Cover.{Cover}
 use Rattle.spot_merges.specs.steps.Covering.{SameAt, is_free, spots_ahead}
-use Rattle.spot_merges.proofs.SpotTests.{all_behind, any_behind}
+use Rattle.spot_merges.proofs.SpotTests.{all_after, any_after}
 
 abbrev end_of : Spot → ℕ
 end_of at = at.place + at.words
@@ -24,16 +24,16 @@ module _ {H : Type 0} (stand : H → HitPlace) (to : ℕ) where
   abbrev wants : List (Variant H) → List (List Wanted)
   wants variants = wanted_words stand variants
 
-  -- ---- where the next spot begins behind a place
+  -- ---- where the next spot begins after a place
 
   none_within : (variants : List (Variant H)) (next : Option Spot) (at : Spot) → ForSome next (λ other. at.place < other.place)
       → list_all (λ other. not (lies_within at other)) (spots_ahead stand to variants next) ≡ true
   none_within variants None at h = refl
   none_within variants (Some first) at h =
-      let behind : at.place < first.place = h first refl in
-      λ i. beyond first.place (end_of first) behind i
-      && all_behind to first (some_at to (wants variants)) (λ other. not (lies_within at other))
-      (λ other after. beyond other.place (end_of other) (further first other behind after)) i
+      let past : at.place < first.place = h first refl in
+      λ i. beyond first.place (end_of first) past i
+      && all_after to first (some_at to (wants variants)) (λ other. not (lies_within at other))
+      (λ other after. beyond other.place (end_of other) (further first other past after)) i
     where
       beyond : (place end : ℕ) → at.place < place → not (nat_le place at.place && nat_le (end_of at) end) ≡ true
       beyond place end less = grind (arith, nat_tests, less)
@@ -54,7 +54,7 @@ module _ {H : Type 0} (stand : H → HitPlace) (to : ℕ) where
   pub free_led : (left old now : List (Variant H)) (at : Spot) (before after : Cover) → SameAt at.place (is_free stand to now after) (is_free stand to old before)
       → some_free now after (at ∷ spots_left to (wants left) at) ≡ some_free old before (at ∷ spots_left to (wants left) at)
   free_led left old now at before after same =
-      λ i. same.same at (omega arith) i || any_behind to at (some_at to (wants left)) (is_free stand to now after) (is_free stand to old before) (λ other h. same.same other (later other h)) i
+      λ i. same.same at (omega arith) i || any_after to at (some_at to (wants left)) (is_free stand to now after) (is_free stand to old before) (λ other h. same.same other (later other h)) i
     where
       later : (other : Spot) → is_before at other ≡ true → at.place ≤ other.place
       later other h = grind (arith, nat_tests, h)
@@ -64,7 +64,7 @@ module _ {H : Type 0} (stand : H → HitPlace) (to : ℕ) where
       → some_free now (record { end = from; next = next }) (spots_left to (wants left) (spot from 0))
       ≡ list_any (λ a. list_all (λ b. not (lies_within a b)) (spots_left to (wants right) (spot from 0))) (spots_left to (wants left) (spot from 0))
   free_starts from left right now next same =
-      any_behind to (spot from 0) (some_at to (wants left)) (is_free stand to now (record { end = from; next = next }))
+      any_after to (spot from 0) (some_at to (wants left)) (is_free stand to now (record { end = from; next = next }))
       (λ a. list_all (λ b. not (lies_within a b)) (spots_left to (wants right) (spot from 0)))
       (λ a h. (λ i. ends a h i && list_all (λ b. not (lies_within a b)) (sym same i)))
     where

@@ -8,7 +8,7 @@ use Rattle.place_merges.specs.Spots.{spot, spots_at, spots_between}
 use Rattle.place_merges.specs.declared.spot.Spot.{Spot}
 use Rattle.spot_merges.proofs.SpotTests.{any_not_all}
 
--- a spot from one place on, in front of another, at which the test holds
+-- a spot from one place on, before another, at which the test holds
 pub record IsThere (test : Spot → Bool) (from to : ℕ) : Type 0 where
   pub at : Spot
   pub first : from ≤ at.place

@@ -1,9 +1,9 @@
--- Tests of the elements that a filter keeps, and of the spots behind one.
+-- Tests of the elements that a filter keeps, and of the spots after one.
 use Rattle.std.proofs.Common.{◌≡◌, refl, sym, ap, ◌∙◌, ℕ, Bool, true, false, cond, ◌&&◌, ◌||◌, not, List, [], ◌∷◌, filter}
 use Rattle.std.specs.List.{list_all, list_any}
 use Rattle.std.proofs.lemmas.Bool.{and_parts}
 use Rattle.ft_base.specs.Lists.{is_not_empty}
-use Rattle.place_merges.specs.Spots.{spots_behind}
+use Rattle.place_merges.specs.Spots.{spots_after}
 use Rattle.place_merges.specs.declared.spot.Spot.{Spot}
 use Rattle.place_merges.specs.steps.Spotting.{is_before}
 use Rattle.place_merges.proofs.SpotLemmas.{left_same}
@@ -64,20 +64,20 @@ all_on holds test other same (x ∷ xs) h =
     let parts = and_parts (holds x) (list_all holds xs) h in
     λ i. same x parts.0 i && all_on holds test other same xs parts.1 i
 
--- ---- the spots behind one
+-- ---- the spots after one
 
 module _ (to : ℕ) (at : Spot) (kept : Spot → Bool) where
-  pub any_behind : (test other : Spot → Bool) → ((a : Spot) → is_before at a ≡ true → test a ≡ other a)
-      → list_any test (filter kept (spots_behind to at)) ≡ list_any other (filter kept (spots_behind to at))
-  any_behind test other same =
-      some_left test kept (spots_behind to at)
+  pub any_after : (test other : Spot → Bool) → ((a : Spot) → is_before at a ≡ true → test a ≡ other a)
+      → list_any test (filter kept (spots_after to at)) ≡ list_any other (filter kept (spots_after to at))
+  any_after test other same =
+      some_left test kept (spots_after to at)
       ∙ ap is_not_empty (left_same to at (λ a. kept a && test a) (λ a. kept a && other a) (record { same = λ a h. ap (λ b. kept a && b) (same a h) }))
-      ∙ sym (some_left other kept (spots_behind to at))
+      ∙ sym (some_left other kept (spots_after to at))
 
-  pub all_behind : (test : Spot → Bool) → ((a : Spot) → is_before at a ≡ true → test a ≡ true) → list_all test (filter kept (spots_behind to at)) ≡ true
-  all_behind test holds =
+  pub all_after : (test : Spot → Bool) → ((a : Spot) → is_before at a ≡ true → test a ≡ true) → list_all test (filter kept (spots_after to at)) ≡ true
+  all_after test holds =
       ap (list_all test) (sym (left_same to at (λ a. kept a && test a) kept (record { same = λ a h. ap (λ b. kept a && b) (holds a h) ∙ kept_alone (kept a) })))
-      ∙ all_left test kept (spots_behind to at)
+      ∙ all_left test kept (spots_after to at)
     where
       kept_alone : (b : Bool) → (b && true) ≡ b
       kept_alone true = refl

@@ -38,28 +38,28 @@ module _ (span : Span) where
   abbrev lies : Spot → Bool
   lies at = lies_in span.from span.to at
 
-  module _ (at : Spot) (is : lies at ≡ true) (hit : Hit) (told : IsTold hit at) where
+  module _ (at : Spot) (is : lies at ≡ true) (hit : Hit) (known : IsTold hit at) where
     hit_inside : lies_inside own hit ≡ true
     hit_inside =
         let where_it_is = lying span.from span.to at is in
         let low = where_it_is.0 in
         let some = where_it_is.1.0 in
         let high = where_it_is.1.1 in
-        let from = told.from in
-        let to = told.to in
+        let from = known.from in
+        let to = known.to in
         and_from (is_hit hit) (nat_le own.from hit.from && (nat_lt hit.to own.to && hit.whole)) (le-leb hit.from hit.to (omega (arith, from, to, low, some)))
         (and_from (nat_le own.from hit.from) (nat_lt hit.to own.to && hit.whole) (le-leb own.from hit.from (omega (arith, from, low)))
-        (and_from (nat_lt hit.to own.to) hit.whole (lt-ltb hit.to own.to (omega (arith, to, low, some, high))) told.whole))
+        (and_from (nat_lt hit.to own.to) hit.whole (lt-ltb hit.to own.to (omega (arith, to, low, some, high))) known.whole))
 
     starts : (hit.from == own.from) ≡ (at.place == span.from)
     starts =
         let where_it_is = lying span.from span.to at is in
-        grind (arith, nat_tests, where_it_is.0, told.from)
+        grind (arith, nat_tests, where_it_is.0, known.from)
 
     ends : (suc hit.to == own.to) ≡ (at.place + at.words == span.to)
     ends =
         let where_it_is = lying span.from span.to at is in
-        grind (arith, nat_tests, where_it_is.0, where_it_is.1.0, where_it_is.1.1, told.to)
+        grind (arith, nat_tests, where_it_is.0, where_it_is.1.0, where_it_is.1.1, known.to)
 
     at_same : (edge : Edge) → hit_is_at edge own hit ≡ is_at edge span at
     at_same Start = starts
@@ -67,49 +67,49 @@ module _ (span : Span) where
     at_same Both = λ i. starts i && ends i
 
   within_same : (a b : Spot) → lies a ≡ true → lies b ≡ true → (one other : Hit) → IsTold one a → IsTold other b → hit_lies_within one other ≡ lies_within a b
-  within_same a b first second one other told also =
+  within_same a b first second one other known also =
       let left = lying span.from span.to a first in
       let right = lying span.from span.to b second in
-      let begins : nat_le other.from one.from ≡ nat_le b.place a.place = grind (arith, nat_tests, left.0, right.0, told.from, also.from) in
+      let begins : nat_le other.from one.from ≡ nat_le b.place a.place = grind (arith, nat_tests, left.0, right.0, known.from, also.from) in
       let ends : nat_le one.to other.to ≡ nat_le (a.place + a.words) (b.place + b.words) =
-      grind (arith, nat_tests, left.0, left.1.0, right.0, right.1.0, told.to, also.to) in
+      grind (arith, nat_tests, left.0, left.1.0, right.0, right.1.0, known.to, also.to) in
       λ i. begins i && ends i
 
   -- the spots of a phrase, as far as they lie in the span
   all_inside : (tell : Spot → Hit) → ((at : Spot) → IsTold (tell at) at) → (spots : List Spot) → list_all lies spots ≡ true → list_all (lies_inside own) (map tell spots) ≡ true
-  all_inside tell told [] h = refl
-  all_inside tell told (at ∷ spots) h =
+  all_inside tell known [] h = refl
+  all_inside tell known (at ∷ spots) h =
       let parts = and_parts (lies at) (list_all lies spots) h in
-      λ i. hit_inside at parts.0 (tell at) (told at) i && all_inside tell told spots parts.1 i
+      λ i. hit_inside at parts.0 (tell at) (known at) i && all_inside tell known spots parts.1 i
 
   all_hits : (tell : Spot → Hit) → ((at : Spot) → IsTold (tell at) at) → (spots : List Spot) → list_all lies spots ≡ true → list_all is_hit (map tell spots) ≡ true
-  all_hits tell told [] h = refl
-  all_hits tell told (at ∷ spots) h =
+  all_hits tell known [] h = refl
+  all_hits tell known (at ∷ spots) h =
       let parts = and_parts (lies at) (list_all lies spots) h in
-      let one = and_parts (is_hit (tell at)) (nat_le own.from (tell at).from && (nat_lt (tell at).to own.to && (tell at).whole)) (hit_inside at parts.0 (tell at) (told at)) in
-      λ i. one.0 i && all_hits tell told spots parts.1 i
+      let one = and_parts (is_hit (tell at)) (nat_le own.from (tell at).from && (nat_lt (tell at).to own.to && (tell at).whole)) (hit_inside at parts.0 (tell at) (known at)) in
+      λ i. one.0 i && all_hits tell known spots parts.1 i
 
   -- a phrase at an edge
   pub told_edge : (tell : Spot → Hit) → ((at : Spot) → IsTold (tell at) at) → (edge : Edge) (variants : List (List Wanted))
       → satisfied (matches_of own (through_filter (phrase (map tell (spots_of span variants))) (edge_filter edge))) ≡ list_any (is_at edge span) (spots_of span variants)
-  told_edge tell told edge variants =
+  told_edge tell known edge variants =
       let spots = spots_of span variants in
       let lie = kept_lie (some_at span.to variants) span.from span.to in
-      edge_law edge own (map tell spots) (all_inside tell told spots lie)
+      edge_law edge own (map tell spots) (all_inside tell known spots lie)
       ∙ list_any-map (hit_is_at edge own) tell spots
-      ∙ any_on lies (λ at. hit_is_at edge own (tell at)) (is_at edge span) (λ at h. at_same at h (tell at) (told at) edge) spots lie
+      ∙ any_on lies (λ at. hit_is_at edge own (tell at)) (is_at edge span) (λ at h. at_same at h (tell at) (known at) edge) spots lie
 
   -- a phrase apart from another one
   pub told_apart : (tell also : Spot → Hit) → ((at : Spot) → IsTold (tell at) at) → ((at : Spot) → IsTold (also at) at) → (left right : List (List Wanted))
       → satisfied (matches_of own (apart (phrase (map tell (spots_of span left))) (phrase (map also (spots_of span right))))) ≡ some_apart (spots_of span left) (spots_of span right)
-  told_apart tell also told likewise left right =
+  told_apart tell also known likewise left right =
       let first = spots_of span left in
       let second = spots_of span right in
       let lie = kept_lie (some_at span.to left) span.from span.to in
       let others = kept_lie (some_at span.to right) span.from span.to in
-      apart_law own (map tell first) (map also second) (all_hits tell told first lie)
+      apart_law own (map tell first) (map also second) (all_hits tell known first lie)
       ∙ list_any-map (λ a. list_all (λ b. not (hit_lies_within a b)) (map also second)) tell first
       ∙ any_on lies (λ at. list_all (λ b. not (hit_lies_within (tell at) b)) (map also second)) (λ at. list_all (λ b. not (lies_within at b)) second)
       (λ at h. list_all-map (λ b. not (hit_lies_within (tell at) b)) also second
       ∙ all_on lies (λ b. not (hit_lies_within (tell at) (also b))) (λ b. not (lies_within at b))
-      (λ b k. ap not (within_same at b h k (tell at) (also b) (told at) (likewise b))) second others) first lie
+      (λ b k. ap not (within_same at b h k (tell at) (also b) (known at) (likewise b))) second others) first lie

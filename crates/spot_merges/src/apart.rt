@@ -12,7 +12,7 @@ use std::sync::ledger::Ledger;
 
 /// Whether one of the left variants that count stands in the span on words that no right variant covers all of.
 ///
-/// Both sides go forward only: for each spot of the left side, the right one goes on to the first spot that begins behind it, and keeps
+/// Both sides go forward only: for each spot of the left side, the right one goes on to the first spot that begins after it, and keeps
 /// the farthest end of those that it passed. Of plain sources each hit that is passed counts two steps at most.
 pub fn stand_apart<H: FirstWords, L: Ledger>(
     left: &mut Vec<Variant<H>>,
@@ -30,20 +30,20 @@ pub fn stand_apart<H: FirstWords, L: Ledger>(
         steps.old + (2 * all_left H.stand left.old.items + 2 * all_left H.stand right.old.items) }
     ensures grown { steps.old ≤ steps.new }
 {
-    let mut behind = Spot {
+    let mut after = Spot {
         place: span.from,
         words: 0,
     };
     let mut cover = Cover {
         end: span.from,
-        next: next_spot(right, behind, span.to, steps),
+        next: next_spot(right, after, span.to, steps),
     };
-    while let Some(at) = next_spot(left, behind, span.to, steps) {
+    while let Some(at) = next_spot(left, after, span.to, steps) {
         cover = cover_up_to(right, cover, at.place, span.to, steps);
         if cover.end < at.place + at.words {
             return true;
         }
-        behind = at;
+        after = at;
     }
     false
 }

@@ -12,13 +12,13 @@ use std::sync::ledger::Ledger;
 /// Some spots of a phrase that were passed.
 #[derive(Clone, Copy)]
 pub(crate) struct Cover {
-    /// The place behind the last word of the one that ends last.
+    /// The place after the last word of the one that ends last.
     pub(crate) end: u32,
-    /// The first spot behind them.
+    /// The first spot after them.
     pub(crate) next: Option<Spot>,
 }
 
-/// Passes the spots that begin at the place or in front of it.
+/// Passes the spots that begin at the place or before it.
 pub(crate) fn cover_up_to<H: FirstWords, L: Ledger>(
     variants: &mut Vec<Variant<H>>,
     cover: Cover,
@@ -46,7 +46,7 @@ pub(crate) fn cover_up_to<H: FirstWords, L: Ledger>(
     passed
 }
 
-/// The spot, where it begins at the place or in front of it.
+/// The spot, where it begins at the place or before it.
 fn due(next: Option<Spot>, place: u32) -> Option<Spot>
     ensures { result ≡ spec.due place next }
 {

@@ -43,15 +43,15 @@ pub fn stands_at_edge<H: FirstWords, L: Ledger>(
     }
     let words = longest(variants, span.to - span.from);
     let near = words_near(edge, span, words);
-    let mut behind = Spot {
+    let mut after = Spot {
         place: near.from,
         words: 0,
     };
-    while let Some(at) = next_spot(variants, behind, near.to, steps) {
+    while let Some(at) = next_spot(variants, after, near.to, steps) {
         if is_at(edge, span, at) {
             return true;
         }
-        behind = at;
+        after = at;
     }
     false
 }

@@ -22,8 +22,8 @@ pub at_place : (e : Entry) (n : ℕ) (ts : List Term) → stands_at e n (entries
 at_place e n ts h = let stands = stands_there e n (entries ts) h in (omega (arith, stands.0, length-map ts (λ (t : Term). t.entry)), stands.1)
 
 -- what a test at its place says of an entry
-pub told : (e : Entry) (ts : List Term) (n : ℕ) (b : Bool) → is_sorted (entries ts) ≡ true → n ≡ count_before AtEntry e (entries ts) → b ≡ stands_at e n (entries ts) → has_entry e (entries ts) ≡ b
-told e ts n b sorted is shown = sym (found_at e (entries ts) sorted) ∙ ap (λ k. stands_at e k (entries ts)) (sym is) ∙ sym shown
+pub known : (e : Entry) (ts : List Term) (n : ℕ) (b : Bool) → is_sorted (entries ts) ≡ true → n ≡ count_before AtEntry e (entries ts) → b ≡ stands_at e n (entries ts) → has_entry e (entries ts) ≡ b
+known e ts n b sorted is shown = sym (found_at e (entries ts) sorted) ∙ ap (λ k. stands_at e k (entries ts)) (sym is) ∙ sym shown
 
 pub told_number : (e : Entry) (es : List Entry) (n : ℕ) (b : Bool) → is_sorted es ≡ true → n ≡ count_before AtEntry e es → b ≡ stands_at e n es → cond b (Some n) None ≡ number_of e es
 told_number e es n b sorted is shown =
@@ -99,7 +99,7 @@ take_is ts given e sorted there = ap (λ us. dictionary us given) (sym (take_at 
 pub left_is : (d : Dictionary) (e : Entry) → has_entry e (entries d.terms) ≡ false → d ≡ without_term e d
 left_is d e none = ap (λ us. dictionary us d.given) (sym (none_taken e d.terms none))
 
--- the keys before a term goes out are those behind it, and its own where no other term has that
+-- the keys before a term goes out are those after it, and its own where no other term has that
 keys_taken : (ts : List Term) (keys : ℕ) (given : List Entry) (e : Entry) → IsSound ts keys given → has_entry e (entries ts) ≡ true →
     keys ≡ key_count (entries (remove ts (count_before AtEntry e (entries ts)))) + cond (brings_key e.key (count_before AtEntry e (entries ts)) (entries (remove ts (count_before AtEntry e (entries ts))))) 1 0
 keys_taken ts keys given e s there =

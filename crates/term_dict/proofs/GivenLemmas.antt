@@ -72,6 +72,6 @@ entry-at blocks n e filled within =
 
 -- ---- the item that came last
 
-pub last-is : {X : Type 0} (front : List X) (x d : X) → get_or (front ++ x ∷ []) (length front) d ≡ x
+pub last-is : {X : Type 0} (prefix : List X) (x d : X) → get_or (prefix ++ x ∷ []) (length prefix) d ≡ x
 last-is [] x d = refl
-last-is (y ∷ front) x d = last-is front x d
+last-is (y ∷ prefix) x d = last-is prefix x d

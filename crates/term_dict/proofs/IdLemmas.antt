@@ -91,13 +91,13 @@ numbered_id e (t ∷ ts) n id h at =
 
 -- ---- an id that was given names what it named
 
-get_front : (es fs : List Entry) (n : ℕ) → n < length es → slice_get (es ++ fs) n ≡ slice_get es n
-get_front [] fs n within = absurd (omega arith)
-get_front (e ∷ es) fs zero within = refl
-get_front (e ∷ es) fs (suc n) within = get_front es fs n (omega arith)
+get_prefix : (es fs : List Entry) (n : ℕ) → n < length es → slice_get (es ++ fs) n ≡ slice_get es n
+get_prefix [] fs n within = absurd (omega arith)
+get_prefix (e ∷ es) fs zero within = refl
+get_prefix (e ∷ es) fs (suc n) within = get_prefix es fs n (omega arith)
 
 pub named_still : (e : Entry) (d : Dictionary) (id : ℕ) → id < length d.given → slice_get (with_new e d).given id ≡ slice_get d.given id
 named_still e d id within = elim (has_entry e (entries d.terms)) as (λ b. slice_get (cond b d (grown e d)).given id ≡ slice_get d.given id) [
   | true ↦ refl
-  | false ↦ get_front d.given (e ∷ []) id within
+  | false ↦ get_prefix d.given (e ∷ []) id within
 ]

@@ -9,20 +9,20 @@ use Rattle.index_meaning.specs.Dictionaries.{Term, entries}
 use Rattle.term_dict.specs.Places.{brings_key}
 use Rattle.term_dict.proofs.OrderLemmas.{less_is, keys_in_order, equal_turned, squeezed}
 
--- what an entry between two others changes: `left` is whether its key is that of the one in front, `right` whether it is that of the one behind
+-- what an entry between two others changes: `left` is whether its key is that of the one before, `right` whether it is that of the one after
 between_two : (left right : Bool) (n : ℕ) → cond left 0 1 + (cond right 0 1 + n) ≡ (cond (left && right) 0 1 + n) + cond (not (left || right)) 1 0
 between_two true true n = omega arith
 between_two true false n = omega arith
 between_two false true n = omega arith
 between_two false false n = omega arith
 
-in_front : (same : Bool) (n : ℕ) → cond same 0 1 + n ≡ n + cond (not same) 1 0
-in_front true n = omega arith
-in_front false n = omega arith
+before : (same : Bool) (n : ℕ) → cond same 0 1 + n ≡ n + cond (not same) 1 0
+before true n = omega arith
+before false n = omega arith
 
-behind_last : (same : Bool) → cond same 0 1 + 1 ≡ 1 + cond (not (same || false)) 1 0
-behind_last true = refl
-behind_last false = refl
+after_last : (same : Bool) → cond same 0 1 + 1 ≡ 1 + cond (not (same || false)) 1 0
+after_last true = refl
+after_last false = refl
 
 later : (c n m k : ℕ) → n ≡ m + k → c + n ≡ (c + m) + k
 later c n m k h = omega arith
@@ -35,8 +35,8 @@ pub keys_with : (es : List Entry) (n : ℕ) (e : Entry) → n ≤ length es → 
 keys_with [] zero e within h = refl
 keys_with [] (suc n) e within h = absurd (omega arith)
 keys_with (f ∷ es) zero e within h =
-    ap (λ b. cond b 0 1 + key_count (f ∷ es)) (equal_turned e.key f.key) ∙ in_front (same_keys_of f e) (key_count (f ∷ es))
-keys_with (f ∷ []) (suc zero) e within h = behind_last (same_keys_of f e)
+    ap (λ b. cond b 0 1 + key_count (f ∷ es)) (equal_turned e.key f.key) ∙ before (same_keys_of f e) (key_count (f ∷ es))
+keys_with (f ∷ []) (suc zero) e within h = after_last (same_keys_of f e)
 keys_with (f ∷ []) (suc (suc n)) e within h = absurd (omega arith)
 keys_with (f ∷ g ∷ es) (suc zero) e within h =
     let outer = and_parts (is_below f (e ∷ g ∷ es)) (is_sorted (e ∷ g ∷ es)) h in

@@ -10,7 +10,7 @@ use Rattle.std.proofs.lemmas.Cmp.{on_total, then_total, nat_list_cmp_total, alik
 use Rattle.index_meaning.specs.Entries.{Entry, entry, entry_cmp, text_cmp, is_below, stands_at}
 use Rattle.term_dict.specs.Places.{stands_before}
 use Rattle.term_dict.specs.declared.places.Place.{Place}
-use Rattle.term_dict.specs.declared.places.Place.TheVariants.{AtEntry, AtKey, BehindKey}
+use Rattle.term_dict.specs.declared.places.Place.TheVariants.{AtEntry, AtKey, AfterKey}
 
 pub entry_total : IsTotalOrder entry_cmp
 entry_total = then_total (on_total (λ (e : Entry). e.key) nat_list_cmp_total) (on_total (λ (e : Entry). e.word) nat_list_cmp_total)
@@ -39,7 +39,7 @@ one_stands e f n [] h k = absurd (true≢false (sym h))
 one_stands e f zero (g ∷ es) h k = same_entry e g ((Equal-is (entry_cmp e g)).0 h) ∙ sym (same_entry f g ((Equal-is (entry_cmp f g)).0 k))
 one_stands e f (suc n) (g ∷ es) h k = one_stands e f n es h k
 
--- it stays there where another comes behind the last one, and that stands there
+-- it stays there where another comes after the last one, and that stands there
 pub stands_still : (e f : Entry) (n : ℕ) (es : List Entry) → stands_at e n es ≡ true → stands_at e n (es ++ f ∷ []) ≡ true
 stands_still e f n [] h = absurd (true≢false (sym h))
 stands_still e f zero (g ∷ es) h = h
@@ -80,7 +80,7 @@ first_not_greater Less p h = refl
 first_not_greater Equal p h = refl
 first_not_greater Greater p h = absurd (true≢false (ap is_gt h))
 
--- the key of an entry in front isn't greater
+-- the key of an entry before isn't greater
 pub keys_in_order : (e f : Entry) → entry_cmp e f ≡ Less → is_gt (text_cmp e.key f.key) ≡ false
 keys_in_order e f h = first_not_greater (text_cmp e.key f.key) (text_cmp e.word f.word) h
 
@@ -90,16 +90,16 @@ smaller_by a b c Less is h below = nat_list_cmp_total.trans a b c is below
 smaller_by a b c Equal is h below = nat_list_cmp_total.congr a b c is ∙ below
 smaller_by a b c Greater is h below = absurd (true≢false h)
 
--- what stands in front of an entry that stands in front of a place stands in front of it too
+-- what stands before an entry that stands before a place stands before it too
 pub before_closed : (place : Place) (e f g : Entry) → entry_cmp f g ≡ Less → stands_before place e g ≡ true → stands_before place e f ≡ true
 before_closed AtEntry e f g less h =
     ap is_gt (turned_greater f e (entry_total.trans f g e less (turned_less e g (greater_is (entry_cmp e g) h))))
 before_closed AtKey e f g less h =
     ap is_lt (smaller_by f.key g.key e.key (text_cmp f.key g.key) refl (keys_in_order f g less) (less_is (text_cmp g.key e.key) h))
-before_closed BehindKey e f g less h =
+before_closed AfterKey e f g less h =
     less_or_equal (text_cmp f.key e.key) (upto nat_list_cmp_total f.key g.key e.key (keys_in_order f g less) (not_greater (text_cmp g.key e.key) h))
 
--- an entry that stands at the place of one below these, or in front of it, is below them
+-- an entry that stands at the place of one below these, or before it, is below them
 pub below_less : (e f : Entry) (es : List Entry) → entry_cmp e f ≡ Less → is_below f es ≡ true → is_below e es ≡ true
 below_less e f [] less h = refl
 below_less e f (g ∷ es) less h =

@@ -1,4 +1,4 @@
--- How many entries of a list in order stand in front of a place, and which entry stands there.
+-- How many entries of a list in order stand before a place, and which entry stands there.
 use Rattle.std.proofs.Common.{◌≡◌, ℕ, ◌+◌, ◌<◌, ◌≤◌, suc, zero, Bool, true, false, ◌||◌, cond, ◌==◌, List, [], ◌∷◌, length, get_or, Some, None, refl, ap, sym, ◌∙◌, arith, true≢false}
 use Rattle.std.specs.declared.cmp.Ordering.{Ordering}
 use Rattle.std.specs.declared.cmp.Ordering.TheVariants.{Less, Equal, Greater}
@@ -9,25 +9,25 @@ use Rattle.std.proofs.lemmas.Bool.{and_parts, ne_eqb}
 use Rattle.index_meaning.specs.Entries.{Entry, entry_cmp, text_cmp, is_below, is_sorted, has_entry, stands_at, number_of, found, span, smaller_keys, same_keys}
 use Rattle.term_dict.specs.Places.{stands_before, count_before}
 use Rattle.term_dict.specs.declared.places.Place.{Place}
-use Rattle.term_dict.specs.declared.places.Place.TheVariants.{AtEntry, BehindKey}
+use Rattle.term_dict.specs.declared.places.Place.TheVariants.{AtEntry, AfterKey}
 use Rattle.term_dict.proofs.OrderLemmas.{before_closed, less_is, below_less}
 
--- behind an entry that doesn't stand in front of the place none does
-none_behind : (place : Place) (e f : Entry) (es : List Entry) → is_below f es ≡ true → stands_before place e f ≡ false → filter (stands_before place e) es ≡ []
-none_behind place e f [] h not_before = refl
-none_behind place e f (g ∷ es) h not_before =
+-- after an entry that doesn't stand before the place none does
+none_after : (place : Place) (e f : Entry) (es : List Entry) → is_below f es ≡ true → stands_before place e f ≡ false → filter (stands_before place e) es ≡ []
+none_after place e f [] h not_before = refl
+none_after place e f (g ∷ es) h not_before =
     let parts = and_parts (is_lt (entry_cmp f g)) (is_below f es) h in
-    let rest = none_behind place e f es parts.1 not_before in
+    let rest = none_after place e f es parts.1 not_before in
     elim (stands_before place e g) as (λ b. stands_before place e g ≡ b → cond b (g ∷ filter (stands_before place e) es) (filter (stands_before place e) es) ≡ []) [
       | true ↦ λ is. absurd (true≢false (sym (before_closed place e f g (less_is (entry_cmp f g) parts.0) is) ∙ not_before))
       | false ↦ λ is. rest
     ] refl
 
--- where the first entry of a list in order doesn't stand in front of the place, none does
+-- where the first entry of a list in order doesn't stand before the place, none does
 pub no_rank : (place : Place) (e f : Entry) (es : List Entry) → is_below f es ≡ true → stands_before place e f ≡ false → count_before place e (f ∷ es) ≡ 0
 no_rank place e f es h not_before =
     ap (λ b. length (cond b (f ∷ filter (stands_before place e) es) (filter (stands_before place e) es))) not_before
-    ∙ ap length (none_behind place e f es h not_before)
+    ∙ ap length (none_after place e f es h not_before)
 
 pub one_rank : (place : Place) (e f : Entry) (es : List Entry) → stands_before place e f ≡ true → count_before place e (f ∷ es) ≡ suc (count_before place e es)
 one_rank place e f es is = ap (λ b. length (cond b (f ∷ filter (stands_before place e) es) (filter (stands_before place e) es))) is
@@ -37,7 +37,7 @@ below_at f [] k d h within = absurd (omega arith)
 below_at f (g ∷ es) zero d h within = less_is (entry_cmp f g) (and_parts (is_lt (entry_cmp f g)) (is_below f es) h).0
 below_at f (g ∷ es) (suc k) d h within = below_at f es k d (and_parts (is_lt (entry_cmp f g)) (is_below f es) h).1 (omega arith)
 
--- an entry that stands in front of the place is one of those that are counted
+-- an entry that stands before the place is one of those that are counted
 pub rank_above : (place : Place) (e : Entry) (es : List Entry) (k : ℕ) (d : Entry) → is_sorted es ≡ true → k < length es → stands_before place e (get_or es k d) ≡ true →
     k < count_before place e es
 rank_above place e [] k d h within is = absurd (omega arith)
@@ -47,7 +47,7 @@ rank_above place e (f ∷ es) (suc k) d h within is =
     let first = before_closed place e f (get_or es k d) (below_at f es k d parts.0 (omega arith)) is in
     omega (arith, one_rank place e f es first, rank_above place e es k d parts.1 (omega arith) is)
 
--- one that doesn't is none of them, and none behind it is
+-- one that doesn't is none of them, and none after it is
 pub rank_upto : (place : Place) (e : Entry) (es : List Entry) (k : ℕ) (d : Entry) → is_sorted es ≡ true → k < length es → stands_before place e (get_or es k d) ≡ false →
     count_before place e es ≤ k
 rank_upto place e [] k d h within is = absurd (omega arith)
@@ -70,7 +70,7 @@ rank_within place e (f ∷ es) =
 
 -- ---- the entry at its own place
 
--- an entry in front of others is none of them
+-- an entry before others is none of them
 pub not_among : (e : Entry) (es : List Entry) → is_below e es ≡ true → has_entry e es ≡ false
 not_among e [] h = refl
 not_among e (f ∷ es) h =
@@ -140,12 +140,12 @@ length_cond : (b : Bool) (f : Entry) (fs : List Entry) → length (cond b (f ∷
 length_cond true f fs = refl
 length_cond false f fs = refl
 
--- those that stand in front of the end of a key are those in front of it and its own
-pub upto_key : (e : Entry) (es : List Entry) → count_before BehindKey e es ≡ smaller_keys e.key es + same_keys e.key es
+-- those that stand before the end of a key are those before it and its own
+pub upto_key : (e : Entry) (es : List Entry) → count_before AfterKey e es ≡ smaller_keys e.key es + same_keys e.key es
 upto_key e [] = refl
 upto_key e (f ∷ es) =
     let o = text_cmp f.key e.key in
-    length_cond (is_le o) f (filter (stands_before BehindKey e) es)
+    length_cond (is_le o) f (filter (stands_before AfterKey e) es)
     ∙ ap (λ n. cond (is_le o) (suc n) n) (upto_key e es)
     ∙ either o (smaller_keys e.key es) (same_keys e.key es)
     ∙ sym (λ i. length_cond (is_lt o) f (filter (λ (g : Entry). is_lt (text_cmp g.key e.key)) es) i + length_cond (is_eq o) f (filter (λ (g : Entry). is_eq (text_cmp g.key e.key)) es) i)

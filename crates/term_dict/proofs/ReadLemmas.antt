@@ -6,7 +6,7 @@ use Rattle.index_meaning.specs.Dictionaries.{Term, ids}
 use Rattle.shared_list.specs.Blocks.{IsRun}
 use Rattle.term_dict.specs.Places.{count_before, stands_before, IsWindow}
 use Rattle.term_dict.specs.declared.places.Place.{Place}
-use Rattle.term_dict.specs.declared.places.Place.TheVariants.{AtKey, BehindKey}
+use Rattle.term_dict.specs.declared.places.Place.TheVariants.{AtKey, AfterKey}
 use Rattle.term_dict.proofs.RankLemmas.{rank_above, rank_upto, upto_key, found_none, found_some}
 
 -- what it says of a place
@@ -14,26 +14,26 @@ read_before : (place : Place) (e : Entry) (es : List Entry) (k : ℕ) (f : Entry
     stands_before place e f ≡ true → k < count_before place e es
 read_before place e es k f sorted within read is = rank_above place e es k f sorted within (ap (stands_before place e) (sym read) ∙ is)
 
-read_behind : (place : Place) (e : Entry) (es : List Entry) (k : ℕ) (f : Entry) → is_sorted es ≡ true → k < length es → f ≡ get_or es k f →
+read_after : (place : Place) (e : Entry) (es : List Entry) (k : ℕ) (f : Entry) → is_sorted es ≡ true → k < length es → f ≡ get_or es k f →
     stands_before place e f ≡ false → count_before place e es ≤ k
-read_behind place e es k f sorted within read is = rank_upto place e es k f sorted within (ap (stands_before place e) (sym read) ∙ is)
+read_after place e es k f sorted within read is = rank_upto place e es k f sorted within (ap (stands_before place e) (sym read) ∙ is)
 
-pub window_behind : (place : Place) (e : Entry) (es : List Entry) (k low high : ℕ) (f : Entry) → is_sorted es ≡ true → k < length es → f ≡ get_or es k f →
+pub window_after : (place : Place) (e : Entry) (es : List Entry) (k low high : ℕ) (f : Entry) → is_sorted es ≡ true → k < length es → f ≡ get_or es k f →
     stands_before place e f ≡ true → IsWindow place e es low high → IsWindow place e es (k + 1) high
-window_behind place e es k low high f sorted within read is window =
+window_after place e es k low high f sorted within read is window =
     record {
       within = window.within;
       from = omega (arith, read_before place e es k f sorted within read is);
       to = window.to;
     }
 
-pub window_front : (place : Place) (e : Entry) (es : List Entry) (k low high : ℕ) (f : Entry) → is_sorted es ≡ true → k < length es → f ≡ get_or es k f →
+pub window_prefix : (place : Place) (e : Entry) (es : List Entry) (k low high : ℕ) (f : Entry) → is_sorted es ≡ true → k < length es → f ≡ get_or es k f →
     stands_before place e f ≡ false → IsWindow place e es low high → IsWindow place e es low k
-window_front place e es k low high f sorted within read is window =
+window_prefix place e es k low high f sorted within read is window =
     record {
       within = omega (arith, within);
       from = window.from;
-      to = read_behind place e es k f sorted within read is;
+      to = read_after place e es k f sorted within read is;
     }
 
 -- the first term of a block is one of the terms
@@ -45,11 +45,11 @@ first_there ts items start run some = omega (arith, run.within, some, length-map
 none_left : (a b : ℕ) → a ≡ a + b → b ≡ 0
 none_left a b h = omega arith
 
-pub found_nothing : (key word : List ℕ) (es : List Entry) (from to : ℕ) → from ≡ count_before AtKey (entry key word) es → to ≡ count_before BehindKey (entry key word) es → from ≡ to → None ≡ found key es
+pub found_nothing : (key word : List ℕ) (es : List Entry) (from to : ℕ) → from ≡ count_before AtKey (entry key word) es → to ≡ count_before AfterKey (entry key word) es → from ≡ to → None ≡ found key es
 found_nothing key word es from to is_from is_to same =
     sym (found_none key es (none_left (smaller_keys key es) (same_keys key es) (sym is_from ∙ same ∙ is_to ∙ upto_key (entry key word) es)))
 
-pub found_numbers : (key word : List ℕ) (es : List Entry) (from to : ℕ) → from ≡ count_before AtKey (entry key word) es → to ≡ count_before BehindKey (entry key word) es → (from ≡ to → ⊥) →
+pub found_numbers : (key word : List ℕ) (es : List Entry) (from to : ℕ) → from ≡ count_before AtKey (entry key word) es → to ≡ count_before AfterKey (entry key word) es → (from ≡ to → ⊥) →
     Some (span from to) ≡ found key es
 found_numbers key word es from to is_from is_to other =
     let sum : to ≡ smaller_keys key es + same_keys key es = is_to ∙ upto_key (entry key word) es in

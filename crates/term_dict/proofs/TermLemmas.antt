@@ -145,7 +145,7 @@ all_with p t (u ∷ ts) first h =
       | Greater ↦ λ i. parts.0 i && all_with p t ts first parts.1 i
     ]
 
--- an entry that is there stays there, and a new one stands behind it
+-- an entry that is there stays there, and a new one stands after it
 given_more : (e : Entry) (given : List Entry) (ts : List Term) → are_given given ts ≡ true → are_given (given ++ e ∷ []) ts ≡ true
 given_more e given [] h = refl
 given_more e given (u ∷ ts) h =

@@ -4,13 +4,13 @@ use Rattle.std.specs.Option.{option_map_or}
 use Rattle.std.specs.Ordering.{is_lt, is_eq, is_gt, is_le}
 use Rattle.index_meaning.specs.Entries.{Entry, entry_cmp, text_cmp}
 use Rattle.term_dict.specs.declared.places.Place.{Place}
-use Rattle.term_dict.specs.declared.places.Place.TheVariants.{AtEntry, AtKey, BehindKey}
+use Rattle.term_dict.specs.declared.places.Place.TheVariants.{AtEntry, AtKey, AfterKey}
 
--- whether the second entry stands in front of a place of the first: of its own, of the first one with its key, or of the one behind the last with its key
+-- whether the second entry stands before a place of the first: of its own, of the first one with its key, or of the one after the last with its key
 abbrev pub stands_before : Place → Entry → Entry → Bool
 stands_before AtEntry e f = is_gt (entry_cmp e f)
 stands_before AtKey e f = is_lt (text_cmp f.key e.key)
-stands_before BehindKey e f = is_le (text_cmp f.key e.key)
+stands_before AfterKey e f = is_le (text_cmp f.key e.key)
 
 -- how many of the entries do
 abbrev pub count_before : Place → Entry → List Entry → ℕ

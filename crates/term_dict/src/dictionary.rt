@@ -116,7 +116,7 @@ impl TermDict {
         ensures { result ≡ found key.now (entries self.now.terms) }
     {
         let from = count_before(&self.terms, Place::AtKey, key, "");
-        let to = count_before(&self.terms, Place::BehindKey, key, "");
+        let to = count_before(&self.terms, Place::AfterKey, key, "");
         if from == to {
             return None;
         }

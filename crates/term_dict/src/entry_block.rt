@@ -55,7 +55,7 @@ impl EntryBlock {
         self.list.get(number)
     }
 
-    /// The block with one entry more, behind the last one. Where other dictionaries hold the block, they keep theirs.
+    /// The block with one entry more, after the last one. Where other dictionaries hold the block, they keep theirs.
     pub fn pushed(self, alloc: Global, key: &str, word: &str) -> Result<EntryBlock, Memory>
         ensures { IfOk result (λ block. block ≡ self ++ entry key.now word.now ∷ []) }
     {

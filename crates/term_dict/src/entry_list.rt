@@ -7,7 +7,7 @@ use std::alloc::Global;
 use std::marker::Model;
 use text_list::TextList;
 
-/// A growing list of entries. Their words stand one behind the other, and so do their keys, so that an entry takes no
+/// A growing list of entries. Their words stand one after the other, and so do their keys, so that an entry takes no
 /// memory of its own.
 #[derive(Drop)]
 pub struct EntryList {
@@ -62,7 +62,7 @@ impl EntryList {
         EntryRef::new(self.keys.get(number), self.words.get(number))
     }
 
-    /// The list with one entry more, behind the last one.
+    /// The list with one entry more, after the last one.
     pub fn pushed(self, key: &str, word: &str) -> Result<EntryList, Memory>
         ensures { IfOk result (λ list. list ≡ self ++ entry key.now word.now ∷ []) }
     {

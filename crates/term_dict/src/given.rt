@@ -71,7 +71,7 @@ impl Given {
         self.blocks[number / BLOCK_SIZE].get(number % BLOCK_SIZE)
     }
 
-    /// The list with one entry more, behind the last one.
+    /// The list with one entry more, after the last one.
     pub fn pushed(self, key: &str, word: &str) -> Result<Given, Memory>
         ensures { IfOk result (λ list. list ≡ self ++ entry key.now word.now ∷ []) }
     {
@@ -94,19 +94,19 @@ fn shared(alloc: Global, blocks: &Vec<EntryBlock>) -> Result<Vec<EntryBlock>, Me
     Ok(copy)
 }
 
-/// The blocks with one entry more, behind the last one.
+/// The blocks with one entry more, after the last one.
 fn with_entry(blocks: Vec<EntryBlock>, key: &str, word: &str) -> Result<Vec<EntryBlock>, Memory>
     requires { IsFilled blocks.items }
     ensures joined { IfOk result (λ more. joined more.items ≡ joined blocks.items ++ entry key.now word.now ∷ []) }
     ensures filled { IfOk result (λ more. IsFilled more.items) }
 {
     let alloc = *blocks.allocator();
-    let (mut front, last) = with_room(alloc, blocks)?;
-    front.push(last.pushed(alloc, key, word)?)?;
-    Ok(front)
+    let (mut prefix, last) = with_room(alloc, blocks)?;
+    prefix.push(last.pushed(alloc, key, word)?)?;
+    Ok(prefix)
 }
 
-/// The blocks in front of the one to which the next entry comes, and that one.
+/// The blocks before the one to which the next entry comes, and that one.
 fn with_room(
     alloc: Global,
     blocks: Vec<EntryBlock>,
@@ -116,15 +116,15 @@ fn with_room(
     ensures filled { IfOk result (λ parts. IsFilled (parts.0.items ++ parts.1 ∷ [])) }
     ensures room { IfOk result (λ parts. length parts.1 < block_size) }
 {
-    let mut front = blocks;
-    match front.pop() {
-        None => Ok((front, EntryBlock::new(alloc)?)),
+    let mut prefix = blocks;
+    match prefix.pop() {
+        None => Ok((prefix, EntryBlock::new(alloc)?)),
         Some(last) => {
             if last.len() < BLOCK_SIZE {
-                return Ok((front, last));
+                return Ok((prefix, last));
             }
-            front.push(last)?;
-            Ok((front, EntryBlock::new(alloc)?))
+            prefix.push(last)?;
+            Ok((prefix, EntryBlock::new(alloc)?))
         }
     }
 }

@@ -8,35 +8,35 @@ ghost use Rattle.term_dict.specs.Places.{stands_before, count_before, IsWindow, 
 use crate::entry_ref::EntryRef;
 use crate::terms::Terms;
 
-/// A place of an entry: its own; that of the first entry with its key; the one behind the last entry with its key.
+/// A place of an entry: its own; that of the first entry with its key; the one after the last entry with its key.
 #[derive(Clone, Copy)]
 pub enum Place {
     AtEntry,
     AtKey,
-    BehindKey,
+    AfterKey,
 }
 
-/// Whether the entry stands in front of the place.
+/// Whether the entry stands before the place.
 fn stands_before(read: &EntryRef, place: Place, sought: &EntryRef) -> bool
     ensures { result ≡ stands_before place sought.now read.now }
 {
     match place {
         Place::AtEntry => read.order_of(sought).is_gt(),
         Place::AtKey => read.key_order(sought).is_lt(),
-        Place::BehindKey => read.key_order(sought).is_le(),
+        Place::AfterKey => read.key_order(sought).is_le(),
     }
 }
 
-/// Numbers of terms between which a place is, and numbers of blocks: from the first one up to the one behind the last.
+/// Numbers of terms between which a place is, and numbers of blocks: from the first one up to the one after the last.
 #[derive(Clone, Copy)]
 struct Window {
     low: usize,
     high: usize,
     first: usize,
-    behind: usize,
+    suffix: usize,
 }
 
-/// How many terms stand in front of the place.
+/// How many terms stand before the place.
 pub fn count_before(terms: &Terms, place: Place, key: &str, word: &str) -> usize
     requires { is_sorted (entries terms.now.terms) ≡ true }
     ensures count { result ≡ count_before place (entry key.now word.now) (entries terms.now.terms) }
@@ -64,9 +64,9 @@ fn in_one_block(terms: &Terms, place: Place, sought: &EntryRef) -> Window
         low: 0,
         high: terms.len(),
         first: 0,
-        behind: terms.block_count(),
+        suffix: terms.block_count(),
     };
-    while window.behind.saturating_sub(window.first) > 1 {
+    while window.suffix.saturating_sub(window.first) > 1 {
         window = halved(terms, place, sought, window);
     }
     window
@@ -75,21 +75,21 @@ fn in_one_block(terms: &Terms, place: Place, sought: &EntryRef) -> Window
 /// The window with half of the blocks, by the first term of the middle one.
 fn halved(terms: &Terms, place: Place, sought: &EntryRef, window: Window) -> Window
     requires sorted { is_sorted (entries terms.now.terms) ≡ true }
-    requires some { window.first + 1 < window.behind }
+    requires some { window.first + 1 < window.suffix }
     requires window { IsWindow place sought.now (entries terms.now.terms) window.low window.high }
     ensures window { IsWindow place sought.now (entries terms.now.terms) result.low result.high }
-    ensures smaller { result.behind - result.first < window.behind - window.first }
+    ensures smaller { result.suffix - result.first < window.suffix - window.first }
 {
-    let middle = window.first + (window.behind - window.first) / 2;
+    let middle = window.first + (window.suffix - window.first) / 2;
     let Some((start, items)) = terms.block(middle) else {
         return Window {
-            behind: middle,
+            suffix: middle,
             ..window
         };
     };
     if items.len() == 0 {
         return Window {
-            behind: middle,
+            suffix: middle,
             ..window
         };
     }
@@ -102,7 +102,7 @@ fn halved(terms: &Terms, place: Place, sought: &EntryRef, window: Window) -> Win
     }
     Window {
         high: start,
-        behind: middle,
+        suffix: middle,
         ..window
     }
 }

@@ -9,25 +9,25 @@ by_first : (number : ℕ) (line : List ℕ) (others : List (List ℕ)) → conte
 unfolding content_lines
 by_first number line others = refl
 
--- the first line, and those behind it
-module _ (number : ℕ) (bytes behind : List ℕ) (end : ℕ) (some : 0 < length bytes) (is : end ≡ position_or_len is_line_feed bytes) (rest : behind ≡ drop (end + 1) bytes) where
-  split : lines bytes ≡ take end bytes ∷ lines behind
+-- the first line, and those after it
+module _ (number : ℕ) (bytes suffix : List ℕ) (end : ℕ) (some : 0 < length bytes) (is : end ≡ position_or_len is_line_feed bytes) (rest : suffix ≡ drop (end + 1) bytes) where
+  split : lines bytes ≡ take end bytes ∷ lines suffix
   split =
       lines_first bytes some
       ∙ sym (ap (λ n. take n bytes ∷ lines (drop (n + 1) bytes)) is)
       ∙ sym (ap (λ b. take end bytes ∷ lines b) rest)
 
   by_test : (t : Bool) → is_skipped (take end bytes) ≡ t
-      → content_lines number (lines bytes) ≡ cond t (content_lines (number + 1) (lines behind)) (record { number = number; text = trimmed_line (take end bytes) } ∷ content_lines (number + 1) (lines behind))
+      → content_lines number (lines bytes) ≡ cond t (content_lines (number + 1) (lines suffix)) (record { number = number; text = trimmed_line (take end bytes) } ∷ content_lines (number + 1) (lines suffix))
   by_test t skips =
       ap (content_lines number) split
-      ∙ by_first number (take end bytes) (lines behind)
-      ∙ ap (λ b. cond b (content_lines (number + 1) (lines behind)) (record { number = number; text = trimmed_line (take end bytes) } ∷ content_lines (number + 1) (lines behind))) skips
+      ∙ by_first number (take end bytes) (lines suffix)
+      ∙ ap (λ b. cond b (content_lines (number + 1) (lines suffix)) (record { number = number; text = trimmed_line (take end bytes) } ∷ content_lines (number + 1) (lines suffix))) skips
 
-  pub skipped_next : is_skipped (take end bytes) ≡ true → content_lines number (lines bytes) ≡ content_lines (number + 1) (lines behind)
+  pub skipped_next : is_skipped (take end bytes) ≡ true → content_lines number (lines bytes) ≡ content_lines (number + 1) (lines suffix)
   skipped_next = by_test true
 
-  pub content_next : is_skipped (take end bytes) ≡ false → content_lines number (lines bytes) ≡ record { number = number; text = trimmed_line (take end bytes) } ∷ content_lines (number + 1) (lines behind)
+  pub content_next : is_skipped (take end bytes) ≡ false → content_lines number (lines bytes) ≡ record { number = number; text = trimmed_line (take end bytes) } ∷ content_lines (number + 1) (lines suffix)
   content_next = by_test false
 
 -- no line is left

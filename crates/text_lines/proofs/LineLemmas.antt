@@ -4,7 +4,7 @@ use Rattle.std.specs.List.{before_first, after_first, position_or_len, onto_firs
 use Rattle.ft_base.specs.Characters.{is_blank, is_line_feed}
 use Rattle.text_lines.specs.Lines.{lines, trimmed_end, before_trimmed}
 
--- a byte in front of what stands before and behind a place
+-- a byte before what stands before and after a place
 split_later : (b : ℕ) (bytes : List ℕ) (n : ℕ) → take (1 + n) (b ∷ bytes) ∷ lines (drop (1 + n + 1) (b ∷ bytes)) ≡ onto_first b (take n bytes ∷ lines (drop (n + 1) bytes))
 split_later b bytes n =
     let e : 1 + n ≡ suc n = omega arith in

@@ -3,7 +3,7 @@ use Rattle.std.specs.Prelude.{ℕ, Bool, ◌==◌, ◌||◌, ◌-◌, ◌+◌, n
 use Rattle.std.specs.List.{starts_with, ends_with, onto_first, take_while}
 use Rattle.ft_base.specs.Characters.{is_blank, is_line_feed}
 
--- The lines without the line feeds that end them. What stands behind the last line feed is a line where it isn't empty.
+-- The lines without the line feeds that end them. What stands after the last line feed is a line where it isn't empty.
 abbrev pub lines : List ℕ → List (List ℕ)
 lines [] = []
 lines (byte ∷ bytes) = if is_line_feed byte then [] ∷ lines bytes else onto_first byte (lines bytes)
@@ -39,9 +39,9 @@ is_skipped line = length (trimmed_line line) == 0 || starts_with nat_eq (trimmed
 abbrev pub first_word : List ℕ → List ℕ
 first_word text = take_while (λ byte. not (is_blank byte)) text
 
--- what stands behind the first word and the blanks after it
-abbrev pub behind_first_word : List ℕ → List ℕ
-behind_first_word text = trimmed_start (drop (length (first_word text)) text)
+-- what stands after the first word and the blanks after it
+abbrev pub after_first_word : List ℕ → List ℕ
+after_first_word text = trimmed_start (drop (length (first_word text)) text)
 
 -- a line that isn't skipped: its number, counted from 1, and what it says
 pub record Content : Type 0 where

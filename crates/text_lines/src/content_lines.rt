@@ -41,14 +41,14 @@ impl<'a> ContentLines<'a> {
         }
     }
 
-    /// The next line that isn't skipped. Behind the last one there is none, and none comes later.
+    /// The next line that isn't skipped. After the last one there is none, and none comes later.
     pub fn next(&mut self) -> Option<ContentLine<'a>>
         ensures { MatchOption result ((self.old ≡ []) × (self.new ≡ [])) (λ line. self.old ≡ content_of line ∷ self.new) }
     {
         while !self.rest.is_empty() {
             let end = line_end(self.rest);
             let line = &self.rest[..end];
-            self.rest = behind(self.rest, end);
+            self.rest = suffix(self.rest, end);
             self.passed += 1;
             if !is_skipped(line) {
                 return Some(ContentLine {
@@ -61,8 +61,8 @@ impl<'a> ContentLines<'a> {
     }
 }
 
-/// What stands behind the place and one byte more.
-fn behind(bytes: &[u8], place: usize) -> &[u8]
+/// What stands after the place and one byte more.
+fn suffix(bytes: &[u8], place: usize) -> &[u8]
     requires { place < 2 ^ 63 }
     ensures { result.now ≡ drop (place + 1) bytes.now }
 {

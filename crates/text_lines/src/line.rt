@@ -36,7 +36,7 @@ fn is_blank(byte: u8) -> bool
 /// How many blanks the text begins with.
 pub fn skip_blanks(text: &[u8]) -> usize
     ensures within { result ≤ length text.now }
-    ensures behind { drop result text.now ≡ trimmed_start text.now }
+    ensures suffix { drop result text.now ≡ trimmed_start text.now }
 {
     let mut at = 0;
     while at < text.len() && is_blank(text[at]) {

@@ -1,8 +1,8 @@
--- One text more behind the others, and one of them by its number.
+-- One text more after the others, and one of them by its number.
 use Rattle.std.proofs.Common.{◌≡◌, ℕ, zero, suc, ◌+◌, ◌-◌, ◌<◌, ◌≤◌, ◌⊎◌, List, [], ◌∷◌, ◌++◌, length, take, drop, get_or, slice_range, refl, sym, ap, ap₂, ◌∙◌, arith, subst, inl, inr}
 use Rattle.std.specs.Prelude.{IsUtf8, IsCharBoundary}
 use Rattle.std.proofs.lemmas.List.{drop-append-le, drop_at, get_or_append_left, length-append, length-drop, take-append-le, take_all}
-use Rattle.std.proofs.lemmas.Str.{IsCharBoundary-at_seam, IsCharBoundary-end}
+use Rattle.std.proofs.lemmas.Str.{IsCharBoundary-at_seam, IsCharBoundary-end, IsCharBoundary-start}
 use Rattle.text_list.specs.Ends.{AreEnds, start_at, texts}
 
 pub texts-nil : (start : ℕ) (bytes : List ℕ) → texts start [] bytes ≡ []
@@ -21,7 +21,7 @@ length-texts (end ∷ ends) start bytes = ap suc (length-texts ends end bytes)
 -- ---- a text more
 
 module _ (bytes text : List ℕ) where
-  -- what stands in front of it is as before
+  -- what stands before it is as before
   range-append : (start end : ℕ) → start ≤ end → end ≤ length bytes → slice_range (bytes ++ text) start end ≡ slice_range bytes start end
   range-append start end rising within =
       ap (take (end - start)) (drop-append-le start bytes text (omega (arith, rising, within)))
@@ -77,7 +77,7 @@ text-at [] start bytes number d within = elim within [ ]
 text-at (end ∷ ends) start bytes zero d within = refl
 text-at (end ∷ ends) start bytes (suc number) d within = text-at ends end bytes number d (omega (arith, within))
 
--- it starts where the one in front of it ends
+-- it starts where the one before it ends
 pub start-first : (ends : List ℕ) (start : ℕ) → start_at start ends 0 ≡ start
 unfolding start_at
 start-first ends start = refl
@@ -87,3 +87,46 @@ unfolding start_at
 start-next [] start number d within = elim within [ ]
 start-next (end ∷ ends) start zero d within = start-first ends end
 start-next (end ∷ ends) start (suc number) d within = start-next ends end number d (omega (arith, within))
+
+-- ---- the first of the texts
+
+-- the bytes may be cut where a text starts
+pub cut-at : (ends : List ℕ) (bytes : List ℕ) (count place : ℕ) → count < length ends → IsUtf8 bytes → AreEnds 0 ends bytes → place ≡ start_at 0 ends count
+    → IsCharBoundary bytes place
+cut-at ends bytes count place within utf8 is at = subst (IsCharBoundary bytes) (sym at) (text-cut ends 0 bytes count within (IsCharBoundary-start bytes utf8) is).start
+
+module _ (prefix rest : List ℕ) where
+  boundary-prefix : (place : ℕ) → place ≤ length prefix → IsCharBoundary (prefix ++ rest) place → IsCharBoundary prefix place
+  boundary-prefix place within is = (
+    within,
+    λ less high.
+        subst (λ b. 192 ≤ b) (get_or_append_left prefix rest 0 place less)
+        (is.1 (omega (arith, less, length-append prefix rest)) (subst (λ b. 128 ≤ b) (sym (get_or_append_left prefix rest 0 place less)) high)),
+  )
+
+  -- no text starts after one that comes later
+  rising : (ends : List ℕ) (start count : ℕ) (bytes : List ℕ) → count ≤ length ends → AreEnds start ends bytes → start ≤ start_at start ends count
+  unfolding AreEnds start_at
+  rising ends start zero bytes within is = rw (start-first ends start) (omega arith)
+  rising [] start (suc count) bytes within is = omega arith
+  rising (end ∷ ends) start (suc count) bytes within is = omega (arith, is.0, rising ends end count bytes (omega (arith, within)) is.2)
+
+  pub texts-take : (ends : List ℕ) (start count : ℕ) → count ≤ length ends → AreEnds start ends (prefix ++ rest) → start_at start ends count ≡ length prefix
+      → texts start (take count ends) prefix ≡ take count (texts start ends (prefix ++ rest))
+  unfolding texts AreEnds start_at
+  texts-take ends start zero within is at = refl
+  texts-take [] start (suc count) within is at = refl
+  texts-take (end ∷ ends) start (suc count) within is at =
+      ap₂ ◌∷◌ (sym (range-append prefix rest start end is.0 (omega (arith, at, rising ends end count (prefix ++ rest) (omega (arith, within)) is.2))))
+      (texts-take ends end count (omega (arith, within)) is.2 at)
+
+  pub ends-take : (ends : List ℕ) (start count : ℕ) → count ≤ length ends → AreEnds start ends (prefix ++ rest) → start_at start ends count ≡ length prefix
+      → AreEnds start (take count ends) prefix
+  unfolding AreEnds start_at
+  ends-take ends start zero within is at = sym (start-first ends start) ∙ at
+  ends-take [] start (suc count) within is at = at
+  ends-take (end ∷ ends) start (suc count) within is at = (
+    is.0,
+    boundary-prefix end (omega (arith, at, rising ends end count (prefix ++ rest) (omega (arith, within)) is.2)) is.1,
+    ends-take ends end count (omega (arith, within)) is.2 at,
+  )

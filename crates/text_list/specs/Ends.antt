@@ -1,4 +1,4 @@
--- Texts that stand one behind the other, by the places at which they end.
+-- Texts that stand one after the other, by the places at which they end.
 use Rattle.std.specs.Prelude.{◌≡◌, ◌≤◌, ℕ, List, [], ◌∷◌, zero, suc, length, slice_range, IsCharBoundary}
 
 -- the texts that end there, of which the first starts at that place

@@ -2,7 +2,7 @@
 ghost use Rattle.std.specs.Prelude.{◌≡◌, ◌∷◌, [], codes};
 ghost use Rattle.text_list.specs.Ends.{start_at, texts};
 
-/// Each text goes from the end of the one in front of it to its own; an empty one ends where it starts.
+/// Each text goes from the end of the one before it to its own; an empty one ends where it starts.
 #[tactic(auto, unfolding(crate::specs::Ends::texts, crate::specs::Ends::start_at))]
 pub fn text_examples()
     ensures two { texts 0 (2 ∷ 3 ∷ []) (codes "abc") ≡ codes "ab" ∷ codes "c" ∷ [] }

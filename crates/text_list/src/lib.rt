@@ -1,4 +1,4 @@
-//! A growing list of texts that take no memory of their own: their bytes stand one behind the other.
+//! A growing list of texts that take no memory of their own: their bytes stand one after the other.
 #![tactic(auto)]
 
 pub mod examples;

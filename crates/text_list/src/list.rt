@@ -1,4 +1,4 @@
-ghost use Rattle.std.specs.Prelude.{◌≡◌, ◌<◌, ◌≤◌, ◌∷◌, ◌++◌, [], length, slice_index_or, IfOk, OnErr, OnOk};
+ghost use Rattle.std.specs.Prelude.{◌≡◌, ◌<◌, ◌≤◌, ◌∷◌, ◌++◌, [], length, take, slice_index_or, IfOk, OnErr, OnOk};
 ghost use Rattle.text_list.specs.Ends.{start_at};
 
 use ft_base::Memory;
@@ -8,7 +8,7 @@ use std::marker::Model;
 /// A growing list of texts, which contracts see as the plain list of their bytes.
 #[derive(Drop)]
 pub struct TextList {
-    /// The texts, one behind the other.
+    /// The texts, one after the other.
     text: String,
     /// Where each of them ends.
     ends: Vec<usize>,
@@ -65,6 +65,18 @@ impl TextList {
         self.text.push_str(text)?;
         self.ends.push(self.text.len())?;
         Ok(())
+    }
+
+    /// Leaves the first so many texts, and all where there are no more.
+    pub fn truncate(&mut self, count: usize)
+        ensures { self.new ≡ take count self.old }
+    {
+        if count >= self.ends.len() {
+            return;
+        }
+        let end = start_at(&self.ends, count);
+        self.ends.truncate(count);
+        self.text.truncate(end);
     }
 
     /// How many texts there are.

@@ -49,14 +49,14 @@ one_link t from link q (Some links) some =
       | false ↦ λ e. refl
     ] refl
 
-links_behind : (lines : List (Phrase × Link)) (t : Links) (q : Phrase) → links_from (fold with_link t lines) q ≡ links_from t q ++ map (λ line. line.1) (filter (λ line. phrase_eq q line.0) lines)
-links_behind [] t q = sym (append-nil (links_from t q))
-links_behind (line ∷ lines) t q =
-    links_behind lines (with_link t line) q
+links_after : (lines : List (Phrase × Link)) (t : Links) (q : Phrase) → links_from (fold with_link t lines) q ≡ links_from t q ++ map (λ line. line.1) (filter (λ line. phrase_eq q line.0) lines)
+links_after [] t q = sym (append-nil (links_from t q))
+links_after (line ∷ lines) t q =
+    links_after lines (with_link t line) q
     ∙ ap (λ l. l ++ map (λ line. line.1) (filter (λ line. phrase_eq q line.0) lines)) (one_link t line.0 line.1 q (lookup (phrase_eq line.0) t) refl)
     ∙ elim (phrase_eq q line.0) as (λ b. cond b (links_from t q ++ line.1 ∷ []) (links_from t q) ++ map (λ line. line.1) (filter (λ line. phrase_eq q line.0) lines)
     ≡ links_from t q ++ map (λ line. line.1) (cond b (line ∷ filter (λ line. phrase_eq q line.0) lines) (filter (λ line. phrase_eq q line.0) lines)))
     [ true ↦ append_assoc (links_from t q) (line.1 ∷ []) (map (λ line. line.1) (filter (λ line. phrase_eq q line.0) lines)) | false ↦ refl ]
 
 pub links_of_lines : (lines : List (Phrase × Link)) (phrase : Phrase) → links_from (fold with_link [] lines) phrase ≡ map (λ line. line.1) (filter (λ line. phrase_eq phrase line.0) lines)
-links_of_lines lines phrase = links_behind lines [] phrase
+links_of_lines lines phrase = links_after lines [] phrase

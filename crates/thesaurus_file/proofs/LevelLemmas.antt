@@ -9,7 +9,7 @@ use Rattle.std.proofs.Math.Bool.{or-true}
 use Rattle.thesaurus_file.specs.Phrases.{Phrase, phrase_cmp, phrase_eq}
 use Rattle.thesaurus_file.specs.Levels.{in_range, is_up_to}
 use Rattle.thesaurus_file.specs.Links.{Links, links_from}
-use Rattle.thesaurus_file.specs.steps.Walks.{is_unseen, unseen_ends, level_behind}
+use Rattle.thesaurus_file.specs.steps.Walks.{is_unseen, unseen_ends, level_after}
 use Rattle.thesaurus_file.specs.Expansion.{next, ends, is_nearer, level, asked_level}
 use Rattle.thesaurus_file.specs.declared.levels.Levels.{Levels}
 use Rattle.thesaurus_file.proofs.OrderLemmas.{any_fold, any_in_order, in_order_same, same_from_eq}
@@ -111,11 +111,11 @@ module _ (thesaurus : Links) (relation : Option (List ℕ)) (start : Phrase) whe
         ∙ sym (among_level (suc n) q)
         ∙ any_level (phrase_eq q) (suc n)
 
-    pub level_suc : level_behind thesaurus relation seen (level_at n) ≡ level_at (suc n)
+    pub level_suc : level_after thesaurus relation seen (level_at n) ≡ level_at (suc n)
     unfolding level
     level_suc = in_order_same (flat_map (λ phrase. unseen_ends relation seen (links_from thesaurus phrase)) (level_at n)) (filter (λ q. not (nearer (suc n) q)) (ends_at (suc n))) alike
 
-    -- what is seen behind it
+    -- what is seen after it
     pub known_next : (q : Phrase) → list_any (phrase_eq q) (fold (insert_key phrase_cmp) seen (level_at (suc n))) ≡ nearer (suc (suc n)) q
     known_next q =
         any_fold (phrase_eq q) (level_at (suc n)) seen
@@ -134,7 +134,7 @@ module _ (thesaurus : Links) (relation : Option (List ℕ)) (start : Phrase) whe
       → flat_map (asked_level thesaurus relation levels start) (range_with_len (suc n) count) ≡ []
   none_asked levels zero n seen known none = refl
   none_asked levels (suc count) n seen known none =
-      let empty : level_at (suc n) ≡ [] = sym (level_suc n seen known) ∙ ap (level_behind thesaurus relation seen) none in
+      let empty : level_at (suc n) ≡ [] = sym (level_suc n seen known) ∙ ap (level_after thesaurus relation seen) none in
       let rest = none_asked levels count (suc n) (fold (insert_key phrase_cmp) seen (level_at (suc n))) (known_next n seen known) empty in
       ap (λ l. l ++ flat_map (asked_level thesaurus relation levels start) (range_with_len (suc n + 1) count)) (not_asked (in_range levels (suc n)) (suc n) empty) ∙ ap (λ k. flat_map (asked_level thesaurus relation levels start) (range_with_len k count)) (omega arith) ∙ rest
     where

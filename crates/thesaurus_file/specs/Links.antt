@@ -12,7 +12,7 @@ Links = List (Phrase × List Link)
 abbrev pub links_from : Links → Phrase → List Link
 links_from thesaurus phrase = unwrap_or (lookup (phrase_eq phrase) thesaurus) []
 
--- one more link of a phrase: behind those that it has, or as its first
+-- one more link of a phrase: after those that it has, or as its first
 abbrev pub link_added : Links → Phrase → Link → Option (List Link) → Links
 link_added thesaurus from link None = insert_entry phrase_cmp thesaurus from (link ∷ [])
 link_added thesaurus from link (Some links) = set_value (phrase_eq from) thesaurus (links ++ link ∷ [])

@@ -49,7 +49,7 @@ fn three_parts(text: &str) -> Option<(&str, &str, &str)>
     Some((first, second, third))
 }
 
-/// What stands before the first bar and what stands behind it.
+/// What stands before the first bar and what stands after it.
 fn split_at_bar(text: &str) -> Option<(&str, &str)>
     ensures { MatchOption result (slice_split is_bar text.now ≡ text.now ∷ [])
         (λ parts. slice_split is_bar text.now ≡ parts.0.now ∷ slice_split is_bar parts.1.now) }

@@ -6,7 +6,7 @@ ghost use Rattle.thesaurus_file.specs.Expansion.{expanded};
 ghost use Rattle.thesaurus_file.specs.Lines.{thesaurus_of, with_line};
 ghost use Rattle.thesaurus_file.specs.Links.{is_wanted, links_from, with_link};
 ghost use Rattle.thesaurus_file.specs.Phrases.{phrase_cmp};
-ghost use Rattle.thesaurus_file.specs.steps.Walks.{level_behind, unseen_ends};
+ghost use Rattle.thesaurus_file.specs.steps.Walks.{level_after, unseen_ends};
 
 use crate::levels::Levels;
 use crate::link::Link;
@@ -129,7 +129,7 @@ impl Thesaurus {
         relationship: Option<&str>,
         seen: &BTreeSet<Phrase>,
     ) -> Result<BTreeSet<Phrase>, Memory>
-        ensures { IfOk result (λ next. next.keys ≡ level_behind self.now (option_copied relationship.entry) seen.now.keys level.now.keys) }
+        ensures { IfOk result (λ next. next.keys ≡ level_after self.now (option_copied relationship.entry) seen.now.keys level.now.keys) }
     {
         let mut next = BTreeSet::new(alloc);
         for phrase in level {

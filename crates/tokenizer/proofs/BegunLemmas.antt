@@ -1,17 +1,17 @@
--- What was seen from the first word of a text on, one word further, and with the gap in front of it.
+-- What was seen from the first word of a text on, one word further, and with the gap before it.
 use Rattle.std.proofs.Common.{◌≡◌, ℕ, zero, suc, ◌+◌, ◌==◌, Bool, true, false, List, [], ◌∷◌, ◌++◌, map, refl, sym, ap, ap₂, ◌∙◌, append_assoc, append-nil, arith, if◌then◌else◌}
 use Rattle.std.proofs.lemmas.Bool.Decides.{nat_tests}
 use Rattle.std.proofs.lemmas.List.{map-append}
-use Rattle.tokenizer.specs.Tokens.{raised}
+use Rattle.tokenizer.specs.Tokens.{shifted}
 use Rattle.tokenizer.specs.steps.Begun.{after_begun, places_begun}
 use Rattle.tokenizer.specs.steps.Numbering.{after_word, both_passed, nothing_passed, paragraph_ends, sentence_ends}
 use Rattle.tokenizer.specs.declared.numbering.Numbering.{Numbering}
 
 -- ---- one number
 
-add-raised : (ended : Bool) (m n : ℕ) → raised ended (m + n) ≡ m + raised ended n
-add-raised true m n = omega arith
-add-raised false m n = refl
+add-shifted : (ended : Bool) (m n : ℕ) → shifted ended (m + n) ≡ m + shifted ended n
+add-shifted true m n = omega arith
+add-shifted false m n = refl
 
 later : (n : ℕ) → (n + 1 == n) ≡ false
 later n = grind (arith, nat_tests)
@@ -20,7 +20,7 @@ same : (n : ℕ) → (n == n) ≡ true
 same n = grind (arith, nat_tests)
 
 -- a number that isn't the one before it was raised
-new_start : (ended : Bool) (n : ℕ) (place : List ℕ) → (if raised ended n == n then [] else place) ≡ (if ended then place else [])
+new_start : (ended : Bool) (n : ℕ) (place : List ℕ) → (if shifted ended n == n then [] else place) ≡ (if ended then place else [])
 new_start true n place = rw (later n) refl
 new_start false n place = rw (same n) refl
 
@@ -34,14 +34,14 @@ after_begun-word zero inside last none =
     ∙ ap (λ i. both_passed (after_word last) (after_word i)) (sym (none refl))
 after_begun-word (suc w) inside last none =
     ap₂ (λ s p. record { sentence = s; paragraph = p; gap = record { sentence_ends = false; paragraph_ends = false; after_line_feed = false } })
-    (add-raised (sentence_ends inside) (after_word last).sentence inside.sentence) (add-raised (paragraph_ends inside) (after_word last).paragraph inside.paragraph)
+    (add-shifted (sentence_ends inside) (after_word last).sentence inside.sentence) (add-shifted (paragraph_ends inside) (after_word last).paragraph inside.paragraph)
 
--- `before` is the number in front of the word outside, and `inside` that inside
-pub places_begun-first : (ends : Bool) (seen before : ℕ) → (if raised ends before == before then [] else (seen + 1) ∷ []) ≡ places_begun 1 [] ends seen
+-- `before` is the number before the word outside, and `inside` that inside
+pub places_begun-first : (ends : Bool) (seen before : ℕ) → (if shifted ends before == before then [] else (seen + 1) ∷ []) ≡ places_begun 1 [] ends seen
 places_begun-first ends seen before = new_start ends before ((seen + 1) ∷ []) ∙ sym (append-nil _)
 
-pub places_begun-later : (w : ℕ) (places : List ℕ) (ends raises : Bool) (seen before inside : ℕ) → places_begun (suc w) places ends seen ++ (if raised raises before == before then [] else (seen + suc w + 1) ∷ [])
-    ≡ places_begun (suc (suc w)) (places ++ (if raised raises inside == inside then [] else (suc w + 1) ∷ [])) ends seen
+pub places_begun-later : (w : ℕ) (places : List ℕ) (ends raises : Bool) (seen before inside : ℕ) → places_begun (suc w) places ends seen ++ (if shifted raises before == before then [] else (seen + suc w + 1) ∷ [])
+    ≡ places_begun (suc (suc w)) (places ++ (if shifted raises inside == inside then [] else (suc w + 1) ∷ [])) ends seen
 places_begun-later w places ends raises seen before inside =
     rw (new_start raises before ((seen + suc w + 1) ∷ []), new_start raises inside ((suc w + 1) ∷ [])) (by raises)
   where

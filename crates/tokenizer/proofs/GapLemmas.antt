@@ -7,6 +7,7 @@ use Rattle.std.specs.Str.{chars}
 use Rattle.std.proofs.Math.Bool.{or_assoc, or-false}
 use Rattle.std.proofs.lemmas.Bool.Decides.{nat_tests}
 use Rattle.std.specs.List.{list_any}
+use Rattle.ft_base.proofs.Truth.{or_swap_last}
 use Rattle.ft_base.specs.Characters.{is_blank, is_line_feed}
 use Rattle.tokenizer.specs.Gaps.{is_sentence_end, begins_with_line_end, has_blank_line, is_block_element, characters_of, tags_of, ends_paragraph}
 use Rattle.tokenizer.specs.steps.GapSteps.{after_character, after_characters, after_part, after_tag, both_seen, paragraph_ends_in, sentence_ends_in}
@@ -196,38 +197,31 @@ after_characters-encodes known (c ∷ cs) =
 pub after_characters-chars : (known : Gap) (text : List ℕ) → IsUtf8 text → after_characters known text ≡ after_characters known (chars text)
 after_characters-chars known text u = ap (after_characters known) (sym (encodes-chars text u)) ∙ after_characters-encodes known (chars text)
 
--- ---- what was seen in front
+-- ---- what was seen before
 
-swap_last : (a b c : Bool) → ((a || b) || c) ≡ ((a || c) || b)
-swap_last true b c = refl
-swap_last false true true = refl
-swap_last false true false = refl
-swap_last false false true = refl
-swap_last false false false = refl
-
-both_seen-character : (front known : Gap) (c : ℕ) → after_character (both_seen front known) c ≡ both_seen front (after_character known c)
-both_seen-character front known c =
+both_seen-character : (prefix known : Gap) (c : ℕ) → after_character (both_seen prefix known) c ≡ both_seen prefix (after_character known c)
+both_seen-character prefix known c =
     elim (cases_Bool (is_line_feed c)) [
-      | inl feed ↦ rw feed (ap (λ p. record { sentence_ends = known.sentence_ends || front.sentence_ends; paragraph_ends = p; after_line_feed = true })
-          (swap_last known.paragraph_ends front.paragraph_ends known.after_line_feed))
+      | inl feed ↦ rw feed (ap (λ p. record { sentence_ends = known.sentence_ends || prefix.sentence_ends; paragraph_ends = p; after_line_feed = true })
+          (or_swap_last known.paragraph_ends prefix.paragraph_ends known.after_line_feed))
       | inr other ↦ elim (cases_Bool (is_blank c)) [
         | inl blank ↦ rw (other, blank) refl
-        | inr mark ↦ rw (other, mark) (ap (λ s. record { sentence_ends = s; paragraph_ends = known.paragraph_ends || front.paragraph_ends; after_line_feed = false })
-            (swap_last known.sentence_ends front.sentence_ends (is_sentence_end c)))
+        | inr mark ↦ rw (other, mark) (ap (λ s. record { sentence_ends = s; paragraph_ends = known.paragraph_ends || prefix.paragraph_ends; after_line_feed = false })
+            (or_swap_last known.sentence_ends prefix.sentence_ends (is_sentence_end c)))
       ]
     ]
 
-both_seen-characters : (front known : Gap) (cs : List ℕ) → after_characters (both_seen front known) cs ≡ both_seen front (after_characters known cs)
+both_seen-characters : (prefix known : Gap) (cs : List ℕ) → after_characters (both_seen prefix known) cs ≡ both_seen prefix (after_characters known cs)
 unfolding after_characters
-both_seen-characters front known [] = refl
-both_seen-characters front known (c ∷ cs) =
-    ap (λ g. after_characters g cs) (both_seen-character front known c) ∙ both_seen-characters front (after_character known c) cs
+both_seen-characters prefix known [] = refl
+both_seen-characters prefix known (c ∷ cs) =
+    ap (λ g. after_characters g cs) (both_seen-character prefix known c) ∙ both_seen-characters prefix (after_character known c) cs
 
--- more characters of a part: behind them is what is behind them in both of its gaps
-pub after_part-characters : (part : GapPart) (front : Gap) (cs : List ℕ) → after_characters (after_part part front) cs
-    ≡ both_seen front (if front.after_line_feed then after_characters part.after_line_feed cs else after_characters part.alone cs)
-after_part-characters part front cs =
-    elim (cases_Bool front.after_line_feed) [
-      | inl fed ↦ rw fed (both_seen-characters front part.after_line_feed cs)
-      | inr bare ↦ rw bare (both_seen-characters front part.alone cs)
+-- more characters of a part: after them is what is after them in both of its gaps
+pub after_part-characters : (part : GapPart) (prefix : Gap) (cs : List ℕ) → after_characters (after_part part prefix) cs
+    ≡ both_seen prefix (if prefix.after_line_feed then after_characters part.after_line_feed cs else after_characters part.alone cs)
+after_part-characters part prefix cs =
+    elim (cases_Bool prefix.after_line_feed) [
+      | inl fed ↦ rw fed (both_seen-characters prefix part.after_line_feed cs)
+      | inr bare ↦ rw bare (both_seen-characters prefix part.alone cs)
     ]

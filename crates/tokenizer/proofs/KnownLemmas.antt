@@ -4,7 +4,7 @@ use Rattle.std.specs.Str.{chars}
 use Rattle.ft_base.specs.declared.token.Token.{Token}
 use Rattle.unicode_segmentation.specs.Word.{word_bounds}
 use Rattle.tokenizer.specs.Parts.{Part, word, gap_characters, part_of_segment}
-use Rattle.tokenizer.specs.Tokens.{raised, starts}
+use Rattle.tokenizer.specs.Tokens.{shifted, starts}
 use Rattle.tokenizer.specs.steps.Begun.{after_begun, places_begun}
 use Rattle.tokenizer.specs.steps.GapSteps.{after_characters, after_part}
 use Rattle.tokenizer.specs.steps.Numbering.{after_word, both_passed, nothing_passed, paragraph_ends, sentence_ends, tokens_left}
@@ -32,9 +32,9 @@ Known-same a b before words sentences paragraphs inside =
 -- ---- characters
 
 module _ (parts left : List Part) (bytes : List ℕ) (old : Known) where
-  front : (part : GapPart) → ((gap : Gap) → after_part part gap ≡ after_characters (after_part old.before gap) (chars bytes))
+  prefix : (part : GapPart) → ((gap : Gap) → after_part part gap ≡ after_characters (after_part old.before gap) (chars bytes))
       → Leads parts (record old { words = 0 }) (gap_characters bytes ∷ left) → Leads parts (record old { before = part; words = 0 }) left
-  front part same leads =
+  prefix part same leads =
       let gone : (last : Numbering) (rest : List Part) → tokens_left (before_first old last) (gap_characters bytes ∷ (left ++ rest)) ≡ tokens_left (record last { gap = after_part part last.gap }) (left ++ rest) =
       λ last rest. tokens_left-characters (before_first old last) (left ++ rest) bytes ∙ ap (λ g. tokens_left (record last { gap = g }) (left ++ rest)) (sym (same last.gap)) in
       record {
@@ -42,9 +42,9 @@ module _ (parts left : List Part) (bytes : List ℕ) (old : Known) where
         paragraphs = λ last seen rest. leads.paragraphs last seen rest ∙ ap (starts by_paragraph last.paragraph (seen + 0 + 1)) (gone last rest);
       }
 
-  behind : (w : ℕ) → Leads parts (record old { words = suc w }) (gap_characters bytes ∷ left)
+  after : (w : ℕ) → Leads parts (record old { words = suc w }) (gap_characters bytes ∷ left)
       → Leads parts (record old { words = suc w; inside = record old.inside { gap = after_characters old.inside.gap (chars bytes) } }) left
-  behind w leads =
+  after w leads =
       let at = λ (last : Numbering). both_passed (after_word (before_first old last)) old.inside in
       record {
         sentences = λ last seen rest. leads.sentences last seen rest
@@ -56,21 +56,21 @@ module _ (parts left : List Part) (bytes : List ℕ) (old : Known) where
       }
 
   module _ (new : Known) (words : new.words ≡ old.words) (sentences : new.sentences ≡ old.sentences) (paragraphs : new.paragraphs ≡ old.paragraphs) (leads : Leads parts old (gap_characters bytes ∷ left)) where
-    pub Leads-front : old.words ≡ 0 → new.inside ≡ old.inside → ((gap : Gap) → after_part new.before gap ≡ after_characters (after_part old.before gap) (chars bytes)) → Leads parts new left
-    Leads-front none inside same =
+    pub Leads-prefix : old.words ≡ 0 → new.inside ≡ old.inside → ((gap : Gap) → after_part new.before gap ≡ after_characters (after_part old.before gap) (chars bytes)) → Leads parts new left
+    Leads-prefix none inside same =
         subst (λ k. Leads parts k left) (Known-same (record old { before = new.before; words = 0 }) new refl (sym none ∙ sym words) (sym sentences) (sym paragraphs) (sym inside))
-        (front new.before same (subst (λ k. Leads parts k (gap_characters bytes ∷ left)) (Known-same old (record old { words = 0 }) refl none refl refl refl) leads))
+        (prefix new.before same (subst (λ k. Leads parts k (gap_characters bytes ∷ left)) (Known-same old (record old { words = 0 }) refl none refl refl refl) leads))
 
-    pub Leads-behind : (w : ℕ) → old.words ≡ suc w → new.before ≡ old.before → new.inside ≡ record old.inside { gap = after_characters old.inside.gap (chars bytes) } → Leads parts new left
-    Leads-behind w some before inside =
+    pub Leads-after : (w : ℕ) → old.words ≡ suc w → new.before ≡ old.before → new.inside ≡ record old.inside { gap = after_characters old.inside.gap (chars bytes) } → Leads parts new left
+    Leads-after w some before inside =
         subst (λ k. Leads parts k left)
         (Known-same (record old { words = suc w; inside = record old.inside { gap = after_characters old.inside.gap (chars bytes) } }) new (sym before) (sym some ∙ sym words) (sym sentences) (sym paragraphs) (sym inside))
-        (behind w (subst (λ k. Leads parts k (gap_characters bytes ∷ left)) (Known-same old (record old { words = suc w }) refl some refl refl refl) leads))
+        (after w (subst (λ k. Leads parts k (gap_characters bytes ∷ left)) (Known-same old (record old { words = suc w }) refl some refl refl refl) leads))
 
 -- ---- a word
 
 first-more : (ends : Bool) (seen before : ℕ) (places : List ℕ) {inside next : ℕ} → places ≡ [] → inside ≡ 0 → next ≡ 0
-    → (if raised ends before == before then [] else (seen + 0 + 1) ∷ []) ≡ places_begun 1 (places ++ (if next == inside then [] else (0 + 1) ∷ [])) ends seen
+    → (if shifted ends before == before then [] else (seen + 0 + 1) ∷ []) ≡ places_begun 1 (places ++ (if next == inside then [] else (0 + 1) ∷ [])) ends seen
 first-more ends seen before places empty none still =
     let at : seen + 0 + 1 ≡ seen + 1 = omega arith in
     rw (empty, none, still, at) (places_begun-first ends seen before)

@@ -4,15 +4,9 @@ use Rattle.std.proofs.lemmas.Bool.{and_parts, ltb-true}
 use Rattle.std.proofs.lemmas.List.Elements.{All-nil, All-cons, All-get_or, All-head}
 use Rattle.std.specs.Option.{ForSome}
 use Rattle.ft_base.specs.Places.{is_ascending, last_place}
-use Rattle.ft_base.proofs.PlacesLemmas.{last_place-push}
+use Rattle.ft_base.proofs.PlacesLemmas.{ascending-drop, last_place-push}
 
-pub ascending-drop : (k : ℕ) (xs : List ℕ) → is_ascending xs ≡ true → is_ascending (drop k xs) ≡ true
-ascending-drop zero xs up = up
-ascending-drop (suc k) [] up = refl
-ascending-drop (suc k) (x ∷ []) up = ascending-drop k [] refl
-ascending-drop (suc k) (x ∷ y ∷ xs) up = ascending-drop k (y ∷ xs) (and_parts (nat_lt x y) (is_ascending (y ∷ xs)) up).1
-
--- what stands behind a place is greater than it
+-- what stands after a place is greater than it
 pub above : (b w x : ℕ) (xs : List ℕ) → w ≤ x → is_ascending (x ∷ xs) ≡ true → All (λ p. b + w < b + p) xs
 above b w x [] least up = All-nil (λ p. b + w < b + p)
 above b w x (y ∷ ys) least up =

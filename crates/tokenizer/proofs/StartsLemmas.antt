@@ -4,7 +4,7 @@ use Rattle.std.proofs.lemmas.Bool.{cases_Bool}
 use Rattle.tokenizer.specs.Gaps.{gap, ends_paragraph, ends_sentence}
 use Rattle.tokenizer.specs.steps.Numbering.{tokens_left}
 use Rattle.tokenizer.specs.Parts.{Part, word, gap_characters, gap_tag, part_of_segment}
-use Rattle.tokenizer.specs.Tokens.{raised, tokens_from, starts}
+use Rattle.tokenizer.specs.Tokens.{shifted, tokens_from, starts}
 use Rattle.tokenizer.specs.Words.{is_word}
 use Rattle.tokenizer.proofs.NumberingLemmas.{tokens_left-nil}
 use Rattle.tokenizer.specs.declared.numbering.Numbering.{Numbering}
@@ -21,7 +21,7 @@ words_in (gap_tag name ∷ rest) = words_in rest
 pub length-tokens_from : (sentence paragraph : ℕ) (parts : List Part) → length (tokens_from sentence paragraph parts) ≡ words_in parts
 unfolding tokens_from
 length-tokens_from s p [] = refl
-length-tokens_from s p (word bytes ∷ rest) = ap suc (length-tokens_from (raised (ends_sentence (gap rest)) s) (raised (ends_paragraph (gap rest)) p) rest)
+length-tokens_from s p (word bytes ∷ rest) = ap suc (length-tokens_from (shifted (ends_sentence (gap rest)) s) (shifted (ends_paragraph (gap rest)) p) rest)
 length-tokens_from s p (gap_characters bytes ∷ rest) = length-tokens_from s p rest
 length-tokens_from s p (gap_tag name ∷ rest) = length-tokens_from s p rest
 

@@ -7,15 +7,15 @@ use Rattle.tokenizer.specs.Parts.{Part, word, gap_characters, gap_tag, parts}
 use Rattle.ft_base.specs.declared.token.Token.{Token}
 
 -- the next number, where one ended
-abbrev pub raised : Bool → ℕ → ℕ
-raised ended number = if ended then number + 1 else number
+abbrev pub shifted : Bool → ℕ → ℕ
+shifted ended number = if ended then number + 1 else number
 
 -- the tokens of the parts, of which the first has these numbers
 unfoldable pub tokens_from : ℕ → ℕ → List Part → List Token
 tokens_from sentence paragraph [] = []
 tokens_from sentence paragraph (word bytes ∷ rest) =
     record { word = bytes; sentence = sentence; paragraph = paragraph }
-    ∷ tokens_from (raised (ends_sentence (gap rest)) sentence) (raised (ends_paragraph (gap rest)) paragraph) rest
+    ∷ tokens_from (shifted (ends_sentence (gap rest)) sentence) (shifted (ends_paragraph (gap rest)) paragraph) rest
 tokens_from sentence paragraph (gap_characters bytes ∷ rest) = tokens_from sentence paragraph rest
 tokens_from sentence paragraph (gap_tag name ∷ rest) = tokens_from sentence paragraph rest
 

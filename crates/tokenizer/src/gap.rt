@@ -4,14 +4,14 @@ ghost use Rattle.tokenizer.specs.steps.GapSteps.{after_character, after_characte
 
 use crate::blocks::is_block_element;
 
-/// What is known of the gap behind a word, as far as it was seen.
+/// What is known of the gap after a word, as far as it was seen.
 #[derive(Clone, Copy)]
 pub(crate) struct Gap {
     /// A mark that ends sentences was seen.
     pub(crate) sentence_ends: bool,
     /// A blank line or a tag of a block element was seen.
     pub(crate) paragraph_ends: bool,
-    /// Behind the last line feed only blanks were seen.
+    /// After the last line feed only blanks were seen.
     pub(crate) after_line_feed: bool,
 }
 

@@ -4,10 +4,10 @@ ghost use Rattle.tokenizer.specs.steps.GapSteps.{after_characters, after_part};
 
 use crate::gap::Gap;
 
-/// What characters say of a gap, whatever stands in front of them.
+/// What characters say of a gap, whatever stands before them.
 #[derive(Clone, Copy)]
 pub(crate) struct GapPart {
-    /// What is known behind them where nothing was seen in front of them.
+    /// What is known after them where nothing was seen before them.
     alone: Gap,
     /// The same where nothing but a line feed was.
     after_line_feed: Gap,
@@ -36,8 +36,8 @@ impl GapPart {
         self.after_line_feed.pass_characters(text);
     }
 
-    /// What is known of a gap of which `known` was seen, behind these characters.
-    pub(crate) fn behind(&self, known: Gap) -> Gap
+    /// What is known of a gap of which `known` was seen, after these characters.
+    pub(crate) fn after(&self, known: Gap) -> Gap
         ensures { result ≡ after_part self.now known }
     {
         let seen = if known.after_line_feed {

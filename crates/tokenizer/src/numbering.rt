@@ -3,11 +3,11 @@ ghost use Rattle.std.specs.Str.{chars};
 ghost use Rattle.tokenizer.specs.steps.GapSteps.{after_characters};
 ghost use Rattle.tokenizer.specs.steps.Numbering.{after_word, both_passed, nothing_passed, tokens_left};
 ghost use Rattle.tokenizer.specs.Parts.{Part, word, gap_characters, gap_tag};
-ghost use Rattle.tokenizer.specs.Tokens.{raised, tokens_from};
+ghost use Rattle.tokenizer.specs.Tokens.{shifted, tokens_from};
 
 use crate::gap::Gap;
 
-/// The numbers of the last token's sentence and paragraph, and what is known of the gap behind it.
+/// The numbers of the last token's sentence and paragraph, and what is known of the gap after it.
 #[derive(Clone, Copy)]
 pub(crate) struct Numbering {
     pub(crate) sentence: u32,
@@ -29,7 +29,7 @@ impl Numbering {
         }
     }
 
-    /// In front of a word, where nothing was seen.
+    /// Before a word, where nothing was seen.
     pub(crate) fn inside() -> Numbering
         ensures { result ≡ nothing_passed }
     {
@@ -85,16 +85,16 @@ impl Numbering {
     {
         let paragraph_ends = self.gap.paragraph_ends;
         let sentence_ends = self.gap.sentence_ends | paragraph_ends;
-        self.sentence = raised(sentence_ends, self.sentence);
-        self.paragraph = raised(paragraph_ends, self.paragraph);
+        self.sentence = shifted(sentence_ends, self.sentence);
+        self.paragraph = shifted(paragraph_ends, self.paragraph);
         self.gap = Gap::new();
     }
 }
 
 /// The next number, where a sentence or a paragraph ended.
-fn raised(ended: bool, number: u32) -> u32
+fn shifted(ended: bool, number: u32) -> u32
     requires { number + 1 < 2 ^ 32 }
-    ensures value { result ≡ raised ended number }
+    ensures value { result ≡ shifted ended number }
     ensures most { result ≤ number + 1 }
 {
     if ended { number + 1 } else { number }

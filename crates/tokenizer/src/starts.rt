@@ -19,8 +19,8 @@ pub struct Starts {
     pub(crate) breaks: Breaks,
     pub(crate) last: Numbering,
     pub(crate) words: u32,
-    ghost sentences_behind: { ForSome (last_place breaks.sentences) (λ place. place ≤ words) },
-    ghost paragraphs_behind: { ForSome (last_place breaks.paragraphs) (λ place. place ≤ words) },
+    ghost sentences_after: { ForSome (last_place breaks.sentences) (λ place. place ≤ words) },
+    ghost paragraphs_after: { ForSome (last_place breaks.paragraphs) (λ place. place ≤ words) },
     ghost sentences_few: { last.sentence ≤ words },
     ghost paragraphs_few: { last.paragraph ≤ words },
 }
@@ -51,7 +51,7 @@ impl Starts {
         }
     }
 
-    /// In front of the first word of a text, where no sentence ends.
+    /// Before the first word of a text, where no sentence ends.
     pub(crate) fn inside(alloc: Global) -> Starts
         ensures last { result.last ≡ nothing_passed }
         ensures sentences { result.breaks.sentences ≡ [] }
@@ -170,7 +170,7 @@ fn push_start(places: &mut Places, place: u32, before: u32, number: u32) -> Resu
     requires { ForSome (last_place places.old) (λ last. last < place) }
     ensures ok { OnOk result (places.new ≡ places.old ++ (if number == before then [] else place ∷ [])) }
     ensures err { OnErr result (places.new ≡ places.old) }
-    ensures behind { ForSome (last_place places.new) (λ last. last ≤ place) }
+    ensures after { ForSome (last_place places.new) (λ last. last ≤ place) }
 {
     if number == before {
         return Ok(());

@@ -22,11 +22,11 @@ use unicode::segmentation::UnicodeSegmentation;
 /// How many words a text has, and where sentences and paragraphs start in it.
 #[derive(Drop)]
 pub struct TextStarts {
-    /// The characters in front of the first word; all of them, where there is no word.
+    /// The characters before the first word; all of them, where there is no word.
     before: GapPart,
-    /// What was seen from the first word on, where no sentence ends in front of it.
-    behind: Starts,
-    ghost begun: { Begun behind },
+    /// What was seen from the first word on, where no sentence ends before it.
+    after: Starts,
+    ghost begun: { Begun after },
 }
 
 impl TextStarts {
@@ -39,7 +39,7 @@ impl TextStarts {
     {
         TextStarts {
             before: GapPart::new(),
-            behind: Starts::inside(alloc),
+            after: Starts::inside(alloc),
         }
     }
 
@@ -50,7 +50,7 @@ impl TextStarts {
         let mut known = TextStarts::new(alloc);
         for segment in text.split_word_bounds() {
             if is_word(segment) {
-                if known.behind.words >= 2_000_000_000 {
+                if known.after.words >= 2_000_000_000 {
                     return Err(Memory);
                 }
                 known.pass_word()?;
@@ -65,7 +65,7 @@ impl TextStarts {
     pub fn word_count(&self) -> u32
         ensures { result ≡ words_known self.now }
     {
-        self.behind.words
+        self.after.words
     }
 
     /// Goes past characters that are in no word.
@@ -73,10 +73,10 @@ impl TextStarts {
         ensures leads { (parts left : List Part) → Leads parts (known_of self.old) (gap_characters text.now ∷ left) → Leads parts (known_of self.new) left }
         ensures words { words_known self.new ≡ words_known self.old }
     {
-        if self.behind.words == 0 {
+        if self.after.words == 0 {
             self.before.pass_characters(text);
         } else {
-            self.behind.pass_characters(text);
+            self.after.pass_characters(text);
         }
     }
 
@@ -85,9 +85,9 @@ impl TextStarts {
         requires { words_known self.old + 1 < 2 ^ 32 }
         ensures leads { OnOk result ((parts left : List Part) (bytes : List ℕ) →
             Leads parts (known_of self.old) (word bytes ∷ left) → Leads parts (known_of self.new) left) }
-        ensures words { self.new.behind.words ≡ self.old.behind.words + 1 }
+        ensures words { self.new.after.words ≡ self.old.after.words + 1 }
     {
-        self.behind.pass_word()?;
+        self.after.pass_word()?;
         Ok(())
     }
 
@@ -102,7 +102,7 @@ impl TextStarts {
         ensures full { result ≡ Err TokenFault.Tokens → most ≤ words_known self.old }
         ensures list { OnOk result (list.new ≡ list.old ++ segment.now ∷ []) }
     {
-        if self.behind.words >= most {
+        if self.after.words >= most {
             return Err(TokenFault::Tokens);
         }
         list.push(segment)?;
@@ -159,12 +159,12 @@ impl Starts {
         ensures paragraphs { OnOk result ((text : List ℕ) (rest : List Part) → Tells known.now text →
             paragraphs_in self.old (map part_of_segment (word_bounds text) ++ rest) ≡ paragraphs_in self.new rest) }
     {
-        if known.behind.words > most - self.words {
+        if known.after.words > most - self.words {
             return Err(TokenFault::Tokens);
         }
         self.pass_part(&known.before);
-        if known.behind.words > 0 {
-            self.pass_begun(&known.behind)?;
+        if known.after.words > 0 {
+            self.pass_begun(&known.after)?;
         }
         Ok(())
     }
@@ -175,39 +175,39 @@ impl Starts {
         ensures breaks { self.new.breaks ≡ self.old.breaks }
         ensures words { self.new.words ≡ self.old.words }
     {
-        self.last.gap = part.behind(self.last.gap);
+        self.last.gap = part.after(self.last.gap);
     }
 
     /// Goes past what was seen from the first word of a text on.
-    fn pass_begun(&mut self, behind: &Starts) -> Result<(), Memory>
-        requires begun { Begun behind.now }
-        requires some { 0 < behind.now.words }
-        requires few { self.old.words + behind.now.words < 2 ^ 31 }
-        ensures words { self.new.words ≤ self.old.words + behind.now.words }
-        ensures counted { OnOk result (self.new.words ≡ self.old.words + behind.now.words) }
-        ensures last { OnOk result (self.new.last ≡ after_begun behind.now.words behind.now.last self.old.last) }
+    fn pass_begun(&mut self, after: &Starts) -> Result<(), Memory>
+        requires begun { Begun after.now }
+        requires some { 0 < after.now.words }
+        requires few { self.old.words + after.now.words < 2 ^ 31 }
+        ensures words { self.new.words ≤ self.old.words + after.now.words }
+        ensures counted { OnOk result (self.new.words ≡ self.old.words + after.now.words) }
+        ensures last { OnOk result (self.new.last ≡ after_begun after.now.words after.now.last self.old.last) }
         ensures sentences { OnOk result (self.new.breaks.sentences ≡ self.old.breaks.sentences
-            ++ places_begun behind.now.words behind.now.breaks.sentences (sentence_ends self.old.last) self.old.words) }
+            ++ places_begun after.now.words after.now.breaks.sentences (sentence_ends self.old.last) self.old.words) }
         ensures paragraphs { OnOk result (self.new.breaks.paragraphs ≡ self.old.breaks.paragraphs
-            ++ places_begun behind.now.words behind.now.breaks.paragraphs (paragraph_ends self.old.last) self.old.words) }
+            ++ places_begun after.now.words after.now.breaks.paragraphs (paragraph_ends self.old.last) self.old.words) }
     {
         let before = self.words;
         self.pass_word()?;
-        self.words = before + behind.words;
-        self.last.pass_numbering(&behind.last);
-        push_places(&mut self.breaks.sentences, before, &behind.breaks.sentences)?;
+        self.words = before + after.words;
+        self.last.pass_numbering(&after.last);
+        push_places(&mut self.breaks.sentences, before, &after.breaks.sentences)?;
         push_places(
             &mut self.breaks.paragraphs,
             before,
-            &behind.breaks.paragraphs,
+            &after.breaks.paragraphs,
         )?;
         Ok(())
     }
 }
 
-/// Puts places to the end that count from behind a place.
+/// Puts places to the end that count from after a place.
 fn push_places(places: &mut Places, before: u32, added: &Places) -> Result<(), Memory>
-    requires behind { ForSome (last_place places.old) (λ last. last ≤ before + 1) }
+    requires after { ForSome (last_place places.old) (λ last. last ≤ before + 1) }
     requires inside { All (λ place. 1 < place) added.now }
     requires few { ForSome (last_place added.now) (λ last. before + last < 2 ^ 32) }
     ensures ok { OnOk result (places.new ≡ places.old ++ map (λ place. before + place) added.now) }

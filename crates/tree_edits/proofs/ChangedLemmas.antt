@@ -1,4 +1,4 @@
--- What an edit makes of nodes behind each other, and of an element that was chosen or not.
+-- What an edit makes of nodes after each other, and of an element that was chosen or not.
 use Rattle.std.proofs.Common.{◌≡◌, ℕ, Bool, true, false, List, refl, sym, ap, ap₂, ◌∙◌, inl, inr}
 use Rattle.std.specs.List.{All}
 use Rattle.std.proofs.lemmas.Bool.{cases_Bool, cond-false, cond-true}

@@ -29,7 +29,7 @@ use Rattle.tree_edits.proofs.RowsJoined.{row}
 
 -- what is known once the edited root was taken out of the list that was made
 pub record Taken (chosen : List NodeRef) (how : Option How) (items : List Tree) (tree : Stored) (old : Numbered) (marks : List Bool) (refs : List NodeRef) (new : RefTree) (slots : ℕ) : Type 0 where
-  pub front : List RefTree
+  pub prefix : List RefTree
   pub made : List RefTree
   pub size : ℕ
   pub same : old ≡ tree.root
@@ -46,7 +46,7 @@ pub record Taken (chosen : List NodeRef) (how : Option How) (items : List Tree) 
   pub refs_below : All (λ r. r.0 < slots) refs
   pub slots_are : slots ≡ max tree.slots (node_count (plain tree.root) + nodes_count (nodes (map node items)))
   pub row_is : row made ≡ joined (changed (is_marked marks) (act how (all_fresh refs (nodes (map node items)))) old)
-  pub popped : made ≡ front ++ new ∷ []
+  pub popped : made ≡ prefix ++ new ∷ []
 
 module _ (chosen : List NodeRef) (how : Option How) (items : List Tree) (tree : Stored) (old : Numbered) (marks : List Bool) (refs : List NodeRef) (new : RefTree) (slots : ℕ) (t : Taken chosen how items tree old marks refs new slots) where
   abbrev content : Nodes
@@ -59,7 +59,7 @@ module _ (chosen : List NodeRef) (how : Option How) (items : List Tree) (tree : 
   document =
       let below : All (λ (r : NodeRef). r.0 < t.size) (references_in old) =
       subst (All (λ (r : NodeRef). r.0 < t.size)) (references-are old) (subst (λ root. All (λ (r : NodeRef). r.0 < t.size) (references root)) (sym t.same) t.below) in
-      made_is chosen how kids tree.root old t.front t.made new t.same t.stay t.popped
+      made_is chosen how kids tree.root old t.prefix t.made new t.same t.stay t.popped
       (t.row_is ∙ ap joined (same_choice_of (λ (r : NodeRef). r.0 < t.size) (is_marked marks) (is_among chosen) t.marked (act how kids) old below))
 
   keeps_order : KeepsOrder tree.root (ref_node new)

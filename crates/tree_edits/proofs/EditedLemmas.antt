@@ -102,11 +102,11 @@ module _ (chosen : List NodeRef) (how : Option How) (content : Nodes) (refs : Li
       (all-changed (λ r. r.0 < bound) (all_fresh refs content) (All-same (λ r. r.0 < bound) (references_of (all_fresh refs content)) refs fresh-refs own) (is_among chosen) how root
       (All-same (λ r. r.0 < bound) (references_in root) (references root) (sym (references-are root)) old)))
 
--- the one tree that was made stands for the document behind the edit
-pub made_is : (chosen : List NodeRef) (how : Option How) (kids : Children) (root old : Numbered) (front items : List RefTree) (new : RefTree) → old ≡ root → root_stays chosen how root ≡ true
-    → items ≡ front ++ new ∷ [] → row items ≡ joined (changed (is_among chosen) (act how kids) old) → only (ref_node new) ≡ act_on chosen how kids root
-made_is chosen how kids root old front items new old-is stay items-is row-is =
+-- the one tree that was made stands for the document after the edit
+pub made_is : (chosen : List NodeRef) (how : Option How) (kids : Children) (root old : Numbered) (prefix items : List RefTree) (new : RefTree) → old ≡ root → root_stays chosen how root ≡ true
+    → items ≡ prefix ++ new ∷ [] → row items ≡ joined (changed (is_among chosen) (act how kids) old) → only (ref_node new) ≡ act_on chosen how kids root
+made_is chosen how kids root old prefix items new old-is stay items-is row-is =
     let i : IsRoot (act_on chosen how kids root) (reference root) = root_made chosen how kids root stay in
-    let last : append (row front) (only (ref_node new)) ≡ only i.root =
-    sym (row_append front (new ∷ [])) ∙ ap row (sym items-is) ∙ row-is ∙ ap (act_on chosen how kids) old-is ∙ i.alone in
-    ap only (last_only (row front) (ref_node new) i.root last) ∙ sym i.alone
+    let last : append (row prefix) (only (ref_node new)) ≡ only i.root =
+    sym (row_append prefix (new ∷ [])) ∙ ap row (sym items-is) ∙ row-is ∙ ap (act_on chosen how kids) old-is ∙ i.alone in
+    ap only (last_only (row prefix) (ref_node new) i.root last) ∙ sym i.alone

@@ -78,8 +78,8 @@ module _ (test : NodeRef → Bool) where
   -- ---- a change with content that fails the test
 
   module _ (content : Children) (fails : Fails test (references_of content)) where
-    front_dropped : (es : List Element) → filter p (elements_of content ++ es) ≡ filter p es
-    front_dropped es = filter-append p (elements_of content) es ∙ ap (λ l. l ++ filter p es) (none_pass_of content fails)
+    prefix_dropped : (es : List Element) → filter p (elements_of content ++ es) ≡ filter p es
+    prefix_dropped es = filter-append p (elements_of content) es ∙ ap (λ l. l ++ filter p es) (none_pass_of content fails)
 
     back_dropped : (es : List Element) → filter p (es ++ elements_of content) ≡ filter p es
     back_dropped es = filter-append p es (elements_of content) ∙ ap (λ l. filter p es ++ l) (none_pass_of content fails) ∙ append-nil (filter p es)
@@ -88,13 +88,13 @@ module _ (test : NodeRef → Bool) where
         → filter p (elements_of (inserted how content (element_at r name attrs kids))) ≡ filter p (elements_in (element_at r name attrs kids))
     inserted_elements H.First r name attrs kids =
         ap (λ es. filter p ((r, name, attrs) ∷ es)) (append-nil (elements_of (append content kids)) ∙ elements-append content kids)
-        ∙ ap (λ es. cond (test r) ((r, name, attrs) ∷ es) es) (front_dropped (elements_of kids))
+        ∙ ap (λ es. cond (test r) ((r, name, attrs) ∷ es) es) (prefix_dropped (elements_of kids))
     inserted_elements H.Last r name attrs kids =
         ap (λ es. filter p ((r, name, attrs) ∷ es)) (append-nil (elements_of (append kids content)) ∙ elements-append kids content)
         ∙ ap (λ es. cond (test r) ((r, name, attrs) ∷ es) es) (back_dropped (elements_of kids))
     inserted_elements H.Before r name attrs kids =
         ap (filter p) (elements-append content (only (element_at r name attrs kids)))
-        ∙ front_dropped (elements_of (only (element_at r name attrs kids)))
+        ∙ prefix_dropped (elements_of (only (element_at r name attrs kids)))
         ∙ ap (filter p) (append-nil (elements_in (element_at r name attrs kids)))
     inserted_elements H.After r name attrs kids = back_dropped (elements_in (element_at r name attrs kids))
 

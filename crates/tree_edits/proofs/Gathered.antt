@@ -163,8 +163,8 @@ module _ (p : NodeRef → Bool) where
   pub passes_right : (rs qs : List NodeRef) → Passes (rs ++ qs) → Passes qs
   passes_right rs qs h = λ x some. h x (omega (arith, some, times-append x rs qs))
 
-  filter_front : (rs qs : List NodeRef) → Fails rs → filter p (rs ++ qs) ≡ filter p qs
-  filter_front rs qs f = filter-append p rs qs ∙ ap (λ l. l ++ filter p qs) (filter_false p rs f)
+  filter_prefix : (rs qs : List NodeRef) → Fails rs → filter p (rs ++ qs) ≡ filter p qs
+  filter_prefix rs qs f = filter-append p rs qs ∙ ap (λ l. l ++ filter p qs) (filter_false p rs f)
 
   filter_back : (rs qs : List NodeRef) → Fails qs → filter p (rs ++ qs) ≡ filter p rs
   filter_back rs qs f = filter-append p rs qs ∙ ap (λ l. filter p rs ++ l) (filter_false p qs f) ∙ append-nil (filter p rs)
@@ -173,13 +173,13 @@ module _ (p : NodeRef → Bool) where
     inserted_kept : (how : How) (r : NodeRef) (name : List ℕ) (attrs : List Attr) (kids : Children) → filter p (all_text_refs (inserted how content (element_at r name attrs kids))) ≡ filter p (all_text_refs kids)
     inserted_kept H.First r name attrs kids =
         ap (filter p) (gather-only no_own (element_at r name attrs (append content kids)) ∙ gather-append no_own content kids)
-        ∙ filter_front (all_text_refs content) (all_text_refs kids) fails
+        ∙ filter_prefix (all_text_refs content) (all_text_refs kids) fails
     inserted_kept H.Last r name attrs kids =
         ap (filter p) (gather-only no_own (element_at r name attrs (append kids content)) ∙ gather-append no_own kids content)
         ∙ filter_back (all_text_refs kids) (all_text_refs content) fails
     inserted_kept H.Before r name attrs kids =
         ap (filter p) (gather-append no_own content (only (element_at r name attrs kids)))
-        ∙ filter_front (all_text_refs content) (all_text_refs (only (element_at r name attrs kids))) fails
+        ∙ filter_prefix (all_text_refs content) (all_text_refs (only (element_at r name attrs kids))) fails
         ∙ ap (filter p) (gather-only no_own (element_at r name attrs kids))
     inserted_kept H.After r name attrs kids = filter_back (all_text_refs kids) (all_text_refs content) fails
 

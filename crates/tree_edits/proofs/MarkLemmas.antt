@@ -4,7 +4,7 @@ use Rattle.std.specs.List.{All, list_all}
 use Rattle.std.proofs.lemmas.Bool.{cases_Bool, eqb-true, ltb-false, ltb-true}
 use Rattle.std.proofs.lemmas.List.{get_or-replicate, get_or_past, length-replicate, drop_all}
 use Rattle.std.proofs.lemmas.List.Elements.{All-head, All-tail}
-use Rattle.ft_base.proofs.Truth.{or_false, or_turned}
+use Rattle.ft_base.proofs.Truth.{or_false, or_other, or_turned}
 use Rattle.ft_base.specs.declared.ids.NodeRef.{NodeRef}
 use Rattle.ordered_tree.specs.Numbered.{Numbered, element_at, text_at, Children, no_children, child_then}
 use Rattle.ordered_tree.specs.RefView.{ref_node}
@@ -12,7 +12,6 @@ use Rattle.ordered_tree.specs.declared.ref_tree.RefTree.{RefTree}
 use Rattle.ordered_tree.proofs.SlotsLemmas.{All-left, All-right}
 use Rattle.tree_edits.specs.Edits.{any_names_element, is_among, is_same, names_element, references_in, references_of}
 use Rattle.tree_edits.specs.steps.Marks.{is_marked}
-use Rattle.tree_edits.proofs.References.{or_other}
 use Rattle.tree_edits.proofs.RefSteps.{drop_next, last_row, next_row}
 use Rattle.tree_edits.proofs.RowsJoined.{row}
 

@@ -14,7 +14,7 @@ use Rattle.tree_edits.specs.Edits.{only, append, text_then, joined, references_i
 use Rattle.tree_edits.proofs.References.{weight, weight_yes, same_self, times, times-append, Distinct}
 use Rattle.tree_edits.proofs.Gathered.{unchanged, all_unchanged}
 
--- ---- nodes behind nodes
+-- ---- nodes after nodes
 
 pub append_none : (ns : Children) → append ns no_children ≡ ns
 append_none no_children = refl

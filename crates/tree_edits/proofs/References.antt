@@ -4,6 +4,7 @@ use Rattle.std.specs.List.{AllPairs, AllByRecursion, IsDistinct}
 use Rattle.std.specs.Bool.{Decides}
 use Rattle.std.proofs.lemmas.Bool.{cases_Bool, eq-eqb, eqb-true, or_from, or_left, or_right, true≢false}
 use Rattle.std.proofs.lemmas.Map.Made.{IsDistinct-from_AllPairs, AllPairs-from_IsDistinct}
+use Rattle.ft_base.proofs.Truth.{or_other}
 use Rattle.ft_base.specs.declared.ids.NodeRef.{NodeRef}
 use Rattle.tree_edits.specs.Edits.{is_same, is_among}
 
@@ -12,10 +13,6 @@ same_ref r q h = ap (λ (n : ℕ). let named : NodeRef = record { 0 = n } in nam
 
 pub same_self : (r : NodeRef) → is_same r r ≡ true
 same_self r = eq-eqb r.0 r.0 refl
-
-pub or_other : (a b : Bool) → a ≡ false → (a || b) ≡ b
-or_other true b h = cc
-or_other false b h = refl
 
 -- ---- how often
 

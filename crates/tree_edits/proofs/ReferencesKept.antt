@@ -1,4 +1,4 @@
--- What holds of the references of a document and of content holds of those behind an edit.
+-- What holds of the references of a document and of content holds of those after an edit.
 use Rattle.std.proofs.Common.{ℕ, Bool, List, [], ◌∷◌, ◌++◌, Option, Some, None, inl, inr}
 use Rattle.std.specs.List.{All}
 use Rattle.std.proofs.lemmas.Bool.{cases_Bool, cond-false, cond-true}

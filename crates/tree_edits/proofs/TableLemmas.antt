@@ -6,7 +6,7 @@ use Rattle.std.proofs.lemmas.Bool.{cases_Bool, eq-eqb, true≢false}
 use Rattle.std.proofs.lemmas.List.{get_or-set_same, get_or-set_other, take_more, map-append, take-append-drop}
 use Rattle.std.proofs.lemmas.List.Elements.{All-head, All-tail, All-cons}
 use Rattle.std.proofs.lemmas.List.Folds.{list_any-append}
-use Rattle.ft_base.proofs.Truth.{or_false}
+use Rattle.ft_base.proofs.Truth.{or_false, or_other}
 use Rattle.ft_base.specs.declared.ids.LeafId.{LeafId}
 use Rattle.ft_base.specs.declared.ids.NodeRef.{NodeRef}
 use Rattle.ordered_tree.specs.Leaves.{leaf_of, text_of, texts}
@@ -21,7 +21,7 @@ use Rattle.tree_edits.specs.steps.TextTable.{is_entry, is_held}
 use Rattle.tree_edits.proofs.EditLemmas.{references-are}
 use Rattle.tree_edits.proofs.Gathered.{texts-refs, texts_part}
 use Rattle.tree_edits.proofs.RefSteps.{drop_next}
-use Rattle.tree_edits.proofs.References.{Distinct, Part, keep, none, or_other, same_ref, same_self, skip, times, times-append, weight_yes}
+use Rattle.tree_edits.proofs.References.{Distinct, Part, keep, none, same_ref, same_self, skip, times, times-append, weight_yes}
 use Rattle.tree_edits.proofs.TextLists.{refs_of, stays_none}
 
 pub refs-text_of : (ts : List TextAt) → refs_of (map text_of ts) ≡ map (λ (t : TextAt). t.node) ts
@@ -39,7 +39,7 @@ part_all P (skip {ys = ys} r a) h = part_all P a (All-tail P r ys h)
 pub one_held : (table : List (Option TextAt)) (u : TextAt) (ts : List Text) (t : Text) → u.node.0 < length table → is_held table t ≡ stays ts t → times u.node (refs_of ts) ≡ 0
     → is_held (set table u.node.0 (Some u)) t ≡ stays (ts ++ text_of u ∷ []) t
 one_held table u ts t below before new =
-    let behind : stays (ts ++ text_of u ∷ []) t ≡ (stays ts t || is_text t (text_of u)) =
+    let past : stays (ts ++ text_of u ∷ []) t ≡ (stays ts t || is_text t (text_of u)) =
     list_any-append (is_text t) ts (text_of u ∷ []) ∙ ap (λ b. stays ts t || b) (or_false (is_text t (text_of u)) false refl) in
     elim (cases_Bool (is_same t.0 u.node)) [
       | inl same ↦
@@ -47,15 +47,15 @@ one_held table u ts t below before new =
           let none : stays ts t ≡ false = stays_none ts t (ap (λ r. times r (refs_of ts)) ref_is ∙ new) in
           ap (λ (r : NodeRef). is_entry (get_or (set table u.node.0 (Some u)) r.0 None) t) ref_is
           ∙ ap (λ entry. is_entry entry t) (get_or-set_same table u.node.0 (Some u) None below)
-          ∙ sym (behind ∙ or_other (stays ts t) (is_text t (text_of u)) none)
+          ∙ sym (past ∙ or_other (stays ts t) (is_text t (text_of u)) none)
       | inr differs ↦
           let apart : t.0.0 ≢ u.node.0 = λ is. true≢false (sym (eq-eqb u.node.0 t.0.0 (sym is)) ∙ differs) in
           ap (λ entry. is_entry entry t) (get_or-set_other table u.node.0 t.0.0 (Some u) None apart)
           ∙ before
-          ∙ sym (behind ∙ or_false (stays ts t) (is_text t (text_of u)) (ap (λ b. b && bytes_eq t.1 u.text.now) differs))
+          ∙ sym (past ∙ or_false (stays ts t) (is_text t (text_of u)) (ap (λ b. b && bytes_eq t.1 u.text.now) differs))
     ]
 
--- the reference of a text is not among those in front of it
+-- the reference of a text is not among those before it
 pub none_before : (ts : List TextAt) (i : ℕ) (u : TextAt) → i < length ts → u ≡ get_or ts i u → Distinct (map (λ (t : TextAt). t.node) ts) → times u.node (refs_of (map text_of (take i ts))) ≡ 0
 none_before ts i u more is d =
     let split : ts ≡ take i ts ++ drop i ts = sym (take-append-drop i ts) in

@@ -4,14 +4,14 @@ use Rattle.std.specs.List.{AllByRecursion}
 use Rattle.std.specs.Str.{bytes_eq}
 use Rattle.std.proofs.lemmas.Bool.{cases_Bool, cond-false, cond-true, eq-eqb, or_left, or_right}
 use Rattle.std.proofs.lemmas.Slice.Eq.{bytes_eq-Decides}
-use Rattle.ft_base.proofs.Truth.{bytes_eq_turned, or_false}
+use Rattle.ft_base.proofs.Truth.{bytes_eq_turned, or_false, or_other}
 use Rattle.ft_base.specs.declared.ids.NodeRef.{NodeRef}
 use Rattle.ft_base.specs.declared.ids.LeafId.{LeafId}
 use Rattle.index_meaning.specs.Documents as index
 use Rattle.ordered_tree.specs.Leaves.{leaf_of}
 use Rattle.tree_edits.specs.Edits.{is_same, is_among}
-use Rattle.tree_edits.specs.Changed.{Text, is_text, stays, without, put_behind, text_leaf, index_leaf, is_one_of, take_all, put_all}
-use Rattle.tree_edits.proofs.References.{same_ref, or_other, weight, weight_zero, times, Distinct, distinct_rest, distinct_first, InOrder, filter_narrow}
+use Rattle.tree_edits.specs.Changed.{Text, is_text, stays, without, put_after, text_leaf, index_leaf, is_one_of, take_all, put_all}
+use Rattle.tree_edits.proofs.References.{same_ref, weight, weight_zero, times, Distinct, distinct_rest, distinct_first, InOrder, filter_narrow}
 
 abbrev pub refs_of : List Text → List NodeRef
 refs_of ts = map (λ t. t.0) ts
@@ -184,12 +184,12 @@ gone_taken ns os d = leaves_filter (is_one_of (gone ns os)) (λ t. not (stays ns
 
 -- ---- what is put
 
-pub behind_text : (ts : List Text) (t : Text) (new : index.Leaf) (ls : List index.Leaf) → times t.0 (refs_of ts) ≡ 0
-    → index.behind t.0.0 new (map text_leaf ts ++ text_leaf t ∷ ls) ≡ map text_leaf ts ++ text_leaf t ∷ new ∷ ls
-behind_text [] t new ls h = cond-true (t.0.0 == t.0.0) _ _ (eq-eqb t.0.0 t.0.0 refl)
-behind_text (u ∷ ts) t new ls h =
+pub after_text : (ts : List Text) (t : Text) (new : index.Leaf) (ls : List index.Leaf) → times t.0 (refs_of ts) ≡ 0
+    → index.after t.0.0 new (map text_leaf ts ++ text_leaf t ∷ ls) ≡ map text_leaf ts ++ text_leaf t ∷ new ∷ ls
+after_text [] t new ls h = cond-true (t.0.0 == t.0.0) _ _ (eq-eqb t.0.0 t.0.0 refl)
+after_text (u ∷ ts) t new ls h =
     cond-false (u.0.0 == t.0.0) _ _ (weight_zero (is_same t.0 u.0) (times t.0 (refs_of ts)) h)
-    ∙ ap (λ zs. text_leaf u ∷ zs) (behind_text ts t new ls (omega (arith, h)))
+    ∙ ap (λ zs. text_leaf u ∷ zs) (after_text ts t new ls (omega (arith, h)))
 
 pub one_further : (ts : List Text) (t : Text) (ls : List index.Leaf) → map text_leaf (ts ++ t ∷ []) ++ ls ≡ map text_leaf ts ++ text_leaf t ∷ ls
 one_further [] t ls = refl
@@ -199,35 +199,35 @@ pub times_further : (r : NodeRef) (ts : List Text) (t : Text) → times r (refs_
 times_further r [] t = omega arith
 times_further r (u ∷ ts) t = omega (arith, times_further r ts t)
 
-puts_behind : (os ts : List Text) (t : Text) (rest : List Text) → ((r : NodeRef) → times r (refs_of ts) + times r (refs_of (t ∷ rest)) ≤ 1)
-    → put_all (put_behind os (Some (leaf_of t.0)) rest) (map text_leaf ts ++ text_leaf t ∷ map text_leaf (filter (stays os) rest))
+puts_after : (os ts : List Text) (t : Text) (rest : List Text) → ((r : NodeRef) → times r (refs_of ts) + times r (refs_of (t ∷ rest)) ≤ 1)
+    → put_all (put_after os (Some (leaf_of t.0)) rest) (map text_leaf ts ++ text_leaf t ∷ map text_leaf (filter (stays os) rest))
     ≡ map text_leaf ts ++ text_leaf t ∷ map text_leaf rest
-puts_behind os ts t [] d = refl
-puts_behind os ts t (u ∷ rest) d =
-    let next : put_all (put_behind os (Some (leaf_of u.0)) rest) (map text_leaf ts ++ text_leaf t ∷ text_leaf u ∷ map text_leaf (filter (stays os) rest))
+puts_after os ts t [] d = refl
+puts_after os ts t (u ∷ rest) d =
+    let next : put_all (put_after os (Some (leaf_of u.0)) rest) (map text_leaf ts ++ text_leaf t ∷ text_leaf u ∷ map text_leaf (filter (stays os) rest))
     ≡ map text_leaf ts ++ text_leaf t ∷ text_leaf u ∷ map text_leaf rest =
-    ap (put_all (put_behind os (Some (leaf_of u.0)) rest)) (sym (one_further ts t (text_leaf u ∷ map text_leaf (filter (stays os) rest))))
-    ∙ puts_behind os (ts ++ t ∷ []) u rest (λ r. omega (arith, d r, times_further r ts t))
+    ap (put_all (put_after os (Some (leaf_of u.0)) rest)) (sym (one_further ts t (text_leaf u ∷ map text_leaf (filter (stays os) rest))))
+    ∙ puts_after os (ts ++ t ∷ []) u rest (λ r. omega (arith, d r, times_further r ts t))
     ∙ one_further ts t (text_leaf u ∷ map text_leaf rest) in
     let alone : times t.0 (refs_of ts) ≡ 0 = omega (arith, d t.0, ap weight (eq-eqb t.0.0 t.0.0 refl)) in
     elim (cases_Bool (stays os u)) [
       | inl stay ↦ rw stay next
       | inr comes ↦ rw comes (
-          ap (put_all (put_behind os (Some (leaf_of u.0)) rest)) (behind_text ts t (text_leaf u) (map text_leaf (filter (stays os) rest)) alone) ∙ next)
+          ap (put_all (put_after os (Some (leaf_of u.0)) rest)) (after_text ts t (text_leaf u) (map text_leaf (filter (stays os) rest)) alone) ∙ next)
     ]
 
-puts_first : (os rest : List Text) → Distinct (refs_of rest) → put_all (put_behind os None rest) (map text_leaf (filter (stays os) rest)) ≡ map text_leaf rest
+puts_first : (os rest : List Text) → Distinct (refs_of rest) → put_all (put_after os None rest) (map text_leaf (filter (stays os) rest)) ≡ map text_leaf rest
 puts_first os [] d = refl
 puts_first os (u ∷ rest) d =
-    let next = puts_behind os [] u rest (λ r. omega (arith, d r)) in
+    let next = puts_after os [] u rest (λ r. omega (arith, d r)) in
     elim (cases_Bool (stays os u)) [ inl stay ↦ rw stay next | inr comes ↦ rw comes next ]
 
 pub leaves_led : (os ns : List Text) → Distinct (refs_of os) → Distinct (refs_of ns) → InOrder (refs_of os) (refs_of ns)
-    → put_all (put_behind os None ns) (take_all (gone ns os) (map text_leaf os)) ≡ map text_leaf ns
+    → put_all (put_after os None ns) (take_all (gone ns os) (map text_leaf os)) ≡ map text_leaf ns
 leaves_led os ns od nd order =
-    ap (put_all (put_behind os None ns)) (stay_left ns os od ∙ ap (map text_leaf) (stay_same os ns od nd order)) ∙ puts_first os ns nd
+    ap (put_all (put_after os None ns)) (stay_left ns os od ∙ ap (map text_leaf) (stay_same os ns od nd order)) ∙ puts_first os ns nd
 
-pub put_leaves : (os : List Text) (last : _) (ts : List Text) → map index_leaf (put_behind os last ts) ≡ map text_leaf (without os ts)
+pub put_leaves : (os : List Text) (last : _) (ts : List Text) → map index_leaf (put_after os last ts) ≡ map text_leaf (without os ts)
 put_leaves os last [] = refl
 put_leaves os last (t ∷ ts) = elim (cases_Bool (stays os t)) [
   | inl stay ↦ rw stay (put_leaves os (Some (leaf_of t.0)) ts)

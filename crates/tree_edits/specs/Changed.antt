@@ -32,7 +32,7 @@ without others ts = filter (λ t. not (stays others t)) ts
 abbrev pub taken : Numbered → Numbered → List LeafId
 taken old new = map (λ t. leaf_of t.0) (without (texts new) (texts old))
 
--- the leaves of those among texts that don't pass the test, each directly behind the leaf of the text in front of it
+-- the leaves of those among texts that don't pass the test, each directly after the leaf of the text before it
 abbrev pub put_by : (Text → Bool) → Option LeafId → List Text → List LeafWords
 put_by test last [] = []
 put_by test last (t ∷ rest) =
@@ -40,12 +40,12 @@ put_by test last (t ∷ rest) =
     else record { leaf = leaf_of t.0; after = last; words = words t.1 } ∷ put_by test (Some (leaf_of t.0)) rest
 
 -- the leaves of those that others don't have
-abbrev pub put_behind : List Text → Option LeafId → List Text → List LeafWords
-put_behind others = put_by (stays others)
+abbrev pub put_after : List Text → Option LeafId → List Text → List LeafWords
+put_after others = put_by (stays others)
 
 -- the leaves of the texts that came, in document order
 abbrev pub put : Numbered → Numbered → List LeafWords
-put old new = put_behind (texts old) None (texts new)
+put old new = put_after (texts old) None (texts new)
 
 -- ---- a document that became another one
 
@@ -82,7 +82,7 @@ is_one_of ids leaf = list_any (λ id. id.0 == leaf.id) ids
 abbrev pub take_all : List LeafId → List index.Leaf → List index.Leaf
 take_all ids leaves = filter (λ leaf. not (is_one_of ids leaf)) leaves
 
--- the leaves with more, one after the other, each directly behind the leaf that it names or in front
+-- the leaves with more, one after the other, each directly after the leaf that it names or before
 abbrev pub put_all : List LeafWords → List index.Leaf → List index.Leaf
 put_all [] leaves = leaves
 put_all (l ∷ ls) leaves = put_all ls (index.leaves_with l.after (index_leaf l) leaves)

@@ -10,14 +10,14 @@ use Rattle.plain_tree.specs.declared.place.How.TheVariants as H
 abbrev pub only : Numbered → Children
 only n = child_then n no_children
 
--- nodes, and more behind them
+-- nodes, and more after them
 abbrev pub append : Children → Children → Children
 append no_children more = more
 append (child_then n ns) more = child_then n (append ns more)
 
 -- ---- texts that come beside each other are joined
 
--- a text in front of nodes: with a text at their front it is one text, under its own reference
+-- a text before nodes: with a text at their beginning it is one text, under its own reference
 abbrev pub before : NodeRef → List ℕ → Children → Children
 before r bytes no_children = only (text_at r bytes)
 before r bytes (child_then (text_at q more) ns) = child_then (text_at r (bytes ++ more)) ns
@@ -94,7 +94,7 @@ inserted H.After content n = child_then n content
 abbrev pub nothing : Numbered → Children
 nothing n = no_children
 
--- the nodes that stand where the root stood, behind an edit of the element of that reference, or of all of these elements
+-- the nodes that stand where the root stood, after an edit of the element of that reference, or of all of these elements
 abbrev pub insertion : How → Children → NodeRef → Numbered → Children
 insertion how content r root = joined (changed (is_same r) (inserted how content) root)
 

@@ -1,4 +1,4 @@
-//! What an edit changed, by the texts of the document of before and of that behind it.
+//! What an edit changed, by the texts of the document of before and of that after it.
 
 ghost use Rattle.std.specs.Prelude.{◌≡◌, ◌≢◌, ◌<◌, ◌++◌, All, AllPairs, IfOk, OnOk, filter, length, map, not, replicate, slice_set, None, Some};
 ghost use Rattle.ordered_tree.specs.Leaves.{leaf_of, text_of, texts, texts_of};
@@ -173,7 +173,7 @@ fn gone(
     Ok(leaves)
 }
 
-/// The leaves of the texts that the others don't have, with their words, each directly behind the leaf of the text in front of it.
+/// The leaves of the texts that the others don't have, with their words, each directly after the leaf of the text before it.
 fn come(
     alloc: Global,
     texts: &[TextAt<'_>],

@@ -64,7 +64,7 @@ pub(crate) fn drafted(
     Ok(Draft { root, slots, size })
 }
 
-/// The root of the document behind the edit, where the content has so many nodes.
+/// The root of the document after the edit, where the content has so many nodes.
 fn edited_root(
     alloc: Global,
     tree: &DocTree,

@@ -17,7 +17,7 @@ use ordered_tree::{RefKids, RefTree};
 use plain_tree::How;
 use std::alloc::Global;
 
-/// What stands where the root stood, behind the edit.
+/// What stands where the root stood, after the edit.
 pub(crate) fn edit_root(
     alloc: Global,
     edit: &Edit<'_>,
@@ -31,7 +31,7 @@ pub(crate) fn edit_root(
     Ok(list)
 }
 
-/// Puts what stands where a node stood, behind the edit, to the end of nodes that are joined already, and joins its texts.
+/// Puts what stands where a node stood, after the edit, to the end of nodes that are joined already, and joins its texts.
 #[cycle(editing)]
 fn edit_tree(
     alloc: Global,
@@ -151,7 +151,7 @@ fn put_in(
     }
 }
 
-/// The element with content in front of its children.
+/// The element with content before its children.
 fn with_first(tree: RefTree, content: RefKids) -> Result<RefTree, Memory>
     ensures { IfOk result (λ made. ref_node made ≡ with_children (append (ref_nodes (map ref_node content))) (ref_node tree)) }
 {
@@ -178,7 +178,7 @@ fn with_first(tree: RefTree, content: RefKids) -> Result<RefTree, Memory>
     }
 }
 
-/// The element with content behind its children.
+/// The element with content after its children.
 fn with_last(tree: RefTree, content: RefKids) -> Result<RefTree, Memory>
     ensures { IfOk result (λ made. ref_node made ≡ with_children (λ kids. append kids (ref_nodes (map ref_node content))) (ref_node tree)) }
 {

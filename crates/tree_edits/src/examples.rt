@@ -17,7 +17,7 @@ ghost use Rattle.tree_edits.specs.steps.Acts.{act_on, root_stays};
 ghost use Rattle.tree_edits.specs.steps.Marks.{is_marked};
 ghost use Rattle.tree_edits.specs.steps.TextTable.{is_held};
 
-/// Where content is inserted: in front of an element's children, behind them, in front of the element or behind it. The others
+/// Where content is inserted: before an element's children, after them, before the element or after it. The others
 /// keep their references.
 pub fn inserted_elements()
     ensures first { insertion H.First (children_of (c 5 ∷ [])) (ref 2) letters
@@ -38,9 +38,9 @@ pub fn inserted_elements()
 
 /// Texts that come beside each other are one text, under the reference of the first of them; an empty one is dropped.
 pub fn joined_texts()
-    ensures in_front { insertion H.First (children_of (text 5 (codes "v") ∷ [])) (ref 2) letters
+    ensures as_first { insertion H.First (children_of (text 5 (codes "v") ∷ [])) (ref 2) letters
         ≡ only (a 0 (text 1 (codes "x") ∷ b 2 (text 5 (codes "vy") ∷ []) ∷ text 4 (codes "z") ∷ [])) }
-    ensures behind { insertion H.Last (children_of (text 5 (codes "v") ∷ [])) (ref 2) letters
+    ensures as_last { insertion H.Last (children_of (text 5 (codes "v") ∷ [])) (ref 2) letters
         ≡ only (a 0 (text 1 (codes "x") ∷ b 2 (text 3 (codes "yv") ∷ []) ∷ text 4 (codes "z") ∷ [])) }
     ensures empty { insertion H.First (children_of (text 5 [] ∷ [])) (ref 2) letters ≡ only letters }
     ensures three { replacement (children_of (text 5 (codes "v") ∷ [])) (ref 2) letters ≡ only (a 0 (text 1 (codes "xvz") ∷ [])) }
@@ -62,7 +62,7 @@ pub fn replaced_and_removed()
     ensures a_text { removal (ref 1 ∷ []) letters ≡ only letters }
 {}
 
-/// Content takes references in document order, an element in front of its children.
+/// Content takes references in document order, an element before its children.
 pub fn fresh_references()
     ensures in_order { all_fresh (ref 9 ∷ ref 4 ∷ ref 5 ∷ ref 6 ∷ [])
         (plain.nodes (plain_example.b (plain_example.c ∷ []) ∷ plain.text (codes "x") ∷ [])) ≡ children_of (b 9 (c 4 ∷ []) ∷ text 5 (codes "x") ∷ []) }
@@ -84,7 +84,7 @@ pub fn changed_leaves()
     ensures taken { taken letters (a 0 (text 1 (codes "xz") ∷ [])) ≡ leaf_id 1 ∷ leaf_id 3 ∷ leaf_id 4 ∷ [] }
     ensures put { put letters (a 0 (text 1 (codes "xz") ∷ [])) ≡ put_leaf 1 None (words (codes "xz")) ∷ [] }
     ensures nothing_taken { taken letters (a 0 (text 1 (codes "x") ∷ text 5 (codes "v") ∷ b 2 (text 3 (codes "y") ∷ []) ∷ text 4 (codes "z") ∷ [])) ≡ [] }
-    ensures put_behind { put letters
+    ensures put_after { put letters
         (a 0 (text 1 (codes "x") ∷ b 2 (text 3 (codes "y") ∷ text 6 (codes "v") ∷ []) ∷ text 5 (codes "w") ∷ text 4 (codes "z") ∷ []))
         ≡ put_leaf 6 (Some (leaf_id 3)) (words (codes "v")) ∷ put_leaf 5 (Some (leaf_id 6)) (words (codes "w")) ∷ [] }
     ensures same { taken letters letters ≡ [] }

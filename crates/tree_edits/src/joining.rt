@@ -95,7 +95,7 @@ fn join_text(
         return Ok(());
     }
     match list.pop() {
-        Some(last) => join_behind(alloc, list, last, node, more),
+        Some(last) => join_after(alloc, list, last, node, more),
         None => {
             push_text(list, node, more)?;
             Ok(())
@@ -103,8 +103,8 @@ fn join_text(
     }
 }
 
-/// Puts a node and a text behind it to the end, as one text where the node is one.
-fn join_behind(
+/// Puts a node and a text after it to the end, as one text where the node is one.
+fn join_after(
     alloc: Global,
     list: &mut Vec<RefTree>,
     last: RefTree,
@@ -138,7 +138,7 @@ fn join_behind(
     }
 }
 
-/// The text with more behind it.
+/// The text with more after it.
 fn one_text(alloc: Global, text: &SharedText, more: &SharedText) -> Result<SharedText, Memory>
     ensures { IfOk result (λ one. one ≡ text.now ++ more.now) }
 {

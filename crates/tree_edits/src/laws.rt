@@ -34,7 +34,7 @@ pub fn in_turn_law()
         → removal (r ∷ rs) root ≡ joined (all_changed (is_among rs) nothing (removal (r ∷ []) root)) }
 {}
 
-/// No two nodes have one reference behind an edit, where the content brings references of its own.
+/// No two nodes have one reference after an edit, where the content brings references of its own.
 pub fn references_law()
     ensures insertion { (root : Numbered) (content : Children) → AllPairs (λ a b. a ≢ b) (references root ++ references_of content)
         → (how : How) (r : NodeRef) → AllPairs (λ a b. a ≢ b) (references_of (insertion how content r root)) }

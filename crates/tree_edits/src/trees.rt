@@ -45,14 +45,14 @@ impl From<Memory> for TreeFault {
     }
 }
 
-/// A document behind an edit, and what the edit changed.
+/// A document after an edit, and what the edit changed.
 #[derive(Drop)]
 struct Outcome {
     tree: DocTree,
     change: Change,
 }
 
-/// Inserts content in front of the children of an element, behind them, in front of the element or behind it (XQuery Update Facility
+/// Inserts content before the children of an element, after them, before the element or after it (XQuery Update Facility
 /// 1.0, 2.4.1). A text that comes beside a text is joined with it, under the reference of the first, and an empty one is dropped.
 /// Nodes that stay keep their references. After a fault the tree is as it was.
 pub fn insert(
@@ -112,7 +112,7 @@ pub fn remove(alloc: Global, tree: &mut DocTree, nodes: &NodeRefs) -> Result<Cha
     Ok(done.change)
 }
 
-/// The document behind the edit of one element.
+/// The document after the edit of one element.
 fn changed_one(
     alloc: Global,
     tree: &DocTree,
@@ -131,7 +131,7 @@ fn changed_one(
     changed(alloc, tree, &chosen, how, content)
 }
 
-/// The document behind the edit of these elements.
+/// The document after the edit of these elements.
 fn changed(
     alloc: Global,
     tree: &DocTree,
@@ -191,7 +191,7 @@ fn carried_out(alloc: Global, tree: &DocTree, draft: Draft) -> Result<Outcome, M
     }
 }
 
-/// Whether one element stands where the root stands, behind such an edit.
+/// Whether one element stands where the root stands, after such an edit.
 fn root_stays(tree: &DocTree, chosen: &NodeRefs, how: Option<How>) -> bool
     ensures stays { result ≡ root_stays chosen.now how tree.now.root }
     ensures chosen { result ≡ false → is_among chosen.now (reference tree.now.root) ≡ true }

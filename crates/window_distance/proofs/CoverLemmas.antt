@@ -42,7 +42,7 @@ module _ (hits : List Hit) (i : ℕ) (hit : Hit) (there : i < length hits) (is :
       and_from (is_covered hits place) (list_all (is_covered hits) (range_with_len (place + 1) n))
       (covered_here place whole from (omega arith)) (covered_run n (place + 1) whole (omega arith) (omega arith))
 
-  -- the end moves behind a hit that covers it
+  -- the end moves after a hit that covers it
   pub covered_on : (place end : ℕ) → place ≤ end → list_all (is_covered hits) (range_with_len place (end - place)) ≡ true
       → hit.whole ≡ true → hit.from ≤ end → end ≤ hit.to → list_all (is_covered hits) (range_with_len place (suc hit.to - place)) ≡ true
   covered_on place end within so_far whole from to =
@@ -50,7 +50,7 @@ module _ (hits : List Hit) (i : ℕ) (hit : Hit) (there : i < length hits) (is :
       all_up_to (is_covered hits) place end (suc hit.to) within (omega arith)
       ∙ and_from (list_all (is_covered hits) (range_with_len place (end - place))) (list_all (is_covered hits) (range_with_len end (suc hit.to - end))) so_far (covered_run (suc hit.to - end) end whole from sum)
 
--- what is known behind the first hits
+-- what is known after the first hits
 pub record Covering (hits rest : List Hit) (place end : ℕ) : Type 0 where
   pub within : place ≤ end
   pub moved : (nat_lt place end || is_covered rest place) ≡ is_covered hits place

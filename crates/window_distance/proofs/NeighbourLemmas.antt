@@ -1,4 +1,4 @@
--- The next place at which hits stand, and the distances of those there and behind it.
+-- The next place at which hits stand, and the distances of those there and after it.
 use Rattle.std.proofs.Common.{◌≡◌, refl, ap, sym, ◌∙◌, suc, ◌<◌, ◌≤◌, Bool, true, false, not, ◌&&◌, ◌||◌, cond, List, [], ◌∷◌, ◌++◌, length, subst, arith}
 use Rattle.std.specs.Prelude.{filter, fold, Option, Some, None, unwrap_or}
 use Rattle.std.specs.List.{list_all, list_any}
@@ -9,7 +9,7 @@ use Rattle.ft_base.specs.declared.range.Range.{Range}
 use Rattle.ft_base.specs.declared.unit.TextUnit.{TextUnit}
 use Rattle.all_matches.specs.Positions.{start_in, end_in}
 use Rattle.all_matches.specs.Distance.{gap_in_range, stands_before, in_order, neighbours_in_range}
-use Rattle.window_distance.specs.steps.Sorting.{is_behind, stands_with, nearer, first_of, first_behind, follows, all_follow, last_of}
+use Rattle.window_distance.specs.steps.Sorting.{is_after, stands_with, nearer, first_of, first_after, follows, all_follow, last_of}
 use Rattle.window_distance.proofs.OrderLemmas.{before_itself, before_further, before_turned, kept_pass, parted}
 
 module _ {X : Type 0} (p : X → Bool) where
@@ -79,12 +79,12 @@ first_before hit (x ∷ rest) =
     one best true e h = (h, before_further best hit x h e)
     one best false e h = (before_further best x hit h (before_turned hit x e), h)
 
--- the hits behind a place, where the first of them is known
+-- the hits after a place, where the first of them is known
 pub record Found (place : Option Hit) (hits : List Hit) (next : Hit) : Type 0 where
-  pub parts : in_order (filter (is_behind place) hits) ≡ filter (stands_with next) hits ++ in_order (filter (is_behind (Some next)) hits)
-  pub fewer : length (filter (is_behind (Some next)) hits) < length (filter (is_behind place) hits)
+  pub parts : in_order (filter (is_after place) hits) ≡ filter (stands_with next) hits ++ in_order (filter (is_after (Some next)) hits)
+  pub fewer : length (filter (is_after (Some next)) hits) < length (filter (is_after place) hits)
 
-further : (place : Option Hit) (next hit : Hit) → is_behind place next ≡ true → stands_before next hit ≡ true → is_behind place hit ≡ true
+further : (place : Option Hit) (next hit : Hit) → is_after place next ≡ true → stands_before next hit ≡ true → is_after place hit ≡ true
 further None next hit h k = refl
 further (Some place) next hit h k = one (stands_before hit place) refl
   where
@@ -92,31 +92,31 @@ further (Some place) next hit h k = one (stands_before hit place) refl
     one true e = absurd (true≢false (sym h ∙ not_from_true (stands_before next place) (before_further next hit place k e)))
     one false e = refl
 
-pub found : (place : Option Hit) (hits : List Hit) (next : Hit) → Some next ≡ first_behind place hits → Found place hits next
-found place hits next e = one (filter (is_behind place) hits) refl e
+pub found : (place : Option Hit) (hits : List Hit) (next : Hit) → Some next ≡ first_after place hits → Found place hits next
+found place hits next e = one (filter (is_after place) hits) refl e
   where
-    one : (behind : List Hit) → filter (is_behind place) hits ≡ behind → Some next ≡ first_of behind → Found place hits next
+    one : (past : List Hit) → filter (is_after place) hits ≡ past → Some next ≡ first_of past → Found place hits next
     one [] f e = cc
     one (hit ∷ rest) f e =
         let is : next ≡ fold nearer hit rest = ap (λ o. unwrap_or o next) e in
-        let pass : list_all (is_behind place) (hit ∷ rest) ≡ true = subst (λ xs. list_all (is_behind place) xs ≡ true) f (kept_pass (is_behind place) (is_behind place) (λ x h. h) hits) in
-        let here : is_behind place next ≡ true = subst (λ n. is_behind place n ≡ true) (sym is) (first_passes (is_behind place) hit rest pass) in
-        let before : list_all (stands_before next) (filter (is_behind place) hits) ≡ true =
+        let pass : list_all (is_after place) (hit ∷ rest) ≡ true = subst (λ xs. list_all (is_after place) xs ≡ true) f (kept_pass (is_after place) (is_after place) (λ x h. h) hits) in
+        let here : is_after place next ≡ true = subst (λ n. is_after place n ≡ true) (sym is) (first_passes (is_after place) hit rest pass) in
+        let before : list_all (stands_before next) (filter (is_after place) hits) ≡ true =
         ap (list_all (stands_before next)) f ∙ subst (λ n. list_all (stands_before n) (hit ∷ rest) ≡ true) (sym is) (first_before hit rest) in
-        let itself : not (is_behind (Some next) next) ≡ true = ap (λ b. not (not b)) (before_itself next) in
-        let there : list_any (λ x. not (is_behind (Some next) x)) (filter (is_behind place) hits) ≡ true =
-        ap (list_any (λ x. not (is_behind (Some next) x))) f
-        ∙ first_is_one (λ x. not (is_behind (Some next) x)) hit rest (subst (λ n. not (is_behind (Some next) n) ≡ true) is itself) in
-        let at_place : filter (stands_with next) (filter (is_behind place) hits) ≡ filter (stands_with next) hits =
-        filter_within (stands_with next) (is_behind place) (λ x h. further place next x here (and_parts (stands_before next x) (stands_before x next) h).0) hits in
-        let behind_it : filter (is_behind (Some next)) (filter (is_behind place) hits) ≡ filter (is_behind (Some next)) hits =
-        filter_within (is_behind (Some next)) (is_behind place) (λ x h. further place next x here (before_turned x next (not-true (stands_before x next) h))) hits in
+        let itself : not (is_after (Some next) next) ≡ true = ap (λ b. not (not b)) (before_itself next) in
+        let there : list_any (λ x. not (is_after (Some next) x)) (filter (is_after place) hits) ≡ true =
+        ap (list_any (λ x. not (is_after (Some next) x))) f
+        ∙ first_is_one (λ x. not (is_after (Some next) x)) hit rest (subst (λ n. not (is_after (Some next) n) ≡ true) is itself) in
+        let at_place : filter (stands_with next) (filter (is_after place) hits) ≡ filter (stands_with next) hits =
+        filter_within (stands_with next) (is_after place) (λ x h. further place next x here (and_parts (stands_before next x) (stands_before x next) h).0) hits in
+        let after_it : filter (is_after (Some next)) (filter (is_after place) hits) ≡ filter (is_after (Some next)) hits =
+        filter_within (is_after (Some next)) (is_after place) (λ x h. further place next x here (before_turned x next (not-true (stands_before x next) h))) hits in
         record {
-          parts = parted next (filter (is_behind place) hits) before ∙ (λ i. at_place i ++ in_order (behind_it i));
-          fewer = subst (λ n. n < length (filter (is_behind place) hits)) (ap length behind_it) (fewer (is_behind (Some next)) (filter (is_behind place) hits) there);
+          parts = parted next (filter (is_after place) hits) before ∙ (λ i. at_place i ++ in_order (after_it i));
+          fewer = subst (λ n. n < length (filter (is_after place) hits)) (ap length after_it) (fewer (is_after (Some next)) (filter (is_after place) hits) there);
         }
 
-all_of : (hits : List Hit) → filter (is_behind None) hits ≡ hits
+all_of : (hits : List Hit) → filter (is_after None) hits ≡ hits
 all_of [] = refl
 all_of (hit ∷ rest) = ap (λ hits. hit ∷ hits) (all_of rest)
 
@@ -134,23 +134,23 @@ module _ (range : Range) (kind : TextUnit) where
   neighbours_follow (a ∷ b ∷ rest) = ap (λ c. gap_in_range range (end_in kind a) (start_in kind b) && c) (neighbours_follow (b ∷ rest))
 
   -- the walk from place to place
-  pub walk_starts : (hits : List Hit) → all_follow range kind None (in_order (filter (is_behind None) hits)) ≡ neighbours_in_range range kind (in_order hits)
+  pub walk_starts : (hits : List Hit) → all_follow range kind None (in_order (filter (is_after None) hits)) ≡ neighbours_in_range range kind (in_order hits)
   walk_starts hits = ap (λ hits. all_follow range kind None (in_order hits)) (all_of hits) ∙ neighbours_follow (in_order hits)
 
-  module _ (place last : Option Hit) (hits : List Hit) (kept : all_follow range kind last (in_order (filter (is_behind place) hits)) ≡ neighbours_in_range range kind (in_order hits)) where
-    turned : (next : Hit) → Some next ≡ first_behind place hits
-        → (all_follow range kind last (filter (stands_with next) hits) && all_follow range kind (last_of last (filter (stands_with next) hits)) (in_order (filter (is_behind (Some next)) hits)))
+  module _ (place last : Option Hit) (hits : List Hit) (kept : all_follow range kind last (in_order (filter (is_after place) hits)) ≡ neighbours_in_range range kind (in_order hits)) where
+    turned : (next : Hit) → Some next ≡ first_after place hits
+        → (all_follow range kind last (filter (stands_with next) hits) && all_follow range kind (last_of last (filter (stands_with next) hits)) (in_order (filter (is_after (Some next)) hits)))
         ≡ neighbours_in_range range kind (in_order hits)
     turned next e =
-        sym (follow-append last (filter (stands_with next) hits) (in_order (filter (is_behind (Some next)) hits)))
+        sym (follow-append last (filter (stands_with next) hits) (in_order (filter (is_after (Some next)) hits)))
         ∙ sym (ap (all_follow range kind last) (found place hits next e).parts)
         ∙ kept
 
-    pub walk_stops : (next : Hit) → Some next ≡ first_behind place hits → false ≡ all_follow range kind last (filter (stands_with next) hits) → false ≡ neighbours_in_range range kind (in_order hits)
-    walk_stops next e none = ap (λ b. b && all_follow range kind (last_of last (filter (stands_with next) hits)) (in_order (filter (is_behind (Some next)) hits))) none ∙ turned next e
+    pub walk_stops : (next : Hit) → Some next ≡ first_after place hits → false ≡ all_follow range kind last (filter (stands_with next) hits) → false ≡ neighbours_in_range range kind (in_order hits)
+    walk_stops next e none = ap (λ b. b && all_follow range kind (last_of last (filter (stands_with next) hits)) (in_order (filter (is_after (Some next)) hits))) none ∙ turned next e
 
-    pub walk_goes_on : (next : Hit) (after : Option Hit) → Some next ≡ first_behind place hits → true ≡ all_follow range kind last (filter (stands_with next) hits)
+    pub walk_goes_on : (next : Hit) (after : Option Hit) → Some next ≡ first_after place hits → true ≡ all_follow range kind last (filter (stands_with next) hits)
         → after ≡ last_of last (filter (stands_with next) hits)
-        → all_follow range kind after (in_order (filter (is_behind (Some next)) hits)) ≡ neighbours_in_range range kind (in_order hits)
+        → all_follow range kind after (in_order (filter (is_after (Some next)) hits)) ≡ neighbours_in_range range kind (in_order hits)
     walk_goes_on next after e all is =
-        (λ i. all i && all_follow range kind (is i) (in_order (filter (is_behind (Some next)) hits))) ∙ turned next e
+        (λ i. all i && all_follow range kind (is i) (in_order (filter (is_after (Some next)) hits))) ∙ turned next e

@@ -7,7 +7,7 @@ use Rattle.std.proofs.lemmas.Bool.{and_parts, and_from, not-true, true≢false}
 use Rattle.std.proofs.lemmas.Bool.Decides.{nat_tests}
 use Rattle.ft_base.specs.declared.hit.Hit.{Hit}
 use Rattle.all_matches.specs.Distance.{stands_before, put_in_order, in_order}
-use Rattle.window_distance.specs.steps.Sorting.{is_behind, stands_with}
+use Rattle.window_distance.specs.steps.Sorting.{is_after, stands_with}
 
 pub before_itself : (a : Hit) → stands_before a a ≡ true
 before_itself a = grind (arith, nat_tests)
@@ -33,15 +33,15 @@ kept_pass p q from (x ∷ xs) = one (p x) refl (kept_pass p q from xs)
     one true e rest = and_from (q x) (list_all q (filter p xs)) (from x e) rest
     one false e rest = rest
 
--- a hit is put in front of those that don't stand before it, and behind those that do
+-- a hit is put before those that don't stand before it, and after those that do
 all-put : (p : Hit → Bool) (hit : Hit) (hits : List Hit) → list_all p (put_in_order hit hits) ≡ (p hit && list_all p hits)
 all-put p hit [] = refl
 all-put p hit (first ∷ rest) = one (stands_before hit first) (all-put p hit rest)
   where
     one : (b : Bool) → list_all p (put_in_order hit rest) ≡ (p hit && list_all p rest)
         → list_all p (cond b (hit ∷ first ∷ rest) (first ∷ put_in_order hit rest)) ≡ (p hit && (p first && list_all p rest))
-    one true behind = refl
-    one false behind = ap (λ c. p first && c) behind
+    one true after = refl
+    one false after = ap (λ c. p first && c) after
         ∙ sym (and_assoc (p first) (p hit) (list_all p rest)) ∙ ap (λ c. c && list_all p rest) (and_comm (p first) (p hit)) ∙ and_assoc (p hit) (p first) (list_all p rest)
 
 all-in_order : (p : Hit → Bool) (hits : List Hit) → list_all p (in_order hits) ≡ list_all p hits
@@ -54,34 +54,34 @@ put_first hit (first ∷ rest) h =
     let parts = and_parts (stands_before hit first) (list_all (stands_before hit) rest) h in
     ap (λ b. cond b (hit ∷ first ∷ rest) (first ∷ put_in_order hit rest)) parts.0
 
-put_behind : (hit : Hit) (hits others : List Hit) → list_all (λ other. not (stands_before hit other)) hits ≡ true → put_in_order hit (hits ++ others) ≡ hits ++ put_in_order hit others
-put_behind hit [] others h = refl
-put_behind hit (first ∷ rest) others h =
+put_after : (hit : Hit) (hits others : List Hit) → list_all (λ other. not (stands_before hit other)) hits ≡ true → put_in_order hit (hits ++ others) ≡ hits ++ put_in_order hit others
+put_after hit [] others h = refl
+put_after hit (first ∷ rest) others h =
     let parts = and_parts (not (stands_before hit first)) (list_all (λ other. not (stands_before hit other)) rest) h in
     ap (λ b. cond b (hit ∷ first ∷ (rest ++ others)) (first ∷ put_in_order hit (rest ++ others))) (not-true (stands_before hit first) parts.0)
-    ∙ ap (λ hits. first ∷ hits) (put_behind hit rest others parts.1)
+    ∙ ap (λ hits. first ∷ hits) (put_after hit rest others parts.1)
 
 -- of hits that don't stand before a place, first those at the place stand in order
-pub parted : (place : Hit) (hits : List Hit) → list_all (stands_before place) hits ≡ true → in_order hits ≡ filter (stands_with place) hits ++ in_order (filter (is_behind (Some place)) hits)
+pub parted : (place : Hit) (hits : List Hit) → list_all (stands_before place) hits ≡ true → in_order hits ≡ filter (stands_with place) hits ++ in_order (filter (is_after (Some place)) hits)
 parted place [] h = refl
 parted place (hit ∷ rest) h =
     let parts = and_parts (stands_before place hit) (list_all (stands_before place) rest) h in
     one (stands_before hit place) refl parts.1 (parted place rest parts.1)
     ∙ ap (λ b. cond (b && stands_before hit place) (hit ∷ filter (stands_with place) rest) (filter (stands_with place) rest)
-    ++ in_order (cond (not (stands_before hit place)) (hit ∷ filter (is_behind (Some place)) rest) (filter (is_behind (Some place)) rest))) (sym parts.0)
+    ++ in_order (cond (not (stands_before hit place)) (hit ∷ filter (is_after (Some place)) rest) (filter (is_after (Some place)) rest))) (sym parts.0)
   where
     one : (b : Bool) → stands_before hit place ≡ b → list_all (stands_before place) rest ≡ true
-        → in_order rest ≡ filter (stands_with place) rest ++ in_order (filter (is_behind (Some place)) rest)
+        → in_order rest ≡ filter (stands_with place) rest ++ in_order (filter (is_after (Some place)) rest)
         → put_in_order hit (in_order rest) ≡ cond b (hit ∷ filter (stands_with place) rest) (filter (stands_with place) rest)
-        ++ in_order (cond (not b) (hit ∷ filter (is_behind (Some place)) rest) (filter (is_behind (Some place)) rest))
+        ++ in_order (cond (not b) (hit ∷ filter (is_after (Some place)) rest) (filter (is_after (Some place)) rest))
     one true e all same =
         put_first hit (in_order rest) (all-in_order (stands_before hit) rest ∙ all_follow_from (stands_before place) (stands_before hit) (λ other k. before_further hit place other e k) rest all)
         ∙ ap (λ hits. hit ∷ hits) same
     one false e all same =
         ap (put_in_order hit) same
-        ∙ put_behind hit (filter (stands_with place) rest) (in_order (filter (is_behind (Some place)) rest))
-        (kept_pass (stands_with place) (λ other. not (stands_before hit other)) (λ other k. behind other (stands_before hit other) refl k) rest)
+        ∙ put_after hit (filter (stands_with place) rest) (in_order (filter (is_after (Some place)) rest))
+        (kept_pass (stands_with place) (λ other. not (stands_before hit other)) (λ other k. after other (stands_before hit other) refl k) rest)
       where
-        behind : (other : Hit) (b : Bool) → stands_before hit other ≡ b → stands_with place other ≡ true → not b ≡ true
-        behind other true f k = absurd (true≢false (sym (before_further hit other place f (and_parts (stands_before place other) (stands_before other place) k).1) ∙ e))
-        behind other false f k = refl
+        after : (other : Hit) (b : Bool) → stands_before hit other ≡ b → stands_with place other ≡ true → not b ≡ true
+        after other true f k = absurd (true≢false (sym (before_further hit other place f (and_parts (stands_before place other) (stands_before other place) k).1) ∙ e))
+        after other false f k = refl

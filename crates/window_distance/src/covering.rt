@@ -33,7 +33,7 @@ fn end_of_cover(hits: &[Hit], place: u64) -> u64
     end
 }
 
-/// The word behind a hit that is whole and covers the word `end`; else `end`.
+/// The word after a hit that is whole and covers the word `end`; else `end`.
 fn end_with(hit: &Hit, end: u64) -> u64
     ensures { result ≡ end_with hit.now end }
 {

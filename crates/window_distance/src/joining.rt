@@ -8,7 +8,7 @@ use crate::covering::are_covered;
 use crate::positions::{end_in, start_in};
 use ft_base::{Hit, Unit};
 
-/// The hit that stands for the includes of a Match behind a window and a distance (the standard's `joinIncludes`):
+/// The hit that stands for the includes of a Match after a window and a distance (the standard's `joinIncludes`):
 /// from the first to the last word, sentence and paragraph of all, with the number of the first include's phrase. It is
 /// whole where each include is and each word from its first to its last is covered. `None` exactly where there is no
 /// include.
@@ -45,8 +45,8 @@ pub(crate) fn fits_window(size: u32, unit: Unit, hits: &[Hit]) -> bool
 fn fits(size: u32, unit: Unit, hit: &Hit) -> bool
     ensures { result ≡ fits_window size unit (Some hit.now) }
 {
-    let behind = u64::from(start_in(unit, hit)) + u64::from(size);
-    u64::from(end_in(unit, hit)) < behind
+    let after = u64::from(start_in(unit, hit)) + u64::from(size);
+    u64::from(end_in(unit, hit)) < after
 }
 
 /// The hits as one, which is whole where each is.

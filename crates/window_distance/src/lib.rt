@@ -1,5 +1,5 @@
 //! Positional filters on one Match: whether a filter keeps the Match with its includes, whether it keeps an exclude of
-//! it, and the hit that stands for the includes behind it.
+//! it, and the hit that stands for the includes after it.
 //!
 //! Each call is its definition in `all_matches`, hit by hit, and takes no memory. A Match has few includes, so that
 //! what a definition says of every two of them is tried on every two, and the order of hits in a text is found by

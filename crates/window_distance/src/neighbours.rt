@@ -1,6 +1,6 @@
 ghost use Rattle.std.specs.Prelude.{◌≡◌, ◌++◌, ◌∷◌, [], IsTrue, filter, option_to_list};
 ghost use Rattle.all_matches.specs.Distance.{neighbours_in_range, in_order};
-ghost use Rattle.window_distance.specs.steps.Sorting.{is_behind, stands_with, first_of, first_behind, follows, all_follow, last_of};
+ghost use Rattle.window_distance.specs.steps.Sorting.{is_after, stands_with, first_of, first_after, follows, all_follow, last_of};
 
 use crate::positions::{end_in, gap_in_range, stands_before, start_in};
 use ft_base::{Hit, Range, Unit};
@@ -14,7 +14,7 @@ pub(crate) fn neighbours_in_range(range: Range, unit: Unit, hits: &[Hit]) -> boo
 {
     let mut place = None;
     let mut last = None;
-    while let Some(next) = first_behind(hits, &place) {
+    while let Some(next) = first_after(hits, &place) {
         if !all_follow(range, unit, hits, &next, &mut last) {
             return false;
         }
@@ -23,13 +23,13 @@ pub(crate) fn neighbours_in_range(range: Range, unit: Unit, hits: &[Hit]) -> boo
     true
 }
 
-/// Of the hits behind a place, or of all, the one that stands first.
-fn first_behind(hits: &[Hit], place: &Option<Hit>) -> Option<Hit>
-    ensures { result ≡ first_behind place.now hits.now }
+/// Of the hits after a place, or of all, the one that stands first.
+fn first_after(hits: &[Hit], place: &Option<Hit>) -> Option<Hit>
+    ensures { result ≡ first_after place.now hits.now }
 {
     let mut best = None;
     for hit in hits {
-        if is_behind(place, hit) {
+        if is_after(place, hit) {
             best = nearer(best, hit);
         }
     }
@@ -53,9 +53,9 @@ fn all_follow(range: Range, unit: Unit, hits: &[Hit], place: &Hit, last: &mut Op
     true
 }
 
-/// Whether a hit stands behind the words of another one.
-fn is_behind(place: &Option<Hit>, hit: &Hit) -> bool
-    ensures { result ≡ is_behind place.now hit.now }
+/// Whether a hit stands after the words of another one.
+fn is_after(place: &Option<Hit>, hit: &Hit) -> bool
+    ensures { result ≡ is_after place.now hit.now }
 {
     match place {
         None => true,

@@ -36,7 +36,7 @@ fn some_begins(hits: &[Hit], from: u32) -> bool
     hits.iter().any(|hit| hit.from == from)
 }
 
-/// Whether some hit ends at the word in front of `to`.
+/// Whether some hit ends at the word before `to`.
 fn some_ends(hits: &[Hit], to: u32) -> bool
     ensures { result ≡ list_any (λ hit. suc hit.to == to) hits.now }
 {

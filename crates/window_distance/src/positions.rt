@@ -70,13 +70,13 @@ pub(crate) fn gap_in_range(range: Range, end: u32, start: u32) -> bool
     ensures { result ≡ gap_in_range range end start }
 {
     let start = u64::from(start);
-    let behind = u64::from(end) + 1;
+    let after = u64::from(end) + 1;
     match range {
-        Range::Exactly(number) => start == behind + u64::from(number),
-        Range::AtLeast(number) => behind + u64::from(number) <= start,
-        Range::AtMost(number) => start <= behind + u64::from(number),
+        Range::Exactly(number) => start == after + u64::from(number),
+        Range::AtLeast(number) => after + u64::from(number) <= start,
+        Range::AtMost(number) => start <= after + u64::from(number),
         Range::FromTo(low, high) => {
-            behind + u64::from(low) <= start && start <= behind + u64::from(high)
+            after + u64::from(low) <= start && start <= after + u64::from(high)
         }
     }
 }

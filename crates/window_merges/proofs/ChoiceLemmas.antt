@@ -172,7 +172,7 @@ close_between size low high (p ∷ rest) some h near =
     let last = greatest_to low high p rest (leb-true p high bounds.1) parts.1 in
     lt-ltb (greatest p rest) (least p rest + size) (omega (arith, first, last, near))
 
--- of near places no one is far behind another
+-- of near places no one is far after another
 pub close_pair : (size : ℕ) (places : List ℕ) → are_close size places ≡ true → (p q : ℕ) → has places p ≡ true → has places q ≡ true → q < p + size
 close_pair size [] h p q a b = cc
 close_pair size (first ∷ rest) h p q a b =
@@ -197,6 +197,6 @@ close_pair size (first ∷ rest) h p q a b =
 pub close_enough : (size low far : ℕ) → low ≤ far → far - low < size → (chosen : List ℕ) → 0 < length chosen → all_between low far chosen ≡ true → are_close size chosen ≡ true
 close_enough size low far order near chosen some within = close_between size low far chosen some within (omega (arith, order, near))
 
--- a choice that is near has no place too far in front of one that is as far as the farthest
+-- a choice that is near has no place too far before one that is as far as the farthest
 pub close_rule : (size low far : ℕ) → size ≤ far - low → (chosen : List ℕ) → are_close size chosen ≡ true → (p q : ℕ) → has chosen p ≡ true → has chosen q ≡ true → far ≤ q → far - size + 1 ≤ p
 close_rule size low far h chosen close p q a b beyond = let near = close_pair size chosen close p q a b in omega (arith, near, beyond, h)

@@ -12,7 +12,7 @@ use Rattle.window_merges.proofs.WordLemmas.{same_after, same_later, same_set, sa
 
 -- ---- one search through all words
 
--- the words in front of the number have a hit up to the farthest, and where it is farther than the place, one of them has none in front
+-- the words before the number have a hit up to the farthest, and where it is farther than the place, one of them has none before
 -- of it
 pub record Reaching {A L : Type 0} (passes : A → ℕ → Bool) (shown : A → Shown L) (old now : List A) (place limit far number start end : ℕ) : Type 0 where
   pub same : SameWords passes place now old
@@ -104,7 +104,7 @@ pub record Gathered {A : Type 0} (places : A → List ℕ) (words : List A) (low
   pub within : all_between low high chosen ≡ true
   pub long : length chosen ≡ length words
 
--- all places of a choice that passes are at or behind a place
+-- all places of a choice that passes are at or after a place
 pub record Ahead {A : Type 0} (places : A → List ℕ) (good : List ℕ → Bool) (low : ℕ) (words : List A) : Type 0 where
   pub ahead : (chosen : List ℕ) → is_chosen places words chosen ≡ true → good chosen ≡ true → (place : ℕ) → has chosen place ≡ true → low ≤ place
 
@@ -115,7 +115,7 @@ pub record Beyond (chosen : List ℕ) (far last : ℕ) : Type 0 where
   pub beyond : far ≤ place
   pub below : place < last
 
--- no choice that passes has a place in front of this one
+-- no choice that passes has a place before this one
 pub record Narrowing {A L : Type 0} (passes : A → ℕ → Bool) (places : A → List ℕ) (shown : A → Shown L) (old now : List A) (good : List ℕ → Bool) (first low start end : ℕ) : Type 0 where
   pub some : 0 < length old
   pub from : first ≤ low
@@ -124,16 +124,16 @@ pub record Narrowing {A L : Type 0} (passes : A → ℕ → Bool) (places : A �
   pub moved : Moved (shown_all shown old) (shown_all shown now) start end
 
 module _ {A : Type 0} (passes : A → ℕ → Bool) (places : A → List ℕ) (from to : ℕ)
-    (told : (word : A) (place : ℕ) → has (places word) place ≡ ((nat_le from place && nat_lt place to) && passes word place)) where
+    (known : (word : A) (place : ℕ) → has (places word) place ≡ ((nat_le from place && nat_lt place to) && passes word place)) where
   pub told_there : (word : A) (place : ℕ) → has (places word) place ≡ true → Told passes from to word place
   told_there word place h =
-      let parts = and_parts (nat_le from place && nat_lt place to) (passes word place) (sym (told word place) ∙ h) in
+      let parts = and_parts (nat_le from place && nat_lt place to) (passes word place) (sym (known word place) ∙ h) in
       let bounds = and_parts (nat_le from place) (nat_lt place to) parts.0 in
       record { from = leb-true from place bounds.0; to = ltb-true place to bounds.1; there = parts.1 }
 
   pub told_from : (word : A) (place : ℕ) → from ≤ place → place < to → passes word place ≡ true → has (places word) place ≡ true
   told_from word place a b h =
-      told word place ∙ and_from (nat_le from place && nat_lt place to) (passes word place) (and_from (nat_le from place) (nat_lt place to) (le-leb from place a) (lt-ltb place to b)) h
+      known word place ∙ and_from (nat_le from place && nat_lt place to) (passes word place) (and_from (nat_le from place) (nat_lt place to) (le-leb from place a) (lt-ltb place to b)) h
 
   -- ---- a choice where each word has a hit near enough
 
@@ -162,7 +162,7 @@ module _ {A : Type 0} (passes : A → ℕ → Bool) (places : A → List ℕ) (f
             let b = reaches.near below number other (omega (arith, h, same.long)) in
             record { place = b.place; from = b.from; to = b.to; there = sym ((same.same number other h).same b.place b.from) ∙ b.there }
 
-    -- where a word lacks a hit up to a place, the place that is chosen for it is not in front of that
+    -- where a word lacks a hit up to a place, the place that is chosen for it is not before that
     module _ (words now : List A) (low : ℕ) (ahead : Ahead places good low words) (same : SameWords passes low now words) (chosen : List ℕ) (each : is_chosen places words chosen ≡ true)
         (passed : good chosen ≡ true) where
       beyond_lack : (far : ℕ) → Lacks passes low far now (length now) → Beyond chosen far to
@@ -170,14 +170,14 @@ module _ {A : Type 0} (passes : A → ℕ → Bool) (places : A → List ℕ) (f
           let inside : lacks.number < length words = omega (arith, lacks.within, same.long) in
           let at = chosen_at places words chosen lacks.number each inside in
           let there = told_there at.element at.place at.in_list in
-          let behind = ahead.ahead chosen each passed at.place at.in_choice in
+          let past = ahead.ahead chosen each passed at.place at.in_choice in
           record {
             place = at.place;
             in_choice = at.in_choice;
             beyond = elim (cases_lt at.place far) [
               | inl less ↦
-                  let none = lacks.none at.element at.place behind less in
-                  let was = (same.same lacks.number at.element inside).same at.place behind in
+                  let none = lacks.none at.element at.place past less in
+                  let was = (same.same lacks.number at.element inside).same at.place past in
                   let is : passes (get_or words lacks.number at.element) at.place ≡ true = ap (λ a. passes a at.place) (at.is at.element) ∙ there.there in
                   absurd (both_ways (passes (get_or now lacks.number at.element) at.place) none (was ∙ is))
               | inr le ↦ le
@@ -204,11 +204,11 @@ module _ {A : Type 0} (passes : A → ℕ → Bool) (places : A → List ℕ) (f
         none c =
             let at = chosen_at places words c.chosen 0 c.each some in
             let there = told_there at.element at.place at.in_list in
-            let behind = ahead.ahead c.chosen c.each c.passes at.place at.in_choice in
+            let past = ahead.ahead c.chosen c.each c.passes at.place at.in_choice in
             let below = there.to in
-            absurd (omega (arith, behind, below, h))
+            absurd (omega (arith, past, below, h))
 
-    -- a choice that passes has a place as far as the farthest hit, and so none in front of what that one allows
+    -- a choice that passes has a place as far as the farthest hit, and so none before what that one allows
     ahead_goes_on : (words now : List A) (low far next : ℕ) → Ahead places good low words → SameWords passes low now words → Reaches passes now low to far
         → ((chosen : List ℕ) → good chosen ≡ true → (p q : ℕ) → has chosen p ≡ true → has chosen q ≡ true → far ≤ q → next ≤ p) → Ahead places good next words
     ahead_goes_on words now low far next ahead same reaches rule = record { ahead = later }
@@ -218,7 +218,7 @@ module _ {A : Type 0} (passes : A → ℕ → Bool) (places : A → List ℕ) (f
           | inl less ↦
               let b = beyond_lack words now low ahead same chosen each passed far (reaches.lacks less) in
               rule chosen passed place b.place e b.in_choice b.beyond
-          | inr le ↦ let behind = ahead.ahead chosen each passed place e in rule chosen passed place place e e (omega (arith, le, behind))
+          | inr le ↦ let past = ahead.ahead chosen each passed place e in rule chosen passed place place e e (omega (arith, le, past))
         ]
 
     ahead_starts : (words : List A) → Ahead places good from words

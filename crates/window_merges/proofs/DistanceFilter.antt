@@ -21,8 +21,8 @@ use Rattle.window_merges.proofs.FilterLemmas.{filtered_choices, is_single}
 before_gap : (size a b : ℕ) → a ≤ b → (nat_le b (suc (a + size)) && true) ≡ nat_lt (max a b) (min a b + (size + 2))
 before_gap size a b h = grind (arith, nat_tests, h)
 
-behind_gap : (size a b : ℕ) → b ≤ a → (nat_le a (suc (b + size)) && true) ≡ nat_lt (max a b) (min a b + (size + 2))
-behind_gap size a b h = grind (arith, nat_tests, h)
+after_gap : (size a b : ℕ) → b ≤ a → (nat_le a (suc (b + size)) && true) ≡ nat_lt (max a b) (min a b + (size + 2))
+after_gap size a b h = grind (arith, nat_tests, h)
 
 -- which of two single words stands first
 stands_first : (a b : Hit) → a.to ≡ a.from → b.to ≡ b.from → stands_before a b ≡ nat_le a.from b.from
@@ -46,7 +46,7 @@ two_apart size item a b h k =
       | inr not_before ↦
           ap (λ t. neighbours_in_range (AtMost size) Words (if t then a ∷ b ∷ [] else b ∷ a ∷ [])) (stands_first a b a_one b_one ∙ not_before)
           ∙ ap (λ n. nat_le a.from (suc (n + size)) && true) b_one
-          ∙ behind_gap size a.from b.from (later a.from b.from not_before)
+          ∙ after_gap size a.from b.from (later a.from b.from not_before)
     ]
   where
     later : (x y : ℕ) → nat_le x y ≡ false → y ≤ x

@@ -126,7 +126,7 @@ or_none : (b : Bool) → ((b && true) || false) ≡ b
 or_none true = refl
 or_none false = refl
 
--- a hit with a smaller number agrees with another one where it isn't behind it
+-- a hit with a smaller number agrees with another one where it isn't after it
 agrees : (a b : Hit) → a.query < b.query → agree_in_order a b ≡ nat_le a.from b.from
 agrees a b h =
     (λ i. (nat_le a.from b.from && le-leb a.query b.query (omega (arith, h)) i) || and_right (nat_le b.from a.from) (nat_le b.query a.query) (lt-leb b.query a.query h) i)

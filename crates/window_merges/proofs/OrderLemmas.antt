@@ -1,4 +1,4 @@
--- Words in order: the first hit that doesn't stand in front of the last one serves best.
+-- Words in order: the first hit that doesn't stand before the last one serves best.
 use Rattle.std.proofs.Common.{◌≡◌, refl, sym, ap, ◌∙◌, ℕ, suc, ◌+◌, ◌<◌, ◌≤◌, Bool, true, false, ◌&&◌, eqb, List, [], ◌∷◌, map, length, get_or, set, drop, arith, inl, inr}
 use Rattle.std.specs.Prelude.{nat_le, nat_lt}
 use Rattle.std.specs.List.{list_any, list_all}
@@ -23,7 +23,7 @@ choice_of_and b test (xs ∷ lists) =
     (λ x. choice_of_and b (λ chosen. test (x ∷ chosen)) lists)
     ∙ list_any-and_first b (λ x. some_choice (λ chosen. test (x ∷ chosen)) lists) xs
 
--- places behind one are behind each in front of it
+-- places after one are after each before it
 pub later_all : (place first : ℕ) (chosen : List ℕ) → place ≤ first → list_all (nat_le first) chosen ≡ true → list_all (nat_le place) chosen ≡ true
 later_all place first [] h e = refl
 later_all place first (p ∷ chosen) h e =
@@ -84,12 +84,12 @@ module _ {A : Type 0} (places : A → List ℕ) where
 
   one_more : (place first : ℕ) (chosen : List ℕ) → from_on place (first ∷ chosen) ≡ (nat_le place first && from_on first chosen)
   one_more place first chosen = elim (cases_Bool (nat_le place first)) [
-    | inl order ↦ ap (λ b. (b && list_all (nat_le place) chosen) && from_on first chosen) order ∙ behind (leb-true place first order) ∙ ap (λ b. b && from_on first chosen) (sym order)
+    | inl order ↦ ap (λ b. (b && list_all (nat_le place) chosen) && from_on first chosen) order ∙ after (leb-true place first order) ∙ ap (λ b. b && from_on first chosen) (sym order)
     | inr none ↦ ap (λ b. (b && list_all (nat_le place) chosen) && from_on first chosen) none ∙ ap (λ b. b && from_on first chosen) (sym none)
   ]
     where
-      behind : place ≤ first → (list_all (nat_le place) chosen && from_on first chosen) ≡ from_on first chosen
-      behind h = elim (cases_Bool (list_all (nat_le first) chosen)) [
+      after : place ≤ first → (list_all (nat_le place) chosen && from_on first chosen) ≡ from_on first chosen
+      after h = elim (cases_Bool (list_all (nat_le first) chosen)) [
         | inl all ↦ ap (λ b. b && from_on first chosen) (later_all place first chosen h all)
         | inr not_all ↦
             let never : from_on first chosen ≡ false = and_left (list_all (nat_le first) chosen) (are_in_order chosen) not_all in
@@ -121,7 +121,7 @@ module _ {A : Type 0} (places : A → List ℕ) where
 
 -- ---- word after word
 
--- the words in front of the number have hits that rise up to the place, and whether all can rise is whether the others can from there on
+-- the words before the number have hits that rise up to the place, and whether all can rise is whether the others can from there on
 pub record Rising {A L : Type 0} (passes : A → ℕ → Bool) (places : A → List ℕ) (shown : A → Shown L) (old now : List A) (first last place number start end : ℕ) : Type 0 where
   pub same : SameWords passes place now old
   pub from : first ≤ place
@@ -130,7 +130,7 @@ pub record Rising {A L : Type 0} (passes : A → ℕ → Bool) (places : A → L
   pub moved : Moved (shown_all shown old) (shown_all shown now) start end
 
 module _ {A L : Type 0} (passes : A → ℕ → Bool) (places : A → List ℕ) (shown : A → Shown L) (from to : ℕ)
-    (told : (word : A) (place : ℕ) → has (places word) place ≡ ((nat_le from place && nat_lt place to) && passes word place)) where
+    (known : (word : A) (place : ℕ) → has (places word) place ≡ ((nat_le from place && nat_lt place to) && passes word place)) where
   pub rising_starts : (words : List A) (steps : ℕ) → from < to → Rising passes places shown words words from to from 0 steps steps
   rising_starts words steps h = record {
     same = same_words passes words from;
@@ -141,7 +141,7 @@ module _ {A L : Type 0} (passes : A → ℕ → Bool) (places : A → List ℕ) 
   }
 
   all_from : (word : A) (place : ℕ) → has (places word) place ≡ true → from ≤ place
-  all_from word place h = let t : Told passes from to word place = told_there passes places from to told word place h in t.from
+  all_from word place h = let t : Told passes from to word place = told_there passes places from to known word place h in t.from
 
   pub in_order_is : (words : List A) → some_choice are_in_order (map places words) ≡ rising places from words
   in_order_is words = in_order_rises places from words all_from
@@ -165,7 +165,7 @@ module _ {A L : Type 0} (passes : A → ℕ → Bool) (places : A → List ℕ) 
 
     none : (p : ℕ) → place ≤ p → p < first → has (places word) p ≡ true → ⊥
     none p le less h =
-        let t : Told passes from to word p = told_there passes places from to told word p h in
+        let t : Told passes from to word p = told_there passes places from to known word p h in
         both_ways (passes word p) (sym (was p le) ∙ leads.none p le less) t.there
 
     pub rising_goes_on : (first < to → passes x first ≡ true) → first < to → Rising passes places shown old (set now number y) from to first (number + 1) start end
@@ -178,7 +178,7 @@ module _ {A L : Type 0} (passes : A → ℕ → Bool) (places : A → List ℕ) 
           from = omega (arith, from_place, from_first);
           below = less;
           left = here ∙ first_serves places word (drop (number + 1) old) place first from_place
-              (told_from passes places from to told word first (omega (arith, from_place, from_first)) less (sym (was first from_place) ∙ there less)) none;
+              (told_from passes places from to known word first (omega (arith, from_place, from_first)) less (sym (was first from_place) ∙ there less)) none;
           moved = rising_moved;
         }
 
@@ -187,7 +187,7 @@ module _ {A L : Type 0} (passes : A → ℕ → Bool) (places : A → List ℕ) 
       where
         no : (p : ℕ) → place ≤ p → has (places word) p ≡ true → ⊥
         no p le e =
-            let t : Told passes from to word p = told_there passes places from to told word p e in
+            let t : Told passes from to word p = told_there passes places from to known word p e in
             none p le (omega (arith, h, t.to)) e
 
   pub rising_ends : (old now : List A) (place number start end : ℕ) → Rising passes places shown old now from to place number start end → length now ≤ number
@@ -201,4 +201,4 @@ module _ {A L : Type 0} (passes : A → ℕ → Bool) (places : A → List ℕ) 
   nowhere_in_order (x ∷ words) h = in_order_is (x ∷ words) ∙ none_serves places x words from no ∙ sym (ne_eqb (suc (length words)) 0 (λ e. absurd (omega (arith, e))))
     where
       no : (p : ℕ) → from ≤ p → has (places x) p ≡ true → ⊥
-      no p le e = let t : Told passes from to x p = told_there passes places from to told x p e in absurd (omega (arith, h, t.from, t.to))
+      no p le e = let t : Told passes from to x p = told_there passes places from to known x p e in absurd (omega (arith, h, t.from, t.to))

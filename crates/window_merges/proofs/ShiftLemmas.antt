@@ -13,8 +13,8 @@ module _ (offset : ℕ) where
   abbrev back : List ℕ → List ℕ
   back places = map (λ place. place - offset) places
 
-  abbrev are_behind : List ℕ → Bool
-  are_behind places = list_all (nat_le offset) places
+  abbrev are_after : List ℕ → Bool
+  are_after places = list_all (nat_le offset) places
 
   least_back : (first : ℕ) (rest : List ℕ) → least (first - offset) (back rest) ≡ least first rest - offset
   least_back first [] = refl
@@ -28,38 +28,38 @@ module _ (offset : ℕ) where
       let e : max (first - offset) (p - offset) ≡ max first p - offset = omega arith in
       ap (λ n. greatest n (back rest)) e ∙ greatest_back (max first p) rest
 
-  least_behind : (first : ℕ) (rest : List ℕ) → offset ≤ first → are_behind rest ≡ true → offset ≤ least first rest
-  least_behind first [] a h = a
-  least_behind first (p ∷ rest) a h =
-      let parts = and_parts (nat_le offset p) (are_behind rest) h in
+  least_after : (first : ℕ) (rest : List ℕ) → offset ≤ first → are_after rest ≡ true → offset ≤ least first rest
+  least_after first [] a h = a
+  least_after first (p ∷ rest) a h =
+      let parts = and_parts (nat_le offset p) (are_after rest) h in
       let from = leb-true offset p parts.0 in
-      least_behind (min first p) rest (omega (arith, from)) parts.1
+      least_after (min first p) rest (omega (arith, from)) parts.1
 
   same_below : (size low high : ℕ) → offset ≤ low → low ≤ high → nat_lt (high - offset) ((low - offset) + size) ≡ nat_lt high (low + size)
   same_below size low high h order = grind (arith, nat_tests, h, order)
 
-  close_back : (size : ℕ) (places : List ℕ) → are_behind places ≡ true → are_close size places ≡ are_close size (back places)
+  close_back : (size : ℕ) (places : List ℕ) → are_after places ≡ true → are_close size places ≡ are_close size (back places)
   close_back size [] h = refl
   close_back size (first ∷ rest) h =
-      let parts = and_parts (nat_le offset first) (are_behind rest) h in
+      let parts = and_parts (nat_le offset first) (are_after rest) h in
       let low = least_first first rest in
       let high = greatest_first first rest in
-      sym (same_below size (least first rest) (greatest first rest) (least_behind first rest (leb-true offset first parts.0) parts.1) (omega (arith, low, high)))
+      sym (same_below size (least first rest) (greatest first rest) (least_after first rest (leb-true offset first parts.0) parts.1) (omega (arith, low, high)))
       ∙ (λ i. nat_lt (sym (greatest_back first rest) i) (sym (least_back first rest) i + size))
 
   same_order : (a b : ℕ) → offset ≤ a → offset ≤ b → nat_le a b ≡ nat_le (a - offset) (b - offset)
   same_order a b h k = grind (arith, nat_tests, h, k)
 
-  all_back : (first : ℕ) (places : List ℕ) → offset ≤ first → are_behind places ≡ true → list_all (nat_le first) places ≡ list_all (nat_le (first - offset)) (back places)
+  all_back : (first : ℕ) (places : List ℕ) → offset ≤ first → are_after places ≡ true → list_all (nat_le first) places ≡ list_all (nat_le (first - offset)) (back places)
   all_back first [] a h = refl
   all_back first (p ∷ places) a h =
-      let parts = and_parts (nat_le offset p) (are_behind places) h in
+      let parts = and_parts (nat_le offset p) (are_after places) h in
       λ i. same_order first p a (leb-true offset p parts.0) i && all_back first places a parts.1 i
 
-  order_back : (places : List ℕ) → are_behind places ≡ true → are_in_order places ≡ are_in_order (back places)
+  order_back : (places : List ℕ) → are_after places ≡ true → are_in_order places ≡ are_in_order (back places)
   order_back [] h = refl
   order_back (first ∷ rest) h =
-      let parts = and_parts (nat_le offset first) (are_behind rest) h in
+      let parts = and_parts (nat_le offset first) (are_after rest) h in
       λ i. all_back first rest (leb-true offset first parts.0) parts.1 i && order_back rest parts.1 i
 
   pub close_counted : (size : ℕ) (lists : List (List ℕ)) → list_all (list_all (nat_le offset)) lists ≡ true

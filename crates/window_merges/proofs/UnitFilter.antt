@@ -50,42 +50,42 @@ module _ (kind : TextUnit) (unit : ℕ → ℕ) where
   same_as : (first : Hit) (a : Hit) (hits : List Hit) → is_told a ≡ true → list_all is_told hits ≡ true → unit a.from ≡ unit first.from → all_with first.from hits ≡ true → list_all (share_one kind a) hits ≡ true
   same_as first a [] h k e all = refl
   same_as first a (hit ∷ hits) h k e all =
-      let told = and_parts (is_told hit) (list_all is_told hits) k in
+      let known = and_parts (is_told hit) (list_all is_told hits) k in
       let parts = and_parts (eqb (unit hit.from) (unit first.from)) (all_with first.from hits) all in
       and_from (share_one kind a hit) (list_all (share_one kind a) hits)
-      (shares a hit h told.0 ∙ eq-eqb (unit a.from) (unit hit.from) (e ∙ sym (eqb-true (unit hit.from) (unit first.from) parts.0)))
-      (same_as first a hits h told.1 e parts.1)
+      (shares a hit h known.0 ∙ eq-eqb (unit a.from) (unit hit.from) (e ∙ sym (eqb-true (unit hit.from) (unit first.from) parts.0)))
+      (same_as first a hits h known.1 e parts.1)
 
   each_same : (first : Hit) (some hits : List Hit) → list_all is_told some ≡ true → list_all is_told hits ≡ true → all_with first.from some ≡ true → all_with first.from hits ≡ true
       → list_all (λ a. list_all (share_one kind a) hits) some ≡ true
   each_same first [] hits h k e all = refl
   each_same first (a ∷ some) hits h k e all =
-      let told = and_parts (is_told a) (list_all is_told some) h in
+      let known = and_parts (is_told a) (list_all is_told some) h in
       let parts = and_parts (eqb (unit a.from) (unit first.from)) (all_with first.from some) e in
       and_from (list_all (share_one kind a) hits) (list_all (λ b. list_all (share_one kind b) hits) some)
-      (same_as first a hits told.0 k (eqb-true (unit a.from) (unit first.from) parts.0) all) (each_same first some hits told.1 k parts.1 all)
+      (same_as first a hits known.0 k (eqb-true (unit a.from) (unit first.from) parts.0) all) (each_same first some hits known.1 k parts.1 all)
 
   -- what shares the unit of the first has it
   with_first : (first : Hit) (hits : List Hit) → is_told first ≡ true → list_all is_told hits ≡ true → list_all (share_one kind first) hits ≡ true → all_with first.from hits ≡ true
   with_first first [] h k e = refl
   with_first first (hit ∷ hits) h k e =
-      let told = and_parts (is_told hit) (list_all is_told hits) k in
+      let known = and_parts (is_told hit) (list_all is_told hits) k in
       let parts = and_parts (share_one kind first hit) (list_all (share_one kind first) hits) e in
-      let is = eqb-true (unit first.from) (unit hit.from) (sym (shares first hit h told.0) ∙ parts.0) in
-      and_from (eqb (unit hit.from) (unit first.from)) (all_with first.from hits) (eq-eqb (unit hit.from) (unit first.from) (sym is)) (with_first first hits h told.1 parts.1)
+      let is = eqb-true (unit first.from) (unit hit.from) (sym (shares first hit h known.0) ∙ parts.0) in
+      and_from (eqb (unit hit.from) (unit first.from)) (all_with first.from hits) (eq-eqb (unit hit.from) (unit first.from) (sym is)) (with_first first hits h known.1 parts.1)
 
   in_one : (chosen : List Hit) → list_all is_told chosen ≡ true → all_in_one kind chosen ≡ are_in_one unit (units_of chosen)
   in_one [] h = refl
   in_one (first ∷ rest) h = same_tests (all_in_one kind (first ∷ rest)) (are_in_one unit (units_of (first ∷ rest))) to back
     where
-      told : (is_told first ≡ true) × (list_all is_told rest ≡ true)
-      told = and_parts (is_told first) (list_all is_told rest) h
+      known : (is_told first ≡ true) × (list_all is_told rest ≡ true)
+      known = and_parts (is_told first) (list_all is_told rest) h
 
       to : all_in_one kind (first ∷ rest) ≡ true → are_in_one unit (units_of (first ∷ rest)) ≡ true
       to e =
           let of_first = (and_parts (list_all (share_one kind first) (first ∷ rest)) (list_all (λ a. list_all (share_one kind a) (first ∷ rest)) rest) e).0 in
           let others = (and_parts (share_one kind first first) (list_all (share_one kind first) rest) of_first).1 in
-          with_places first.from rest ∙ with_first first rest told.0 told.1 others
+          with_places first.from rest ∙ with_first first rest known.0 known.1 others
 
       back : are_in_one unit (units_of (first ∷ rest)) ≡ true → all_in_one kind (first ∷ rest) ≡ true
       back e =

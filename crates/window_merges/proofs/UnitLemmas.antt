@@ -7,7 +7,7 @@ use Rattle.place_merges.specs.steps.Searching.{has}
 use Rattle.window_merges.specs.Choices.{are_in_one}
 use Rattle.window_merges.proofs.ChoiceLemmas.{all_between}
 
--- the place at which a unit begins is behind one place and not behind another
+-- the place at which a unit begins is after one place and not after another
 pub record Halving (number : ℕ → ℕ) (low far unit before first : ℕ) : Type 0 where
   pub from : low ≤ before
   pub order : before < first
@@ -57,7 +57,7 @@ module _ (unit : ℕ → ℕ) where
         let bounds = and_parts (nat_le low first) (nat_le first far) parts.0 in
         all_of low far first rest h (between low far first h (leb-true low first bounds.0) (leb-true first far bounds.1)) parts.1
 
-    -- a choice in one unit that has a place as far as `far` has none in front of the unit round `far`
+    -- a choice in one unit that has a place as far as `far` has none before the unit round `far`
     pub unit_rule : (far next : ℕ) → ((other : ℕ) → other < next → unit other < unit far) → (chosen : List ℕ) → are_in_one unit chosen ≡ true
         → (p q : ℕ) → has chosen p ≡ true → has chosen q ≡ true → far ≤ q → next ≤ p
     unit_rule far next before chosen h p q a b beyond = elim (cases_lt p next) [

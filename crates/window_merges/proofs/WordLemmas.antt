@@ -54,8 +54,8 @@ inside span place = nat_le span.from place && nat_lt place span.to
 pub of_filtered : (test : ℕ → Bool) (places : List ℕ) (place : ℕ) → has (filter test places) place ≡ (test place && has places place)
 of_filtered test places place = any-filter_same (λ other. eqb other place) test (test place) (λ other e. ap test (eqb-true other place e)) places
 
-pub told : {H : Type 0} (stand : H → HitPlace) (span : Span) (word : Vec H Global) (place : ℕ)
+pub known : {H : Type 0} (stand : H → HitPlace) (span : Span) (word : Vec H Global) (place : ℕ)
     → has (places_in stand span word.items) place ≡ (inside span place && has_hit stand word place)
-told stand span word place =
+known stand span word place =
     of_filtered (inside span) (flat_map (λ source. places_left (stand source)) word.items) place
     ∙ ap (λ b. inside span place && b) (list_any-flat_map (λ other. eqb other place) (λ source. places_left (stand source)) word.items)

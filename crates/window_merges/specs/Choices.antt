@@ -13,7 +13,7 @@ abbrev pub are_close : ℕ → List ℕ → Bool
 are_close size [] = false
 are_close size (first ∷ rest) = nat_lt (greatest first rest) (least first rest + size)
 
--- whether no place stands in front of one that comes earlier in the list
+-- whether no place stands before one that comes earlier in the list
 abbrev pub are_in_order : List ℕ → Bool
 are_in_order [] = true
 are_in_order (first ∷ rest) = list_all (nat_le first) rest && are_in_order rest

@@ -29,11 +29,11 @@ pub fn nearest_hits()
     ensures no_words { some_choice (are_close 9) [] ≡ false }
 {}
 
-/// Words are in order as long as none stands in front of an earlier one, so that a word that is asked for twice is in
+/// Words are in order as long as none stands before an earlier one, so that a word that is asked for twice is in
 /// order with itself.
 pub fn order()
-    ensures one_behind_the_other { some_choice are_in_order ((1 ∷ []) ∷ (3 ∷ []) ∷ []) ≡ true }
-    ensures in_front { some_choice are_in_order ((3 ∷ []) ∷ (1 ∷ []) ∷ []) ≡ false }
+    ensures one_after_the_other { some_choice are_in_order ((1 ∷ []) ∷ (3 ∷ []) ∷ []) ≡ true }
+    ensures before { some_choice are_in_order ((3 ∷ []) ∷ (1 ∷ []) ∷ []) ≡ false }
     ensures twice { some_choice are_in_order ((3 ∷ []) ∷ (3 ∷ []) ∷ []) ≡ true }
     ensures a_later_hit { some_choice are_in_order ((3 ∷ []) ∷ (1 ∷ 5 ∷ []) ∷ (2 ∷ 5 ∷ []) ∷ []) ≡ true }
     ensures no_later_hit { some_choice are_in_order ((3 ∷ []) ∷ (1 ∷ 5 ∷ []) ∷ (2 ∷ 4 ∷ []) ∷ []) ≡ false }
@@ -61,15 +61,15 @@ pub fn places_of_words()
 pub fn words_under_filters()
     ensures in_three { satisfied (matches_of item (filtered_words (F.Window 3 Words) (hits_at 1 (1 ∷ []) ∷ hits_at 2 (3 ∷ []) ∷ []))) ≡ true }
     ensures not_in_two { satisfied (matches_of item (filtered_words (F.Window 2 Words) (hits_at 1 (1 ∷ []) ∷ hits_at 2 (3 ∷ []) ∷ []))) ≡ false }
-    ensures behind { satisfied (matches_of item (filtered_words F.Ordered (hits_at 1 (3 ∷ []) ∷ hits_at 2 (1 ∷ 3 ∷ []) ∷ []))) ≡ true }
-    ensures in_front { satisfied (matches_of item (filtered_words F.Ordered (hits_at 1 (3 ∷ []) ∷ hits_at 2 (1 ∷ 2 ∷ []) ∷ []))) ≡ false }
+    ensures after { satisfied (matches_of item (filtered_words F.Ordered (hits_at 1 (3 ∷ []) ∷ hits_at 2 (1 ∷ 3 ∷ []) ∷ []))) ≡ true }
+    ensures before { satisfied (matches_of item (filtered_words F.Ordered (hits_at 1 (3 ∷ []) ∷ hits_at 2 (1 ∷ 2 ∷ []) ∷ []))) ≡ false }
 {}
 
 /// Words under `same sentence`, by all choices of their hits: as the choices of their places have it.
 pub fn words_in_sentences()
     ensures inside { satisfied (matches_of item (filtered_words F.SameSentence (hits_by_threes 1 (0 ∷ []) ∷ hits_by_threes 2 (2 ∷ []) ∷ []))) ≡ true }
     ensures next { satisfied (matches_of item (filtered_words F.SameSentence (hits_by_threes 1 (2 ∷ []) ∷ hits_by_threes 2 (3 ∷ []) ∷ []))) ≡ false }
-    ensures told { are_told Sentences by_threes (hits_by_threes 1 (0 ∷ 4 ∷ []) ∷ []) ≡ true }
+    ensures known { are_told Sentences by_threes (hits_by_threes 1 (0 ∷ 4 ∷ []) ∷ []) ≡ true }
     ensures of_other_units { are_told Paragraphs by_threes (hits_by_threes 1 (0 ∷ 4 ∷ []) ∷ []) ≡ false }
     ensures over_two { are_told Sentences by_threes ((spread_hit ∷ []) ∷ []) ≡ false }
 {}

@@ -8,7 +8,7 @@ use ft_base::Steps;
 use place_merges::{FirstWords, lead_of_sources};
 use std::sync::ledger::Ledger;
 
-/// The farthest of the first hits that the words have from the place on, or the limit, where one has none in front of it.
+/// The farthest of the first hits that the words have from the place on, or the limit, where one has none before it.
 pub(crate) fn farthest<H: FirstWords, L: Ledger>(
     words: &mut Vec<Vec<H>>,
     place: u32,

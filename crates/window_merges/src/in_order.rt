@@ -8,9 +8,9 @@ use ft_base::{Span, Steps};
 use place_merges::{FirstWords, lead_of_sources};
 use std::sync::ledger::Ledger;
 
-/// Whether one hit of each word can be chosen in the span so that none begins in front of one of an earlier word.
+/// Whether one hit of each word can be chosen in the span so that none begins before one of an earlier word.
 ///
-/// The sources go forward only: for each word in turn the first hit is taken that doesn't begin in front of the last one.
+/// The sources go forward only: for each word in turn the first hit is taken that doesn't begin before the last one.
 /// Of plain sources each hit that is passed counts two steps at most.
 pub fn stand_in_order<H: FirstWords, L: Ledger>(
     words: &mut Vec<Vec<H>>,

@@ -2,7 +2,7 @@
 //!
 //! Each word has some sources of hits, as one for each form in which it stands in a text. `stand_close` says whether all
 //! words have a hit among so many places that follow one another, `stand_together` whether they have one in the same unit
-//! of the text, `stand_in_order` whether their hits can be chosen so that none stands in front of one that was chosen for an
+//! of the text, `stand_in_order` whether their hits can be chosen so that none stands before one that was chosen for an
 //! earlier word. None of them tries choices: the sources go forward only, and no memory is taken.
 //!
 //! `laws` says what this has to do with `ftand` under `window`, `same sentence`, `same paragraph` and `ordered`.

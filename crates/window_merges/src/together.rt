@@ -44,12 +44,12 @@ pub fn stand_together<H: FirstWords, U: Units, L: Ledger>(
     false
 }
 
-/// The first place of the unit round `far`, which begins behind `low`.
+/// The first place of the unit round `far`, which begins after `low`.
 fn first_place<U: Units>(units: &U, low: u32, far: u32) -> u32
     requires order { low < far }
     requires within { far < 2 ^ 32 - 1 }
     requires apart { U.number units.now low < U.number units.now far }
-    ensures behind { low < result }
+    ensures after { low < result }
     ensures reached { result ≤ far }
     ensures in_unit { U.number units.now result ≡ U.number units.now far }
     ensures first { (other : ℕ) → other < result → U.number units.now other < U.number units.now far }

@@ -26,7 +26,7 @@ pub fn covered_content()
     ensures no_word { sat plain (filtered (not_of word_x) F.EntireContent) (text (codes "")) ≡ true }
     ensures joined_with_a_hole { sat plain (filtered (filtered (two_and word_a word_b) (F.Window 3 U.Words)) F.EntireContent) (text (codes "a x b")) ≡ false }
     ensures joined_without_a_hole { sat plain (filtered (filtered (two_and word_a word_b) (F.Window 2 U.Words)) F.EntireContent) (text (codes "a b")) ≡ true }
-    ensures hole_filled_behind { sat plain
+    ensures hole_filled_after { sat plain
         (filtered (filtered (two_and (filtered (two_and word_a word_c) (F.Window 3 U.Words)) word_b) (F.Window 3 U.Words)) F.EntireContent)
         (text (codes "a b c")) ≡ false }
 {}

@@ -42,9 +42,9 @@ pub fn distances_of_neighbours()
 
 /// An exclude counts where it has a distance in the range to some include, whichever of the two stands first.
 pub fn excludes_at_distances()
-    ensures in_front { sat plain (filtered (but_not word_a word_b) (F.Distance (R.AtMost 3) U.Words)) (text (codes "b a")) ≡ false }
-    ensures too_far_behind { sat plain (filtered (but_not word_a word_b) (F.Distance (R.AtMost 1) U.Words)) (text (codes "a x x b")) ≡ true }
-    ensures too_far_in_front { sat plain (filtered (but_not word_a word_b) (F.Distance (R.AtMost 1) U.Words)) (text (codes "b x x a")) ≡ true }
+    ensures before { sat plain (filtered (but_not word_a word_b) (F.Distance (R.AtMost 3) U.Words)) (text (codes "b a")) ≡ false }
+    ensures too_far_after { sat plain (filtered (but_not word_a word_b) (F.Distance (R.AtMost 1) U.Words)) (text (codes "a x x b")) ≡ true }
+    ensures too_far_before { sat plain (filtered (but_not word_a word_b) (F.Distance (R.AtMost 1) U.Words)) (text (codes "b x x a")) ≡ true }
     ensures near_one_include { sat plain (filtered (but_not (two_and word_a word_b) word_x) (F.Distance (R.AtMost 0) U.Words)) (text (codes "a b x")) ≡ false }
     ensures two_paragraphs_on { sat plain (filtered (but_not word_a word_b) (F.Distance (R.AtMost 0) U.Paragraphs))
         (paragraph 1 (codes "a") ++ paragraph 2 (codes "x") ++ paragraph 3 (codes "b")) ≡ true }

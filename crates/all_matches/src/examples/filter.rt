@@ -9,12 +9,12 @@ ghost use Rattle.ft_base.specs.Selection.{filtered, not_of, and_of, more, none};
 ghost use Rattle.all_matches.specs.Examples.{plain, text, sentence, quoted, two_and, two_or};
 ghost use Rattle.all_matches.specs.Meaning.{sat};
 
-/// `("a" ftand "c" ftand ftnot "b") window 3 words`: behind `a c` the window that starts in front of the text doesn't reach `b`.
+/// `("a" ftand "c" ftand ftnot "b") window 3 words`: after `a c` the window that starts before the text doesn't reach `b`.
 pub fn windows()
     ensures between { sat plain
         (filtered (and_of (more (quoted (codes "a")) (more (quoted (codes "c")) (more (not_of (quoted (codes "b"))) none)))) (F.Window 3 U.Words))
         (text (codes "a b c")) ≡ false }
-    ensures behind { sat plain
+    ensures after { sat plain
         (filtered (and_of (more (quoted (codes "a")) (more (quoted (codes "c")) (more (not_of (quoted (codes "b"))) none)))) (F.Window 3 U.Words))
         (text (codes "a c b")) ≡ true }
     ensures wide_enough { sat plain (filtered (two_and (quoted (codes "a")) (quoted (codes "b"))) (F.Window 3 U.Words)) (text (codes "a x b")) ≡ true }
@@ -47,11 +47,11 @@ pub fn distances_without_excludes()
     ensures one { sat plain (filtered (quoted (codes "a")) (F.Distance (R.AtLeast 7) U.Words)) (text (codes "a")) ≡ true }
 {}
 
-/// Behind a filter on a window or a distance stands one joined hit.
+/// After a filter on a window or a distance stands one joined hit.
 pub fn nested_filters()
     ensures ordered_before { sat plain
         (filtered (filtered (two_and (quoted (codes "b")) (quoted (codes "a"))) F.Ordered) (F.Distance (R.Exactly 1) U.Words)) (text (codes "a x b")) ≡ false }
-    ensures ordered_behind { sat plain
+    ensures ordered_after { sat plain
         (filtered (filtered (two_and (quoted (codes "b")) (quoted (codes "a"))) (F.Distance (R.Exactly 1) U.Words)) F.Ordered) (text (codes "a x b")) ≡ true }
     ensures joined { sat plain
         (filtered (two_and (filtered (two_and (quoted (codes "a")) (quoted (codes "b"))) (F.Window 2 U.Words)) (quoted (codes "c")))

@@ -12,7 +12,7 @@ pub fn edges_of_an_item()
     ensures begins_with_it { passes F.AtStart (phrase 1 4 5 ∷ []) (span 4 7) ≡ true }
     ensures begins_with_the_text { passes F.AtStart (word 1 ∷ []) (span 4 7) ≡ false }
     ensures ends_with_it { passes F.AtEnd (word 4 ∷ phrase 1 5 6 ∷ []) (span 4 7) ≡ true }
-    ensures ends_behind_it { passes F.AtEnd (word 7 ∷ []) (span 4 7) ≡ false }
+    ensures ends_after_it { passes F.AtEnd (word 7 ∷ []) (span 4 7) ≡ false }
     ensures ends_before_its_last_word { passes F.AtEnd (word 5 ∷ []) (span 4 7) ≡ false }
 {}
 

@@ -24,11 +24,11 @@ pub fn order_by_phrases()
         (text (codes "a c b")) ≡ false }
     ensures strings_in_order { sat plain (filtered (two_and (value M.All None (codes "a" ∷ codes "b" ∷ [])) word_c) F.Ordered) (text (codes "a b c")) ≡ true }
     ensures strings_against_order { sat plain (filtered (value M.All None (codes "a" ∷ codes "b" ∷ [])) F.Ordered) (text (codes "b a")) ≡ false }
-    ensures behind_or { sat plain (filtered (two_and (two_or word_x word_a) word_b) F.Ordered) (text (codes "b a")) ≡ false }
-    ensures behind_and { sat plain (filtered (two_and (two_and word_a word_b) word_c) F.Ordered) (text (codes "a c b")) ≡ false }
-    ensures behind_a_filter { sat plain (filtered (two_and (filtered (two_and word_a word_b) F.AtStart) word_c) F.Ordered) (text (codes "a c b")) ≡ false }
-    ensures behind_options { sat plain (filtered (two_and (with_options (two_and word_a word_b) no_options) word_c) F.Ordered) (text (codes "a c b")) ≡ false }
-    ensures behind_not { sat plain (filtered (three_and word_a (not_of (two_and word_x word_x)) (not_of word_b)) F.Ordered) (text (codes "a b")) ≡ false }
+    ensures after_or { sat plain (filtered (two_and (two_or word_x word_a) word_b) F.Ordered) (text (codes "b a")) ≡ false }
+    ensures after_and { sat plain (filtered (two_and (two_and word_a word_b) word_c) F.Ordered) (text (codes "a c b")) ≡ false }
+    ensures after_a_filter { sat plain (filtered (two_and (filtered (two_and word_a word_b) F.AtStart) word_c) F.Ordered) (text (codes "a c b")) ≡ false }
+    ensures after_options { sat plain (filtered (two_and (with_options (two_and word_a word_b) no_options) word_c) F.Ordered) (text (codes "a c b")) ≡ false }
+    ensures after_not { sat plain (filtered (three_and word_a (not_of (two_and word_x word_x)) (not_of word_b)) F.Ordered) (text (codes "a b")) ≡ false }
 {}
 
 /// An exclude counts where it is in order with every include.

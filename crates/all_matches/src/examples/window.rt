@@ -25,10 +25,10 @@ pub fn hits_in_windows()
         (sentence 1 (codes "a") ++ sentence 2 (codes "b")) ≡ true }
 {}
 
-/// A window may begin in front of the text and end behind it. It begins no later, and ends no earlier, than the hits.
+/// A window may begin before the text and end after it. It begins no later, and ends no earlier, than the hits.
 pub fn places_of_windows()
-    ensures behind_the_text { sat plain (filtered (but_not (two_and word_a word_c) word_b) (F.Window 3 U.Words)) (text (codes "b a c")) ≡ true }
-    ensures in_front_of_the_text { sat plain (filtered (but_not (two_and word_a word_c) word_b) (F.Window 3 U.Words)) (text (codes "a c b")) ≡ true }
+    ensures after_the_text { sat plain (filtered (but_not (two_and word_a word_c) word_b) (F.Window 3 U.Words)) (text (codes "b a c")) ≡ true }
+    ensures before_the_text { sat plain (filtered (but_not (two_and word_a word_c) word_b) (F.Window 3 U.Words)) (text (codes "a c b")) ≡ true }
     ensures no_room_to_begin_later { sat plain (filtered (but_not (two_and word_a word_c) (quoted (codes "a b"))) (F.Window 3 U.Words))
         (text (codes "a b c")) ≡ false }
     ensures no_room_to_end_earlier { sat plain (filtered (but_not (two_and word_a word_c) (quoted (codes "b c"))) (F.Window 3 U.Words))
@@ -37,8 +37,8 @@ pub fn places_of_windows()
 
 /// An exclude counts where it lies in the window as a whole.
 pub fn excludes_in_windows()
-    ensures begins_in_front { sat plain (filtered (but_not (two_and word_a word_c) (quoted (codes "x a"))) (F.Window 2 U.Words)) (text (codes "x a c")) ≡ true }
-    ensures ends_behind { sat plain (filtered (but_not (two_and word_a word_c) (quoted (codes "c x"))) (F.Window 2 U.Words)) (text (codes "a c x")) ≡ true }
+    ensures begins_before { sat plain (filtered (but_not (two_and word_a word_c) (quoted (codes "x a"))) (F.Window 2 U.Words)) (text (codes "x a c")) ≡ true }
+    ensures ends_after { sat plain (filtered (but_not (two_and word_a word_c) (quoted (codes "c x"))) (F.Window 2 U.Words)) (text (codes "a c x")) ≡ true }
     ensures in_the_sentence { sat plain (filtered (but_not word_a word_b) (F.Window 1 U.Sentences)) (text (codes "a x x b")) ≡ false }
     ensures in_another_sentence { sat plain (filtered (but_not word_a word_b) (F.Window 1 U.Sentences))
         (sentence 1 (codes "a") ++ sentence 2 (codes "b")) ≡ true }
@@ -51,7 +51,7 @@ pub fn excludes_in_windows()
 /// The windows of a size that hold a hit, by their first numbers, which may be below 1.
 pub fn windows_of_a_size()
     ensures of_three_words { windows_round 3 U.Words (Some (phrase 1 2 3)) ≡ window (pos 1) (pos 3) ∷ window (pos 2) (pos 4) ∷ [] }
-    ensures in_front_of_the_text { windows_round 3 U.Words (Some (word 1))
+    ensures before_the_text { windows_round 3 U.Words (Some (word 1))
         ≡ window (negsuc 0) (pos 1) ∷ window (pos 0) (pos 2) ∷ window (pos 1) (pos 3) ∷ [] }
     ensures as_wide_as_the_hit { windows_round 2 U.Words (Some (phrase 1 2 3)) ≡ window (pos 2) (pos 3) ∷ [] }
     ensures too_narrow { windows_round 1 U.Words (Some (phrase 1 2 3)) ≡ [] }
@@ -63,8 +63,8 @@ pub fn windows_of_a_size()
 /// A hit lies in a window where it begins no earlier and ends no later.
 pub fn hits_in_a_window()
     ensures from_end_to_end { lies_in_window U.Words (window (pos 2) (pos 4)) (phrase 1 2 4) ≡ true }
-    ensures begins_in_front { lies_in_window U.Words (window (pos 2) (pos 4)) (phrase 1 1 4) ≡ false }
-    ensures ends_behind { lies_in_window U.Words (window (pos 2) (pos 4)) (phrase 1 2 5) ≡ false }
+    ensures begins_before { lies_in_window U.Words (window (pos 2) (pos 4)) (phrase 1 1 4) ≡ false }
+    ensures ends_after { lies_in_window U.Words (window (pos 2) (pos 4)) (phrase 1 2 5) ≡ false }
     ensures from_below_one { lies_in_window U.Words (window (negsuc 2) (pos 1)) (word 1) ≡ true }
     ensures below_one { lies_in_window U.Words (window (negsuc 2) (pos 0)) (word 1) ≡ false }
     ensures of_sentences { lies_in_window U.Sentences (window (pos 4) (pos 5)) (in_sentences 4 5 (word 9)) ≡ true }

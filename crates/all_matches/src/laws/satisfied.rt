@@ -28,7 +28,7 @@ pub fn sat_not_law()
         → sat_under lexicon options (not_of form) tokens ≡ not (sat_under lexicon options form tokens) }
 {}
 
-/// Options in front of a selection hold inside it.
+/// Options before a selection hold inside it.
 pub fn sat_options_law()
     ensures { (lexicon : Lexicon) (options inner : Options) (form : Form) (tokens : List Token)
         → sat_under lexicon options (with_options form inner) tokens ≡ sat_under lexicon (inside inner options) form tokens }

@@ -14,13 +14,13 @@ use Rattle.collections.specs.Documents.{Edit, edited_root, touched_root}
 use Rattle.collections.specs.Loaded.{LoadedTree}
 use Rattle.collections.specs.declared.planning.Planned.{Planned}
 
--- the document's root behind the edit
+-- the document's root after the edit
 abbrev pub root_after : Planned → Node
 root_after p = plain (ref_node p.draft.root)
 
 -- The draft is that of an edit of the elements of these references.
 pub record IsDrafted (edit : Edit) (root : Numbered) (refs : List NodeRef) (draft : Draft) : Type 0 where
-  pub behind : plain (ref_node draft.root) ≡ edited_root edit (places_of root refs) (plain root)
+  pub ahead : plain (ref_node draft.root) ≡ edited_root edit (places_of root refs) (plain root)
   pub words : touched root (ref_node draft.root) ≡ touched_root edit (places_of root refs) (plain root)
   pub keeps_order : KeepsOrder root (ref_node draft.root)
 
@@ -39,7 +39,7 @@ ArePlanned edit at (e ∷ es) ((r ∷ refs) ∷ lists) [] = ⊥
 ArePlanned edit at (e ∷ es) ((r ∷ refs) ∷ lists) (p ∷ ps) =
     (p.at ≡ at) × (IsDrafted edit e.1.tree.root (r ∷ refs) p.draft × ArePlanned edit (at + 1) es lists ps)
 
--- The document of the draft, which keeps its number, stands in its place, as it is behind the edit.
+-- The document of the draft, which keeps its number, stands in its place, as it is after the edit.
 pub record IsPutAt (before : List (List ℕ × LoadedTree)) (doc : DocId) (p : Planned) (after : List (List ℕ × LoadedTree)) : Type 0 where
   pub tree : Stored
   pub root : tree.root ≡ ref_node p.draft.root

@@ -14,7 +14,7 @@ pub data Outer : Type 0 where
   fragment : Outer
   level : (name : List ℕ) (attrs : List Attr) (kids : List Node) (text : List ℕ) → Outer → Outer
 
--- the nodes of the content under way, the text behind the last of them, and what stands round it
+-- the nodes of the content under way, the text after the last of them, and what stands round it
 pub record Place : Type 0 where
   pub kids : List Node
   pub text : List ℕ
@@ -165,7 +165,7 @@ end_tag p document = None
 end_tag p fragment = None
 end_tag p (level name attrs kids text outer) = at p (end_name name)
 
--- behind a `<`
+-- after a `<`
 unfoldable pub from_opened : Place → ℕ → Option State
 from_opened p c = if c == 33 then at p bang else if c == 63 then at p (instruction false) else if c == 47 then end_tag p p.outer
     else if is_name_start c && takes_element p then at p (start_name (encode_utf8 c)) else None
@@ -198,7 +198,7 @@ unfoldable pub from_end_name : Place → List ℕ → ℕ → Option State
 from_end_name p [] c = from_end_spaced p c
 from_end_name p (b ∷ bytes) c = from_end_left p (b ∷ bytes) c
 
--- behind a tag's name or one of its attributes
+-- after a tag's name or one of its attributes
 unfoldable pub from_tag : Place → List ℕ → List Attr → ℕ → Option State
 from_tag p name attrs c = if c == 62 then at (entered p name attrs) ready
     else if c == 47 then at p (slashed name attrs)
@@ -232,7 +232,7 @@ judged_quoted p name attrs attr quote value refused = None
 judged_quoted p name attrs attr quote value (going r) = at p (quoted_reference name attrs attr quote value r)
 judged_quoted p name attrs attr quote value (gives c) = at p (quoted name attrs attr quote (value ++ encode_utf8 c))
 
--- behind the `/` of an empty element
+-- after the `/` of an empty element
 unfoldable pub from_slashed : Place → List ℕ → List Attr → ℕ → Option State
 from_slashed p name attrs c = if c == 62 then at (with_node p.kids p.text p.outer (element name attrs no_nodes)) ready else None
 

@@ -14,7 +14,7 @@ abbrev pub slot_of : List ℕ → ℕ → ℕ
 slot_of [] id = 0
 slot_of (other ∷ rest) id = cond (other == id) 1 (next_slot (slot_of rest id))
 
--- how many words stand in the leaves in front of that one
+-- how many words stand in the leaves before that one
 abbrev pub words_before : List Leaf → ℕ → ℕ
 words_before [] id = 0
 words_before (leaf ∷ rest) id = cond (leaf.id == id) 0 (length leaf.words + words_before rest id)
@@ -23,7 +23,7 @@ words_before (leaf ∷ rest) id = cond (leaf.id == id) 0 (length leaf.words + wo
 abbrev pub place_of : List Leaf → Row → ℕ
 place_of leaves row = words_before leaves row.leaf.0 + row.offset + 1
 
--- by the number of a leaf: its place, counted from 1, and how many words stand in front of it
+-- by the number of a leaf: its place, counted from 1, and how many words stand before it
 pub record IsDirectory (leaves : List Leaf) (slots befores : List ℕ) (words : ℕ) : Type 0 where
   pub slots_are : (id : ℕ) → slice_index slots id ≡ slot_of (leaf_ids leaves) id
   pub befores_are : (id : ℕ) → has id (leaf_ids leaves) ≡ true → slice_index befores id ≡ words_before leaves id
@@ -32,11 +32,11 @@ pub record IsDirectory (leaves : List Leaf) (slots befores : List ℕ) (words : 
   pub few : words < 2 ^ 32
   pub distinct : are_distinct (leaf_ids leaves) ≡ true
 
--- whether a row is of a leaf in front of the place
-abbrev pub is_front : List ℕ → ℕ → Row → Bool
-is_front ids at row = nat_le (slot_of ids row.leaf.0) at
+-- whether a row is of a leaf before the place
+abbrev pub is_before : List ℕ → ℕ → Row → Bool
+is_before ids at row = nat_le (slot_of ids row.leaf.0) at
 
--- the numbers of a directory where a leaf with so many words is to come to the place: those of the leaves behind it move
+-- the numbers of a directory where a leaf with so many words is to come to the place: those of the leaves after it move
 pub record IsOpened (at by : ℕ) (slots befores new_slots new_befores : List ℕ) : Type 0 where
   pub slots_length : length new_slots ≡ length slots
   pub befores_length : length new_befores ≡ length slots
@@ -57,10 +57,10 @@ pub record IsClosed (at by number : ℕ) (slots befores new_slots new_befores : 
 abbrev pub IsChanged : ℕ → ℕ → List ℕ → List ℕ → Type 0
 IsChanged at number old new = (k : ℕ) → slice_index new k ≡ cond (k == at) number (slice_index old k)
 
--- the rows, and among them a run, the front of which is of leaves in front of the place, and the rest isn't
-pub record IsAround (ids : List ℕ) (at first end : ℕ) (rows before front back behind : List Row) : Type 0 where
-  pub rows_are : rows ≡ before ++ (front ++ (back ++ behind))
+-- the rows, and among them a run, the prefix of which is of leaves before the place, and the rest isn't
+pub record IsAround (ids : List ℕ) (at first end : ℕ) (rows before prefix back suffix : List Row) : Type 0 where
+  pub rows_are : rows ≡ before ++ (prefix ++ (back ++ suffix))
   pub first_is : first ≡ length before
-  pub end_is : end ≡ length before + length front + length back
-  pub in_front : list_all (is_front ids at) front ≡ true
-  pub not_in_front : list_any (is_front ids at) back ≡ false
+  pub end_is : end ≡ length before + length prefix + length back
+  pub rows_before : list_all (is_before ids at) prefix ≡ true
+  pub not_before : list_any (is_before ids at) back ≡ false

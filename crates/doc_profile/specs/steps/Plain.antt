@@ -15,8 +15,8 @@ is_in_text s = is_ready s.phase && is_content s.place.outer && not (is_empty s.p
 abbrev pub with_run : State → List ℕ → State
 with_run s run = record { place = record { kids = s.place.kids; text = s.place.text ++ run; outer = s.place.outer }; phase = s.phase }
 
--- from the rest of a text to what stands behind: nothing is taken, or a run in a text, behind no carriage return
-pub data Passed (behind_return : Bool) (s : State) (rest behind : List ℕ) (t : State) : Type 0 where
-  nothing : rest ≡ behind → t ≡ s → Passed behind_return s rest behind t
-  run : (cs : List ℕ) → behind_return ≡ false → is_in_text s ≡ true → list_all is_plain cs ≡ true → rest ≡ cs ++ behind → t ≡ with_run s cs
-      → Passed behind_return s rest behind t
+-- from the rest of a text to what stands after: nothing is taken, or a run in a text, after no carriage return
+pub data Passed (after_return : Bool) (s : State) (rest suffix : List ℕ) (t : State) : Type 0 where
+  nothing : rest ≡ suffix → t ≡ s → Passed after_return s rest suffix t
+  run : (cs : List ℕ) → after_return ≡ false → is_in_text s ≡ true → list_all is_plain cs ≡ true → rest ≡ cs ++ suffix → t ≡ with_run s cs
+      → Passed after_return s rest suffix t

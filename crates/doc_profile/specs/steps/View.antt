@@ -25,7 +25,7 @@ use Rattle.doc_profile.specs.declared.references.Judged.TheVariants as judgement
 use Rattle.doc_profile.specs.declared.reader.Level.{Level}
 use Rattle.doc_profile.specs.declared.reader.Reader.{Reader}
 
--- a named reference behind its `&`
+-- a named reference after its `&`
 abbrev pub spelling_of : Entity → List ℕ
 spelling_of entities.Less = codes "lt;"
 spelling_of entities.Greater = codes "gt;"
@@ -124,7 +124,7 @@ attr_of r = string_bytes r.attr
 abbrev pub value_of : Reader → List ℕ
 value_of r = string_bytes r.value
 
--- the nodes of a content, and one more behind its text
+-- the nodes of a content, and one more after its text
 abbrev pub nodes_of : Vec Tree Global → List Node
 nodes_of kids = map node kids.items
 

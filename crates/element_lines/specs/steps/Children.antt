@@ -1,4 +1,4 @@
--- The children of an element, of which those in front of a link are counted.
+-- The children of an element, of which those before a link are counted.
 use Rattle.std.specs.Prelude.{◌≡◌, ℕ, ◌+◌, suc, List, ◌++◌, length, count_by, Option, IfSome}
 use Rattle.std.specs.List.{All, Contains}
 use Rattle.plain_tree.specs.Document.{Node}
@@ -9,7 +9,7 @@ use Rattle.path_nodes.specs.References.{IsElement, child_spots, element_of, spot
 use Rattle.element_lines.specs.LocationSteps.{children, is_named, listed}
 use Rattle.element_lines.specs.declared.counting.Counting.{Counting}
 
--- The children of an element in front of a link, and those from it on.
+-- The children of an element before a link, and those from it on.
 pub record Parted (root : Numbered) (parent : NodeRef) (link : Option NodeRef) (prefix : List Node) : Type 0 where
   pub around : Around
   pub rest : Children
@@ -17,7 +17,7 @@ pub record Parted (root : Numbered) (parent : NodeRef) (link : Option NodeRef) (
   pub inside : All (Contains (spots_in root)) (child_spots (element_of root parent).place (suc (length prefix)) around rest)
   pub split : children (element_of root parent).node ≡ prefix ++ listed (plain_children rest)
 
--- The number is one more than that of the children in front of the link that have the name.
+-- The number is one more than that of the children before the link that have the name.
 pub record IsCounting (root : Numbered) (counting : Counting) : Type 0 where
   pub there : IsElement root counting.parent
   pub prefix : List Node

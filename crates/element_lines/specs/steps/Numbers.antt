@@ -15,12 +15,12 @@ unfoldable pub number_of : Numbered → NodeRef → ℕ
 number_of root r = (last (steps_to (plain root) (element_of root r).place)).number
 
 -- what is kept at a reference: a number, or 0 where none is
-abbrev pub told : ℕ → Option ℕ
-told zero = None
-told (suc before) = Some (suc before)
+abbrev pub known : ℕ → Option ℕ
+known zero = None
+known (suc before) = Some (suc before)
 
 abbrev pub kept : List ℕ → ℕ → Option ℕ
-kept numbers at = told (slice_index_or numbers at 0)
+kept numbers at = known (slice_index_or numbers at 0)
 
 -- whatever number is kept for an element is that element's number
 abbrev pub AreNumbers : Numbered → List ℕ → Type 0

@@ -20,7 +20,7 @@ pub record MayGoOn (now : Standing) (room : ℕ) : Type 0 where
   pub there : is_not_empty now.rest ≡ true
   pub fits : now.shape.room ≤ room
 
--- the includes of the present way were put behind the hits that are held, if there is room for them
+-- the includes of the present way were put after the hits that are held, if there is room for them
 pub record Gathered (now : Standing) (room new_room : ℕ) (old new : List Hit) : Type 0 where
   pub from : length old ≤ length new
   pub kept_room : room ≤ new_room

@@ -12,14 +12,14 @@ use Rattle.ft_parser.specs.steps.Turns.{begins_range_without_at}
 abbrev pub joins : List Placed → Bool
 joins w = first_is (codes "ftor") w || first_is (codes "ftand") w || first_is (codes "not") w
 
--- whether it goes on behind whole options, and behind a value with its mode
+-- whether it goes on after whole options, and after a value with its mode
 abbrev pub follows_options : List Placed → Bool
 follows_options w = begins_filter w || first_is (codes "using") w || joins w
 
 abbrev pub follows_mode : List Placed → Bool
 follows_mode w = first_is (codes "occurs") w || follows_options w
 
--- whether it may stand behind a thesaurus that still may have a relationship, or not
+-- whether it may stand after a thesaurus that still may have a relationship, or not
 abbrev pub follows_name : Bool → List Placed → Bool
 follows_name may_relate w = may_relate && first_is (codes "relationship") w || (begins_range_without_at w || follows_options w)
 

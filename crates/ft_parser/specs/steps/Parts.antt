@@ -7,7 +7,7 @@ use Rattle.selection_grammar.specs.declared.parsed.PlacedTimes.{PlacedTimes}
 use Rattle.selection_grammar.specs.Keywords.{range, unit, scope, side}
 use Rattle.selection_grammar.specs.steps.Reading.{reading, further, first_is, first_number, by_number}
 
--- a value and the keyword behind it
+-- a value and the keyword after it
 abbrev pub before_word : {A : Type 0} → List ℕ → A → List Placed → ℕ → Result (A × ℕ) ℕ
 before_word key value w i = if first_is key (drop i w) then Ok (value, i + 1) else Err i
 

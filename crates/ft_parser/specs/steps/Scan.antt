@@ -25,7 +25,7 @@ abbrev pub begins_deep_filter : State → List Placed → Bool
 begins_deep_filter s [] = false
 begins_deep_filter s (p ∷ rest) = is_deep_filter (whole s) p.symbol
 
--- what a text is read as, where these symbols are left behind the run, and so many parentheses are open before them
+-- what a text is read as, where these symbols are left after the run, and so many parentheses are open before them
 abbrev pub read_to_end : ℕ → List Placed → Option ℕ → ℕ → Option Tree → Result Form QueryFault
 read_to_end depth [] bad size o = ended bad size o
 read_to_end depth (p ∷ rest) bad size o = Err (symbol_fault depth p)
@@ -35,13 +35,13 @@ abbrev pub read_alone : ℕ → List Placed → Option ℕ → ℕ → Option Tr
 read_alone depth left bad size None = read_to_end depth left bad size None
 read_alone depth left bad size (Some t) = faultless t (fault_of t)
 
--- So many symbols are the run, and this selection or none. None of them exceeds a limit, and so many parentheses are open behind them.
+-- So many symbols are the run, and this selection or none. None of them exceeds a limit, and so many parentheses are open after them.
 pub record Stops (symbols : List Placed) (count depth : ℕ) (o : Option Tree) : Type 0 where
   pub within : count ≤ length symbols
   pub to_end : (bad : Option ℕ) (size : ℕ) → symbols_read (symbols_with symbols bad) size ≡ read_to_end depth (drop count symbols) bad size o
   pub alone : (bad : Option ℕ) (size : ℕ) → run_read symbols bad size ≡ with_number count (read_alone depth (drop count symbols) bad size o)
 
--- Symbols have this fault, whatever stands behind them, unless it is want of memory.
+-- Symbols have this fault, whatever stands after them, unless it is want of memory.
 pub record Fails (symbols : List Placed) (fault : QueryFault) : Type 0 where
   pub to_end : (bad : Option ℕ) (size : ℕ) → Answered form (symbols_read (symbols_with symbols bad) size) (Err fault)
   pub alone : (bad : Option ℕ) (size : ℕ) → Answered numbered_form (run_read symbols bad size) (Err fault)

@@ -63,21 +63,21 @@ begins_bound w = first_is (codes "least") w || first_is (codes "most") w
 abbrev pub begins_range_without_at : List Placed → Bool
 begins_range_without_at w = first_is (codes "exactly") w || first_is (codes "from") w
 
-unfoldable pub behind_at_turn : List Frame → Left → Option ℕ → Primary → List PlacedOption → ℕ → List ℕ → Option (List ℕ) → List Placed → ℕ → Turn
-behind_at_turn outer left n x os at s r w i =
+unfoldable pub after_at_turn : List Frame → Left → Option ℕ → Primary → List PlacedOption → ℕ → List ℕ → Option (List ℕ) → List Placed → ℕ → Turn
+after_at_turn outer left n x os at s r w i =
     if begins_bound (drop i w) then levels_turn (with_levels outer left n x os at s r) w (reading bound w i)
     else filtered_turn outer (thesaurus_selection left n x os at s r) (reading side w i)
 
-unfoldable pub behind_thesaurus_turn : List Frame → Left → Option ℕ → Primary → List PlacedOption → ℕ → List ℕ → Option (List ℕ) → List Placed → ℕ → Turn
-behind_thesaurus_turn outer left n x os at s r w i =
+unfoldable pub after_thesaurus_turn : List Frame → Left → Option ℕ → Primary → List PlacedOption → ℕ → List ℕ → Option (List ℕ) → List Placed → ℕ → Turn
+after_thesaurus_turn outer left n x os at s r w i =
     if begins_other_filter (drop i w) then filtered_turn outer (thesaurus_selection left n x os at s r) (other_filter_reading w i)
     else unfiltered_turn outer left n x (thesaurus_ended os at s r None) w i
 
 unfoldable pub thesaurus_rest_turn : List Frame → Left → Option ℕ → Primary → List PlacedOption → ℕ → List ℕ → Option (List ℕ) → List Placed → ℕ → Turn
 thesaurus_rest_turn outer left n x os at s r w i =
-    if first_is (codes "at") (drop i w) then behind_at_turn outer left n x os at s r w (i + 1)
+    if first_is (codes "at") (drop i w) then after_at_turn outer left n x os at s r w (i + 1)
     else if begins_range_without_at (drop i w) then levels_turn (with_levels outer left n x os at s r) w (reading range_without_at w i)
-    else behind_thesaurus_turn outer left n x os at s r w i
+    else after_thesaurus_turn outer left n x os at s r w i
 
 abbrev pub begins_range : List Placed → Bool
 begins_range w = begins_range_without_at w || first_is (codes "at") w

@@ -7,7 +7,7 @@ ghost use Rattle.ft_parser.specs.Answer.{selection_read};
 ghost use Rattle.ft_parser.specs.FilterLimit.{are_filters_within};
 ghost use Rattle.ft_parser.specs.FilterPlaces.{HasAllFilters, NoneIsDeep};
 ghost use Rattle.ft_parser.specs.Limits.{is_filter_word};
-ghost use Rattle.ft_parser.specs.Selected.{IsFaultOf, SpellsSelection, is_deep_behind};
+ghost use Rattle.ft_parser.specs.Selected.{IsFaultOf, SpellsSelection, is_deep_after};
 ghost use Rattle.selection_grammar.specs.Grammar.{Selection};
 ghost use Rattle.selection_grammar.specs.Tree.{Tree};
 ghost use Rattle.selection_grammar.specs.declared.symbol.Placed.{Placed};
@@ -23,5 +23,5 @@ pub fn reading_law()
 /// than may stand so; and the selection that the filter would stand on is the one from the last open parenthesis on.
 pub fn filters_law()
     ensures selection { (symbols : List Placed) (tree : Tree) → Selection symbols tree → NoneIsDeep symbols ↔ (are_filters_within tree ≡ true) }
-    ensures operand { (before : List Placed) (symbol : Symbol) → is_deep_behind before symbol ≡ true → (is_filter_word symbol ≡ true) × HasAllFilters before }
+    ensures operand { (before : List Placed) (symbol : Symbol) → is_deep_after before symbol ≡ true → (is_filter_word symbol ≡ true) × HasAllFilters before }
 {}

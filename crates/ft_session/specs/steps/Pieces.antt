@@ -35,7 +35,7 @@ stopped_by unanswered.Fault = stops.WriteFault
 stopped_by unanswered.Memory = stops.Memory
 
 -- A session's file is answered, to its end or until something stops it. So far is the file reached then; these are the faults that were
--- counted for it, before and behind, and those at the sink; and that is what the sink held before and holds now.
+-- counted for it, before and after, and those at the sink; and that is what the sink held before and holds now.
 pub record FileAnswered (says : Judgement) (files : Option Files) (name : List ℕ) (reached read_before read_now write_before write_now : ℕ)
     (before now : Option (List ℕ)) (result : Result Bool Stopped) : Type 0 where
   -- whatever came

@@ -2,7 +2,7 @@
 use Rattle.std.specs.Prelude.{ℕ, Bool, true, ◌||◌, if◌then◌else◌, List, [], ◌∷◌, ◌++◌}
 use Rattle.ft_syntax.specs.Spacing.{Symbol, opens, closes}
 
--- a text, and whether the next symbol stands close to it: at the start, and behind an opening bracket
+-- a text, and whether the next symbol stands close to it: at the start, and after an opening bracket
 pub record Page : Type 0 where
   pub text : List ℕ
   pub is_open : Bool

@@ -13,7 +13,7 @@ pub fn place_examples()
     ensures no_number { number_of b (a ∷ c ∷ []) ≡ None }
     ensures second { stands_at c 1 (a ∷ c ∷ []) ≡ true }
     ensures another_place { stands_at c 0 (a ∷ c ∷ []) ≡ false }
-    ensures behind { stands_at c 2 (a ∷ c ∷ []) ≡ false }
+    ensures later { stands_at c 2 (a ∷ c ∷ []) ≡ false }
 {}
 
 /// An entry keeps its id where others come and go.

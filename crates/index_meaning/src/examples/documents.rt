@@ -56,11 +56,11 @@ pub fn leaves_by_number()
     ensures no_words { leaf_words 3 greeting.document.leaves ≡ [] }
 {}
 
-/// A leaf comes in directly behind another one, or in front of all; the breaks stay.
+/// A leaf comes in directly after another one, or before all; the breaks stay.
 pub fn leaves_that_come()
-    ensures in_front { leaf_ids ((with_leaf None (leaf 9 []) greeting.document).leaves) ≡ 9 ∷ 4 ∷ 2 ∷ [] }
+    ensures before { leaf_ids ((with_leaf None (leaf 9 []) greeting.document).leaves) ≡ 9 ∷ 4 ∷ 2 ∷ [] }
     ensures between { leaf_ids ((with_leaf (Some (record { 0 = 4 })) (leaf 9 []) greeting.document).leaves) ≡ 4 ∷ 9 ∷ 2 ∷ [] }
-    ensures behind_all { leaf_ids ((with_leaf (Some (record { 0 = 2 })) (leaf 9 []) greeting.document).leaves) ≡ 4 ∷ 2 ∷ 9 ∷ [] }
+    ensures after_all { leaf_ids ((with_leaf (Some (record { 0 = 2 })) (leaf 9 []) greeting.document).leaves) ≡ 4 ∷ 2 ∷ 9 ∷ [] }
     ensures alone { leaf_ids ((with_leaf None (leaf 9 []) bare.document).leaves) ≡ 9 ∷ [] }
     ensures breaks { breaks_of (with_leaf None (leaf 9 []) greeting.document) ≡ record { sentences = 1 ∷ []; paragraphs = 1 ∷ [] } }
 {}

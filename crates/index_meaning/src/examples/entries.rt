@@ -4,7 +4,7 @@ ghost use Rattle.std.specs.declared.cmp.Ordering.TheVariants.{Less};
 ghost use Rattle.index_meaning.specs.Entries.{entry, entry_cmp, is_sorted, with_entry, with_entries, without_entry, found, span, key_count};
 ghost use Rattle.index_meaning.specs.EntryExamples.{a, b, c, capital_a, capital_b};
 
-/// Entries are in the order of their keys, then of their words; a text stands behind its beginnings.
+/// Entries are in the order of their keys, then of their words; a text stands after its beginnings.
 pub fn entries_in_order()
     ensures keys { entry_cmp (entry (codes "a") (codes "z")) (entry (codes "b") (codes "a")) ≡ Less }
     ensures words { entry_cmp capital_a a ≡ Less }

@@ -69,12 +69,12 @@ abbrev pub ids_of_leaf : ℕ → List by_id.Leaf → List ℕ
 ids_of_leaf id [] = []
 ids_of_leaf id (leaf ∷ rest) = cond (leaf.id == id) leaf.words (ids_of_leaf id rest)
 
--- how many leaves stand in front of the place directly behind a leaf, by the leaves' numbers
+-- how many leaves stand before the place directly after a leaf, by the leaves' numbers
 abbrev pub place_after : ℕ → List ℕ → ℕ
 place_after after [] = 0
 place_after after (id ∷ rest) = cond (id == after) 1 (suc (place_after after rest))
 
--- the same, or in front of all
-abbrev pub place_behind : Option LeafId → List ℕ → ℕ
-place_behind None ids = 0
-place_behind (Some after) ids = place_after after.0 ids
+-- the same, or before all
+abbrev pub place_following : Option LeafId → List ℕ → ℕ
+place_following None ids = 0
+place_following (Some after) ids = place_after after.0 ids

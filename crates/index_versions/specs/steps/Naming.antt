@@ -19,7 +19,7 @@ are_keyed entries = list_all (λ e. is_eq (text_cmp e.key (key_of e.word))) entr
 abbrev pub entries_of : List (List ℕ) → List Entry
 entries_of words = map (term_of key_of) words
 
--- the words of leaves, one leaf behind the other
+-- the words of leaves, one leaf after the other
 abbrev pub all_words : List Leaf → List (List ℕ)
 all_words leaves = flat_map (λ leaf. leaf.words) leaves
 

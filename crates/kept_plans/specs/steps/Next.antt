@@ -8,16 +8,16 @@ use Rattle.kept_plans.specs.declared.next_plans.NextPlans.TheVariants as next
 use Rattle.kept_plans.specs.steps.Recent.{kept_of, AllKept}
 
 -- Plans were made under the lists, and with so many hits they are what is kept once the texts were used.
-pub record ArePlansBehind (old : Preparation) (used : List PlanOf) (plans : List PlanOf) (hits : ℕ) : Type 0 where
+pub record ArePlansAfter (old : Preparation) (used : List PlanOf) (plans : List PlanOf) (hits : ℕ) : Type 0 where
   pub under : All (λ plan. plan.lists ≡ old.lists) plans
   pub kept : kept_of plans hits ≡ all_used (texts_of used) old.kept
 
 -- Either each of the plans that are used is kept already, or there is what takes the place of those that are kept.
-abbrev pub IsBehind : Preparation → List PlanOf → NextPlans → Type 0
-IsBehind old used next.Same = AllKept (texts_of used) old.kept.texts
-IsBehind old used (next.Others plans hits) = ArePlansBehind old used plans hits
+abbrev pub IsAfter : Preparation → List PlanOf → NextPlans → Type 0
+IsAfter old used next.Same = AllKept (texts_of used) old.kept.texts
+IsAfter old used (next.Others plans hits) = ArePlansAfter old used plans hits
 
 -- The plans may be kept, and what is kept then was made ready.
 pub record IsNext (old : Preparation) (used : List PlanOf) (ready : NextPlans) : Type 0 where
   pub can_keep : CanKeep old used
-  pub behind : IsBehind old used ready
+  pub suffix : IsAfter old used ready

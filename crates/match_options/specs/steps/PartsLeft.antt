@@ -1,4 +1,4 @@
--- The parts of what is left of a text, behind the first characters of a part.
+-- The parts of what is left of a text, after the first characters of a part.
 use Rattle.std.specs.Prelude.{ℕ, List, [], ◌∷◌, ◌++◌, map, filter, if◌then◌else◌, encode_utf8_all}
 use Rattle.std.specs.Char.{is_whitespace}
 use Rattle.ft_base.specs.Lists.{is_not_empty}

@@ -1,4 +1,4 @@
--- A row of places in a text, one before each character and one at the end, each with whether what stands behind it is covered.
+-- A row of places in a text, one before each character and one at the end, each with whether what stands after it is covered.
 use Rattle.std.specs.Prelude.{◌≡◌, ℕ, suc, ◌+◌, ◌≤◌, Bool, false, ◌&&◌, nat_lt, List, length, drop, get_or, Option}
 use Rattle.std.specs.List.{position_or_len}
 use Rattle.match_options.specs.declared.atom.Atom.{Atom}
@@ -10,7 +10,7 @@ at_place row place = get_or row place false
 
 pub record IsRow (row : List Bool) (atoms : List Atom) (letters : List ℕ) : Type 0 where
   pub size : length row ≡ suc (length letters)
-  pub told : (place : ℕ) → place ≤ length letters → at_place row place ≡ covers atoms (drop place letters)
+  pub known : (place : ℕ) → place ≤ length letters → at_place row place ≡ covers atoms (drop place letters)
 
 -- the number of places up to the first one that is true
 abbrev pub nearest : List Bool → ℕ

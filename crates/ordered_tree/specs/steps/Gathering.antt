@@ -4,7 +4,7 @@ use Rattle.ft_base.specs.declared.ids.NodeRef.{NodeRef}
 use Rattle.plain_tree.specs.Document.{Nodes}
 use Rattle.tokenizer.specs.Parts.{Part, events_of, parts_of_event}
 use Rattle.tokenizer.specs.steps.StartsLeft.{sentences_in, paragraphs_in}
-use Rattle.ordered_tree.specs.Leaves.{leaves_behind, last_leaf}
+use Rattle.ordered_tree.specs.Leaves.{leaves_after, last_leaf}
 use Rattle.ordered_tree.specs.declared.texts_read.TextsRead.{TextsRead}
 
 -- the parts of children
@@ -13,7 +13,7 @@ parts_of ns = flat_map parts_of_event (events_of ns)
 
 -- these texts with their references, and these parts of the document, lead from `old` to `new`
 pub record Gathers (old : TextsRead) (texts : List (NodeRef × List ℕ)) (parts : List Part) (new : TextsRead) : Type 0 where
-  pub leaves : new.leaves ≡ old.leaves ++ leaves_behind old.last texts
+  pub leaves : new.leaves ≡ old.leaves ++ leaves_after old.last texts
   pub last : new.last ≡ last_leaf old.last texts
   pub sentences : (rest : List Part) → sentences_in old.starts (parts ++ rest) ≡ sentences_in new.starts rest
   pub paragraphs : (rest : List Part) → paragraphs_in old.starts (parts ++ rest) ≡ paragraphs_in new.starts rest

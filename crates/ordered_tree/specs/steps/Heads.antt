@@ -8,7 +8,7 @@ use Rattle.ordered_tree.specs.declared.slot.Slot.{Slot}
 abbrev pub byte_at : List ℕ → ℕ → ℕ
 byte_at name at = slice_index_or name at 0
 
--- the first seven bytes of a name, zeros behind a shorter one, and one more than its length; 9 stands for each longer one
+-- the first seven bytes of a name, zeros after a shorter one, and one more than its length; 9 stands for each longer one
 unfoldable pub mark_of : List ℕ → List ℕ
 mark_of name =
     byte_at name 0 ∷ byte_at name 1 ∷ byte_at name 2 ∷ byte_at name 3 ∷ byte_at name 4 ∷ byte_at name 5 ∷ byte_at name 6 ∷ suc (min (length name) 8) ∷ []

@@ -1,4 +1,4 @@
--- Slots as they are filled with a document whose nodes have references: an element's own slot comes behind those below it.
+-- Slots as they are filled with a document whose nodes have references: an element's own slot comes after those below it.
 use Rattle.std.specs.Prelude.{ℕ, ◌<◌, List, slice_set, ⊤}
 use Rattle.ordered_tree.specs.Numbered.{Numbered, element_at, text_at, Children, no_children, child_then, first_of}
 use Rattle.ordered_tree.specs.Slots.{slot}

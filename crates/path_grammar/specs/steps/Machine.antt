@@ -31,7 +31,7 @@ all_steps last = last.before ++ form.step last.deep last.test (predicates last.f
 abbrev pub filtered : LastStep → form.Predicate → LastStep
 filtered last filter = record { before = last.before; deep = last.deep; test = last.test; filters = last.filters ++ filter ∷ [] }
 
--- the conditions to the left of the one under way: those before the last `or`, and behind that those before the last `and`
+-- the conditions to the left of the one under way: those before the last `or`, and after that those before the last `and`
 pub record Joint : Type 0 where
   pub ors : List form.Condition
   pub ands : List form.Condition
@@ -50,7 +50,7 @@ condition_with joint c = joined or_of (ors_with joint c)
 
 -- what is open, and the conditions to the left of it
 pub data Frame : Type 0 where
-  -- `[` behind a step
+  -- `[` after a step
   brackets : Joint → LastStep → Frame
   parentheses : Joint → Frame
   -- `not (`
@@ -60,26 +60,26 @@ pub data Frame : Type 0 where
 pub data Stage : Type 0 where
   -- `.`, or the root of the path: no step yet
   no_step : Stage
-  -- `/` or `//`, behind these steps
+  -- `/` or `//`, after these steps
   slashes : List form.Step → Bool → Stage
   stepped : LastStep → Stage
-  -- what a condition stands behind, and whether that is `[`, so that a number may stand too
+  -- what a condition stands after, and whether that is `[`, so that a number may stand too
   wanted : Bool → Stage
   number : ℕ → Stage
   -- the name `not`, in the place of a condition
   not_name : Stage
-  -- `@`, and with a name, and with `=` behind it
+  -- `@`, and with a name, and with `=` after it
   at_sign : Stage
   attribute : List ℕ → Stage
   equals : List ℕ → Stage
   -- a condition that can't go on
   ended : form.Condition → Stage
-  -- `contains`, behind these steps
+  -- `contains`, after these steps
   contains : List form.Step → Stage
-  -- some symbols of a selection, and where its machine stands behind them
+  -- some symbols of a selection, and where its machine stands after them
   selecting : List form.Step → List Placed → Shape selection.State → Stage
 
--- Behind the root. Where nothing is open, the steps are those of the path.
+-- After the root. Where nothing is open, the steps are those of the path.
 pub record Inner : Type 0 where
   pub frames : List Frame
   pub joint : Joint
@@ -101,7 +101,7 @@ abbrev pub contains_next : List Frame → Joint → List Inside → List form.St
 contains_next [] joint selections before = None
 contains_next (frame ∷ outer) joint selections before = Some (stand (frame ∷ outer) joint selections (contains before))
 
--- what may stand behind steps, but for predicates
+-- what may stand after steps, but for predicates
 abbrev pub steps_next : List Frame → Joint → List Inside → List form.Step → Symbol → Option Inner
 steps_next frames joint selections before S.Slash = Some (stand frames joint selections (slashes before false))
 steps_next frames joint selections before S.DoubleSlash = Some (stand frames joint selections (slashes before true))
@@ -131,12 +131,12 @@ wanted_next frames joint selections first (S.Name name) = if is_word (codes "not
     else test_next frames joint selections [] false (S.Name name)
 wanted_next frames joint selections first other = test_next frames joint selections [] false other
 
--- `not` is a name but for `(` directly behind it
+-- `not` is a name but for `(` directly after it
 abbrev pub not_next : List Frame → Joint → List Inside → Symbol → Option Inner
 not_next frames joint selections S.OpenParenthesis = Some (stand (negation joint ∷ frames) no_joint selections (wanted false))
 not_next frames joint selections other = step_next frames joint selections not_step other
 
--- a bracket that closes behind a predicate
+-- a bracket that closes after a predicate
 abbrev pub close_bracket : List Frame → List Inside → form.Predicate → Option Inner
 close_bracket (brackets joint last ∷ outer) selections filter = Some (stand outer joint selections (stepped (filtered last filter)))
 close_bracket other selections filter = None
@@ -207,7 +207,7 @@ condition_at selections (ended c) = Some (c, selections)
 condition_at selections (contains before) = None
 condition_at selections (selecting before symbols shape) = selected selections before symbols (selection.finished_at shape)
 
--- what may stand behind a whole condition
+-- what may stand after a whole condition
 abbrev pub joint_words : List Frame → Joint → form.Condition → List Inside → Symbol → Option Inner
 joint_words frames joint c selections symbol =
     if is_word (codes "and") symbol then Some (stand frames (record { ors = joint.ors; ands = ands_with joint c }) selections (wanted false))
@@ -221,9 +221,9 @@ joint_next (frame ∷ outer) joint c selections S.CloseParenthesis = close_paren
 joint_next (frame ∷ outer) joint c selections (S.Name name) = joint_words (frame ∷ outer) joint c selections (S.Name name)
 joint_next (frame ∷ outer) joint c selections other = None
 
-abbrev pub behind_next : List Frame → Joint → Option (form.Condition × List Inside) → Symbol → Option Inner
-behind_next frames joint None symbol = None
-behind_next frames joint (Some (c, selections)) symbol = joint_next frames joint c selections symbol
+abbrev pub after_next : List Frame → Joint → Option (form.Condition × List Inside) → Symbol → Option Inner
+after_next frames joint None symbol = None
+after_next frames joint (Some (c, selections)) symbol = joint_next frames joint c selections symbol
 
 abbrev pub otherwise : {A : Type 0} → Option A → Option A → Option A
 otherwise None there = there
@@ -231,7 +231,7 @@ otherwise (Some here) there = Some here
 
 -- What can go on goes on, so that selections are as long as can be.
 abbrev pub advance_inner : Inner → Placed → Option Inner
-advance_inner s p = otherwise (within_next s.frames s.joint s.selections s.stage p) (behind_next s.frames s.joint (condition_at s.selections s.stage) p.symbol)
+advance_inner s p = otherwise (within_next s.frames s.joint s.selections s.stage p) (after_next s.frames s.joint (condition_at s.selections s.stage) p.symbol)
 
 -- what of the root was read
 pub data RootStage : Type 0 where
@@ -294,7 +294,7 @@ abbrev pub open_count : State → ℕ
 open_count (at_root stage) = 0
 open_count (along root s) = length s.frames
 
--- the most of them that are open before or behind some of the symbols
+-- the most of them that are open before or after some of the symbols
 abbrev pub most_open_on : Option State → List Placed → ℕ
 most_open_on None u = 0
 most_open_on (Some s) [] = open_count s

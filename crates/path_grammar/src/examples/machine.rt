@@ -7,7 +7,7 @@ ghost use Rattle.path_grammar.specs.declared.path.PathRoot.TheVariants as R;
 ghost use Rattle.path_grammar.specs.Spellings.{row, quoted_inside, value_of, depth_of, child, below};
 ghost use Rattle.path_grammar.specs.Form.{steps, no_steps, number, holds, and_of, or_of, not_of, attribute, exists, contains, conditions};
 
-/// `collection()//b[2]`, and what stops it: a number behind `(`, and a second number.
+/// `collection()//b[2]`, and what stops it: a number after `(`, and a second number.
 pub fn read_number()
     ensures number { value_of (row (S.Name (codes "collection") ∷ S.OpenParenthesis ∷ S.CloseParenthesis ∷ S.DoubleSlash
         ∷ S.Name (codes "b") ∷ S.OpenBracket ∷ S.Number 2 ∷ S.CloseBracket ∷ []))
@@ -54,7 +54,7 @@ pub fn read_selections()
         ) }
 {}
 
-/// `not` is an element's name where no `(` stands behind it, `.` takes no predicate, and the longest run of a selection decides.
+/// `not` is an element's name where no `(` stands after it, `.` takes no predicate, and the longest run of a selection decides.
 pub fn read_names()
     ensures not { value_of (row (S.Name (codes "collection") ∷ S.OpenParenthesis ∷ S.CloseParenthesis ∷ S.Slash ∷ S.Name (codes "not")
         ∷ S.OpenBracket ∷ S.Name (codes "not") ∷ S.CloseBracket ∷ []))

@@ -54,7 +54,7 @@ pub fn begun_by_a_root()
     ensures { Begins (row (S.Name (codes "collection") ∷ S.OpenParenthesis ∷ S.CloseParenthesis ∷ [])) }
 {}
 
-/// The place of a selection's first symbol, and the place behind its last.
+/// The place of a selection's first symbol, and the place after its last.
 pub fn selection_places()
     ensures first { begins_at (row (S.Text (codes "u") ∷ S.Name (codes "ftand") ∷ S.Text (codes "w") ∷ [])) ≡ 0 }
     ensures last { ends_at (row (S.Text (codes "u") ∷ S.Name (codes "ftand") ∷ S.Text (codes "w") ∷ [])) ≡ 3 }

@@ -32,7 +32,7 @@ pub fn machine_begins()
 {}
 
 /// How much is open on the machine's way is how deep a path's brackets and parentheses stand in one another. A symbol opens
-/// a level past the most where more is open behind it.
+/// a level past the most where more is open after it.
 pub fn machine_levels()
     ensures depth { (symbols : List Placed) (value : form.Path) (selections : List Inside) → (whole : Path symbols value selections)
         → levels whole ≡ most_open symbols }

@@ -29,10 +29,10 @@ pub fn selected_by_steps()
 pub fn selected_by_number()
     ensures second { places nothing (below (codes "b") (number 2 ∷ []) ∷ []) letters ≡ (2 ∷ []) ∷ [] }
     ensures first_of_each { places nothing (below (codes "b") (number 1 ∷ []) ∷ []) letters ≡ (1 ∷ []) ∷ (3 ∷ 1 ∷ []) ∷ [] }
-    ensures behind_a_text { places (has_text (codes "x")) (below (codes "b") (holds (contains no_steps 0) ∷ number 2 ∷ []) ∷ []) letters ≡ [] }
+    ensures after_a_text { places (has_text (codes "x")) (below (codes "b") (holds (contains no_steps 0) ∷ number 2 ∷ []) ∷ []) letters ≡ [] }
     ensures second_as_first { places (has_text (codes "y")) (below (codes "b") (holds (contains no_steps 0) ∷ number 1 ∷ []) ∷ []) letters
         ≡ (2 ∷ []) ∷ (3 ∷ 1 ∷ []) ∷ [] }
-    ensures in_front_of_a_text { places (has_text (codes "y")) (below (codes "b") (number 1 ∷ holds (contains no_steps 0) ∷ []) ∷ [])
+    ensures before_a_text { places (has_text (codes "y")) (below (codes "b") (number 1 ∷ holds (contains no_steps 0) ∷ []) ∷ [])
         letters ≡ (3 ∷ 1 ∷ []) ∷ [] }
     ensures zero { places nothing (below (codes "b") (number 0 ∷ []) ∷ []) letters ≡ [] }
     ensures past_the_last { places nothing (below (codes "b") (number 1000000 ∷ []) ∷ []) letters ≡ [] }

@@ -18,7 +18,7 @@ ghost use Rattle.path_grammar.specs.Form.{steps, no_steps, number, holds, or_of,
 pub fn tested_by_predicates()
     ensures before_a_number { tested_places (has_text (codes "x")) (below (codes "b") (holds (contains no_steps 0) ∷ number 2 ∷ []) ∷ []) letters
         ≡ (0, 1 ∷ []) ∷ (0, 2 ∷ []) ∷ (0, 3 ∷ 1 ∷ []) ∷ [] }
-    ensures behind_a_number { tested_places (has_text (codes "x")) (below (codes "b") (number 2 ∷ holds (contains no_steps 0) ∷ []) ∷ [])
+    ensures after_a_number { tested_places (has_text (codes "x")) (below (codes "b") (number 2 ∷ holds (contains no_steps 0) ∷ []) ∷ [])
         letters ≡ (0, 2 ∷ []) ∷ [] }
     ensures both_parts { tested_places (has_text (codes "x"))
         (child (codes "a") (holds (or_of (conditions (contains no_steps 0 ∷ contains (steps (child (codes "b") [] ∷ [])) 1 ∷ []))) ∷ []) ∷ []) letters

@@ -1,4 +1,4 @@
--- The conditions of steps that lead somewhere, each in front of those inside its steps.
+-- The conditions of steps that lead somewhere, each before those inside its steps.
 use Rattle.std.specs.Prelude.{◌≡◌, ℕ, List, [], ◌∷◌, ◌++◌, drop, map}
 use Rattle.path_grammar.specs.Form as form
 use Rattle.path_grammar.specs.Form.{Step, step, Steps, no_steps, step_then, Predicate, number, holds, Predicates, no_predicates, predicate_then}

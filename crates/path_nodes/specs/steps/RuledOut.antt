@@ -11,14 +11,14 @@ use Rattle.path_nodes.specs.References.{Spot, spots_in, spot_element}
 use Rattle.path_nodes.specs.Says.{Meaning, satisfied}
 use Rattle.path_nodes.specs.steps.Regions.{at_or_below}
 
--- An element of the document whose words stand from a position on and in front of another.
+-- An element of the document whose words stand from a position on and before another.
 pub record StandsWithin (root : Numbered) (from to : ℕ) (e : Element) : Type 0 where
   pub spot : Spot
   pub among : Contains (spots_in root) spot
   pub element : is_element spot.stand.node ≡ true
   pub is : spot_element spot ≡ e
-  pub behind : from ≤ (span spot.stand).from
-  pub in_front : (span spot.stand).to ≤ to
+  pub after : from ≤ (span spot.stand).from
+  pub ends_before : (span spot.stand).to ≤ to
 
 -- No element of the stretch satisfies the selection.
 abbrev pub HasNone : Numbered → Meaning → ℕ → ℕ → ℕ → Type 0

@@ -3,14 +3,14 @@ use Rattle.std.specs.Prelude.{◌≡◌, ℕ, ◌==◌, Bool, true, false, ◌&&
 use Rattle.path_meaning.specs.Elements.{Element}
 use Rattle.path_meaning.specs.Order.{Before}
 
--- whether a place is another one or stands below it: whether that one is its front
-abbrev pub is_front : List ℕ → List ℕ → Bool
-is_front [] place = true
-is_front (a ∷ front) [] = false
-is_front (a ∷ front) (b ∷ place) = (a == b) && is_front front place
+-- whether a place is another one or stands below it: whether that one is its prefix
+abbrev pub is_prefix : List ℕ → List ℕ → Bool
+is_prefix [] place = true
+is_prefix (a ∷ prefix) [] = false
+is_prefix (a ∷ prefix) (b ∷ place) = (a == b) && is_prefix prefix place
 
 abbrev pub AtOrBelow : Element → Element → Type 0
-AtOrBelow base e = is_front base.place e.place ≡ true
+AtOrBelow base e = is_prefix base.place e.place ≡ true
 
 -- The element stands below the other, not at its place.
 abbrev pub IsBelow : Element → Element → Type 0
@@ -18,10 +18,10 @@ IsBelow base e = (k : ℕ) × (r : List ℕ) × (e.place ≡ base.place ++ k ∷
 
 -- The element is on the preceding axis of the other (XQuery 3.0, section 3.3.2.1): it stands before it, and not above it.
 abbrev pub Precedes : Element → Element → Type 0
-Precedes e f = Before e f × (is_front e.place f.place ≡ false)
+Precedes e f = Before e f × (is_prefix e.place f.place ≡ false)
 
 -- whether an element stands at or below the last of others
 abbrev pub stands_below_last : List Element → Element → Bool
 stands_below_last [] e = false
-stands_below_last (base ∷ []) e = is_front base.place e.place
+stands_below_last (base ∷ []) e = is_prefix base.place e.place
 stands_below_last (first ∷ second ∷ rest) e = stands_below_last (second ∷ rest) e

@@ -7,12 +7,12 @@ use Rattle.path_grammar.specs.declared.path.PathRoot.{PathRoot}
 use Rattle.path_grammar.specs.Form as form
 use Rattle.path_grammar.specs.steps.Machine as m
 
--- `and` or `or` behind a whole condition
+-- `and` or `or` after a whole condition
 abbrev pub joint_words : List m.Frame → m.Joint → form.Condition → Symbol → Option m.Inner
 joint_words [] joint c symbol = None
 joint_words (frame ∷ outer) joint c symbol = m.joint_words (frame ∷ outer) joint c [] symbol
 
--- `contains` behind steps, or what may stand behind the condition that they are
+-- `contains` after steps, or what may stand after the condition that they are
 abbrev pub contains_or_joint : List m.Frame → m.Joint → List form.Step → Symbol → Option m.Inner
 contains_or_joint frames joint before symbol =
     if is_word (codes "contains") symbol then m.contains_next frames joint [] before

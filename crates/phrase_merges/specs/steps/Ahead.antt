@@ -7,7 +7,7 @@ use Rattle.ft_base.specs.declared.hit.Hit.{Hit}
 use Rattle.ft_base.specs.declared.unit.TextUnit.{TextUnit}
 use Rattle.all_matches.specs.Positions.{start_in, end_in}
 use Rattle.ft_operators.specs.Phrases.{PhraseState}
-use Rattle.phrase_merges.specs.Choices.{is_behind}
+use Rattle.phrase_merges.specs.Choices.{is_after}
 use Rattle.phrase_merges.specs.declared.edge.Edge.{Edge}
 use Rattle.phrase_merges.specs.declared.edge.Edge.TheVariants.{Start, End}
 
@@ -16,7 +16,7 @@ abbrev pub number_at : Edge → TextUnit → Hit → ℕ
 number_at Start unit hit = start_in unit hit
 number_at End unit hit = end_in unit hit
 
--- the hits that begin, or else end, at a place or behind it
+-- the hits that begin, or else end, at a place or after it
 abbrev pub from_on : Edge → TextUnit → ℕ → List Hit → List Hit
 from_on by unit place hits = filter (λ hit. nat_le place (number_at by unit hit)) hits
 
@@ -53,6 +53,6 @@ abbrev pub farthest_of : (Hit → ℕ) → List (List (List Hit)) → Option ℕ
 farthest_of number [] = Some 0
 farthest_of number (lists ∷ phrases) = farther (least_of number lists) (farthest_of number phrases)
 
--- whether some hit of the second list is so far behind one of the first
-abbrev pub some_behind : ℕ → Option ℕ → TextUnit → List Hit → List Hit → Bool
-some_behind low high unit first second = list_any (λ a. list_any (λ b. is_behind low high unit a b) second) first
+-- whether some hit of the second list is so far after one of the first
+abbrev pub some_after : ℕ → Option ℕ → TextUnit → List Hit → List Hit → Bool
+some_after low high unit first second = list_any (λ a. list_any (λ b. is_after low high unit a b) second) first

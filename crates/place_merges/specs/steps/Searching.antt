@@ -10,7 +10,7 @@ use Rattle.place_merges.specs.declared.item.Variant.{Variant}
 use Rattle.place_merges.specs.Places.{fits, stands_at, stands_before}
 use Rattle.place_merges.specs.Sources.{places_left, wanted, lists_of, is_plain, hits_left, variant_left}
 
--- the result is the place itself, at which the test holds, or a later one in front of which it holds nowhere
+-- the result is the place itself, at which the test holds, or a later one before which it holds nowhere
 pub record Leads (test : ℕ → Bool) (place limit result : ℕ) : Type 0 where
   pub from : place ≤ result
   pub to : result ≤ limit
@@ -72,7 +72,7 @@ shown_items stand plain items = shown_all (shown_item stand plain) items.items
 abbrev pub items_stand : {H : Type 0} → (H → HitPlace) → List (Item H) → ℕ → Bool
 items_stand stand items place = stands_at place (map (wanted stand) items)
 
--- whether a variant counts and stands at the place, in front of the end
+-- whether a variant counts and stands at the place, before the end
 abbrev pub variant_stands : {H : Type 0} → (H → HitPlace) → ℕ → Variant H → ℕ → Bool
 variant_stands stand to variant place = variant.counts && stands_before to place (map (wanted stand) variant.items.items)
 

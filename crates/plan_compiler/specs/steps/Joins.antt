@@ -11,14 +11,14 @@ abbrev pub joined : Join → Operator → Operator → Operator
 joined Choice left right = either left right
 joined Both left right = together left right
 
--- behind those that were joined before, if there were some
-abbrev pub joined_behind : Join → Option Operator → Operator → Operator
-joined_behind join None next = next
-joined_behind join (Some before) next = joined join before next
+-- after those that were joined before, if there were some
+abbrev pub joined_after : Join → Option Operator → Operator → Operator
+joined_after join None next = next
+joined_after join (Some before) next = joined join before next
 
 abbrev pub joined_from : Join → Option Operator → List Operator → Option Operator
 joined_from join before [] = before
-joined_from join before (next ∷ rest) = joined_from join (Some (joined_behind join before next)) rest
+joined_from join before (next ∷ rest) = joined_from join (Some (joined_after join before next)) rest
 
 -- what those cost that were joined before, if there were some
 abbrev pub cost_before : (ItemTest → ℕ) → Option OperatorPlan → ℕ

@@ -38,7 +38,7 @@ filtered_of (Filtered' p operand kind) = Some (record { operand = operand; kind 
 abbrev pub alone : PhraseTests → Joined
 alone found = record { first = found.number; last = found.number; are_words = is_word found }
 
--- the phrases with one more, if it has the number behind theirs
+-- the phrases with one more, if it has the number after theirs
 abbrev pub next_to : Joined → PhraseTests → Option Joined
 next_to before found =
     cond (found.number - before.last == 1)

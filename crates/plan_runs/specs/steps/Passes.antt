@@ -15,7 +15,7 @@ use Rattle.plan_kinds.specs.steps.JoinedPhrases.{joined_phrases}
 use Rattle.plan_kinds.specs.steps.PassKinds.{hits_stand}
 use Rattle.plan_runs.specs.steps.AskedSpans.{AskedSpan}
 use Rattle.plan_runs.specs.steps.OpenedItems.{opened_variant}
-use Rattle.plan_runs.specs.steps.Skips.{IsWithin, ends_in_front}
+use Rattle.plan_runs.specs.steps.Skips.{IsWithin, ends_before}
 use Rattle.plan_kinds.specs.declared.pass_kind.PassKind.{PassKind}
 
 -- ---- what they say
@@ -35,7 +35,7 @@ hits_say run asked = some_choice (hits_stand run.kind) (map (hits_there asked.do
 pub record AreHits (version : List Numbered) (run : HitsShape) : Type 0 where
   pub may : (doc : ℕ) (span : Span) → has_document doc version ≡ true → all_may doc span run.phrases ≡ true
   pub rising : (doc : ℕ) (span : Span) → rise_there doc span run.phrases ≡ true
-  pub skipped : (doc : ℕ) (part span : Span) → IsWithin part span → ends_in_front span.to (run.skips doc part) ≡ true
+  pub skipped : (doc : ℕ) (part span : Span) → IsWithin part span → ends_before span.to (run.skips doc part) ≡ true
       → hits_say run (record { doc = doc; span = span }) ≡ false
 
 -- ---- opened over a version

@@ -1,4 +1,4 @@
--- Up to where a part of a document can be skipped: no span of the part that ends there or in front of it satisfies an opened selection.
+-- Up to where a part of a document can be skipped: no span of the part that ends there or before it satisfies an opened selection.
 use Rattle.std.specs.Prelude.{ℕ, cond, List, [], ◌∷◌, map, Option, Some}
 use Rattle.ft_base.specs.declared.span.Span.{Span}
 use Rattle.all_matches.specs.Compositional.{enough}

@@ -15,7 +15,7 @@ use Rattle.plan_runs.specs.steps.Merges.{IsMerge, merge_says}
 use Rattle.plan_runs.specs.steps.OpenedOperators.{AreAims}
 use Rattle.plan_runs.specs.steps.Passes.{AreHits, hits_say}
 use Rattle.index_phrases.specs.steps.Aiming.{AreThere, wanted_size}
-use Rattle.plan_runs.specs.steps.Skips.{IsWithin, ends_in_front}
+use Rattle.plan_runs.specs.steps.Skips.{IsWithin, ends_before}
 use Rattle.plan_runs.specs.steps.RunShapes.{GroupShape, WaysShape, WordsShape, PhrasesShape, at_edge, outside, PlacedShape}
 use Rattle.plan_runs.specs.steps.RunShapes.{Shape, Shapes, words, any_of, all_of, not_of, by_ways, by_hits, by_merge, none, more, by_spots}
 use Rattle.index_phrases.specs.Phrases.{wanted_at}
@@ -90,7 +90,7 @@ IsWords version run = All (All (IsGroup version)) run.phrases
 -- the walk fits the version, and spans that can be skipped have no Match
 pub record AreWays (version : List Numbered) (run : WaysShape) : Type 0 where
   pub aims : AreAims version run.aims
-  pub skipped : (doc : ℕ) (part span : Span) → IsWithin part span → ends_in_front span.to (run.skips doc part) ≡ true
+  pub skipped : (doc : ℕ) (part span : Span) → IsWithin part span → ends_before span.to (run.skips doc part) ≡ true
       → matches_of (own_span span) (run.aims.operators doc span) ≡ []
 
 abbrev pub AreGroups : List Numbered → PhrasesShape → Type 0
@@ -100,7 +100,7 @@ AreGroups version (outside left right) = IsGroup version left × IsGroup version
 -- the groups fit the version, and in spans that can be skipped they don't stand like this
 pub record ArePlaced (version : List Numbered) (run : PlacedShape) : Type 0 where
   pub groups : AreGroups version run.phrases
-  pub skipped : (doc : ℕ) (part span : Span) → IsWithin part span → ends_in_front span.to (run.skips doc part) ≡ true
+  pub skipped : (doc : ℕ) (part span : Span) → IsWithin part span → ends_before span.to (run.skips doc part) ≡ true
       → phrases_say version run.phrases (record { doc = doc; span = span }) ≡ false
 
 unfoldable mutual

@@ -1,4 +1,4 @@
--- Up to where a part of a document can be skipped: no span of the part that ends there or in front of it has what is sought. Where
+-- Up to where a part of a document can be skipped: no span of the part that ends there or before it has what is sought. Where
 -- nothing is known this is 0, and where no span of the part has it there is no such place.
 use Rattle.std.specs.Prelude.{ℕ, ◌-◌, ◌≤◌, Bool, true, nat_lt, cond, is_some, List, map, max, fold, Option, Some, None}
 use Rattle.std.specs.declared.alloc.Global.{Global}
@@ -18,7 +18,7 @@ use Rattle.plan_runs.specs.declared.needs.Needs.{Needs, Nothing, Phrase, OneOf',
 use Rattle.plan_compiler.specs.declared.operator_plan.OperatorPlan.{OperatorPlan, Choice', Both', MildNot', Negated', Filtered'}
 use Rattle.plan_compiler.specs.declared.operator_plan.OperatorPlan as Plan
 
--- of two such places, and of several, the one behind the others: what is sought needs all
+-- of two such places, and of several, the one after the others: what is sought needs all
 abbrev pub later : Option ℕ → Option ℕ → Option ℕ
 later None second = None
 later (Some a) None = None
@@ -27,10 +27,10 @@ later (Some a) (Some b) = Some (max a b)
 abbrev pub latest : List (Option ℕ) → Option ℕ
 latest places = fold later (Some 0) places
 
--- whether a span that has this end, which is behind its last word, ends at the place or in front of it
-abbrev pub ends_in_front : ℕ → Option ℕ → Bool
-ends_in_front to None = true
-ends_in_front to (Some place) = nat_lt (to - 1) place
+-- whether a span that has this end, which is after its last word, ends at the place or before it
+abbrev pub ends_before : ℕ → Option ℕ → Bool
+ends_before to None = true
+ends_before to (Some place) = nat_lt (to - 1) place
 
 -- a span of the part
 abbrev pub IsWithin : Span → Span → Type 0

@@ -20,7 +20,7 @@ use Rattle.selection_grammar.specs.Keywords.{key, range, range_without_at, bound
 use Rattle.selection_grammar.specs.Grammar.{texts_of}
 use Rattle.selection_grammar.specs.Tree.{Tree, or_of, and_of, mild_not, filtered, joined, Primary, phrases, inner, optioned, negated}
 
--- what stands to the left of an operand in the selection under way: before the last `ftor`, behind it before the last `ftand`, and behind that before `not in`
+-- what stands to the left of an operand in the selection under way: before the last `ftor`, after it before the last `ftand`, and after that before `not in`
 pub record Left : Type 0 where
   pub ors : List Tree
   pub ands : List Tree
@@ -40,7 +40,7 @@ pub data Stage : Type 0 where
   wanted : Option ℕ → Stage
   -- strings in braces
   in_braces : Option ℕ → List PlacedString → Stage
-  -- a value; and with `any` or `all` behind it, and with its whole mode
+  -- a value; and with `any` or `all` after it, and with its whole mode
   valued : Option ℕ → List PlacedString → Stage
   any_of : Option ℕ → List PlacedString → Stage
   all_of : Option ℕ → List PlacedString → Stage
@@ -118,7 +118,7 @@ filtered_state outer x f = record { outer = outer; left = nothing_left_of; stage
 abbrev pub filtered_next : List Frame → Tree → Shape State
 filtered_next outer x = or_else (and_then filters (λ f. whole (filtered_state outer x f))) (close_next outer x)
 
--- what may stand behind an operand that stands to the right of these
+-- what may stand after an operand that stands to the right of these
 abbrev pub joint_words : List Frame → Left → Tree → Shape State
 joint_words outer left x =
     word (codes "ftor") (λ at. whole (record { outer = outer; left = record { ors = ors_with left x; ands = []; mild = None }; stage = wanted None }))
@@ -181,7 +181,7 @@ using_next outer left n x options at =
     or_else (listed_next outer left n x options at)
     (and_then (plain_option at) (λ o. whole (record { outer = outer; left = left; stage = given_options n x (options ++ o ∷ []) })))
 
--- what may stand behind whole options, but for filters
+-- what may stand after whole options, but for filters
 abbrev pub using_word : List Frame → Left → Option ℕ → Primary → List PlacedOption → Shape State
 using_word outer left n x options = word (codes "using") (λ at. using_next outer left n x options at) nothing
 
@@ -224,7 +224,7 @@ thesaurus_option at uses = given at (O.Thesaurus (Uses uses))
 abbrev pub thesaurus_use : List ℕ → Option (List ℕ) → Option Range → ThesaurusUse
 thesaurus_use name relationship levels = record { name = name; relationship = relationship; levels = levels }
 
--- levels behind a thesaurus, from its range on
+-- levels after a thesaurus, from its range on
 abbrev pub levels_end : (Option Range → State) → Range → Shape State
 levels_end stands r = key (codes "levels") (whole (stands (Some r)))
 
@@ -238,7 +238,7 @@ relationship_word stands (Some relationship) = nothing
 abbrev pub relationship_next : (List ℕ → State) → Option (List ℕ) → Shape State → Shape State
 relationship_next stands r rest = or_else (relationship_word stands r) rest
 
--- Behind a thesaurus and its relationship `at` begins levels or a filter.
+-- After a thesaurus and its relationship `at` begins levels or a filter.
 abbrev pub thesaurus_ended : List PlacedOption → ℕ → List ℕ → Option (List ℕ) → Option Range → List PlacedOption
 thesaurus_ended options at s r l = options ++ thesaurus_option at (thesaurus_use s r l ∷ []) ∷ []
 

@@ -32,7 +32,7 @@ abbrev pub by_text : {B : Type 0} → (List ℕ → B) → B → Option (List �
 by_text there otherwise None = otherwise
 by_text there otherwise (Some s) = there s
 
--- From the symbol of a number on: what the symbols spell and the number of the symbol behind it, or the number of the symbol with which
+-- From the symbol of a number on: what the symbols spell and the number of the symbol after it, or the number of the symbol with which
 -- they leave the shape. Symbols are numbered from 0.
 abbrev pub reading : {A : Type 0} → Shape A → List Placed → ℕ → Result (A × ℕ) ℕ
 reading (whole a) w i = Ok (a, i)
@@ -42,7 +42,7 @@ reading (number to rest) w i = by_number (λ n. reading (to n) w (i + 1)) (readi
 reading (text to rest) w i = by_text (λ s. reading (to (first_place (drop i w)) s) w (i + 1)) (reading rest w i) (first_text (drop i w))
 reading (mark m to rest) w i = if first_is_mark m (drop i w) then reading to w (i + 1) else reading rest w i
 
--- what is read behind a part
+-- what is read after a part
 abbrev pub further : {A B : Type 0} → Result (A × ℕ) ℕ → (A → ℕ → Result (B × ℕ) ℕ) → Result (B × ℕ) ℕ
 further (Ok (a, n)) rest = rest a n
 further (Err n) rest = Err n

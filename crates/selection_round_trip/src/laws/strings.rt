@@ -11,14 +11,14 @@ ghost use Rattle.ft_syntax.specs.OptionSymbols.{in_quotes, string_symbol};
 ghost use Rattle.selection_round_trip.specs.Strings.{with_string, with_symbol};
 ghost use Rattle.selection_grammar.specs.declared.symbol.Symbol.TheVariants.{Name, Number};
 
-/// A string as it is printed is read as itself, wherever no quotation mark stands directly behind it.
+/// A string as it is printed is read as itself, wherever no quotation mark stands directly after it.
 pub fn strings_read()
     ensures written { (letters : List ℕ) → encode_utf8_all (34 ∷ flat_map in_quotes letters ++ 34 ∷ []) ≡ string_symbol (encode_utf8_all letters) }
     ensures read { (bound place : ℕ) (letters rest : List ℕ) → begins_with 34 rest ≡ false
         → symbols_within (suc bound) place (34 ∷ flat_map in_quotes letters ++ 34 ∷ rest) ≡ with_string bound place (encode_utf8_all letters) rest }
 {}
 
-/// A name is read as itself, wherever no character of a name stands directly behind it.
+/// A name is read as itself, wherever no character of a name stands directly after it.
 pub fn names_read()
     ensures { (bound place first : ℕ) (letters rest : List ℕ) → is_name_start first ≡ true → list_all is_name_char letters ≡ true
         → goes_on_as_name rest ≡ false
@@ -26,7 +26,7 @@ pub fn names_read()
         ≡ with_symbol bound place (Name (encode_utf8_all (first ∷ letters))) (encode_utf8_all (first ∷ letters)) rest }
 {}
 
-/// A number within the limit as it is printed is read as itself, wherever no character of a name stands directly behind it.
+/// A number within the limit as it is printed is read as itself, wherever no character of a name stands directly after it.
 pub fn numbers_read()
     ensures { (bound place number : ℕ) (rest : List ℕ) → number ≤ max_number → goes_on_as_name rest ≡ false
         → symbols_within (suc bound) place (decimal number ++ rest) ≡ with_symbol bound place (Number number) (decimal number) rest }

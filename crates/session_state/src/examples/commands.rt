@@ -18,7 +18,7 @@ ghost use Rattle.session_state.specs.PathPrices.{moves_for};
 ghost use Rattle.session_state.specs.State.{opening, Mark};
 ghost use Rattle.session_state.specs.Step.{step};
 
-/// A mark comes behind the others under a name of its own, and is found and given up by it.
+/// A mark comes after the others under a name of its own, and is found and given up by it.
 pub fn marks_by_their_names()
     ensures first { (ds : List Named) → mark_put [] (codes "m") ds ≡ (record { name = codes "m"; documents = ds } ∷ [], reply.Done) }
     ensures taken { (ds : List Named) → mark_put (record { name = codes "m"; documents = [] } ∷ []) (codes "m") ds

@@ -6,8 +6,8 @@ use Rattle.session_text.specs.Commands.{closes_block, unquoted}
 abbrev pub without_last : List ℕ → List ℕ
 without_last bytes = take (length bytes - 1) bytes
 
--- the block of these lines behind what was read of it, where each line read has a line feed behind it
-abbrev pub block_behind : List ℕ → List (List ℕ) → Option (List ℕ)
-block_behind read [] = None
-block_behind read (line ∷ lines) =
-    if closes_block line then Some (without_last read) else block_behind (read ++ unquoted line ++ 10 ∷ []) lines
+-- the block of these lines after what was read of it, where each line read has a line feed after it
+abbrev pub block_after : List ℕ → List (List ℕ) → Option (List ℕ)
+block_after read [] = None
+block_after read (line ∷ lines) =
+    if closes_block line then Some (without_last read) else block_after (read ++ unquoted line ++ 10 ∷ []) lines

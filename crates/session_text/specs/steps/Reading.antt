@@ -5,12 +5,12 @@ use Rattle.std.specs.List.{list_all}
 use Rattle.ft_base.specs.Characters.{is_line_feed}
 use Rattle.session_text.specs.declared.command.Command.{Command}
 use Rattle.session_text.specs.declared.command.Command.TheVariants as command
-use Rattle.session_text.specs.steps.Blocks.{block_behind, without_last}
+use Rattle.session_text.specs.steps.Blocks.{block_after, without_last}
 use Rattle.session_text.specs.Commands.{opened, commands_of_lines, opens_block, closes_block, unquoted, command_of_line, command_of_block}
 use Rattle.text_lines.specs.Lines.{is_skipped}
 use Rattle.session_text.specs.Lines.{lines_of, without_mark}
 
--- a command whose block is open: its line, that line's number, and the lines of the block so far, each with a line feed behind it
+-- a command whose block is open: its line, that line's number, and the lines of the block so far, each with a line feed after it
 pub record Opened : Type 0 where
   pub line : List ℕ
   pub number : ℕ
@@ -55,20 +55,20 @@ at_start = record { lines = 0; rest = []; opened = None }
 abbrev pub new_reading : Reading
 new_reading = record { place = at_start; bytes = 0; failed = false }
 
--- bytes behind a number of lines: at the session's start a byte order mark is skipped
-abbrev pub behind_lines : ℕ → List ℕ → List ℕ
-behind_lines lines bytes = if lines == 0 then without_mark bytes else bytes
+-- bytes after a number of lines: at the session's start a byte order mark is skipped
+abbrev pub after_lines : ℕ → List ℕ → List ℕ
+after_lines lines bytes = if lines == 0 then without_mark bytes else bytes
 
 -- the commands of lines from a place on
 abbrev pub commands_on : Bool → ℕ → Option Opened → List (List ℕ) → List Command
 commands_on at_end number None lines = commands_of_lines at_end number false lines
-commands_on at_end number (Some o) lines = opened at_end o.number o.line (block_behind o.block lines) ++ commands_of_lines at_end number true lines
+commands_on at_end number (Some o) lines = opened at_end o.number o.line (block_after o.block lines) ++ commands_of_lines at_end number true lines
 
--- the commands from a place on, where these bytes follow; where the session goes on behind them, those that are whole
+-- the commands from a place on, where these bytes follow; where the session goes on after them, those that are whole
 abbrev pub commands_from : Bool → Place → List ℕ → List Command
-commands_from at_end place bytes = commands_on at_end (place.lines + 1) place.opened (lines_of at_end (behind_lines place.lines (place.rest ++ bytes)))
+commands_from at_end place bytes = commands_on at_end (place.lines + 1) place.opened (lines_of at_end (after_lines place.lines (place.rest ++ bytes)))
 
--- what is left of a session: the commands where these bytes follow and the session ends behind them
+-- what is left of a session: the commands where these bytes follow and the session ends after them
 abbrev pub commands_left : Reading → List ℕ → List Command
 commands_left reading bytes = commands_from true reading.place bytes
 
@@ -76,7 +76,7 @@ commands_left reading bytes = commands_from true reading.place bytes
 abbrev pub whole_left : Reading → List ℕ → List Command
 whole_left reading bytes = commands_from false reading.place bytes
 
--- what a line that ended says: the command that is whole with it, and the command whose block is open behind it
+-- what a line that ended says: the command that is whole with it, and the command whose block is open after it
 abbrev pub line_ended : ℕ → Option Opened → List ℕ → Option Command × Option Opened
 line_ended number None line =
     if is_skipped line then (None, None)
@@ -86,17 +86,17 @@ line_ended number (Some o) line =
     if closes_block line then (Some (command_of_block o.number o.line (without_last o.block)), None)
     else (None, Some (record o { block = o.block ++ unquoted line ++ 10 ∷ [] }))
 
--- what is left behind a line's end: nothing of the next line was read
+-- what is left after a line's end: nothing of the next line was read
 abbrev pub between_lines : Option Command × Option Opened → Option Command × Option OpenLines
 between_lines ended = (ended.0, option_map (λ o. record { opened = o; rest = [] }) ended.1)
 
 -- the same for a place whose line ends with these bytes
 abbrev pub ended_at : Place → List ℕ → Option Command × Option Opened
-ended_at place bytes = line_ended (place.lines + 1) place.opened (behind_lines place.lines (place.rest ++ bytes))
+ended_at place bytes = line_ended (place.lines + 1) place.opened (after_lines place.lines (place.rest ++ bytes))
 
--- the place behind the line feed
-abbrev pub place_behind : Place → List ℕ → Place
-place_behind place bytes = record { lines = place.lines + 1; rest = []; opened = (ended_at place bytes).1 }
+-- the place after the line feed
+abbrev pub place_after : Place → List ℕ → Place
+place_after place bytes = record { lines = place.lines + 1; rest = []; opened = (ended_at place bytes).1 }
 
 -- the command that an open block is, where the session ends
 abbrev pub open_at_end : Option Opened → List Command

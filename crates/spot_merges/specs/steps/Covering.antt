@@ -9,20 +9,20 @@ use Rattle.place_merges.specs.Spots.{from_found, spots_left}
 use Rattle.spot_merges.specs.Apart.{lies_within}
 use Rattle.spot_merges.specs.declared.covering.Cover.{Cover}
 
--- the next spot with those behind it
+-- the next spot with those after it
 abbrev pub spots_ahead : {H : Type 0} → (H → HitPlace) → ℕ → List (Variant H) → Option Spot → List Spot
 spots_ahead stand to variants next = from_found (spots_left to (wanted_words stand variants)) next
 
--- whether a spot ends behind all that were passed, and lies within none that is ahead
+-- whether a spot ends after all that were passed, and lies within none that is ahead
 abbrev pub is_free : {H : Type 0} → (H → HitPlace) → ℕ → List (Variant H) → Cover → Spot → Bool
 is_free stand to variants cover at =
     nat_lt cover.end (at.place + at.words) && list_all (λ other. not (lies_within at other)) (spots_ahead stand to variants cover.next)
 
--- two tests are the same of the spots that begin at the place or behind it
+-- two tests are the same of the spots that begin at the place or after it
 pub record SameAt (place : ℕ) (new old : Spot → Bool) : Type 0 where
   pub same : (at : Spot) → place ≤ at.place → new at ≡ old at
 
--- the spot, where it begins at the place or in front of it
+-- the spot, where it begins at the place or before it
 abbrev pub due : ℕ → Option Spot → Option Spot
 due place None = None
 due place (Some at) = cond (nat_le at.place place) (Some at) None

@@ -13,6 +13,6 @@ is_unseen seen phrase = not (list_any (phrase_eq phrase) seen)
 abbrev pub unseen_ends : Option (List ℕ) → List Phrase → List Link → List Phrase
 unseen_ends relation seen links = filter (is_unseen seen) (map (λ link. link.to) (filter (is_wanted relation) links))
 
--- the level behind a level
-abbrev pub level_behind : Links → Option (List ℕ) → List Phrase → List Phrase → List Phrase
-level_behind thesaurus relation seen level = in_order (flat_map (λ phrase. unseen_ends relation seen (links_from thesaurus phrase)) level)
+-- the level after a level
+abbrev pub level_after : Links → Option (List ℕ) → List Phrase → List Phrase → List Phrase
+level_after thesaurus relation seen level = in_order (flat_map (λ phrase. unseen_ends relation seen (links_from thesaurus phrase)) level)

@@ -19,17 +19,17 @@ after_characters known (c ∷ cs) = after_characters (after_character known c) c
 abbrev pub after_tag : Gap → List ℕ → Gap
 after_tag known name = record known { paragraph_ends = known.paragraph_ends || is_block_element name }
 
--- what is known of a gap of which one thing was seen in front and another behind it
+-- what is known of a gap of which one thing was seen before and another after it
 abbrev pub both_seen : Gap → Gap → Gap
-both_seen front known = record {
-  sentence_ends = known.sentence_ends || front.sentence_ends;
-  paragraph_ends = known.paragraph_ends || front.paragraph_ends;
+both_seen prefix known = record {
+  sentence_ends = known.sentence_ends || prefix.sentence_ends;
+  paragraph_ends = known.paragraph_ends || prefix.paragraph_ends;
   after_line_feed = known.after_line_feed;
 }
 
--- what is known of a gap behind characters of which this is known
+-- what is known of a gap after characters of which this is known
 abbrev pub after_part : GapPart → Gap → Gap
-after_part part front = both_seen front (if front.after_line_feed then part.after_line_feed else part.alone)
+after_part part prefix = both_seen prefix (if prefix.after_line_feed then part.after_line_feed else part.alone)
 
 -- a paragraph ends in a gap of which `rest` is still to come
 abbrev pub paragraph_ends_in : Gap → List Part → Bool

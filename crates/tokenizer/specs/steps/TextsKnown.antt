@@ -11,7 +11,7 @@ use Rattle.tokenizer.specs.declared.gap_part.GapPart.{GapPart}
 use Rattle.tokenizer.specs.declared.numbering.Numbering.{Numbering}
 use Rattle.tokenizer.specs.declared.text_starts.TextStarts.{TextStarts}
 
--- what is known: the characters in front of the first word, the number of words, the places inside, and the numbering there
+-- what is known: the characters before the first word, the number of words, the places inside, and the numbering there
 pub record Known : Type 0 where
   pub before : GapPart
   pub words : ℕ
@@ -22,25 +22,25 @@ pub record Known : Type 0 where
 abbrev pub known_of : TextStarts → Known
 known_of text = record {
   before = text.before;
-  words = text.behind.words;
-  sentences = text.behind.breaks.sentences;
-  paragraphs = text.behind.breaks.paragraphs;
-  inside = text.behind.last;
+  words = text.after.words;
+  sentences = text.after.breaks.sentences;
+  paragraphs = text.after.breaks.paragraphs;
+  inside = text.after.last;
 }
 
 -- how many words the text has
 abbrev pub words_known : TextStarts → ℕ
-words_known text = text.behind.words
+words_known text = text.after.words
 
--- the numbering in front of the text's first word
+-- the numbering before the text's first word
 abbrev pub before_first : Known → Numbering → Numbering
 before_first known last = record last { gap = after_part known.before last.gap }
 
--- the numbering behind the text
+-- the numbering after the text
 abbrev pub after_known : Known → Numbering → Numbering
 after_known known last = after_begun known.words known.inside (before_first known last)
 
--- the places in the text at which a sentence starts, behind the words seen
+-- the places in the text at which a sentence starts, after the words seen
 abbrev pub sentences_known : Known → Numbering → ℕ → List ℕ
 sentences_known known last seen = places_begun known.words known.sentences (sentence_ends (before_first known last)) seen
 
@@ -48,7 +48,7 @@ sentences_known known last seen = places_begun known.words known.sentences (sent
 abbrev pub paragraphs_known : Known → Numbering → ℕ → List ℕ
 paragraphs_known known last seen = places_begun known.words known.paragraphs (paragraph_ends (before_first known last)) seen
 
--- whatever stands in front, the starts in `parts` are those that are known and then those that are left
+-- whatever stands before, the starts in `parts` are those that are known and then those that are left
 pub record Leads (parts : List Part) (known : Known) (left : List Part) : Type 0 where
   pub sentences : (last : Numbering) (seen : ℕ) (rest : List Part)
       → starts (λ token. token.sentence) last.sentence (seen + 1) (tokens_left last (parts ++ rest))

@@ -11,7 +11,7 @@ abbrev pub act : Option How → Children → Numbered → Children
 act None content n = content
 act (Some how) content n = inserted how content n
 
--- what stands where the root stood, behind the edit of these elements
+-- what stands where the root stood, after the edit of these elements
 abbrev pub act_on : List NodeRef → Option How → Children → Numbered → Children
 act_on refs how content root = joined (changed (is_among refs) (act how content) root)
 

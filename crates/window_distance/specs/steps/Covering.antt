@@ -8,6 +8,6 @@ use Rattle.all_matches.specs.Positions.{covers}
 abbrev pub is_covered : List Hit → ℕ → Bool
 is_covered hits place = list_any (λ hit. hit.whole && covers hit place) hits
 
--- the word behind a hit that is whole and covers the end so far; else that end
+-- the word after a hit that is whole and covers the end so far; else that end
 abbrev pub end_with : Hit → ℕ → ℕ
 end_with hit end = if hit.whole && covers hit end then suc hit.to else end

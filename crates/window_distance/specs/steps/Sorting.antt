@@ -6,10 +6,10 @@ use Rattle.ft_base.specs.declared.unit.TextUnit.{TextUnit}
 use Rattle.all_matches.specs.Positions.{start_in, end_in}
 use Rattle.all_matches.specs.Distance.{gap_in_range, stands_before}
 
--- whether a hit stands behind the words of another one
-abbrev pub is_behind : Option Hit → Hit → Bool
-is_behind None hit = true
-is_behind (Some place) hit = not (stands_before hit place)
+-- whether a hit stands after the words of another one
+abbrev pub is_after : Option Hit → Hit → Bool
+is_after None hit = true
+is_after (Some place) hit = not (stands_before hit place)
 
 -- whether a hit has the first and the last word of another one
 abbrev pub stands_with : Hit → Hit → Bool
@@ -24,9 +24,9 @@ abbrev pub first_of : List Hit → Option Hit
 first_of [] = None
 first_of (hit ∷ rest) = Some (fold nearer hit rest)
 
--- of the hits behind a place the one that stands first
-abbrev pub first_behind : Option Hit → List Hit → Option Hit
-first_behind place hits = first_of (filter (is_behind place) hits)
+-- of the hits after a place the one that stands first
+abbrev pub first_after : Option Hit → List Hit → Option Hit
+first_after place hits = first_of (filter (is_after place) hits)
 
 -- whether a hit has a distance in a range to the one before it, if there is one
 abbrev pub follows : Range → TextUnit → Option Hit → Hit → Bool

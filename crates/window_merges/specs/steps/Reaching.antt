@@ -34,8 +34,8 @@ pub record Lacks {A : Type 0} (passes : A → ℕ → Bool) (first last : ℕ) (
   pub within : number < count
   pub none : (other : A) (place : ℕ) → first ≤ place → place < last → passes (get_or words number other) place ≡ false
 
--- each word passes somewhere from the place up to the result, and one doesn't in front of the result; where the result is the
--- limit, one passes nowhere in front of it
+-- each word passes somewhere from the place up to the result, and one doesn't before the result; where the result is the
+-- limit, one passes nowhere before it
 pub record Reaches {A : Type 0} (passes : A → ℕ → Bool) (words : List A) (place limit result : ℕ) : Type 0 where
   pub from : place ≤ result
   pub to : result ≤ limit

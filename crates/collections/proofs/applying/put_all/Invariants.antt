@@ -1,4 +1,4 @@
--- The documents so far are as they are behind the edit, in the version too, and the others come; so do the words that the edit touches.
+-- The documents so far are as they are after the edit, in the version too, and the others come; so do the words that the edit touches.
 use Rattle.std.proofs.Common.{◌≡◌, List, length}
 use Rattle.std.specs.Vec.Iter.{into_iter_items, into_iter_len}
 use Rattle.ft_base.specs.declared.ids.NodeRef.{NodeRef}

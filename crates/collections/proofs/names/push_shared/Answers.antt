@@ -1,4 +1,4 @@
--- The name is put behind those of the table.
+-- The name is put after those of the table.
 use Rattle.std.proofs.Common.{ap}
 use Rattle.collections.proofs.NameLemmas.{put-new}
 use Rattle.collections.proofs.names.push_shared.Goals as goal

@@ -1,4 +1,4 @@
--- Once the new terms are among the others, the entries are those of the terms, one behind the other.
+-- Once the new terms are among the others, the entries are those of the terms, one after the other.
 use Rattle.std.proofs.Common.{ℕ, List, length, Result, Ok, Err, OnOk, ap, sym, subst, ◌∙◌, arith}
 use Rattle.std.proofs.lemmas.Result.{on_ok_weaker}
 use Rattle.doc_index.specs.Terms.{TermDocument, are_distinct, leaf_ids}

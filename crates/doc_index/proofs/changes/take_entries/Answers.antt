@@ -1,4 +1,4 @@
--- The entries of a leaf are those of the document's terms, one behind the other.
+-- The entries of a leaf are those of the document's terms, one after the other.
 use Rattle.std.proofs.Common.{ℕ, List, Result, Ok, Err, OnOk, sym, subst}
 use Rattle.doc_index.specs.Rows.{IsIndexed}
 use Rattle.doc_index.specs.steps.Groups.{entries_without}

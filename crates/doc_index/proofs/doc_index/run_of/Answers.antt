@@ -10,9 +10,9 @@ returns-in-Some-clause-run c =
     let indexed = c.requires.indexed in
     let runs = runs_of (entries_of parts.leaves) parts.ids.items in
     let total = c.len.ensures ∙ ap length indexed.rows_are in
-    let told = c.run_at.ensures in
+    let known = c.run_at.ensures in
     run-found parts.leaves parts.rows parts.ids.items parts.starts.items c.run_at.result.term c.in-Some.number c.run_at.result.first c.run_at.result.end indexed
-    c.doc-doc.ensures.distinct c.in-Some.ensures.found.0 (sym told.term) (told.first runs indexed.starts_are total) (told.end runs indexed.starts_are total) told.fits
+    c.doc-doc.ensures.distinct c.in-Some.ensures.found.0 (sym known.term) (known.first runs indexed.starts_are total) (known.end runs indexed.starts_are total) known.fits
 
 pub returns-in-None-clause-run : goal.returns-in-None-clause-run
 returns-in-None-clause-run c =

@@ -1,4 +1,4 @@
--- The rows of the term come behind those of leaves in front of the place.
+-- The rows of the term come after those of leaves before the place.
 use Rattle.std.proofs.Common.{drop, map, ◌∙◌}
 use Rattle.std.proofs.lemmas.Result.{on_ok_weaker}
 use Rattle.doc_index.specs.Terms.{leaf_ids}
@@ -9,5 +9,5 @@ use Rattle.doc_index.proofs.groups.put_term.Goals as goal
 
 pub returns-clause-rows : goal.returns-clause-rows
 returns-clause-rows g c =
-    on_ok_weaker c.put_group.result (λ rows before front back behind around. rows ∙ put-around (leaf_ids c.args.leaves.now.leaves) c.args.at c.args.run.first c.args.run.end c.args.rows.now before front back behind
-    c.front_end-place.result (map row_of (group c.args.run.term (drop c.args.next c.args.entries.now.items))) around (c.front_end-place.ensures.place before front back behind around)) c.put_group.ensures.rows
+    on_ok_weaker c.put_group.result (λ rows before prefix back suffix around. rows ∙ put-around (leaf_ids c.args.leaves.now.leaves) c.args.at c.args.run.first c.args.run.end c.args.rows.now before prefix back suffix
+    c.prefix_end-place.result (map row_of (group c.args.run.term (drop c.args.next c.args.entries.now.items))) around (c.prefix_end-place.ensures.place before prefix back suffix around)) c.put_group.ensures.rows

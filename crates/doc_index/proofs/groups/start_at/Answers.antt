@@ -1,4 +1,4 @@
--- Behind the last term the rows end.
+-- After the last term the rows end.
 use Rattle.std.proofs.Common.{length, ap, sym, ◌∙◌, arith}
 use Rattle.std.proofs.lemmas.List.{take_all}
 use Rattle.shared_list.specs.Blocks.{joined}

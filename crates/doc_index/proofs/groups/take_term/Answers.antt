@@ -1,4 +1,4 @@
--- The rows of the term go from behind those of leaves in front of the place.
+-- The rows of the term go from after those of leaves before the place.
 use Rattle.std.proofs.Common.{drop, map, ◌∙◌, ◌++◌}
 use Rattle.std.proofs.lemmas.Result.{on_ok_weaker}
 use Rattle.doc_index.specs.Terms.{leaf_ids}
@@ -10,5 +10,5 @@ use Rattle.doc_index.proofs.groups.take_term.Goals as goal
 pub returns-clause-rows : goal.returns-clause-rows
 returns-clause-rows g c =
     let taken = group c.args.run.term (drop c.args.next c.args.entries.now.items) in
-    on_ok_weaker c.take_group.result (λ rows before front back behind around. rows ∙ take-around (leaf_ids c.args.leaves.now.leaves) c.args.at c.args.run.first c.args.run.end c.args.rows.now before front back behind
-    c.front_end-place.result taken around (c.front_end-place.ensures.place before front (map row_of taken ++ back) behind around)) c.take_group.ensures.rows
+    on_ok_weaker c.take_group.result (λ rows before prefix back suffix around. rows ∙ take-around (leaf_ids c.args.leaves.now.leaves) c.args.at c.args.run.first c.args.run.end c.args.rows.now before prefix back suffix
+    c.prefix_end-place.result taken around (c.prefix_end-place.ensures.place before prefix (map row_of taken ++ back) suffix around)) c.take_group.ensures.rows

@@ -1,4 +1,4 @@
--- One term more is done: its run is as far behind as rows have come in front of it, and gets its entries.
+-- One term more is done: its run is as far after as rows have come before it, and gets its entries.
 use Rattle.std.proofs.Common.{◌≡◌, ◌≤◌, ◌+◌, ◌<◌, length, get_or, drop, refl, ap, sym, subst, ◌∙◌, arith}
 use Rattle.shared_list.specs.Blocks.{starts_from}
 use Rattle.doc_index.specs.Rows.{entries_of, runs_of}

@@ -1,4 +1,4 @@
--- The slots up to the next one are lowered where they are behind the place, and those from it on are as they were.
+-- The slots up to the next one are lowered where they are after the place, and those from it on are as they were.
 use Rattle.std.proofs.Common.{◌≡◌, ℕ, ◌-◌, ◌<◌, ◌≤◌, cond, nat_lt, length, slice_index}
 use Rattle.doc_index.proofs.slots.lower_slots.Given as goal
 

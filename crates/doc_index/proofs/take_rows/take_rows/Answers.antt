@@ -1,4 +1,4 @@
--- One term more is done: its run is as far in front as rows have gone from in front of it, and loses its entries.
+-- One term more is done: its run is as far before as rows have gone from before it, and loses its entries.
 use Rattle.std.proofs.Common.{◌≡◌, ◌≤◌, ◌+◌, ◌-◌, ◌<◌, length, get_or, drop, refl, ap, sym, subst, ◌∙◌, arith}
 use Rattle.shared_list.specs.Blocks.{starts_from}
 use Rattle.doc_index.specs.Rows.{entries_of, runs_of}
@@ -26,7 +26,7 @@ returns-in_err-next-clause-at_most g c =
     let k = c.loop-number.number in
     let old = c.loop-number.invariant in
     let there : k < length ids = omega (arith, c.loop-number-test.true, c.len-number-end.ensures, parts.ids.ok.0) in
-    let term = c.moved_front-run.ensures.term ∙ c.run_at.ensures.term ∙ ap (λ xs. get_or xs k 0) old.ids in
+    let term = c.moved_prefix-run.ensures.term ∙ c.run_at.ensures.term ∙ ap (λ xs. get_or xs k 0) old.ids in
     omega (
       arith,
       c.take_term.ensures.at_most,
@@ -44,8 +44,8 @@ loop-number-preserved g c =
     let k = c.loop-number.number in
     let old = c.loop-number.invariant in
     let there : k < length ids = omega (arith, c.loop-number-test.true, c.len-number-end.ensures, parts.ids.ok.0) in
-    let term = c.moved_front-run.ensures.term ∙ c.run_at.ensures.term ∙ ap (λ xs. get_or xs k 0) old.ids in
-    let run = c.moved_front-run.result in
+    let term = c.moved_prefix-run.ensures.term ∙ c.run_at.ensures.term ∙ ap (λ xs. get_or xs k 0) old.ids in
+    let run = c.moved_prefix-run.result in
     let starts_are : c.loop-number.parts.starts.items ≡ starts_from 0 (runs_of all ids) = old.old_starts ∙ c.requires.indexed.starts_are in
     let total_is = c.len-total.ensures ∙ ap length c.requires.indexed.rows_are in
     let first_is = run-first all ids k c.run_at.result.first (c.run_at.ensures.first (runs_of all ids) starts_are total_is) in
@@ -56,7 +56,7 @@ loop-number-preserved g c =
       old_starts = old.old_starts;
       state = subst (λ starts. IsTaking parts.leaves c.args.at new ids (k + 1) c.in_ok-next.next c.take_term.new.rows starts) (sym c.in_ok-push_number.ensures)
           (taking-more parts.leaves c.args.at new ids k c.loop-number.next c.loop-number.parts.rows c.loop-number.starts.items old.state there run.first run.end
-          (c.moved_front-run.ensures.first ∙ ap (λ n. n - c.loop-number.next) first_is) (c.moved_front-run.ensures.end ∙ ap (λ n. n - c.loop-number.next) end_is)
+          (c.moved_prefix-run.ensures.first ∙ ap (λ n. n - c.loop-number.next) first_is) (c.moved_prefix-run.ensures.end ∙ ap (λ n. n - c.loop-number.next) end_is)
           c.requires.rising c.requires.place c.requires.distinct c.requires.same c.loop-number.parts.leaves old.leaves run.term term c.take_term.new.rows c.in_ok-next.next
           c.in_ok-next.ensures.rows c.in_ok-next.ensures.next);
       counted = omega (arith, old.counted, c.in_ok-next.ensures.counted, c.in_ok-next.ensures.next);

@@ -17,8 +17,8 @@ absent : (xs : List ℕ) (x i : ℕ) → ((k : ℕ) → k < i → get_or xs k 0 
 absent xs x i below above = false_from_ne_true (has x xs) (λ there.
     let found = find-at xs x there in
     elim (cases_lt found.0 i) [
-      | inl front ↦ omega (arith, below found.0 front, found.2)
-      | inr behind ↦ omega (arith, above found.0 behind found.1, found.2)
+      | inl prefix ↦ omega (arith, below found.0 prefix, found.2)
+      | inr suffix ↦ omega (arith, above found.0 suffix found.1, found.2)
     ])
 
 pub returns-in-Ok-clause-found : goal.returns-in-Ok-clause-found

@@ -14,8 +14,8 @@ last-only t xs k rising most end = elim (cases_eq (get_or xs k 0) t) [
   | inr other ↦ ne_eqb (get_or xs k 0) t other ∙ sym (false_from_ne_true (has t xs) (λ there.
       let found = find-at xs t there in
       elim (cases_lt found.0 k) [
-        | inl front ↦ omega (arith, ascending-at xs found.0 k rising front (omega (arith, end)), found.2, most (get_or xs k 0) (has-at xs k (omega (arith, end))))
-        | inr behind ↦ let is : found.0 ≡ k = omega (arith, behind, found.1, end) in other (ap (λ j. get_or xs j 0) (sym is) ∙ found.2)
+        | inl prefix ↦ omega (arith, ascending-at xs found.0 k rising prefix (omega (arith, end)), found.2, most (get_or xs k 0) (has-at xs k (omega (arith, end))))
+        | inr suffix ↦ let is : found.0 ≡ k = omega (arith, suffix, found.1, end) in other (ap (λ j. get_or xs j 0) (sym is) ∙ found.2)
       ]))
 ]
 

@@ -1,4 +1,4 @@
--- A text is walked through once, and each of its fronts is right by the grammar.
+-- A text is walked through once, and each of its prefixes is right by the grammar.
 use Rattle.doc_profile.proofs.BytesRead as law
 use Rattle.doc_profile.proofs.laws.reading_law.Goals as goal
 

@@ -11,5 +11,5 @@ returns c =
     let run = take c.plain_len.result rest in
     let split = sym (take-append-drop c.plain_len.result rest) ∙ ap (λ (z : List ℕ). run ++ z) (sym c.split_at.ensures.back) in
     let pushed = c.in_ok-push_str.ensures.bytes ∙ ap (λ (z : List ℕ). string_bytes c.args.reader.now.text ++ z) c.split_at.ensures.front in
-    Passed.run run c.if-behind_return.false (sym c.is_in_text.ensures ∙ c.if-not-is_in_text.false) c.plain_len.ensures.plain split
+    Passed.run run c.if-after_return.false (sym c.is_in_text.ensures ∙ c.if-not-is_in_text.false) c.plain_len.ensures.plain split
     (ap (λ (z : List ℕ). record { place = record { kids = (place_of c.args.reader.now).kids; text = z; outer = (place_of c.args.reader.now).outer }; phase = phase_of c.args.reader.now }) pushed)

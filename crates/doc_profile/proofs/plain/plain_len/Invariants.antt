@@ -1,4 +1,4 @@
--- The front so far is plain.
+-- The prefix so far is plain.
 use Rattle.std.proofs.Common.{◌≡◌, ◌≤◌, length, take, ◌-◌, true}
 use Rattle.std.specs.List.{list_all}
 use Rattle.std.specs.Str.{IsCharBoundary}

@@ -25,28 +25,28 @@ count-requires c = left_counted c.in-Some.c c.loop-c.invariant.left
 pub returns-in-Err : goal.returns-in-Err
 returns-in-Err c =
     let all = walk (chars c.args.text.now) (state_of c.args.reader.now) false c.args.from in
-    faults_by all c.in-Err.fault (λ _. left_stopped c.in-Some.c c.in-Some.behind.now c.in-Err.fault c.loop-c.invariant.left c.in-Some.ensures.some c.in-Err.ensures.err)
+    faults_by all c.in-Err.fault (λ _. left_stopped c.in-Some.c c.in-Some.suffix.now c.in-Err.fault c.loop-c.invariant.left c.in-Some.ensures.some c.in-Err.ensures.err)
 
 pub returns-then-not-branch : goal.returns-then-not-branch
 returns-then-not-branch c =
-    let refused = stepped_false c.in_ok-take.field-0 (taken (state_of c.loop-c.reader) c.loop-c.behind_return c.in-Some.c) (state_of c.take.new.reader) c.in_ok-take.ensures c.if-not-branch.true in
-    left_refused c.in-Some.c c.in-Some.behind.now c.loop-c.invariant.left c.in-Some.ensures.some c.in-Ok.ensures.ok refused
+    let refused = stepped_false c.in_ok-take.field-0 (taken (state_of c.loop-c.reader) c.loop-c.after_return c.in-Some.c) (state_of c.take.new.reader) c.in_ok-take.ensures c.if-not-branch.true in
+    left_refused c.in-Some.c c.in-Some.suffix.now c.loop-c.invariant.left c.in-Some.ensures.some c.in-Ok.ensures.ok refused
 
 pub loop-c-smaller : goal.loop-c-smaller
-loop-c-smaller c = omega (arith, ap (λ (z : List ℕ). length z) c.in-Some.ensures.some, length-append (encode_utf8 c.in-Some.c) c.in-Some.behind.now, length-encode c.in-Some.c, (len_utf8_bounds c.in-Some.c).0, passed_length _ _ _ _ _ c.in_ok-rest.ensures)
+loop-c-smaller c = omega (arith, ap (λ (z : List ℕ). length z) c.in-Some.ensures.some, length-append (encode_utf8 c.in-Some.c) c.in-Some.suffix.now, length-encode c.in-Some.c, (len_utf8_bounds c.in-Some.c).0, passed_length _ _ _ _ _ c.in_ok-rest.ensures)
 
 pub loop-c-preserved : goal.loop-c-preserved
 loop-c-preserved c =
     let some = c.in-Some.ensures.some in
     let at = c.args.from + (length c.args.text.now - length c.loop-c.rest.now) in
-    let further = left_further c.in-Some.c c.in-Some.behind.now (state_of c.take.new.reader) c.in-Ok.more (at + length (encode_utf8 c.in-Some.c)) c.loop-c.invariant.left some c.in-Ok.ensures.ok
-    (stepped_true c.in_ok-take.field-0 (taken (state_of c.loop-c.reader) c.loop-c.behind_return c.in-Some.c) (state_of c.take.new.reader) c.in_ok-take.ensures c.if-not-branch.false) c.in-Ok.ensures.count refl in
+    let further = left_further c.in-Some.c c.in-Some.suffix.now (state_of c.take.new.reader) c.in-Ok.more (at + length (encode_utf8 c.in-Some.c)) c.loop-c.invariant.left some c.in-Ok.ensures.ok
+    (stepped_true c.in_ok-take.field-0 (taken (state_of c.loop-c.reader) c.loop-c.after_return c.in-Some.c) (state_of c.take.new.reader) c.in_ok-take.ensures c.if-not-branch.false) c.in-Ok.ensures.count refl in
     let shorter = passed_length _ _ _ _ _ c.in_ok-rest.ensures in
-    let longer = ap (λ (z : List ℕ). length z) some ∙ length-append (encode_utf8 c.in-Some.c) c.in-Some.behind.now in
+    let longer = ap (λ (z : List ℕ). length z) some ∙ length-append (encode_utf8 c.in-Some.c) c.in-Some.suffix.now in
     record {
       text = search rules;
       within = omega (arith, shorter, longer, c.loop-c.invariant.within);
-      left = left_passed c.in-Some.behind.now c.in_ok-rest.rest.now (state_of c.take.new.reader) (state_of c.pass_plain.new.reader) _ (at + length (encode_utf8 c.in-Some.c)) (c.args.from + (length c.args.text.now - length c.in_ok-rest.rest.now)) c.in-Ok.more _ further c.in_ok-rest.ensures
+      left = left_passed c.in-Some.suffix.now c.in_ok-rest.rest.now (state_of c.take.new.reader) (state_of c.pass_plain.new.reader) _ (at + length (encode_utf8 c.in-Some.c)) (c.args.from + (length c.args.text.now - length c.in_ok-rest.rest.now)) c.in-Ok.more _ further c.in_ok-rest.ensures
           (omega (arith, shorter, longer, c.loop-c.invariant.within));
     }
 

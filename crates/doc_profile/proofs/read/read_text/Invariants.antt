@@ -12,7 +12,7 @@ abbrev pub invariant-loop-c : goal.invariant-loop-c
 invariant-loop-c l = record {
   text : shadow (Utf8 l.rest);
   within : length l.rest ≤ length l.text;
-  left : Left l.rest (state_of l.reader) l.behind_return (l.from + (length l.text - length l.rest)) l.nodes (walk (chars l.text) (state_of l.fn.reader) false l.from);
+  left : Left l.rest (state_of l.reader) l.after_return (l.from + (length l.text - length l.rest)) l.nodes (walk (chars l.text) (state_of l.fn.reader) false l.from);
 }
 
 abbrev pub decreases-loop-c : goal.decreases-loop-c

@@ -1,4 +1,4 @@
--- Zeros behind the last count change no count.
+-- Zeros after the last count change no count.
 use Rattle.std.proofs.Common.{◌≡◌, ◌+◌, ◌-◌, ℕ, length}
 use Rattle.document_counts.specs.Counts.{count_of}
 use Rattle.document_counts.proofs.counts.cover.Given as goal

@@ -2,7 +2,7 @@
 use Rattle.std.proofs.Common.{◌<◌, ◌≤◌, length, arith}
 use Rattle.doc_index.specs.Terms.{terms_of, words_of}
 use Rattle.doc_index.proofs.TermLemmas.{terms_of-ascending}
-use Rattle.document_counts.proofs.CountLemmas.{raised-more, all-raised}
+use Rattle.document_counts.proofs.CountLemmas.{shifted-more, all-shifted}
 use Rattle.document_counts.proofs.counts.raise_all.Goals as goal
 
 pub loop-number-preserved : goal.loop-number-preserved
@@ -10,10 +10,10 @@ loop-number-preserved c =
     let words = words_of c.args.index.now.leaves in
     let k = c.loop-number.number in
     let there : k < length (terms_of words) = omega (arith, c.loop-number-test.true, c.term_count-number-end.ensures) in
-    raised-more (terms_of words) k c.term.result (terms_of-ascending words) there c.term.ensures c.args.counts.now c.loop-number.counts c.raise.new.counts c.loop-number.invariant c.in_ok-raise.ensures
+    shifted-more (terms_of words) k c.term.result (terms_of-ascending words) there c.term.ensures c.args.counts.now c.loop-number.counts c.raise.new.counts c.loop-number.invariant c.in_ok-raise.ensures
 
 pub returns : goal.returns
 returns c =
     let words = words_of c.args.index.now.leaves in
     let end : length (terms_of words) ≤ c.loop-number.number = omega (arith, c.loop-number-test.false, c.term_count-number-end.ensures) in
-    all-raised c.args.counts.now c.loop-number.counts words c.loop-number.number end c.loop-number.invariant
+    all-shifted c.args.counts.now c.loop-number.counts words c.loop-number.number end c.loop-number.invariant

@@ -59,7 +59,7 @@ returns-in_ok-number-in-Some-clause-line c =
     ∙ ap (λ l. before ++ l) (line-further c.args.document.now root c.args.node c.in-Some.parent
     (parent-found c.args.tree.now.root c.args.node c.in-Some.parent c.requires.node c.parent.result c.in-Some.is c.parent.ensures.parent) c.requires.node c.name.result.now c.in_ok-number-in-Some.number
     (element-name root c.args.node c.requires.node c.name.result.now c.name.ensures) c.in_ok-number-in-Some.ensures.number) in
-    subst (λ l. OnOk c.push_behind.result (string_bytes c.push_behind.new.text ≡ l)) all c.push_behind.ensures
+    subst (λ l. OnOk c.push_after.result (string_bytes c.push_after.new.text ≡ l)) all c.push_after.ensures
 
 pub returns-in-None-clause-line : goal.returns-in-None-clause-line
 returns-in-None-clause-line c =

@@ -25,4 +25,4 @@ returns-in-Some-count_to-clause-line c =
     ∙ ap (λ l. l ++ own) (c.text.ensures ∙ c.requires.known.leading parent (c.is_of.ensures c.if-is_of.true))
     ∙ line-further c.args.document.now root node parent p c.requires.node name c.in-Some-count_to.number
     (ap (λ w. w.now) c.count_to.ensures.name ∙ c.in-Some-count_to.ensures.named) c.in-Some-count_to.ensures.number in
-    subst (λ l. OnOk c.push_behind.result (string_bytes c.push_behind.new.text ≡ l)) all c.push_behind.ensures
+    subst (λ l. OnOk c.push_after.result (string_bytes c.push_after.new.text ≡ l)) all c.push_after.ensures

@@ -1,4 +1,4 @@
--- A line that finds no room leaves those in front of it.
+-- A line that finds no room leaves those before it.
 use Rattle.element_lines.proofs.KeptLemmas.{kept-err}
 use Rattle.element_lines.proofs.names.push_names.Goals as goal
 

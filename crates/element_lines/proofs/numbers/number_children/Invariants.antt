@@ -1,4 +1,4 @@
--- The children in front of the link have their numbers; those behind it are fewer each time.
+-- The children before the link have their numbers; those after it are fewer each time.
 use Rattle.path_nodes.proofs.ChildrenLemmas.{left}
 use Rattle.element_lines.proofs.NumberLemmas.{Numbering}
 use Rattle.element_lines.proofs.numbers.number_children.Given as goal

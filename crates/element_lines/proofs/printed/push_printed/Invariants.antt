@@ -1,4 +1,4 @@
--- The lines of the elements so far, then those of the elements that are left, are all; those that were there stay in front.
+-- The lines of the elements so far, then those of the elements that are left, are all; those that were there stay first.
 use Rattle.std.proofs.Common.{◌≡◌, ◌++◌, ℕ, List, drop, map}
 use Rattle.path_nodes.specs.References.{element_of}
 use Rattle.element_lines.specs.Lines.{printed_line}

@@ -1,4 +1,4 @@
--- No child is in front of the first one.
+-- No child is before the first one.
 use Rattle.std.proofs.Common.{◌≡◌, [], refl}
 use Rattle.ordered_tree.specs.Numbered.{children, first_of}
 use Rattle.path_nodes.proofs.ChildrenLemmas.{on_element, element_there}

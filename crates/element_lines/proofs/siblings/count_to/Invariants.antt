@@ -1,4 +1,4 @@
--- The children of the name in front of the link are counted.
+-- The children of the name before the link are counted.
 use Rattle.std.proofs.Common.{◌≡◌}
 use Rattle.element_lines.specs.steps.Children.{IsCounting}
 use Rattle.element_lines.proofs.siblings.count_to.Given as goal

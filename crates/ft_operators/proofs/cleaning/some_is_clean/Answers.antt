@@ -1,4 +1,4 @@
--- A way that is clean settles it; one that is not leaves those behind it.
+-- A way that is clean settles it; one that is not leaves those after it.
 use Rattle.ft_operators.proofs.CleanLemmas.{deciding_starts, deciding_may, decided_none, decided_here, deciding_on, deciding_fewer, may_go_on}
 use Rattle.ft_operators.proofs.cleaning.some_is_clean.Goals as goal
 

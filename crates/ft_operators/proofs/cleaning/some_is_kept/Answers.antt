@@ -1,4 +1,4 @@
--- A way whose includes are all kept settles it; one of which some is not leaves those behind it.
+-- A way whose includes are all kept settles it; one of which some is not leaves those after it.
 use Rattle.std.proofs.Common.{◌∙◌, refl, ap, sym, arith}
 use Rattle.std.specs.List.{list_all}
 use Rattle.all_matches.specs.Chain.{kept_by}

@@ -9,8 +9,8 @@ use Rattle.ft_operators.proofs.NodeLemmas.{inside_Phrase, inside_Choice, inside_
 use Rattle.ft_operators.proofs.GatherLemmas.{gathered_inside, gathered_left, gathered_right, gathered_both, gathered_apart, gathered_negated, gathered_filtered}
 use Rattle.ft_operators.proofs.gathering.+gather.Goals as goal
 
-pub replace_behind-requires : goal.replace_behind-requires
-replace_behind-requires g t c = omega (arith, c.len-place.ensures, c.args.held.now.ok.0, (c.gather-in-Filtered.ensures (every (record { from = 0; to = 0 }))).from)
+pub replace_after-requires : goal.replace_after-requires
+replace_after-requires g t c = omega (arith, c.len-place.ensures, c.args.held.now.ok.0, (c.gather-in-Filtered.ensures (every (record { from = 0; to = 0 }))).from)
 
 pub returns-in-Phrase : goal.returns-in-Phrase
 returns-in-Phrase g t c course =
@@ -70,10 +70,10 @@ returns-in-Filtered g t c course =
     let then = c.deref-in-Filtered-2.result.now in
     let same = ap (λ x. standing state course x.operand) (c.deref-in-Filtered-2.ensures ∙ sym c.deref-in-Filtered.ensures) in
     let mid = c.gather-in-Filtered.new.held in
-    let new = c.replace_behind.new.held in
+    let new = c.replace_after.new.held in
     let place : c.len-place.result ≡ length c.args.held.now.items = omega (arith, c.len-place.ensures, c.args.held.now.ok.0) in
     gathered_inside _ _ _ _ _ _
     (inside_Filtered state course c.args.node.now c.in-Filtered.sieve then c.in-Filtered.is c.deref-in-Filtered-2.ensures
     ∙ ap (λ s. sieve_of course then.kind then.lead s) same)
     (gathered_filtered course then.kind then.lead (standing state course first.operand) _ _ _ _ _ _ (c.gather-in-Filtered.ensures course)
-    (subst (λ n. Replaced n (after then.kind (drop n mid.items)) (vec_capacity mid) (vec_capacity new) mid.items new.items) place c.replace_behind.ensures))
+    (subst (λ n. Replaced n (after then.kind (drop n mid.items)) (vec_capacity mid) (vec_capacity new) mid.items new.items) place c.replace_after.ensures))

@@ -1,4 +1,4 @@
--- The includes of the left side, and those of the right one behind them.
+-- The includes of the left side, and those of the right one after them.
 use Rattle.std.proofs.Common.{◌≡◌, ◌∙◌, arith, length}
 use Rattle.ft_operators.specs.Course.{every}
 use Rattle.ft_operators.specs.steps.Nodes.{standing}

@@ -1,6 +1,6 @@
 -- A node moves as its inside does, and that as the operands do.
 use Rattle.std.proofs.Common.{◌≤◌, ◌∙◌, ap, sym, subst, arith, vec_capacity, true}
-use Rattle.ft_operators.specs.Standing.{at_front, one_on}
+use Rattle.ft_operators.specs.Standing.{at_prefix, one_on}
 use Rattle.ft_operators.specs.steps.Forms.{phrase_of}
 use Rattle.ft_operators.specs.steps.Nodes.{standing, apart_standing, sieve_standing}
 use Rattle.ft_operators.specs.steps.Walking.{MayGoOn}
@@ -33,8 +33,8 @@ first-returns-in-Phrase g t c =
     let state = g.P.PhraseHits.state in
     let course = c.args.course in
     moved_inside _ _ _ _ _ _ _ _ _ (standing_Phrase state course c.first_of_phrase.new.phrase)
-    (ap (λ p. at_front course (phrase_of (state p))) c.in-Phrase.phrase-is
-    ∙ ap (at_front course) (sym (inside_Phrase state course c.args.node.now c.in-Phrase.phrase c.in-Phrase.is)))
+    (ap (λ p. at_prefix course (phrase_of (state p))) c.in-Phrase.phrase-is
+    ∙ ap (at_prefix course) (sym (inside_Phrase state course c.args.node.now c.in-Phrase.phrase c.in-Phrase.is)))
     (c.first_of_phrase.ensures course (vec_capacity c.args.held.now))
 
 pub first-returns-in-Choice : goal.first-returns-in-Choice
@@ -42,7 +42,7 @@ first-returns-in-Choice g t c =
     let state = g.P.PhraseHits.state in
     let course = c.args.course in
     moved_inside _ _ _ _ _ _ _ _ _ (standing_Choice state course _)
-    (ap (at_front course) (sym (inside_Choice state course c.args.node.now c.in-Choice.fork c.deref_mut.result.now c.in-Choice.is c.deref_mut.ensures.value)))
+    (ap (at_prefix course) (sym (inside_Choice state course c.args.node.now c.in-Choice.fork c.deref_mut.result.now c.in-Choice.is c.deref_mut.ensures.value)))
     c.first_of_fork.ensures
 
 pub first-returns-in-Both : goal.first-returns-in-Both
@@ -50,7 +50,7 @@ first-returns-in-Both g t c =
     let state = g.P.PhraseHits.state in
     let course = c.args.course in
     moved_inside _ _ _ _ _ _ _ _ _ (standing_Both state course _)
-    (ap (at_front course) (sym (inside_Both state course c.args.node.now c.in-Both.pair c.deref_mut-in-Both.result.now c.in-Both.is c.deref_mut-in-Both.ensures.value)))
+    (ap (at_prefix course) (sym (inside_Both state course c.args.node.now c.in-Both.pair c.deref_mut-in-Both.result.now c.in-Both.is c.deref_mut-in-Both.ensures.value)))
     c.first_of_pair.ensures
 
 pub first-returns-in-Negated : goal.first-returns-in-Negated
@@ -59,7 +59,7 @@ first-returns-in-Negated g t c =
     let course = c.args.course in
     let old = c.deref_mut-in-Negated.result.now in
     moved_inside _ _ _ _ _ _ _ _ _ (standing_Negated state course _)
-    (ap (at_front course) (sym (inside_Negated state course c.args.node.now c.in-Negated.negation old c.in-Negated.is c.deref_mut-in-Negated.ensures.value)))
+    (ap (at_prefix course) (sym (inside_Negated state course c.args.node.now c.in-Negated.negation old c.in-Negated.is c.deref_mut-in-Negated.ensures.value)))
     (negation_first course old.there (standing state course old.operand) (vec_capacity c.args.held.now) c.args.steps.now)
 
 pub first-returns-in-Filtered : goal.first-returns-in-Filtered
@@ -67,7 +67,7 @@ first-returns-in-Filtered g t c =
     let state = g.P.PhraseHits.state in
     let course = c.args.course in
     moved_inside _ _ _ _ _ _ _ _ _ (standing_Filtered state course _)
-    (ap (at_front course) (sym (inside_Filtered state course c.args.node.now c.in-Filtered.sieve c.deref_mut-in-Filtered.result.now c.in-Filtered.is c.deref_mut-in-Filtered.ensures.value)))
+    (ap (at_prefix course) (sym (inside_Filtered state course c.args.node.now c.in-Filtered.sieve c.deref_mut-in-Filtered.result.now c.in-Filtered.is c.deref_mut-in-Filtered.ensures.value)))
     c.first_of_sieve.ensures
 
 pub go_on-next_of_fork-requires : goal.go_on-next_of_fork-requires
@@ -218,7 +218,7 @@ first-returns-in-MildNot g t c =
     let state = g.P.PhraseHits.state in
     let course = c.args.course in
     moved_inside _ _ _ _ _ _ _ _ _ (standing_MildNot state course _)
-    (ap (at_front course) (sym (inside_MildNot state course c.args.node.now c.in-MildNot.pair c.deref_mut-in-MildNot.result.now c.in-MildNot.is c.deref_mut-in-MildNot.ensures.value)))
+    (ap (at_prefix course) (sym (inside_MildNot state course c.args.node.now c.in-MildNot.pair c.deref_mut-in-MildNot.result.now c.in-MildNot.is c.deref_mut-in-MildNot.ensures.value)))
     c.first_apart.ensures
 
 pub go_on-next_apart-requires : goal.go_on-next_apart-requires

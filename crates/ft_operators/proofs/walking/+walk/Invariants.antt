@@ -1,4 +1,4 @@
--- The ways that were passed in front of the present one have no way through the filter. Each call goes into an operand, or helps at the same node.
+-- The ways that were passed before the present one have no way through the filter. Each call goes into an operand, or helps at the same node.
 use Rattle.std.proofs.Common.{◌+◌, ◌*◌, length, vec_capacity}
 use Rattle.ft_operators.specs.steps.Apart.{Sifting, Trying}
 use Rattle.ft_operators.specs.steps.Nodes.{standing}

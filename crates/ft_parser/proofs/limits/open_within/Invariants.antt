@@ -5,6 +5,6 @@ use Rattle.ft_parser.proofs.limits.open_within.Given as goal
 
 abbrev pub invariant-loop-placed : goal.invariant-loop-placed
 invariant-loop-placed l = record {
-  told : open_within l.count (drop l.placed-index l.symbols) ≡ open_within l.depth l.symbols;
+  known : open_within l.count (drop l.placed-index l.symbols) ≡ open_within l.depth l.symbols;
   small : l.count ≤ l.depth + l.placed-index;
 }

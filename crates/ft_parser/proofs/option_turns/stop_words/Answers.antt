@@ -1,4 +1,4 @@
--- A first term, behind no others.
+-- A first term, after no others.
 use Rattle.std.proofs.Common.{◌≡◌, [], ◌+◌, true, cond, List, drop, Err, sym, ◌∙◌, ap, subst}
 use Rattle.std.specs.Prelude.{codes, false}
 use Rattle.ft_base.specs.declared.options.StopTerm.{StopTerm}

@@ -1,4 +1,4 @@
--- The selection that is found is one of the list, and behind the last none is left.
+-- The selection that is found is one of the list, and after the last none is left.
 use Rattle.std.proofs.Common.{◌≡◌, List, map, take, ap, sym, ◌∙◌, arith}
 use Rattle.std.proofs.lemmas.List.{take_all}
 use Rattle.std.specs.List.{list_any}

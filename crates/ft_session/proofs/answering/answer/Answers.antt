@@ -1,4 +1,4 @@
--- What is written is of the reply to the command. Where memory runs out in front of the reply, nothing of it was written.
+-- What is written is of the reply to the command. Where memory runs out before the reply, nothing of it was written.
 use Rattle.std.proofs.Common.{◌≡◌, ap, subst}
 use Rattle.std.specs.Prelude.{IfOk, OnOk, OnErr}
 use Rattle.session_text.specs.Replies.{is_refusal, reply_text}

@@ -1,4 +1,4 @@
--- Each reply stands behind those before it.
+-- Each reply stands after those before it.
 use Rattle.std.proofs.Common.{◌∙◌, sym, ap, refl, subst, ◌||◌, ◌+◌, List, drop}
 use Rattle.std.specs.List.{list_any}
 use Rattle.std.proofs.lemmas.Result.{err_from_is_err_and}

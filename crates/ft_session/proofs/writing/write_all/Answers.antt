@@ -1,4 +1,4 @@
--- What a write took stands behind what the writes before it took.
+-- What a write took stands after what the writes before it took.
 use Rattle.std.proofs.Common.{◌∙◌, sym, ap, take, drop, arith}
 use Rattle.std.proofs.Math.Seq.{take-add}
 use Rattle.std.proofs.lemmas.List.{take_rest, take-append-drop}

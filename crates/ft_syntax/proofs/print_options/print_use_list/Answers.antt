@@ -1,4 +1,4 @@
--- The next choice was added behind a comma.
+-- The next choice was added after a comma.
 use Rattle.std.proofs.Common.{◌∷◌, codes, arith}
 use Rattle.ft_base.specs.declared.options.ThesaurusUse.{ThesaurusUse}
 use Rattle.ft_syntax.specs.OptionSymbols.{use_symbols}

@@ -1,4 +1,4 @@
--- The next string was added behind a comma.
+-- The next string was added after a comma.
 use Rattle.std.proofs.Common.{ℕ, List, [], ◌∷◌, codes, arith}
 use Rattle.ft_syntax.specs.OptionSymbols.{string_symbol}
 use Rattle.ft_syntax.proofs.Pages.{next_item}

@@ -13,13 +13,13 @@ use Rattle.ft_syntax.proofs.printing.+print.Goals as goal
 
 pub print-returns-in-Or : goal.print-returns-in-Or
 print-returns-in-Or t c =
-    let told : operands_symbols (codes "ftor") 2 (map form c.in-Or.parts) ≡ symbols (form c.args.selection.now) = or_symbols (map form c.in-Or.parts) ∙ ap symbols (sym (form-Or c.in-Or.parts) ∙ ap form (sym c.in-Or.is)) in
-    subst (λ (s : List Symbol). OnOk c.print_operands.result (c.print_operands.new.out ≡ put_all c.args.out.now s)) told c.print_operands.ensures
+    let known : operands_symbols (codes "ftor") 2 (map form c.in-Or.parts) ≡ symbols (form c.args.selection.now) = or_symbols (map form c.in-Or.parts) ∙ ap symbols (sym (form-Or c.in-Or.parts) ∙ ap form (sym c.in-Or.is)) in
+    subst (λ (s : List Symbol). OnOk c.print_operands.result (c.print_operands.new.out ≡ put_all c.args.out.now s)) known c.print_operands.ensures
 
 pub print-returns-in-And : goal.print-returns-in-And
 print-returns-in-And t c =
-    let told : operands_symbols (codes "ftand") 3 (map form c.in-And.parts) ≡ symbols (form c.args.selection.now) = and_symbols (map form c.in-And.parts) ∙ ap symbols (sym (form-And c.in-And.parts) ∙ ap form (sym c.in-And.is)) in
-    subst (λ (s : List Symbol). OnOk c.print_operands-in-And.result (c.print_operands-in-And.new.out ≡ put_all c.args.out.now s)) told c.print_operands-in-And.ensures
+    let known : operands_symbols (codes "ftand") 3 (map form c.in-And.parts) ≡ symbols (form c.args.selection.now) = and_symbols (map form c.in-And.parts) ∙ ap symbols (sym (form-And c.in-And.parts) ∙ ap form (sym c.in-And.is)) in
+    subst (λ (s : List Symbol). OnOk c.print_operands-in-And.result (c.print_operands-in-And.new.out ≡ put_all c.args.out.now s)) known c.print_operands-in-And.ensures
 
 pub print-returns-in_ok-print_operand-in-MildNot-2 : goal.print-returns-in_ok-print_operand-in-MildNot-2
 print-returns-in_ok-print_operand-in-MildNot-2 t c =

@@ -1,4 +1,4 @@
--- Ascending starts: a start up to the place is counted with all in front of it, and one behind it is not.
+-- Ascending starts: a start up to the place is counted with all before it, and one after it is not.
 use Rattle.std.proofs.Common.{◌<◌, ◌≤◌, ◌+◌, ◌-◌, ◌/◌, ℕ, length, get_or, subst, arith}
 use Rattle.index_cursors.proofs.AscendingLemmas.{up_to-holds, up_to-fails, count-few}
 use Rattle.index_cursors.proofs.break_view.started_at.Goals as goal

@@ -1,4 +1,4 @@
--- Behind the last place, and at one behind the span, no place is left.
+-- After the last place, and at one after the span, no place is left.
 use Rattle.std.proofs.Common.{◌<◌, ◌≤◌, length, get_or, Some, ap, subst, ◌∙◌, arith}
 use Rattle.index_cursors.proofs.CursorLemmas.{first-past, first-end, first-place}
 use Rattle.index_cursors.proofs.cursor.place_at.Goals as goal
@@ -9,8 +9,8 @@ returns-then-at-len-clause-place c = first-past c.args.end c.args.at c.args.plac
 pub returns-then-place-end-clause-place : goal.returns-then-place-end-clause-place
 returns-then-place-end-clause-place c =
     let there : c.args.at < length c.args.places.now = omega (arith, c.if-at-len.false, c.len.ensures.len) in
-    let behind : c.args.end ≤ get_or c.args.places.now c.args.at 0 = subst (λ n. c.args.end ≤ n) c.get-place.ensures c.if-place-end.true in
-    first-end c.args.end c.args.at c.args.places.now there behind
+    let after : c.args.end ≤ get_or c.args.places.now c.args.at 0 = subst (λ n. c.args.end ≤ n) c.get-place.ensures c.if-place-end.true in
+    first-end c.args.end c.args.at c.args.places.now there after
 
 pub returns-clause-place : goal.returns-clause-place
 returns-clause-place c =

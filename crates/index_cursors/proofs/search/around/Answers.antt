@@ -1,4 +1,4 @@
--- The place in front of where the search begins tells which way it goes.
+-- The place before where the search begins tells which way it goes.
 use Rattle.std.proofs.Common.{◌<◌, ◌≤◌, ◌-◌, length, get_or, subst, arith}
 use Rattle.index_cursors.proofs.AscendingLemmas.{below-holds, below-fails}
 use Rattle.index_cursors.proofs.search.around.Goals as goal

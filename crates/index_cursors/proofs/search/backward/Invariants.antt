@@ -1,4 +1,4 @@
--- So many places at most are in front of the position.
+-- So many places at most are before the position.
 use Rattle.std.proofs.Common.{◌≤◌}
 use Rattle.index_cursors.specs.SpanHits.{below}
 use Rattle.index_cursors.proofs.search.backward.Given as goal

@@ -1,4 +1,4 @@
--- Ascending places: one in front of the position is counted with all in front of it, and another is not.
+-- Ascending places: one before the position is counted with all before it, and another is not.
 use Rattle.std.proofs.Common.{◌<◌, ◌≤◌, ◌+◌, ◌-◌, ◌/◌, ℕ, length, get_or, subst, arith}
 use Rattle.index_cursors.proofs.AscendingLemmas.{below-holds, below-fails}
 use Rattle.index_cursors.proofs.search.between.Goals as goal

@@ -1,4 +1,4 @@
--- Where the last place is in front of the position, all are.
+-- Where the last place is before the position, all are.
 use Rattle.std.proofs.Common.{◌<◌, ◌-◌, length, get_or, subst, arith}
 use Rattle.std.specs.Prelude.{nat_lt}
 use Rattle.std.proofs.lemmas.List.Sums.{count_by-le-length}

@@ -1,4 +1,4 @@
--- A place in front of the position moves the search on, and another ends its steps.
+-- A place before the position moves the search on, and another ends its steps.
 use Rattle.std.proofs.Common.{◌<◌, ◌≤◌, ◌+◌, ◌-◌, ℕ, length, get_or, arith}
 use Rattle.index_cursors.proofs.AscendingLemmas.{below-holds, below-fails}
 use Rattle.index_cursors.proofs.search.forward.Goals as goal

@@ -2,7 +2,7 @@
 use Rattle.std.proofs.Common.{◌≡◌, sym, ap, length, arith}
 use Rattle.std.proofs.lemmas.Bool.{true≢false}
 use Rattle.index_meaning.specs.Documents.{Document}
-use Rattle.ordered_tree.specs.Leaves.{leaves_behind}
+use Rattle.ordered_tree.specs.Leaves.{leaves_after}
 use Rattle.index_updates.specs.Follows.{tree_document}
 use Rattle.index_updates.proofs.examples.followed_trees.Goals as goal
 
@@ -10,7 +10,7 @@ pub returns-clause-other_number : goal.returns-clause-other_number
 returns-clause-other_number c = λ f. true≢false (sym f.there)
 
 pub returns-clause-other_leaves : goal.returns-clause-other_leaves
-unfolding tree_document leaves_behind
+unfolding tree_document leaves_after
 returns-clause-other_leaves c = λ f.
     let one : 1 ≡ 0 = ap (λ (d : Document). length d.leaves) f.document in
     omega (arith, one)

@@ -1,4 +1,4 @@
--- In front of the document that stands there are as many as its place says.
+-- Before the document that stands there are as many as its place says.
 use Rattle.std.proofs.Common.{sym, ◌∙◌}
 use Rattle.index_versions.specs.steps.Held.{numbers}
 use Rattle.index_versions.proofs.LikelyLemmas.{Standing, standing, below-at}

@@ -19,9 +19,9 @@ pub returns-clause-none : goal.returns-clause-none
 unfolding digits
 returns-clause-none c = refl
 
-pub returns-clause-a_zero_in_front : goal.returns-clause-a_zero_in_front
+pub returns-clause-a_zero_before : goal.returns-clause-a_zero_before
 unfolding digits
-returns-clause-a_zero_in_front c = refl
+returns-clause-a_zero_before c = refl
 
 pub returns-clause-a_plus : goal.returns-clause-a_plus
 unfolding digits
@@ -35,9 +35,9 @@ pub returns-clause-no_word : goal.returns-clause-no_word
 unfolding digits
 returns-clause-no_word c = refl
 
-pub returns-clause-behind : goal.returns-clause-behind
+pub returns-clause-after : goal.returns-clause-after
 unfolding digits
-returns-clause-behind c = refl
+returns-clause-after c = refl
 
 pub returns-clause-another : goal.returns-clause-another
 unfolding digits

@@ -1,4 +1,4 @@
--- One document more, and the commands behind all of them.
+-- One document more, and the commands after all of them.
 use Rattle.std.proofs.Common.{◌≡◌, ◌-◌, ◌++◌, ap, sym, ◌∙◌, arith}
 use Rattle.std.specs.Prelude.{flat_map}
 use Rattle.std.specs.List.{range_with_len}

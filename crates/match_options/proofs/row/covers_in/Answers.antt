@@ -10,12 +10,12 @@ pub loop-passed-preserved : goal.loop-passed-preserved
 loop-passed-preserved c =
     subst (λ (atoms : List Atom). IsRow c.pass.new.row atoms (chars c.args.text.now))
     (from_end c.args.atoms.now (length c.args.atoms.now) c.loop-passed.passed (Letter 0) refl c.loop-passed-test.true)
-    (c.pass.ensures.told (drop (length c.args.atoms.now - c.loop-passed.passed) c.args.atoms.now) c.loop-passed.invariant)
+    (c.pass.ensures.known (drop (length c.args.atoms.now - c.loop-passed.passed) c.args.atoms.now) c.loop-passed.invariant)
 
 pub returns-then-not-some_place : goal.returns-then-not-some_place
 returns-then-not-some_place c =
     sym (stopped c.pass.new.row c.args.atoms.now (chars c.args.text.now) (length c.args.atoms.now - (c.loop-passed.passed + 1))
     (subst (λ (atoms : List Atom). IsRow c.pass.new.row atoms (chars c.args.text.now))
     (from_end c.args.atoms.now (length c.args.atoms.now) c.loop-passed.passed (Letter 0) refl c.loop-passed-test.true)
-    (c.pass.ensures.told (drop (length c.args.atoms.now - c.loop-passed.passed) c.args.atoms.now) c.loop-passed.invariant))
+    (c.pass.ensures.known (drop (length c.args.atoms.now - c.loop-passed.passed) c.args.atoms.now) c.loop-passed.invariant))
     (sym c.some_place.ensures ∙ c.if-not-some_place.true))

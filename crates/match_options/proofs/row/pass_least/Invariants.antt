@@ -1,4 +1,4 @@
--- The places so far were moved, and those behind them stand as before.
+-- The places so far were moved, and those after them stand as before.
 use Rattle.std.proofs.Common.{◌≡◌, ◌+◌, ◌<◌, ◌≤◌, ℕ, length}
 use Rattle.match_options.specs.steps.Row.{at_place}
 use Rattle.match_options.proofs.row.pass_least.Given as goal

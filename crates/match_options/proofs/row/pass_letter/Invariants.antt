@@ -1,4 +1,4 @@
--- The places so far were passed, those behind them stand as before, and the rest of the text stands behind them.
+-- The places so far were passed, those after them stand as before, and the rest of the text stands after them.
 use Rattle.std.proofs.Common.{◌≡◌, ◌+◌, ◌<◌, ◌≤◌, ◌&&◌, ℕ, length, drop, chars, IsUtf8, get_or}
 use Rattle.std.specs.Prelude.{◌==◌}
 use Rattle.std.specs.Str.Iter.{chars_rest}
@@ -10,6 +10,6 @@ invariant-loop-place l = record {
   size : length l.row ≡ length l.fn.row;
   text : IsUtf8 (chars_rest l.rest);
   here : chars (chars_rest l.rest) ≡ drop l.place (chars l.text);
-  told : (place : ℕ) → place < l.place → at_place l.row place ≡ ((l.letter == get_or (chars l.text) place l.letter) && at_place l.fn.row (place + 1));
+  known : (place : ℕ) → place < l.place → at_place l.row place ≡ ((l.letter == get_or (chars l.text) place l.letter) && at_place l.fn.row (place + 1));
   left : (place : ℕ) → l.place ≤ place → at_place l.row place ≡ at_place l.fn.row place;
 }

@@ -31,8 +31,8 @@ loop-passed-preserved c =
       size = length-set row place c.is_reached.result ∙ size;
       few = rw c.one_before-far.ensures (few_more (at_place row place) c.loop-passed.far passed c.loop-passed.invariant.few);
       far = far_is ∙ ap (λ n. nearest (drop n old)) at;
-      told = λ p more. end_told (λ q. reaches c.args.low c.args.high (drop q old)) old row place c.is_reached.result before_row is
-          (λ q behind. c.loop-passed.invariant.told q (omega (arith, behind, next))) p (omega (arith, more, at));
+      known = λ p more. end_told (λ q. reaches c.args.low c.args.high (drop q old)) old row place c.is_reached.result before_row is
+          (λ q suffix. c.loop-passed.invariant.known q (omega (arith, suffix, next))) p (omega (arith, more, at));
       left = λ p less. end_left (λ q. reaches c.args.low c.args.high (drop q old)) old row place c.is_reached.result before_row is
           (λ q prefix. c.loop-passed.invariant.left q (omega (arith, prefix, next))) p (omega (arith, less, at));
     }

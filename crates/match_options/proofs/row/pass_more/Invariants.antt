@@ -8,6 +8,6 @@ invariant-loop-passed l = record {
   size : length l.row ≡ length l.fn.row;
   few : l.far ≤ l.passed;
   far : l.far ≡ nearest (drop (length l.fn.row - l.passed) l.fn.row);
-  told : (place : ℕ) → length l.fn.row - l.passed ≤ place → at_place l.row place ≡ reaches l.low l.high (drop place l.fn.row);
+  known : (place : ℕ) → length l.fn.row - l.passed ≤ place → at_place l.row place ≡ reaches l.low l.high (drop place l.fn.row);
   left : (place : ℕ) → place < length l.fn.row - l.passed → at_place l.row place ≡ at_place l.fn.row place;
 }

@@ -1,4 +1,4 @@
--- Nothing is left behind the last part.
+-- Nothing is left after the last part.
 use Rattle.std.proofs.Common.{◌++◌, [], sym, ap, ◌∙◌, arith}
 use Rattle.std.proofs.lemmas.List.{drop_all}
 use Rattle.match_options.specs.steps.PartsLeft.{parts_left}

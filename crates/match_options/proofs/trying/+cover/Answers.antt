@@ -19,13 +19,13 @@ gap_covers-loop-count-init t c = record {
   text = subst IsUtf8 (sym c.chars-rest.ensures.rest) c.requires.0.1.1.1.1.0;
   here = ap chars c.chars-rest.ensures.rest;
   within = omega arith;
-  told = from_none c.args.low c.args.high (drop c.args.next c.args.atoms.now) (chars c.args.text.now);
+  known = from_none c.args.low c.args.high (drop c.args.next c.args.atoms.now) (chars c.args.text.now);
 }
 
 pub gap_covers-returns-then-so_many_covers : goal.gap_covers-returns-then-so_many_covers
 gap_covers-returns-then-so_many_covers t c =
     this_count c.args.low c.args.high (drop c.args.next c.args.atoms.now) (chars c.args.text.now) c.loop-count.count (chars (chars_rest c.loop-count.rest)) c.loop-count.invariant.within c.loop-count.invariant.here (ap (λ s. fits_gap c.args.low c.args.high c.loop-count.count && covers (drop c.args.next c.args.atoms.now) (chars s)) (sym c.as_str.ensures) ∙ sym c.so_many_covers.ensures ∙ c.if-so_many_covers.true)
-    ∙ c.loop-count.invariant.told
+    ∙ c.loop-count.invariant.known
 
 pub gap_covers-returns-in_default : goal.gap_covers-returns-in_default
 gap_covers-returns-in_default t c =
@@ -33,7 +33,7 @@ gap_covers-returns-in_default t c =
     let left = ap length (sym c.loop-count.invariant.here ∙ none) in
     sym (past_counts c.args.low c.args.high (drop c.args.next c.args.atoms.now) (chars c.args.text.now) (c.loop-count.count + 1) (omega (arith, left, length-drop c.loop-count.count (chars c.args.text.now))))
     ∙ sym (next_count c.args.low c.args.high (drop c.args.next c.args.atoms.now) (chars c.args.text.now) c.loop-count.count (chars (chars_rest c.loop-count.rest)) c.loop-count.invariant.within c.loop-count.invariant.here (ap (λ s. fits_gap c.args.low c.args.high c.loop-count.count && covers (drop c.args.next c.args.atoms.now) (chars s)) (sym c.as_str.ensures) ∙ sym c.so_many_covers.ensures ∙ c.if-so_many_covers.false))
-    ∙ c.loop-count.invariant.told
+    ∙ c.loop-count.invariant.known
 
 pub gap_covers-loop-count-preserved : goal.gap_covers-loop-count-preserved
 gap_covers-loop-count-preserved t c =
@@ -42,7 +42,7 @@ gap_covers-loop-count-preserved t c =
       text = IsUtf8-past_char (chars_rest c.loop-count.rest) (chars_rest c.next.new.self) c.in-Some._letter c.loop-count.invariant.text c.in-Some.ensures.steps.0;
       here = passed.0;
       within = passed.1;
-      told = sym (next_count c.args.low c.args.high (drop c.args.next c.args.atoms.now) (chars c.args.text.now) c.loop-count.count (chars (chars_rest c.loop-count.rest)) c.loop-count.invariant.within c.loop-count.invariant.here (ap (λ s. fits_gap c.args.low c.args.high c.loop-count.count && covers (drop c.args.next c.args.atoms.now) (chars s)) (sym c.as_str.ensures) ∙ sym c.so_many_covers.ensures ∙ c.if-so_many_covers.false)) ∙ c.loop-count.invariant.told;
+      known = sym (next_count c.args.low c.args.high (drop c.args.next c.args.atoms.now) (chars c.args.text.now) c.loop-count.count (chars (chars_rest c.loop-count.rest)) c.loop-count.invariant.within c.loop-count.invariant.here (ap (λ s. fits_gap c.args.low c.args.high c.loop-count.count && covers (drop c.args.next c.args.atoms.now) (chars s)) (sym c.as_str.ensures) ∙ sym c.so_many_covers.ensures ∙ c.if-so_many_covers.false)) ∙ c.loop-count.invariant.known;
     }
 
 pub gap_covers-returns-in-Some : goal.gap_covers-returns-in-Some

@@ -1,4 +1,4 @@
--- No smaller number of characters serves, and the rest is what stands behind so many.
+-- No smaller number of characters serves, and the rest is what stands after so many.
 use Rattle.std.proofs.Common.{◌≡◌, ◌∷◌, ◌≤◌, ◌-◌, ◌*◌, ◌+◌, length, drop, chars, IsUtf8}
 use Rattle.std.specs.Str.Iter.{chars_rest}
 use Rattle.match_options.specs.declared.atom.Atom.TheVariants.{Gap}
@@ -23,5 +23,5 @@ invariant-gap_covers-loop-count l = record {
   text : IsUtf8 (chars_rest l.rest);
   here : chars (chars_rest l.rest) ≡ drop l.count (chars l.text);
   within : l.count ≤ length (chars l.text);
-  told : from_count l.low l.high (drop l.next l.atoms) (chars l.text) l.count ≡ covers (Gap l.low l.high ∷ drop l.next l.atoms) (chars l.text);
+  known : from_count l.low l.high (drop l.next l.atoms) (chars l.text) l.count ≡ covers (Gap l.low l.high ∷ drop l.next l.atoms) (chars l.text);
 }

@@ -1,4 +1,4 @@
--- Nothing is left behind the last run.
+-- Nothing is left after the last run.
 use Rattle.std.proofs.Common.{◌++◌, sym, ap, ◌∙◌, map, arith}
 use Rattle.std.proofs.lemmas.List.{drop_all}
 use Rattle.match_options.specs.declared.atom.Atom.TheVariants.{Letter}

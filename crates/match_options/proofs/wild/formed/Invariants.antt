@@ -1,4 +1,4 @@
--- The atoms so far, and what is left behind the letters of a run, are all.
+-- The atoms so far, and what is left after the letters of a run, are all.
 use Rattle.std.proofs.Common.{◌≡◌, ◌++◌, [], drop}
 use Rattle.match_options.specs.Wildcards.{formed, form_by}
 use Rattle.match_options.proofs.wild.formed.Given as goal

@@ -41,14 +41,14 @@ pass_nodes-loop-link-preserved t c =
     let old = c.loop-link.starts in
     let new = c.pass_node.new.starts in
     let one : Passes old (parts (plain st.n)) new = subst (λ n. Passes old (parts (plain n)) new) (node_at-is slots c.in-Some.here st) c.in_ok-pass_node.ensures.passed in
-    let front : parts_of (plain_children (row slots link)) ≡ parts (plain st.n) ++ parts_of (plain_children st.ns) =
+    let prefix : parts_of (plain_children (row slots link)) ≡ parts (plain st.n) ++ parts_of (plain_children st.ns) =
     ap (λ ns. parts_of (plain_children ns)) all ∙ parts_of-then (plain st.n) (plain_children st.ns) in
     record {
       left = left-next slots link c.in-Some.here left c.in-Some.is s c.get-slot.ensures;
-      sentences = λ rest. c.loop-link.invariant.sentences rest ∙ ap (λ ps. sentences_in old (ps ++ rest)) front
+      sentences = λ rest. c.loop-link.invariant.sentences rest ∙ ap (λ ps. sentences_in old (ps ++ rest)) prefix
           ∙ ap (sentences_in old) (append_assoc (parts (plain st.n)) (parts_of (plain_children st.ns)) rest) ∙ one.sentences (parts_of (plain_children st.ns) ++ rest)
           ∙ ap (λ ns. sentences_in new (parts_of (plain_children ns) ++ rest)) (sym rest-is);
-      paragraphs = λ rest. c.loop-link.invariant.paragraphs rest ∙ ap (λ ps. paragraphs_in old (ps ++ rest)) front
+      paragraphs = λ rest. c.loop-link.invariant.paragraphs rest ∙ ap (λ ps. paragraphs_in old (ps ++ rest)) prefix
           ∙ ap (paragraphs_in old) (append_assoc (parts (plain st.n)) (parts_of (plain_children st.ns)) rest) ∙ one.paragraphs (parts_of (plain_children st.ns) ++ rest)
           ∙ ap (λ ns. paragraphs_in new (parts_of (plain_children ns) ++ rest)) (sym rest-is);
       few = c.pass_node.ensures.few;

@@ -1,4 +1,4 @@
--- Each free slot gets the link to those behind it.
+-- Each free slot gets the link to those after it.
 use Rattle.std.proofs.Common.{◌≡◌, ◌+◌, ◌-◌, sym, ap, ◌∙◌, arith}
 use Rattle.ordered_tree.specs.declared.slot.Slot.{Slot}
 use Rattle.ordered_tree.specs.steps.FreeSlots.{is_free}

@@ -2,11 +2,11 @@
 use Rattle.std.proofs.Common.{◌≡◌, ℕ, [], ◌∷◌, ◌++◌, length, sym, ap, ap₂, ◌∙◌, subst, arith, append_assoc, append-nil, OnOk, IfOk}
 use Rattle.doc_grammar.specs.Limits.{nodes_count}
 use Rattle.tokenizer.specs.Words.{words}
-use Rattle.ordered_tree.specs.Leaves.{texts, texts_of, leaf_of, leaves_behind, last_leaf}
+use Rattle.ordered_tree.specs.Leaves.{texts, texts_of, leaf_of, leaves_after, last_leaf}
 use Rattle.ordered_tree.specs.Numbered.{plain_children, no_children, child_then}
 use Rattle.ordered_tree.specs.Slots.{IsRow, held, row, node_at}
 use Rattle.ordered_tree.specs.declared.slot.Held.TheVariants.{Element, Text}
-use Rattle.ordered_tree.proofs.LeavesLemmas.{leaves_behind-append, last_leaf-append, leaves_behind-nil, last_leaf-nil, texts-element, texts-text}
+use Rattle.ordered_tree.proofs.LeavesLemmas.{leaves_after-append, last_leaf-append, leaves_after-nil, last_leaf-nil, texts-element, texts-text}
 use Rattle.ordered_tree.proofs.RowLemmas.{Step, step, step-link, row-link, row-next, left-next, smaller-next, held-here, row-here, inner-here, smaller-here, node_at-is}
 use Rattle.ordered_tree.proofs.SlotsLemmas.{from_link-none}
 use Rattle.ordered_tree.specs.steps.Parts.{slot_of}
@@ -39,11 +39,11 @@ add_all_leaves-loop-link-preserved t c =
     let last : c.in_ok-before.before ≡ last_leaf before (texts st.n) = c.in_ok-before.ensures.last ∙ ap (last_leaf before) one in
     record {
       left = left-next slots link c.in-Some.here left c.in-Some.is s c.get.ensures;
-      done = ap₂ (λ l ns. l ++ leaves_behind c.in_ok-before.before (texts_of ns)) (c.in_ok-before.ensures.leaves ∙ ap (λ ts. c.loop-link.leaves ++ leaves_behind before ts) one) rest
-          ∙ ap (λ b. (c.loop-link.leaves ++ leaves_behind before (texts st.n)) ++ leaves_behind b (texts_of st.ns)) last
-          ∙ append_assoc c.loop-link.leaves (leaves_behind before (texts st.n)) _
-          ∙ ap (λ l. c.loop-link.leaves ++ l) (sym (leaves_behind-append (texts st.n) (texts_of st.ns) before))
-          ∙ ap (λ ns. c.loop-link.leaves ++ leaves_behind before (texts_of ns)) (sym all)
+      done = ap₂ (λ l ns. l ++ leaves_after c.in_ok-before.before (texts_of ns)) (c.in_ok-before.ensures.leaves ∙ ap (λ ts. c.loop-link.leaves ++ leaves_after before ts) one) rest
+          ∙ ap (λ b. (c.loop-link.leaves ++ leaves_after before (texts st.n)) ++ leaves_after b (texts_of st.ns)) last
+          ∙ append_assoc c.loop-link.leaves (leaves_after before (texts st.n)) _
+          ∙ ap (λ l. c.loop-link.leaves ++ l) (sym (leaves_after-append (texts st.n) (texts_of st.ns) before))
+          ∙ ap (λ ns. c.loop-link.leaves ++ leaves_after before (texts_of ns)) (sym all)
           ∙ c.loop-link.invariant.done;
       last = ap₂ (λ b ns. last_leaf b (texts_of ns)) last rest
           ∙ sym (last_leaf-append (texts st.n) (texts_of st.ns) before)
@@ -56,8 +56,8 @@ pub add_all_leaves-returns-clause-leaves : goal.add_all_leaves-returns-clause-le
 add_all_leaves-returns-clause-leaves t c =
     let slots = c.args.slots.now in
     let none : row slots c.loop-link.link ≡ no_children = ap (row slots) c.in_default.is ∙ from_link-none slots (length slots) in
-    sym (append-nil c.loop-link.leaves) ∙ ap (λ l. c.loop-link.leaves ++ l) (sym (leaves_behind-nil c.loop-link.before))
-    ∙ ap (λ ns. c.loop-link.leaves ++ leaves_behind c.loop-link.before (texts_of ns)) (sym none) ∙ c.loop-link.invariant.done
+    sym (append-nil c.loop-link.leaves) ∙ ap (λ l. c.loop-link.leaves ++ l) (sym (leaves_after-nil c.loop-link.before))
+    ∙ ap (λ ns. c.loop-link.leaves ++ leaves_after c.loop-link.before (texts_of ns)) (sym none) ∙ c.loop-link.invariant.done
 
 pub add_all_leaves-returns-clause-last : goal.add_all_leaves-returns-clause-last
 add_all_leaves-returns-clause-last t c =
@@ -87,11 +87,11 @@ text-is t c =
     ap texts (node_at-is slots c.args.here st) ∙ texts-text st.n c.in-Text.text is ∙ ap (λ r. (r, c.in-Text.text) ∷ []) st.refers
 
 pub add_leaves-returns-in_ok-push_leaf-in-Text-clause-leaves : goal.add_leaves-returns-in_ok-push_leaf-in-Text-clause-leaves
-unfolding leaves_behind
+unfolding leaves_after
 add_leaves-returns-in_ok-push_leaf-in-Text-clause-leaves t c =
     c.in_ok-push_leaf-in-Text.ensures
     ∙ ap (λ b. c.args.leaves.now ++ record { leaf = leaf_of c.args.here; after = c.args.last; words = words b } ∷ []) c.as_str.ensures
-    ∙ ap (λ ts. c.args.leaves.now ++ leaves_behind c.args.last ts) (sym (text-is t c))
+    ∙ ap (λ ts. c.args.leaves.now ++ leaves_after c.args.last ts) (sym (text-is t c))
 
 pub add_leaves-returns-in_ok-push_leaf-in-Text-clause-last : goal.add_leaves-returns-in_ok-push_leaf-in-Text-clause-last
 unfolding last_leaf
@@ -107,7 +107,7 @@ element-is t c =
 
 pub add_leaves-returns-in-Element-clause-leaves : goal.add_leaves-returns-in-Element-clause-leaves
 add_leaves-returns-in-Element-clause-leaves t c =
-    subst (λ ts. OnOk c.add_all_leaves.result (c.add_all_leaves.new.leaves ≡ c.args.leaves.now ++ leaves_behind c.args.last ts)) (element-is t c) c.add_all_leaves.ensures.leaves
+    subst (λ ts. OnOk c.add_all_leaves.result (c.add_all_leaves.new.leaves ≡ c.args.leaves.now ++ leaves_after c.args.last ts)) (element-is t c) c.add_all_leaves.ensures.leaves
 
 pub add_leaves-returns-in-Element-clause-last : goal.add_leaves-returns-in-Element-clause-last
 add_leaves-returns-in-Element-clause-last t c =

@@ -1,7 +1,7 @@
 -- The leaves that are done, then those of the nodes that are left, are all; each call is for fewer nodes.
 use Rattle.std.proofs.Common.{◌≡◌, ◌+◌, ◌*◌, ◌≤◌, ◌++◌, Some}
 use Rattle.doc_grammar.specs.Limits.{nodes_count}
-use Rattle.ordered_tree.specs.Leaves.{texts_of, leaves_behind, last_leaf}
+use Rattle.ordered_tree.specs.Leaves.{texts_of, leaves_after, last_leaf}
 use Rattle.ordered_tree.specs.Numbered.{plain_children}
 use Rattle.ordered_tree.specs.Slots.{IsRow, row}
 use Rattle.ordered_tree.proofs.leaves.+leaves.Given as goal
@@ -18,7 +18,7 @@ decreases-add_all_leaves-loop-link l = nodes_count (plain_children (row l.slots 
 abbrev pub invariant-add_all_leaves-loop-link : goal.invariant-add_all_leaves-loop-link
 invariant-add_all_leaves-loop-link l = record {
   left : IsRow l.slots l.link;
-  done : l.leaves ++ leaves_behind l.before (texts_of (row l.slots l.link)) ≡ l.fn.leaves ++ leaves_behind l.fn.last (texts_of (row l.slots l.fn.first));
+  done : l.leaves ++ leaves_after l.before (texts_of (row l.slots l.link)) ≡ l.fn.leaves ++ leaves_after l.fn.last (texts_of (row l.slots l.fn.first));
   last : last_leaf l.before (texts_of (row l.slots l.link)) ≡ last_leaf l.fn.last (texts_of (row l.slots l.fn.first));
   fewer : nodes_count (plain_children (row l.slots l.link)) ≤ nodes_count (plain_children (row l.slots l.fn.first));
 }

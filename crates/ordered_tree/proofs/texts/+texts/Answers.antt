@@ -34,13 +34,13 @@ add_all_texts-loop-link-preserved t c =
     let st = step-link slots link c.in-Some.here left c.in-Some.is s c.get-slot.ensures in
     let rest : row slots s.around.next ≡ st.ns = row-next slots link c.in-Some.here left c.in-Some.is s c.get-slot.ensures in
     let all : row slots link ≡ child_then st.n st.ns = row-link slots link c.in-Some.here left c.in-Some.is s c.get-slot.ensures in
-    let front = map text_of c.loop-link.list.items in
+    let prefix = map text_of c.loop-link.list.items in
     let one : texts (node_at slots c.in-Some.here) ≡ texts st.n = ap texts (node_at-is slots c.in-Some.here st) in
     record {
       left = left-next slots link c.in-Some.here left c.in-Some.is s c.get-slot.ensures;
-      done = ap₂ (λ l ns. l ++ texts_of ns) (c.in_ok-add_texts.ensures ∙ ap (λ ts. front ++ ts) one) rest
-          ∙ append_assoc front (texts st.n) (texts_of st.ns)
-          ∙ ap (λ ns. front ++ texts_of ns) (sym all)
+      done = ap₂ (λ l ns. l ++ texts_of ns) (c.in_ok-add_texts.ensures ∙ ap (λ ts. prefix ++ ts) one) rest
+          ∙ append_assoc prefix (texts st.n) (texts_of st.ns)
+          ∙ ap (λ ns. prefix ++ texts_of ns) (sym all)
           ∙ c.loop-link.invariant.done;
       fewer = omega (arith, c.loop-link.invariant.fewer, ap (λ ns. nodes_count (plain_children ns)) rest, ap (λ ns. nodes_count (plain_children ns)) all);
     }
@@ -48,9 +48,9 @@ add_all_texts-loop-link-preserved t c =
 pub add_all_texts-returns : goal.add_all_texts-returns
 add_all_texts-returns t c =
     let slots = c.args.slots.now in
-    let front = map text_of c.loop-link.list.items in
+    let prefix = map text_of c.loop-link.list.items in
     let none : row slots c.loop-link.link ≡ no_children = ap (row slots) c.in_default.is ∙ from_link-none slots (length slots) in
-    sym (append-nil front) ∙ ap (λ ns. front ++ texts_of ns) (sym none) ∙ c.loop-link.invariant.done
+    sym (append-nil prefix) ∙ ap (λ ns. prefix ++ texts_of ns) (sym none) ∙ c.loop-link.invariant.done
 
 -- ---- add_texts
 
@@ -64,15 +64,15 @@ pub add_texts-returns-in_ok-push-in-Text : goal.add_texts-returns-in_ok-push-in-
 add_texts-returns-in_ok-push-in-Text t c =
     let slots = c.args.slots.now in
     let s = (slot_of c.args.slot) in
-    let front = map text_of c.args.list.now.items in
+    let prefix = map text_of c.args.list.now.items in
     let st : Step slots c.args.here = step slots c.args.here c.requires.row in
     let is : held st.n ≡ Text c.in-Text.text = held-here slots c.args.here c.requires.row s c.requires.slot (Text c.in-Text.text) c.in-Text.is in
     let one : texts (node_at slots c.args.here) ≡ (c.args.here, c.in-Text.text) ∷ [] =
     ap texts (node_at-is slots c.args.here st) ∙ texts-text st.n c.in-Text.text is ∙ ap (λ r. (r, c.in-Text.text) ∷ []) st.refers in
     ap (map text_of) c.in_ok-push-in-Text.ensures.items
     ∙ map-append text_of c.args.list.now.items (record { node = c.args.here; text = c.as_str.result } ∷ [])
-    ∙ ap (λ b. front ++ (c.args.here, b) ∷ []) c.as_str.ensures
-    ∙ ap (λ ts. front ++ ts) (sym one)
+    ∙ ap (λ b. prefix ++ (c.args.here, b) ∷ []) c.as_str.ensures
+    ∙ ap (λ ts. prefix ++ ts) (sym one)
 
 pub add_texts-returns-in-Element : goal.add_texts-returns-in-Element
 add_texts-returns-in-Element t c =

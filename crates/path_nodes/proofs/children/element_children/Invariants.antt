@@ -1,4 +1,4 @@
--- The children in front of the link were read; those behind it are fewer each time.
+-- The children before the link were read; those after it are fewer each time.
 use Rattle.path_nodes.specs.References.{element_of}
 use Rattle.path_nodes.proofs.ChildrenLemmas.{Reading, left}
 use Rattle.path_nodes.proofs.children.element_children.Given as goal

@@ -26,7 +26,7 @@ use Rattle.path_nodes.specs.Says.{Meaning, satisfied}
 use Rattle.path_nodes.specs.steps.Within.{AtOrBelow}
 use Rattle.path_nodes.proofs.AskedLemmas.{step-is, of-step, nth-step, nth-predicate, nth-condition}
 use Rattle.path_nodes.proofs.ChosenLemmas.{within-base, chosen-inside, parents-inside, all-refs, of-document, stepped-is}
-use Rattle.path_nodes.proofs.FrontLemmas.{front-itself}
+use Rattle.path_nodes.proofs.PrefixLemmas.{prefix-itself}
 use Rattle.path_nodes.proofs.LeadingLemmas.{in-step, steps-from, predicates-from, conditions-from, stand-first, stand-next, stand-itself, stand-inside}
 use Rattle.path_nodes.proofs.MemberLemmas.{or-cases, same-offered, same-inside}
 use Rattle.path_nodes.proofs.OfferedLemmas.{in-one-pass, one-pass-price}
@@ -157,10 +157,10 @@ module _ (root : Numbered) (m : Meaning) (k : ℕ) (e : Element) (steps : List d
   unfolding meaning.led steps_tests
   itself-price =
       let tested : List Element → ℕ = λ es. price.price_of root m (each_tested k es) in
-      let spent : List declared.Step → ℕ = λ l. price.steps_price root m (form.steps (map view.step l)) (e ∷ []) in
+      let cost_of : List declared.Step → ℕ = λ l. price.steps_price root m (form.steps (map view.step l)) (e ∷ []) in
       let found : List declared.Step → List Element = λ l. meaning.led (satisfied root m) (elements (plain root)) (form.steps (map view.step l)) (e ∷ []) in
-      let free : spent [] ≡ 0 = price-none root m in
-      let all : spent steps + tested (found steps) ≡ spent [] + tested (e ∷ []) = ap (λ l. spent l + tested (found l)) none in
+      let free : cost_of [] ≡ 0 = price-none root m in
+      let all : cost_of steps + tested (found steps) ≡ cost_of [] + tested (e ∷ []) = ap (λ l. cost_of l + tested (found l)) none in
       omega (arith, free, all)
 
 pub contains_text-returns-then-is_empty-clause-truth : goal.contains_text-returns-then-is_empty-clause-truth
@@ -237,7 +237,7 @@ joined-loop-condition-preserved g t c =
       left = undecided (satisfied root m) (elements (plain root)) e c.args.deciding items i d c.loop-condition-test.true c.in_ok-is_true.field-0 says c.if-branch-deciding.false ∙ c.loop-condition.invariant.left;
       meaning = c.is_true.ensures.meaning ∙ c.loop-condition.invariant.meaning;
       path = c.is_true.ensures.path ∙ c.loop-condition.invariant.path;
-      numbered = stand-next _ _ _ (conditions-from items i d c.loop-condition-test.true) _ _ c.loop-condition.invariant.numbered _ (rw c.condition-item.is at c.in_ok-behind.ensures);
+      numbered = stand-next _ _ _ (conditions-from items i d c.loop-condition-test.true) _ _ c.loop-condition.invariant.numbered _ (rw c.condition-item.is at c.in_ok-after.ensures);
       known = rw (c.loop-condition.invariant.meaning, c.loop-condition.invariant.path) at c.in_ok-is_true.ensures.known;
       cost = cost-next _ _ _ _ _ _ (rw (c.loop-condition.invariant.meaning, c.condition-item.is) at c.is_true.ensures.cost) c.loop-condition.invariant.cost (conditions-next root m items i d c.loop-condition-test.true e);
     }
@@ -271,7 +271,7 @@ led_from-led-requires g t c κs within =
     let P = IsElement root in
     let Q : NodeRef → Type 0 = λ r. AtOrBelow (element_of root item) (element_of root r) in
     let there = All-cons P item [] c.requires.item (All-nil P) in
-    let inside = All-cons Q item [] (front-itself (element_of root item).place) (All-nil Q) in
+    let inside = All-cons Q item [] (prefix-itself (element_of root item).place) (All-nil Q) in
     (search (rules, the_lemmas), (within, (c.requires.item, (rw c.in_ok-from.ensures there, (rw c.in_ok-from.ensures inside, (rw c.in_ok-from.ensures (one-ordered (element_of root item)), (rw c.as_slice.ensures c.requires.asked, (rw (c.as_slice.ensures, c.set_inside-outer.ensures.path) c.requires.numbered, rw (c.set_inside-outer.ensures.path, c.set_inside-outer.ensures.truths) c.requires.known))))))))
 
 pub led_from-returns-clause-known : goal.led_from-returns-clause-known
@@ -420,7 +420,7 @@ led-loop-step-preserved g t c =
       ordered = subst (AllPairs Before) (sym now) (stepped-ordered (satisfied root m) (plain root) (view.step (get_or items i d)) (map meaning.item before));
       meaning = c.stepped.ensures.meaning ∙ c.loop-step.invariant.meaning;
       path = c.stepped.ensures.path ∙ c.loop-step.invariant.path;
-      numbered = stand-next _ _ _ (steps-from items i d c.loop-step-test.true) _ _ c.loop-step.invariant.numbered _ (rw c.step-item.is at c.in_ok-behind.ensures);
+      numbered = stand-next _ _ _ (steps-from items i d c.loop-step-test.true) _ _ c.loop-step.invariant.numbered _ (rw c.step-item.is at c.in_ok-after.ensures);
       known = rw (c.loop-step.invariant.meaning, c.loop-step.invariant.path) at c.in_ok-items.ensures.known;
       cost = cost-next _ _ _ _ _ _ (rw (c.loop-step.invariant.meaning, c.step-item.is) at c.stepped.ensures.cost) c.loop-step.invariant.cost (steps-next root m items i d c.loop-step-test.true before after now);
     }
@@ -476,7 +476,7 @@ passed-loop-predicate-preserved g t c =
       there = c.in_ok-kept.ensures.there;
       meaning = c.filtered.ensures.meaning ∙ c.loop-predicate.invariant.meaning;
       path = c.filtered.ensures.path ∙ c.loop-predicate.invariant.path;
-      numbered = stand-next _ _ _ (predicates-from items i d c.loop-predicate-test.true) _ _ c.loop-predicate.invariant.numbered _ (rw c.predicate-item.is at c.in_ok-behind.ensures);
+      numbered = stand-next _ _ _ (predicates-from items i d c.loop-predicate-test.true) _ _ c.loop-predicate.invariant.numbered _ (rw c.predicate-item.is at c.in_ok-after.ensures);
       known = rw (c.loop-predicate.invariant.meaning, c.loop-predicate.invariant.path) at c.in_ok-kept.ensures.known;
       cost = cost-next _ _ _ _ _ _ (rw (c.loop-predicate.invariant.meaning, c.predicate-item.is) at c.filtered.ensures.cost) c.loop-predicate.invariant.cost (predicates-next root m items i d c.loop-predicate-test.true before after now);
     }

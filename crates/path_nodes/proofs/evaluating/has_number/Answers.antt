@@ -1,4 +1,4 @@
--- The next predicate is a number, or one of those behind it is where one of the rest is.
+-- The next predicate is a number, or one of those after it is where one of the rest is.
 use Rattle.std.proofs.Common.{◌≤◌, ◌+◌, ◌||◌, drop, length, map, sym, ap, ◌∙◌, arith}
 use Rattle.std.proofs.lemmas.List.{drop_more, drop_all}
 use Rattle.path_grammar.specs.Form as form

@@ -1,4 +1,4 @@
--- The first of the others stand behind.
+-- The first of the others stand after.
 use Rattle.std.proofs.Common.{◌≡◌, ◌++◌, take}
 use Rattle.path_nodes.proofs.kept.append.Given as goal
 

@@ -1,4 +1,4 @@
--- Each child is lighter; behind the last one all were gone through.
+-- Each child is lighter; after the last one all were gone through.
 use Rattle.std.proofs.Common.{◌≡◌, [], ◌∷◌, ◌++◌, Bool, true, map, filter, sym, ap, ◌∙◌, subst, arith, append_assoc}
 use Rattle.std.proofs.lemmas.List.Elements.{filter-append}
 use Rattle.path_grammar.specs.Form as form

@@ -1,4 +1,4 @@
--- The children in front of the link were gone through; an element's children are lighter than it.
+-- The children before the link were gone through; an element's children are lighter than it.
 use Rattle.std.proofs.Common.{◌+◌, map}
 use Rattle.path_grammar.specs.Form as form
 use Rattle.path_grammar.specs.View.{predicate}

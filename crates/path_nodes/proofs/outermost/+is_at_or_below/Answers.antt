@@ -2,10 +2,10 @@
 use Rattle.std.proofs.Common.{◌≡◌, sym, ap, ◌∙◌, subst, arith}
 use Rattle.ordered_tree.specs.Stands.{OnNode}
 use Rattle.path_nodes.specs.References.{element_of}
-use Rattle.path_nodes.specs.steps.Within.{is_front}
+use Rattle.path_nodes.specs.steps.Within.{is_prefix}
 use Rattle.path_nodes.proofs.ChildrenLemmas.{element_there}
-use Rattle.path_nodes.proofs.FrontLemmas.{front-itself}
-use Rattle.path_nodes.proofs.OutermostLemmas.{other-place, front-parent, not-above-root}
+use Rattle.path_nodes.proofs.PrefixLemmas.{prefix-itself}
+use Rattle.path_nodes.proofs.OutermostLemmas.{other-place, prefix-parent, not-above-root}
 use Rattle.path_nodes.proofs.SpotLemmas.{of_number}
 use Rattle.path_nodes.proofs.WayLemmas.{Parent, parent-of, root-of, shorter}
 use Rattle.path_nodes.proofs.outermost.+is_at_or_below.Goals as goal
@@ -24,8 +24,8 @@ pub returns-then-node-base : goal.returns-then-node-base
 returns-then-node-base t c =
     let root = c.args.tree.now.root in
     sym (
-    ap (λ r. is_front (element_of root c.args.base).place (element_of root r).place) (ap of_number c.if-node-base.true)
-    ∙ front-itself (element_of root c.args.base).place
+    ap (λ r. is_prefix (element_of root c.args.base).place (element_of root r).place) (ap of_number c.if-node-base.true)
+    ∙ prefix-itself (element_of root c.args.base).place
     )
 
 pub returns-in-Some : goal.returns-in-Some
@@ -34,7 +34,7 @@ returns-in-Some t c =
     let p : Parent root c.args.node c.in-Some.parent =
     parent-of root c.args.node c.requires.node c.in-Some.parent (subst (λ o. OnNode root c.args.node (λ s. o ≡ s.around.parent)) c.in-Some.is c.parent.ensures.parent) in
     c.is_at_or_below.ensures
-    ∙ sym (front-parent (element_of root c.args.base).place (element_of root c.in-Some.parent).place p.number (element_of root c.args.node).place p.place
+    ∙ sym (prefix-parent (element_of root c.args.base).place (element_of root c.in-Some.parent).place p.number (element_of root c.args.node).place p.place
     (other-place root c.args.base c.args.node c.requires.base c.requires.node c.if-node-base.false))
 
 pub returns-in-None : goal.returns-in-None

@@ -1,7 +1,7 @@
 -- The last one of the list has the last number.
 use Rattle.std.proofs.Common.{◌-◌, length, map, get_or, sym, ap, ◌∙◌, arith}
 use Rattle.path_nodes.specs.References.{element_of}
-use Rattle.path_nodes.specs.steps.Within.{is_front, stands_below_last}
+use Rattle.path_nodes.specs.steps.Within.{is_prefix, stands_below_last}
 use Rattle.path_nodes.proofs.OutermostLemmas.{below-last}
 use Rattle.path_nodes.proofs.SelectedLemmas.{not-empty}
 use Rattle.path_nodes.proofs.outermost.is_below_last.Goals as goal
@@ -17,5 +17,5 @@ returns c =
     let outer = c.args.outer.now in
     let some = not-empty outer c.is_empty.result c.is_empty.ensures.1 c.if-is_empty.false in
     c.is_at_or_below.ensures
-    ∙ ap (λ r. is_front (element_of root r).place (element_of root c.args.node).place) (c.get.ensures ∙ ap (λ n. get_or outer (n - 1) c.get.result.now) c.len.ensures)
+    ∙ ap (λ r. is_prefix (element_of root r).place (element_of root c.args.node).place) (c.get.ensures ∙ ap (λ n. get_or outer (n - 1) c.get.result.now) c.len.ensures)
     ∙ below-last root outer (length outer - 1) c.get.result.now c.args.node (omega (arith, some))

@@ -1,4 +1,4 @@
--- All words of the document stand in front of the end of the root's.
+-- All words of the document stand before the end of the root's.
 use Rattle.std.proofs.Common.{◌≤◌, sym, ap, arith}
 use Rattle.std.proofs.lemmas.Bool.Decides.{nat_tests}
 use Rattle.ordered_tree.specs.Stands.{span}
@@ -13,5 +13,5 @@ returns g c = λ ruled.
     let s = (root-spot root).stand in
     let is = c.span_of.ensures.positions s (spot-stand root (root-spot root) (root-among root)) (sym c.root.ensures.root) in
     let to = ap (λ x. x.to) is in
-    let front : (span s).to ≤ c.skip_steps-place.result = grind (arith, nat_tests, ruled, to) in
-    c.skip_steps-place.ensures.from_document (root-within root c.skip_steps-place.result c.root.ensures.element front)
+    let prefix : (span s).to ≤ c.skip_steps-place.result = grind (arith, nat_tests, ruled, to) in
+    c.skip_steps-place.ensures.from_document (root-within root c.skip_steps-place.result c.root.ensures.element prefix)

@@ -102,9 +102,9 @@ pub led-requires-clause-numbered : goal.led-requires-clause-numbered
 led-requires-clause-numbered g c =
     let steps = c.args.steps.now in
     let some = not-empty steps c.is_empty.result c.is_empty.ensures.1 c.if-is_empty.false in
-    let behind = rw c.get-step.ensures at c.in_ok-number.ensures in
+    let after = rw c.get-step.ensures at c.in_ok-number.ensures in
     rw (c.in_ok-first.ensures.path, c.new-known.ensures.path, take_rest c.as_slice.result.now 1, c.as_slice.ensures)
-    (stand-next _ _ _ (steps-from steps 0 c.get-step.result.now some) (in_path steps) 0 (stand-all (in_path steps)) c.in_ok-number.number behind)
+    (stand-next _ _ _ (steps-from steps 0 c.get-step.result.now some) (in_path steps) 0 (stand-all (in_path steps)) c.in_ok-number.number after)
 
 pub led-requires-clause-known : goal.led-requires-clause-known
 led-requires-clause-known g c = rw (c.in_ok-first.ensures.meaning, c.in_ok-first.ensures.path) c.in_ok-first.ensures.known

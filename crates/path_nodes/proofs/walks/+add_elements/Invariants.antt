@@ -1,4 +1,4 @@
--- What is at or below the first children stands behind the element.
+-- What is at or below the first children stands after the element.
 use Rattle.std.proofs.Common.{◌≡◌, ◌∷◌, ◌++◌, All, flat_map, map, take}
 use Rattle.path_nodes.specs.References.{IsElement, element_of}
 use Rattle.path_nodes.specs.steps.Regions.{at_or_below}

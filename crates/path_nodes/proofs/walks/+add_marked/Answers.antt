@@ -1,4 +1,4 @@
--- Each child is lighter; the marked ones of it stand behind those before.
+-- Each child is lighter; the marked ones of it stand after those before.
 use Rattle.std.proofs.Common.{◌≡◌, ◌≤◌, ◌∷◌, [], ◌++◌, filter, flat_map, map, take, length, get_or, sym, ap, ◌∙◌, arith, append_assoc, append-nil}
 use Rattle.std.proofs.lemmas.List.Elements.{filter-append}
 use Rattle.path_nodes.specs.steps.Marks.{is_marked}

@@ -1,4 +1,4 @@
--- The marked elements at or below the first children stand behind the others.
+-- The marked elements at or below the first children stand after the others.
 use Rattle.std.proofs.Common.{◌≡◌, ◌++◌, All, Bool, filter, flat_map, map, take}
 use Rattle.ft_base.specs.declared.ids.NodeRef.{NodeRef}
 use Rattle.path_meaning.specs.Elements.{Element}

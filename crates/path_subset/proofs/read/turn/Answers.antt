@@ -1,4 +1,4 @@
--- In the root no selection comes next, whatever stands behind.
+-- In the root no selection comes next, whatever stands after.
 use Rattle.std.proofs.Common.{◌≡◌, false, sym, ◌∙◌, ap, subst, map}
 use Rattle.ft_parser.specs.Answer.{Answered}
 use Rattle.path_grammar.specs.steps.Machine.{advance, open_count}

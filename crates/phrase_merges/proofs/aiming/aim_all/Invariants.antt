@@ -1,4 +1,4 @@
--- The phrases in front of this one are aimed.
+-- The phrases before this one are aimed.
 use Rattle.std.proofs.Common.{map}
 use Rattle.phrase_merges.specs.Rows.{aims_of, all_aims}
 use Rattle.phrase_merges.proofs.AimLemmas.{Making, rests}

@@ -1,4 +1,4 @@
--- The lists in front of this one are aimed.
+-- The lists before this one are aimed.
 use Rattle.phrase_merges.specs.Rows.{aims_of}
 use Rattle.phrase_merges.proofs.AimLemmas.{Making}
 use Rattle.phrase_merges.proofs.aiming.aim_each.Given as goal

@@ -1,4 +1,4 @@
--- The phrases in front of this one have hits in order, up to the place.
+-- The phrases before this one have hits in order, up to the place.
 use Rattle.phrase_merges.proofs.OrderLemmas.{Rising}
 use Rattle.phrase_merges.proofs.in_order.begin_in_order.Given as goal
 

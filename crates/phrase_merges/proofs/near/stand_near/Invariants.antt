@@ -1,4 +1,4 @@
--- No choice of hits that are near one another has a hit in front of the place.
+-- No choice of hits that are near one another has a hit before the place.
 use Rattle.std.proofs.Common.{◌-◌}
 use Rattle.phrase_merges.specs.Choices.{are_near}
 use Rattle.phrase_merges.specs.declared.edge.Edge.TheVariants.{Start, End}

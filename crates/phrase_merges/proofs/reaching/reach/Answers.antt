@@ -1,4 +1,4 @@
--- A hit that doesn't begin in front of the place is the first that doesn't.
+-- A hit that doesn't begin before the place is the first that doesn't.
 use Rattle.std.proofs.Common.{arith, sym, ◌∙◌}
 use Rattle.phrase_merges.proofs.AheadLemmas.{reached}
 use Rattle.phrase_merges.proofs.reaching.reach.Goals as goal

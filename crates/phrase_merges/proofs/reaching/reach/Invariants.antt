@@ -1,4 +1,4 @@
--- The hits that were passed begin in front of the place.
+-- The hits that were passed begin before the place.
 use Rattle.std.proofs.Common.{◌≡◌, ◌≤◌, true, length}
 use Rattle.phrase_merges.specs.Rows.{is_rising}
 use Rattle.phrase_merges.specs.steps.Ahead.{from_on}

@@ -1,4 +1,4 @@
--- No window that holds a hit of each phrase has a hit in front of the place.
+-- No window that holds a hit of each phrase has a hit before the place.
 use Rattle.std.proofs.Common.{◌-◌}
 use Rattle.phrase_merges.specs.Choices.{are_within}
 use Rattle.phrase_merges.specs.declared.edge.Edge.TheVariants.{Start, End}

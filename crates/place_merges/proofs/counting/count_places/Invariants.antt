@@ -1,4 +1,4 @@
--- The places in front of this one are counted.
+-- The places before this one are counted.
 use Rattle.std.proofs.Common.{◌-◌}
 use Rattle.place_merges.proofs.CountLemmas.{Counted}
 use Rattle.place_merges.proofs.counting.count_places.Given as goal

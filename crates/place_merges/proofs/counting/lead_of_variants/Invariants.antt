@@ -1,4 +1,4 @@
--- The variants in front of this one begin nowhere from the place up to the first one found.
+-- The variants before this one begin nowhere from the place up to the first one found.
 use Rattle.place_merges.specs.steps.Searching.{variant_stands, shown_variant}
 use Rattle.place_merges.proofs.UnionLemmas.{Searched}
 use Rattle.place_merges.proofs.counting.lead_of_variants.Given as goal

@@ -1,4 +1,4 @@
--- The sources in front of this one have no hit from the place up to the first one found.
+-- The sources before this one have no hit from the place up to the first one found.
 use Rattle.place_merges.specs.Sources.{places_left}
 use Rattle.place_merges.specs.steps.Searching.{has, shown_source}
 use Rattle.place_merges.proofs.UnionLemmas.{Settled}

@@ -1,4 +1,4 @@
--- The items in front of this one fit the words from the place on.
+-- The items before this one fit the words from the place on.
 use Rattle.place_merges.specs.Sources.{wanted}
 use Rattle.place_merges.specs.steps.Searching.{shown_item}
 use Rattle.place_merges.proofs.VariantLemmas.{Fitted}

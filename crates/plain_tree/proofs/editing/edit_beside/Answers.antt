@@ -1,4 +1,4 @@
--- Content in front of a child, behind it, and in its place.
+-- Content before a child, after it, and in its place.
 use Rattle.std.proofs.Common.{◌≡◌, suc, ◌-◌, ◌<◌, length, take, drop, ap, sym, ◌∙◌, arith}
 use Rattle.std.proofs.lemmas.Result.{on_ok_weaker}
 use Rattle.plain_tree.specs.Edits.{append, joined, at_child}

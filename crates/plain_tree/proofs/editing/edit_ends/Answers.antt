@@ -1,4 +1,4 @@
--- Content behind the last child.
+-- Content after the last child.
 use Rattle.std.proofs.Common.{◌≡◌, length, take, drop, ap, sym, ◌∙◌, arith}
 use Rattle.std.proofs.lemmas.Result.{on_ok_weaker}
 use Rattle.plain_tree.specs.Document.{element}

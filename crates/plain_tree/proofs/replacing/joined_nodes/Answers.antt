@@ -1,4 +1,4 @@
--- Three lists of nodes are joined, one behind the other.
+-- Three lists of nodes are joined, one after the other.
 use Rattle.std.proofs.Common.{ap, ◌∙◌}
 use Rattle.plain_tree.specs.Document.{are_joined}
 use Rattle.plain_tree.specs.Edits.{append}
@@ -14,6 +14,6 @@ join_all-requires-3 c = ap are_joined c.in_ok-join_all-2.ensures.all ∙ joined_
 
 pub returns : goal.returns
 returns c =
-    three_joined c.args.front.now c.args.content c.args.behind.now c.new-list.result.items c.join_all.new.list.items c.join_all-2.new.list.items c.join_all-3.new.list.items
+    three_joined c.args.prefix.now c.args.content c.args.suffix.now c.new-list.result.items c.join_all.new.list.items c.join_all-2.new.list.items c.join_all-3.new.list.items
     c.in_ok-copy_kids.field-0 c.in_ok-copy_kids-2.field-0 c.new-list.ensures.items c.in_ok-copy_kids.ensures c.in_ok-copy_kids-2.ensures
     c.in_ok-join_all.ensures.all c.in_ok-join_all-2.ensures.all c.in_ok-join_all-3.ensures.all

@@ -1,4 +1,4 @@
--- The tests are put behind those of their number, or are the first of it.
+-- The tests are put after those of their number, or are the first of it.
 use Rattle.std.proofs.Common.{◌∙◌, arith}
 use Rattle.plan_compiler.proofs.GroupLemmas.{put_either}
 use Rattle.plan_compiler.proofs.phrase_plan.add_variant.Goals as goal

@@ -1,4 +1,4 @@
--- Each kind puts its phrases behind the others.
+-- Each kind puts its phrases after the others.
 use Rattle.std.proofs.Common.{◌≡◌, ◌∙◌, ◌++◌, List, [], OnOk, append-nil, map, sym, ap, subst}
 use Rattle.ft_operators.specs.Phrases.{PhraseAims}
 use Rattle.index_phrases.specs.Cursors.{state_of}

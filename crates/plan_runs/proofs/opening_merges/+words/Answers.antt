@@ -1,4 +1,4 @@
--- Each kind puts the terms of its phrases behind the others.
+-- Each kind puts the terms of its phrases after the others.
 use Rattle.std.proofs.Common.{◌≡◌, ◌∙◌, ◌++◌, List, [], OnOk, append-nil, map, sym, ap, subst}
 use Rattle.index_versions.specs.Terms.{VersionTerm}
 use Rattle.plan_compiler.specs.declared.operator_plan.OperatorSides.{OperatorSides}

@@ -26,10 +26,10 @@ pub returns-clause-past_a_million : goal.returns-clause-past_a_million
 unfolding symbols_of symbols_within first_lexeme is_name_start is_name_char chars encode
 returns-clause-past_a_million c = refl
 
-pub returns-clause-a_name_behind_a_number : goal.returns-clause-a_name_behind_a_number
+pub returns-clause-a_name_after_a_number : goal.returns-clause-a_name_after_a_number
 unfolding symbols_of symbols_within first_lexeme is_name_start is_name_char chars encode
-returns-clause-a_name_behind_a_number c = refl
+returns-clause-a_name_after_a_number c = refl
 
-pub returns-clause-a_period_behind_a_number : goal.returns-clause-a_period_behind_a_number
+pub returns-clause-a_period_after_a_number : goal.returns-clause-a_period_after_a_number
 unfolding symbols_of symbols_within first_lexeme is_name_start is_name_char chars encode
-returns-clause-a_period_behind_a_number c = refl
+returns-clause-a_period_after_a_number c = refl

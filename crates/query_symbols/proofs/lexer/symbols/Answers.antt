@@ -6,12 +6,12 @@ use Rattle.query_symbols.proofs.lexer.symbols.Goals as goal
 
 pub all_symbols-requires : goal.all_symbols-requires
 all_symbols-requires c =
-    let told : c.deref.result.now ≡ chars c.args.text.now = c.deref.ensures.value ∙ c.in_ok-letters.ensures in
-    let same : length (encode_utf8_all c.deref.result.now) ≡ length c.args.text.now = ap (λ xs. length (encode_utf8_all xs)) told ∙ ap length (encodes-chars c.args.text.now c.utf8.text) in
+    let known : c.deref.result.now ≡ chars c.args.text.now = c.deref.ensures.value ∙ c.in_ok-letters.ensures in
+    let same : length (encode_utf8_all c.deref.result.now) ≡ length c.args.text.now = ap (λ xs. length (encode_utf8_all xs)) known ∙ ap length (encodes-chars c.args.text.now c.utf8.text) in
     omega arith
 
 pub returns : goal.returns
 unfolding symbols_of
 returns c =
-    let told : c.deref.result.now ≡ chars c.args.text.now = c.deref.ensures.value ∙ c.in_ok-letters.ensures in
-    subst (λ (xs : List ℕ). IfOk c.all_symbols.result (λ symbols. symbols ≡ symbols_within (length xs) 0 xs)) told c.all_symbols.ensures
+    let known : c.deref.result.now ≡ chars c.args.text.now = c.deref.ensures.value ∙ c.in_ok-letters.ensures in
+    subst (λ (xs : List ℕ). IfOk c.all_symbols.result (λ symbols. symbols ≡ symbols_within (length xs) 0 xs)) known c.all_symbols.ensures

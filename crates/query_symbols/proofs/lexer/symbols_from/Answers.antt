@@ -6,14 +6,14 @@ use Rattle.query_symbols.proofs.lexer.symbols_from.Goals as goal
 
 pub all_symbols-requires : goal.all_symbols-requires
 all_symbols-requires c =
-    let told : c.deref.result.now ≡ chars (drop c.args.from c.args.text.now) = c.deref.ensures.value ∙ c.in_ok-letters.ensures ∙ ap chars c.range_from.ensures.value in
+    let known : c.deref.result.now ≡ chars (drop c.args.from c.args.text.now) = c.deref.ensures.value ∙ c.in_ok-letters.ensures ∙ ap chars c.range_from.ensures.value in
     let same : length (encode_utf8_all c.deref.result.now) ≡ length (drop c.args.from c.args.text.now) =
-    ap (λ xs. length (encode_utf8_all xs)) told ∙ ap length (encodes-chars (drop c.args.from c.args.text.now) (IsUtf8-drop c.args.text.now c.args.from c.utf8.text c.requires)) in
+    ap (λ xs. length (encode_utf8_all xs)) known ∙ ap length (encodes-chars (drop c.args.from c.args.text.now) (IsUtf8-drop c.args.text.now c.args.from c.utf8.text c.requires)) in
     let within : c.args.from ≤ length c.args.text.now = c.requires.0 in
     omega (arith, same, within, length-drop c.args.from c.args.text.now)
 
 pub returns : goal.returns
 unfolding symbols_from
 returns c =
-    let told : c.deref.result.now ≡ chars (drop c.args.from c.args.text.now) = c.deref.ensures.value ∙ c.in_ok-letters.ensures ∙ ap chars c.range_from.ensures.value in
-    subst (λ (xs : List ℕ). IfOk c.all_symbols.result (λ symbols. symbols ≡ symbols_within (length xs) c.args.from xs)) told c.all_symbols.ensures
+    let known : c.deref.result.now ≡ chars (drop c.args.from c.args.text.now) = c.deref.ensures.value ∙ c.in_ok-letters.ensures ∙ ap chars c.range_from.ensures.value in
+    subst (λ (xs : List ℕ). IfOk c.all_symbols.result (λ symbols. symbols ≡ symbols_within (length xs) c.args.from xs)) known c.all_symbols.ensures

@@ -2,7 +2,7 @@
 use Rattle.std.proofs.Common.{◌+◌, ◌-◌, ◌≤◌, length, drop, take, sym, ap, ◌∙◌, arith, length-drop}
 use Rattle.std.proofs.lemmas.List.{take_rest}
 use Rattle.query_symbols.specs.Symbols.{first_lexeme}
-use Rattle.query_symbols.proofs.Places.{one_left, slice_bytes, left_behind}
+use Rattle.query_symbols.proofs.Places.{one_left, slice_bytes, left_after}
 use Rattle.query_symbols.proofs.Turns.{blank_turn, bad_turn, symbol_turn}
 use Rattle.query_symbols.proofs.lexer.turn.Goals as goal
 
@@ -23,7 +23,7 @@ returns-in_default-clause-value c =
 
 pub byte_count-requires : goal.byte_count-requires
 byte_count-requires c =
-    omega (arith, c.requires.fits, slice_bytes c.args.next c.in-Some.lexeme.size c.args.letters.now, left_behind c.args.next c.in-Some.lexeme.size c.args.letters.now)
+    omega (arith, c.requires.fits, slice_bytes c.args.next c.in-Some.lexeme.size c.args.letters.now, left_after c.args.next c.in-Some.lexeme.size c.args.letters.now)
 
 pub overflow_add-to : goal.overflow_add-to
 overflow_add-to c =
@@ -32,7 +32,7 @@ overflow_add-to c =
       c.requires.fits,
       c.byte_count.ensures,
       slice_bytes c.args.next c.in-Some.lexeme.size c.args.letters.now,
-      left_behind c.args.next c.in-Some.lexeme.size c.args.letters.now,
+      left_after c.args.next c.in-Some.lexeme.size c.args.letters.now,
     )
 
 pub returns-clause-value : goal.returns-clause-value
@@ -53,6 +53,6 @@ returns-clause-within c =
         c.requires.fits,
         c.byte_count.ensures,
         slice_bytes c.args.next c.in-Some.lexeme.size c.args.letters.now,
-        left_behind c.args.next c.in-Some.lexeme.size c.args.letters.now,
+        left_after c.args.next c.in-Some.lexeme.size c.args.letters.now,
       ),
     )

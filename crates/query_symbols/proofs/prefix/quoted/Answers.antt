@@ -10,8 +10,8 @@ use Rattle.query_symbols.proofs.prefix.quoted.Goals as goal
 pub loop-next-preserved-then-letter-quote : goal.loop-next-preserved-then-letter-quote
 loop-next-preserved-then-letter-quote c = record {
   within = omega arith;
-  told = letter_read c.args.quote c.args.letters.now (quoted_at c.args.quote c.args.letters.now) (string_bytes c.loop-next.text) (string_bytes c.push.new.self) c.loop-next.next c.index-letters-next.result
-      c.loop-next-test.true c.index-letters-next.is c.loop-next.invariant.told (ne_eqb c.index-letters-next.result c.args.quote c.if-letter-quote.true) c.in_ok-push.ensures.bytes;
+  known = letter_read c.args.quote c.args.letters.now (quoted_at c.args.quote c.args.letters.now) (string_bytes c.loop-next.text) (string_bytes c.push.new.self) c.loop-next.next c.index-letters-next.result
+      c.loop-next-test.true c.index-letters-next.is c.loop-next.invariant.known (ne_eqb c.index-letters-next.result c.args.quote c.if-letter-quote.true) c.in_ok-push.ensures.bytes;
 }
 
 pub loop-next-preserved : goal.loop-next-preserved
@@ -20,8 +20,8 @@ loop-next-preserved c =
     let more : c.loop-next.next + 1 < length c.args.letters.now = some_letter c.args.quote c.args.letters.now (c.loop-next.next + 1) doubled in
     record {
       within = omega arith;
-      told = over_two c.args.quote c.args.letters.now (string_bytes c.push-then-begins_with.new.self) c.loop-next.next ∙ quote_read c.args.quote c.args.letters.now (quoted_at c.args.quote c.args.letters.now) (string_bytes c.loop-next.text) (string_bytes c.push-then-begins_with.new.self) c.loop-next.next c.index-letters-next.result
-          c.loop-next-test.true c.index-letters-next.is c.loop-next.invariant.told (eq-eqb c.index-letters-next.result c.args.quote c.if-letter-quote.false) doubled c.in_ok-push-2.ensures.bytes;
+      known = over_two c.args.quote c.args.letters.now (string_bytes c.push-then-begins_with.new.self) c.loop-next.next ∙ quote_read c.args.quote c.args.letters.now (quoted_at c.args.quote c.args.letters.now) (string_bytes c.loop-next.text) (string_bytes c.push-then-begins_with.new.self) c.loop-next.next c.index-letters-next.result
+          c.loop-next-test.true c.index-letters-next.is c.loop-next.invariant.known (eq-eqb c.index-letters-next.result c.args.quote c.if-letter-quote.false) doubled c.in_ok-push-2.ensures.bytes;
     }
 
 pub returns-else-begins_with-clause-value : goal.returns-else-begins_with-clause-value
@@ -29,4 +29,4 @@ returns-else-begins_with-clause-value c =
     let single : begins_with c.args.quote (drop (c.loop-next.next + 1) c.args.letters.now) ≡ false = ap (begins_with c.args.quote) (sym (take_rest c.args.letters.now (c.loop-next.next + 1))) ∙ sym c.begins_with.ensures ∙ c.if-begins_with.false in
     (λ i. Some record { text = (c.from_string.ensures ∙ sym (append-nil (string_bytes c.loop-next.text))) i; size = c.loop-next.next + 1 })
     ∙ closed c.args.quote c.args.letters.now (quoted_at c.args.quote c.args.letters.now) (string_bytes c.loop-next.text) (string_bytes c.loop-next.text) c.loop-next.next c.index-letters-next.result
-    c.loop-next-test.true c.index-letters-next.is c.loop-next.invariant.told (eq-eqb c.index-letters-next.result c.args.quote c.if-letter-quote.false) single
+    c.loop-next-test.true c.index-letters-next.is c.loop-next.invariant.known (eq-eqb c.index-letters-next.result c.args.quote c.if-letter-quote.false) single

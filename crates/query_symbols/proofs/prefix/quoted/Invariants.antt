@@ -1,13 +1,13 @@
 -- What was read stands before what is left.
 use Rattle.std.proofs.Common.{◌≡◌, ◌-◌, ◌≤◌, drop, length, string_bytes}
 use Rattle.query_symbols.specs.Symbols.{quoted_at}
-use Rattle.query_symbols.proofs.QuotedStrings.{behind_read}
+use Rattle.query_symbols.proofs.QuotedStrings.{after_read}
 use Rattle.query_symbols.proofs.prefix.quoted.Given as goal
 
 abbrev pub invariant-loop-next : goal.invariant-loop-next
 invariant-loop-next l = record {
   within : l.next ≤ length l.letters;
-  told : behind_read (string_bytes l.text) l.next (quoted_at l.quote (drop l.next l.letters)) ≡ quoted_at l.quote l.letters;
+  known : after_read (string_bytes l.text) l.next (quoted_at l.quote (drop l.next l.letters)) ≡ quoted_at l.quote l.letters;
 }
 
 abbrev pub decreases-loop-next : goal.decreases-loop-next

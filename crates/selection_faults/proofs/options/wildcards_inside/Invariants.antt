@@ -1,4 +1,4 @@
--- What holds behind the first options.
+-- What holds after the first options.
 use Rattle.std.proofs.Common.{◌≡◌, take}
 use Rattle.selection_faults.specs.Strings.{wildcards_inside}
 use Rattle.selection_faults.proofs.options.wildcards_inside.Given as goal

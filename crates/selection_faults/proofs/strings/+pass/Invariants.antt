@@ -1,4 +1,4 @@
--- What is known behind the first parts.
+-- What is known after the first parts.
 use Rattle.std.proofs.Common.{◌≡◌, map, take}
 use Rattle.selection_grammar.specs.Tree.{trees_of}
 use Rattle.selection_grammar.specs.View.{tree}

@@ -1,4 +1,4 @@
--- What is known behind the first strings.
+-- What is known after the first strings.
 use Rattle.std.proofs.Common.{◌≡◌, map, take}
 use Rattle.selection_faults.specs.Strings.{written}
 use Rattle.selection_faults.specs.steps.Walk.{after_all}

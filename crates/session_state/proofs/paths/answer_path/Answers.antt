@@ -10,7 +10,7 @@ use Rattle.path_subset.specs.Answer.{path_read}
 use Rattle.path_subset.specs.Paths.{read_form}
 use Rattle.session_text.specs.Replies.{is_refusal}
 use Rattle.session_text.specs.declared.reply.Reply.{Reply}
-use Rattle.session_state.specs.KeptTexts.{kept_behind}
+use Rattle.session_state.specs.KeptTexts.{kept_after}
 use Rattle.session_state.specs.PathPrices.{read_price}
 use Rattle.session_state.specs.Paths.{answer, answer_read, reply_with}
 use Rattle.session_state.specs.PlannedPaths.{AskBelow}
@@ -57,8 +57,8 @@ returns-in-Ok-Path-clause-kept g c =
     let p = read_form c.in-Ok-Path.ready.path in
     let ready : IsReadyPath c.args.collection.now.documents old text c.in-Ok-Path.ready =
     subst (IsReady c.args.collection.now.documents old text) c.in-Ok-Path.field-0-is c.in-Ok-Path.ensures in
-    let kept : all_used (texts_of c.in-Ok-Path.ready.plans.items) old.kept ≡ kept_behind text (path_read text) old.kept =
-    ap (λ ts. all_used ts old.kept) (ap texts_of ready.plans ∙ texts-under old.lists text p) ∙ ap (λ r. kept_behind text r old.kept) (sym ready.read) in
+    let kept : all_used (texts_of c.in-Ok-Path.ready.plans.items) old.kept ≡ kept_after text (path_read text) old.kept =
+    ap (λ ts. all_used ts old.kept) (ap texts_of ready.plans ∙ texts-under old.lists text p) ∙ ap (λ r. kept_after text r old.kept) (sym ready.read) in
     subst (λ k. IfOk c.keep_accepted.result (λ reply. c.keep_accepted.new.prepared ≡ (if is_refusal reply then old else with_kept k old))) kept
     (subst (λ (r : Result Reply Memory). IfOk r (λ reply. c.keep_accepted.new.prepared
     ≡ (if is_refusal reply then old else with_kept (all_used (texts_of c.in-Ok-Path.ready.plans.items) old.kept) old)))

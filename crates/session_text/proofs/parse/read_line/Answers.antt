@@ -4,7 +4,7 @@ use Rattle.std.specs.Prelude.{IfOk}
 use Rattle.session_text.specs.declared.command.Command.{Command}
 use Rattle.session_text.specs.declared.command.Command.TheVariants.{BadCommand}
 use Rattle.session_text.specs.Commands.{command_of_line, line_command}
-use Rattle.text_lines.specs.Lines.{trimmed_line, first_word, behind_first_word}
+use Rattle.text_lines.specs.Lines.{trimmed_line, first_word, after_first_word}
 use Rattle.session_text.proofs.parse.read_line.Goals as goal
 
 pub returns-in-Some : goal.returns-in-Some
@@ -14,6 +14,6 @@ returns-in-Some c =
     let text = c.in-Some.ensures.text in
     let said : line_command number c.split_word.result.0.now c.split_word.result.1.now ≡ command_of_line number line =
     ap (λ w. line_command number w c.split_word.result.1.now) (c.split_word.ensures.word ∙ ap first_word text.1)
-    ∙ (ap (line_command number (first_word (trimmed_line line))) (c.split_word.ensures.rest ∙ ap behind_first_word text.1)
-    ∙ sym (ap (λ t. cond t (line_command number (first_word (trimmed_line line)) (behind_first_word (trimmed_line line))) (BadCommand number)) text.0)) in
+    ∙ (ap (line_command number (first_word (trimmed_line line))) (c.split_word.ensures.rest ∙ ap after_first_word text.1)
+    ∙ sym (ap (λ t. cond t (line_command number (first_word (trimmed_line line)) (after_first_word (trimmed_line line))) (BadCommand number)) text.0)) in
     subst (λ (said : Command). IfOk c.read_line_command.result (λ command. command ≡ said)) said c.read_line_command.ensures

@@ -1,4 +1,4 @@
--- The item comes into its block at the place behind the block's start.
+-- The item comes into its block at the place after the block's start.
 use Rattle.std.proofs.Common.{◌-◌, [], get_or, set, ap, ◌∙◌}
 use Rattle.std.specs.Prelude.{insert}
 use Rattle.shared_list.specs.Blocks.{joined}

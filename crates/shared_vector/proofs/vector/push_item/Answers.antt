@@ -1,4 +1,4 @@
--- The item comes behind those of the last block.
+-- The item comes after those of the last block.
 use Rattle.std.proofs.Common.{◌≡◌, ◌+◌, ◌-◌, ◌∷◌, ◌++◌, [], length, get_or, set, ap, ◌∙◌, arith}
 use Rattle.std.proofs.lemmas.List.{get_or_read}
 use Rattle.shared_list.specs.Blocks.{joined}

@@ -12,7 +12,7 @@ use Rattle.spot_merges.proofs.apart.stand_apart.Given as goal
 
 abbrev pub invariant-loop-at : goal.invariant-loop-at
 invariant-loop-at g l = record {
-  says : list_any (is_free g.H.Hits.stand l.span.to l.right.items l.cover) (spots_left l.span.to (wanted_words g.H.Hits.stand l.left.items) l.behind)
+  says : list_any (is_free g.H.Hits.stand l.span.to l.right.items l.cover) (spots_left l.span.to (wanted_words g.H.Hits.stand l.left.items) l.after)
       ≡ some_apart (spots_of l.span (wanted_words g.H.Hits.stand l.fn.left.items)) (spots_of l.span (wanted_words g.H.Hits.stand l.fn.right.items));
   inside : ForSome l.cover.next (λ at. at.place + at.words ≤ l.span.to);
   left_lists : all_lists g.H.Hits.stand l.left.items ≡ all_lists g.H.Hits.stand l.fn.left.items;
@@ -26,4 +26,4 @@ invariant-loop-at g l = record {
 }
 
 abbrev pub decreases-loop-at : goal.decreases-loop-at
-decreases-loop-at g l = length (spots_left l.span.to (wanted_words g.H.Hits.stand l.left.items) l.behind)
+decreases-loop-at g l = length (spots_left l.span.to (wanted_words g.H.Hits.stand l.left.items) l.after)

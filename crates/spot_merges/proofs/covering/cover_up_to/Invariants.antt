@@ -1,4 +1,4 @@
--- Behind the place each spot is as free as before.
+-- After the place each spot is as free as before.
 use Rattle.std.proofs.Common.{◌≡◌, ◌≤◌, ◌+◌, ◌*◌, length}
 use Rattle.std.specs.Prelude.{IsTrue}
 use Rattle.std.specs.Option.{ForSome}

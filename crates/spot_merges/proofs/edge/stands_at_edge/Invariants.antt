@@ -9,7 +9,7 @@ use Rattle.spot_merges.proofs.edge.stands_at_edge.Given as goal
 
 abbrev pub invariant-loop-at : goal.invariant-loop-at
 invariant-loop-at g l = record {
-  says : list_any (is_at l.edge l.span) (spots_left l.near.to (wanted_words g.H.Hits.stand l.variants.items) l.behind)
+  says : list_any (is_at l.edge l.span) (spots_left l.near.to (wanted_words g.H.Hits.stand l.variants.items) l.after)
       ≡ list_any (is_at l.edge l.span) (spots_left l.near.to (wanted_words g.H.Hits.stand l.fn.variants.items) (spot l.near.from 0));
   lists : all_lists g.H.Hits.stand l.variants.items ≡ all_lists g.H.Hits.stand l.fn.variants.items;
   plain : all_plain g.H.Hits.plain l.variants.items ≡ all_plain g.H.Hits.plain l.fn.variants.items;
@@ -19,4 +19,4 @@ invariant-loop-at g l = record {
 }
 
 abbrev pub decreases-loop-at : goal.decreases-loop-at
-decreases-loop-at g l = length (spots_left l.near.to (wanted_words g.H.Hits.stand l.variants.items) l.behind)
+decreases-loop-at g l = length (spots_left l.near.to (wanted_words g.H.Hits.stand l.variants.items) l.after)

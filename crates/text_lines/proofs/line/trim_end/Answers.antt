@@ -6,7 +6,7 @@ use Rattle.text_lines.proofs.LineLemmas.{trimmed_end_blank, trimmed_end_other}
 use Rattle.text_lines.proofs.line.trim_end.Goals.{then-loop-end-test+else-is_blank, else-loop-end-test}
 use Rattle.text_lines.proofs.line.trim_end.Goals as goal
 
--- the last byte of a front
+-- the last byte of a prefix
 split_end : (text : List ℕ) (n : ℕ) → 0 < n → n ≤ length text → take n text ≡ take (n - 1) text ++ get_or text (n - 1) 0 ∷ []
 split_end text n some within =
     let e : n ≡ n - 1 + 1 = omega arith in

@@ -1,4 +1,4 @@
--- Only blanks stand behind the end.
+-- Only blanks stand after the end.
 use Rattle.std.proofs.Common.{◌≡◌, ◌≤◌, length, take}
 use Rattle.text_lines.specs.Lines.{trimmed_end}
 use Rattle.text_lines.proofs.line.trim_end.Given as goal

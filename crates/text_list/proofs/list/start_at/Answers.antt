@@ -1,4 +1,4 @@
--- A text starts where the one in front of it ends.
+-- A text starts where the one before it ends.
 use Rattle.std.proofs.Common.{◌≡◌, ◌+◌, ◌-◌, suc, sym, ◌∙◌, ap, arith}
 use Rattle.text_list.specs.Ends.{start_at}
 use Rattle.text_list.proofs.EndsLemmas.{start-first, start-next}

@@ -11,7 +11,7 @@ pub returns-then-ends_with : goal.returns-then-ends_with
 returns-then-ends_with c =
     let text = c.args.text.now in
     let rest = take (length text - c.skip_blanks.result) (drop c.skip_blanks.result text) in
-    let is : rest ≡ trimmed_start text = ap (λ n. take n (drop c.skip_blanks.result text)) (sym (length-drop c.skip_blanks.result text)) ∙ take_all _ _ (omega (arith, length-drop c.skip_blanks.result text)) ∙ c.skip_blanks.ensures.behind in
+    let is : rest ≡ trimmed_start text = ap (λ n. take n (drop c.skip_blanks.result text)) (sym (length-drop c.skip_blanks.result text)) ∙ take_all _ _ (omega (arith, length-drop c.skip_blanks.result text)) ∙ c.skip_blanks.ensures.suffix in
     let ends : ends_with nat_eq rest (13 ∷ []) ≡ true = sym c.ends_with.ensures.value ∙ c.if-ends_with.true in
     sym (returned_end rest ends) ∙ ap trimmed_end is
 
@@ -19,6 +19,6 @@ pub returns : goal.returns
 returns c =
     let text = c.args.text.now in
     let rest = take (length text - c.skip_blanks.result) (drop c.skip_blanks.result text) in
-    let is : rest ≡ trimmed_start text = ap (λ n. take n (drop c.skip_blanks.result text)) (sym (length-drop c.skip_blanks.result text)) ∙ take_all _ _ (omega (arith, length-drop c.skip_blanks.result text)) ∙ c.skip_blanks.ensures.behind in
+    let is : rest ≡ trimmed_start text = ap (λ n. take n (drop c.skip_blanks.result text)) (sym (length-drop c.skip_blanks.result text)) ∙ take_all _ _ (omega (arith, length-drop c.skip_blanks.result text)) ∙ c.skip_blanks.ensures.suffix in
     let ends : ends_with nat_eq rest (13 ∷ []) ≡ false = sym c.ends_with.ensures.value ∙ c.if-ends_with.false in
     c.trim_line.ensures ∙ other_end text rest is ends

@@ -1,4 +1,4 @@
--- At first all of the document is left; a text's words are then seen, and those behind it are still to come.
+-- At first all of the document is left; a text's words are then seen, and those after it are still to come.
 use Rattle.std.proofs.Common.{◌≡◌, ◌∷◌, flat_map, sym, ap, ◌∙◌, zero-add, arith}
 use Rattle.unicode_segmentation.specs.Word.{word_bounds}
 use Rattle.tokenizer.specs.Parts.{characters, parts, parts_of_event}

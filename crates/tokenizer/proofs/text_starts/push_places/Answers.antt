@@ -1,4 +1,4 @@
--- Each place is behind the last one, as the places ascend, and none is greater than the last of them.
+-- Each place is after the last one, as the places ascend, and none is greater than the last of them.
 use Rattle.std.proofs.Common.{◌≡◌, ◌+◌, ◌<◌, ◌≤◌, true, All, drop, sym, ap, ◌∙◌, subst, arith}
 use Rattle.ft_base.specs.Places.{is_ascending, last_place}
 use Rattle.tokenizer.proofs.PushLemmas.{last-pushed, next-above, next-most, pushed-done, rest-above}

@@ -1,4 +1,4 @@
--- What was put to the end, then the places that are left, are all; each that is left is behind the last one.
+-- What was put to the end, then the places that are left, are all; each that is left is after the last one.
 use Rattle.std.proofs.Common.{◌≡◌, ℕ, ◌+◌, ◌<◌, ◌≤◌, ◌++◌, All, map, drop}
 use Rattle.std.specs.Option.{ForSome}
 use Rattle.ft_base.specs.Places.{last_place}

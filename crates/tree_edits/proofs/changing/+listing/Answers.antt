@@ -8,8 +8,8 @@ use Rattle.tree_edits.proofs.changing.+listing.Goals as goal
 
 pub add_texts-returns-in_ok-push-in-Text : goal.add_texts-returns-in_ok-push-in-Text
 add_texts-returns-in_ok-push-in-Text t c =
-    let front = map text_of c.args.list.now.items in
+    let prefix = map text_of c.args.list.now.items in
     ap (map text_of) c.in_ok-push-in-Text.ensures.items
     ∙ map-append text_of c.args.list.now.items (record { node = c.in-Text.node; text = c.as_str.result } ∷ [])
-    ∙ ap (λ b. front ++ (c.in-Text.node, b) ∷ []) c.as_str.ensures
-    ∙ ap (λ n. front ++ texts n) (sym (ap ref_node c.in-Text.is ∙ ref_node_text c.in-Text.node c.in-Text.text))
+    ∙ ap (λ b. prefix ++ (c.in-Text.node, b) ∷ []) c.as_str.ensures
+    ∙ ap (λ n. prefix ++ texts n) (sym (ap ref_node c.in-Text.is ∙ ref_node_text c.in-Text.node c.in-Text.text))

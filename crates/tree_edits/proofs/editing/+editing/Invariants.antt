@@ -1,4 +1,4 @@
--- What the nodes that are done make stands behind the others, joined.
+-- What the nodes that are done make stands after the others, joined.
 use Rattle.std.proofs.Common.{◌≡◌, true}
 use Rattle.tree_edits.specs.Edits.{append, joined}
 use Rattle.tree_edits.specs.steps.Editing.{all_edited}

@@ -1,4 +1,4 @@
--- Content in front of the element, and behind it.
+-- Content before the element, and after it.
 use Rattle.std.proofs.Common.{◌≡◌, sym, ap, ◌∙◌}
 use Rattle.std.proofs.lemmas.Result.{on_ok_weaker}
 use Rattle.ordered_tree.specs.RefView.{ref_node}

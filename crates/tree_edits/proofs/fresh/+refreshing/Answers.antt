@@ -1,4 +1,4 @@
--- A node takes the next reference, its children those behind it.
+-- A node takes the next reference, its children those after it.
 use Rattle.std.proofs.Common.{◌≡◌, ◌+◌, map, drop, refl, sym, ap, ap₂, ◌∙◌, arith}
 use Rattle.std.proofs.lemmas.List.{drop-drop}
 use Rattle.doc_grammar.specs.Limits.{node_count, nodes_count}

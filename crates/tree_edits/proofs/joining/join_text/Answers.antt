@@ -1,4 +1,4 @@
--- The text behind nothing, and behind the last node.
+-- The text after nothing, and after the last node.
 use Rattle.std.proofs.Common.{◌≡◌, ◌∷◌, ◌++◌, [], length, sym, ap, ◌∙◌, arith}
 use Rattle.std.proofs.lemmas.Bool.Decides.{nat_tests}
 use Rattle.std.proofs.lemmas.Result.{on_ok_weaker}
@@ -13,14 +13,14 @@ returns-then-is_empty c =
     let none : length c.args.more ≡ 0 = grind (arith, nat_tests) in
     λ joined. no_text_after c.args.list.now.items c.args.node c.args.more joined none
 
-pub join_behind-requires : goal.join_behind-requires
-join_behind-requires c = grind (arith, nat_tests)
+pub join_after-requires : goal.join_after-requires
+join_after-requires c = grind (arith, nat_tests)
 
 pub returns-in-Some : goal.returns-in-Some
 returns-in-Some c =
     let is : c.args.list.now.items ≡ c.pop.new.self.items ++ c.in-Some.last ∷ [] = c.in-Some.ensures.items in
-    on_ok_weaker c.join_behind.result
-    (λ says h. says (ap (λ z. are_joined_at (row z)) (sym is) ∙ h) ∙ ap (λ z. joined (append (row z) (only (text_at c.args.node c.args.more)))) (sym is)) c.join_behind.ensures
+    on_ok_weaker c.join_after.result
+    (λ says h. says (ap (λ z. are_joined_at (row z)) (sym is) ∙ h) ∙ ap (λ z. joined (append (row z) (only (text_at c.args.node c.args.more)))) (sym is)) c.join_after.ensures
 
 pub returns-in_ok-push_text-in-None : goal.returns-in_ok-push_text-in-None
 returns-in_ok-push_text-in-None c =

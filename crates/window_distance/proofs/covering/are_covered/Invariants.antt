@@ -1,4 +1,4 @@
--- The words in front of the place are covered, so that those from it on decide.
+-- The words before the place are covered, so that those from it on decide.
 use Rattle.std.proofs.Common.{◌≡◌, ◌-◌}
 use Rattle.std.specs.List.{list_all, range_with_len}
 use Rattle.window_distance.specs.steps.Covering.{is_covered}

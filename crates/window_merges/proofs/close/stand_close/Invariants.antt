@@ -1,4 +1,4 @@
--- No choice that is near has a place in front of the window.
+-- No choice that is near has a place before the window.
 use Rattle.std.proofs.Common.{◌-◌}
 use Rattle.window_merges.specs.Choices.{are_close}
 use Rattle.window_merges.specs.Rows.{places_in}

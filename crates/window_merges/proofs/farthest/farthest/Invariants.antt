@@ -1,4 +1,4 @@
--- The words in front of this one have a hit up to the farthest.
+-- The words before this one have a hit up to the farthest.
 use Rattle.window_merges.specs.steps.Reaching.{has_hit, shown_word}
 use Rattle.window_merges.proofs.CloseLemmas.{Reaching}
 use Rattle.window_merges.proofs.farthest.farthest.Given as goal

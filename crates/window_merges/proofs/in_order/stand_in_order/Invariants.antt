@@ -1,4 +1,4 @@
--- The words in front of this one have hits in order, up to the place.
+-- The words before this one have hits in order, up to the place.
 use Rattle.window_merges.specs.Rows.{places_in}
 use Rattle.window_merges.specs.steps.Reaching.{has_hit, shown_word}
 use Rattle.window_merges.proofs.OrderLemmas.{Rising}

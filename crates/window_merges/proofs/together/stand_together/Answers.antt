@@ -6,24 +6,24 @@ use Rattle.window_merges.specs.Rows.{places_in}
 use Rattle.window_merges.specs.steps.Reaching.{has_hit, shown_word}
 use Rattle.window_merges.proofs.CloseLemmas.{narrowing_ends, narrowing_fails, narrowing_found, narrowing_goes_on, narrowing_starts}
 use Rattle.window_merges.proofs.UnitLemmas.{unit_enough, unit_rule}
-use Rattle.window_merges.proofs.WordLemmas.{told}
+use Rattle.window_merges.proofs.WordLemmas.{known}
 use Rattle.window_merges.proofs.together.stand_together.Goals as goal
 
 pub loop-low-init : goal.loop-low-init
 loop-low-init g c =
     let some = eqb-false c.args.words.now.len 0 (sym c.is_empty.ensures ∙ c.if-is_empty.false) in
-    narrowing_starts (has_hit g.H.Hits.stand) (λ word. places_in g.H.Hits.stand c.args.span word.items) c.args.span.from c.args.span.to (told g.H.Hits.stand c.args.span) (are_in_one (g.U.Units.number c.args.units.now))
+    narrowing_starts (has_hit g.H.Hits.stand) (λ word. places_in g.H.Hits.stand c.args.span word.items) c.args.span.from c.args.span.to (known g.H.Hits.stand c.args.span) (are_in_one (g.U.Units.number c.args.units.now))
     (shown_word g.H.Hits.stand g.H.Hits.plain) c.args.words.now.items c.args.steps.now (omega (arith, some, c.args.words.now.ok.0))
 
 pub returns-then-far-span-clause-together : goal.returns-then-far-span-clause-together
 returns-then-far-span-clause-together g c =
-    sym (narrowing_fails (has_hit g.H.Hits.stand) (λ word. places_in g.H.Hits.stand c.args.span word.items) c.args.span.from c.args.span.to (told g.H.Hits.stand c.args.span) (are_in_one (g.U.Units.number c.args.units.now))
+    sym (narrowing_fails (has_hit g.H.Hits.stand) (λ word. places_in g.H.Hits.stand c.args.span word.items) c.args.span.from c.args.span.to (known g.H.Hits.stand c.args.span) (are_in_one (g.U.Units.number c.args.units.now))
     (shown_word g.H.Hits.stand g.H.Hits.plain) c.args.words.now.items c.loop-low.words.items c.farthest-far.new.words.items c.loop-low.low c.args.steps.now c.loop-low.steps c.farthest-far.new.steps
     c.loop-low.invariant c.farthest-far.result c.farthest-far.ensures.reaches c.farthest-far.ensures.same c.farthest-far.ensures.moved c.loop-low-test.true c.if-far-span.true)
 
 pub returns-then-number_of-clause-together : goal.returns-then-number_of-clause-together
 returns-then-number_of-clause-together g c =
-    sym (narrowing_found (has_hit g.H.Hits.stand) (λ word. places_in g.H.Hits.stand c.args.span word.items) c.args.span.from c.args.span.to (told g.H.Hits.stand c.args.span) (are_in_one (g.U.Units.number c.args.units.now))
+    sym (narrowing_found (has_hit g.H.Hits.stand) (λ word. places_in g.H.Hits.stand c.args.span word.items) c.args.span.from c.args.span.to (known g.H.Hits.stand c.args.span) (are_in_one (g.U.Units.number c.args.units.now))
     (shown_word g.H.Hits.stand g.H.Hits.plain) c.args.words.now.items c.loop-low.words.items c.farthest-far.new.words.items c.loop-low.low c.args.steps.now c.loop-low.steps c.farthest-far.new.steps
     c.loop-low.invariant c.farthest-far.result c.farthest-far.ensures.reaches c.farthest-far.ensures.same c.farthest-far.ensures.moved (omega (arith, c.if-far-span.false))
     (unit_enough (g.U.Units.number c.args.units.now) (g.met.U.Units.rises c.args.units.now) c.loop-low.low c.farthest-far.result
@@ -31,12 +31,12 @@ returns-then-number_of-clause-together g c =
 
 pub loop-low-preserved : goal.loop-low-preserved
 loop-low-preserved g c =
-    narrowing_goes_on (has_hit g.H.Hits.stand) (λ word. places_in g.H.Hits.stand c.args.span word.items) c.args.span.from c.args.span.to (told g.H.Hits.stand c.args.span) (are_in_one (g.U.Units.number c.args.units.now))
+    narrowing_goes_on (has_hit g.H.Hits.stand) (λ word. places_in g.H.Hits.stand c.args.span word.items) c.args.span.from c.args.span.to (known g.H.Hits.stand c.args.span) (are_in_one (g.U.Units.number c.args.units.now))
     (shown_word g.H.Hits.stand g.H.Hits.plain) c.args.words.now.items c.loop-low.words.items c.farthest-far.new.words.items c.loop-low.low c.args.steps.now c.loop-low.steps c.farthest-far.new.steps
     c.loop-low.invariant c.farthest-far.result c.farthest-far.ensures.reaches c.farthest-far.ensures.same c.farthest-far.ensures.moved c.first_place-low.result
-    (unit_rule (g.U.Units.number c.args.units.now) (g.met.U.Units.rises c.args.units.now) c.farthest-far.result c.first_place-low.result c.first_place-low.ensures.first) (omega (arith, c.first_place-low.ensures.behind))
+    (unit_rule (g.U.Units.number c.args.units.now) (g.met.U.Units.rises c.args.units.now) c.farthest-far.result c.first_place-low.result c.first_place-low.ensures.first) (omega (arith, c.first_place-low.ensures.after))
 
 pub returns-clause-together : goal.returns-clause-together
 returns-clause-together g c =
-    sym (narrowing_ends (has_hit g.H.Hits.stand) (λ word. places_in g.H.Hits.stand c.args.span word.items) c.args.span.from c.args.span.to (told g.H.Hits.stand c.args.span) (are_in_one (g.U.Units.number c.args.units.now))
+    sym (narrowing_ends (has_hit g.H.Hits.stand) (λ word. places_in g.H.Hits.stand c.args.span word.items) c.args.span.from c.args.span.to (known g.H.Hits.stand c.args.span) (are_in_one (g.U.Units.number c.args.units.now))
     (shown_word g.H.Hits.stand g.H.Hits.plain) c.args.words.now.items c.loop-low.words.items c.loop-low.low c.args.steps.now c.loop-low.steps c.loop-low.invariant (omega (arith, c.loop-low-test.false)))

@@ -1,4 +1,4 @@
--- No choice in one unit has a place in front of where the search goes on.
+-- No choice in one unit has a place before where the search goes on.
 use Rattle.std.proofs.Common.{◌-◌}
 use Rattle.window_merges.specs.Choices.{are_in_one}
 use Rattle.window_merges.specs.Rows.{places_in}

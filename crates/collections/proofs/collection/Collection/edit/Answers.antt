@@ -1,4 +1,4 @@
--- The limit that is exceeded, or the documents behind the edit.
+-- The limit that is exceeded, or the documents after the edit.
 use Rattle.std.proofs.Common.{◌≡◌, ◌∙◌, subst, sym, ap, map, None, Some}
 use Rattle.collections.specs.Documents.{edited_within, limit_of}
 use Rattle.collections.specs.Indexed.{Indexed}

@@ -1,4 +1,4 @@
--- The name is new, and stands beside the document behind the others.
+-- The name is new, and stands beside the document after the others.
 use Rattle.std.proofs.Common.{◌∙◌, ◌++◌, ◌∷◌, [], ap, ap₂}
 use Rattle.std.specs.List.{zip}
 use Rattle.std.specs.Map.{lookup}

@@ -1,4 +1,4 @@
--- As all numbers are different, each is none of those in front of it.
+-- As all numbers are different, each is none of those before it.
 use Rattle.std.proofs.Common.{◌<◌, List, length, get_or, ap, ◌∙◌, arith}
 use Rattle.doc_index.specs.Terms.{Leaf, TermDocument, has, leaf_ids}
 use Rattle.doc_index.proofs.LeafLemmas.{next-apart}

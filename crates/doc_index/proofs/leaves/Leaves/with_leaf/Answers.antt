@@ -25,12 +25,12 @@ invariant_of-result c =
     let opened = subst (λ (n : ℕ). IsOpened c.args.at n inside.slots.items inside.befores.items s₁ b₁) (ap length c.terms-count.ensures) c.in_ok-open_gap.ensures in
     let slot_is : c.in-Some.slot ≡ c.args.at + 1 = omega (arith, c.in-Some.ensures) in
     let slot_set = subst (λ (n : ℕ). IsChanged n (c.args.at + 1) s₁ s₂) c.leaf-number.ensures (subst (λ (n : ℕ). IsChanged number n s₁ s₂) slot_is c.in_ok-put_number.ensures.changed) in
-    let before_set = subst (λ (n : ℕ). IsChanged n c.words_in_front-before.result b₁ b₂) c.leaf-number.ensures c.in_ok-put_number-2.ensures.changed in
+    let before_set = subst (λ (n : ℕ). IsChanged n c.words_before-before.result b₁ b₂) c.leaf-number.ensures c.in_ok-put_number-2.ensures.changed in
     let same : length b₂ ≡ length s₂ = c.in_ok-put_number-2.ensures.length ∙ ap (λ m. cond (nat_lt number m) m (number + 1)) (opened.befores_length ∙ sym opened.slots_length) ∙ sym c.in_ok-put_number.ensures.length in
     let within : c.args.at ≤ length inside.leaves = omega (arith, c.requires.place, ap length leaves_are) in
     let none : has leaf.id (leaf_ids inside.leaves) ≡ false = ap (λ ls. has leaf.id (leaf_ids ls)) leaves_are ∙ c.requires.new in
-    let before_is = c.words_in_front-before.ensures ∙ ap (λ ls. length (words_of (take c.args.at ls))) (sym leaves_are) in
+    let before_is = c.words_before-before.ensures ∙ ap (λ ls. length (words_of (take c.args.at ls))) (sym leaves_are) in
     let sum_is : c.in_ok-words.words ≡ inside.words + length leaf.words = c.in_ok-words.ensures.0 ∙ ap (λ ws. inside.words + length ws) c.terms-count.ensures in
     subst (λ (ls : List Leaf). IsDirectory ls s₂ b₂ c.in_ok-words.words) (sym c.in_ok-insert.ensures.ok)
-    (directory-with inside.leaves inside.slots.items inside.befores.items inside.words c.args.at leaf s₁ b₁ s₂ b₂ c.words_in_front-before.result c.in_ok-words.words
+    (directory-with inside.leaves inside.slots.items inside.befores.items inside.words c.args.at leaf s₁ b₁ s₂ b₂ c.words_before-before.result c.in_ok-words.words
     c.self.invariant within none opened slot_set before_set before_is same sum_is c.in_ok-words.ensures.1)

@@ -8,8 +8,8 @@ use Rattle.doc_index.proofs.DirectoryLemmas.{directory-without, words_at}
 use Rattle.doc_index.proofs.LeafLemmas.{id-read, slot-at, words-read}
 use Rattle.doc_index.proofs.leaves.Leaves.without_leaf.Goals as goal
 
-behind-end : (xs : List ℕ) (k n : ℕ) → get_or xs k 0 ≡ n + 1 → k < length xs
-behind-end xs k n is = elim (cases_lt k (length xs)) [
+suffix-end : (xs : List ℕ) (k n : ℕ) → get_or xs k 0 ≡ n + 1 → k < length xs
+suffix-end xs k n is = elim (cases_lt k (length xs)) [
   | inl there ↦ there
   | inr past ↦ absurd (omega (arith, is, get_or_past xs k 0 past))
 ]
@@ -29,7 +29,7 @@ close_gap-requires-clause-there c =
     let at = c.args.at in
     let there : at < length leaves = omega (arith, c.requires, ap (λ (d : TermDocument). length d.leaves) c.self.view_is) in
     let id = c.leaf-2.ensures ∙ id-read leaves at c.in_ok-leaf.leaf there c.in_ok-leaf.ensures.item in
-    behind-end c.self.inside.slots.items c.leaf-2.result.0 at (
+    suffix-end c.self.inside.slots.items c.leaf-2.result.0 at (
     ap (λ i. get_or c.self.inside.slots.items i 0) id ∙ c.self.invariant.slots_are (get_or (leaf_ids leaves) at 0)
     ∙ slot-at (leaf_ids leaves) at (omega (arith, there, length-map leaves (λ (l : Leaf). l.id))) c.self.invariant.distinct)
 

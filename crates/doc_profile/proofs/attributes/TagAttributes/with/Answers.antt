@@ -1,4 +1,4 @@
--- The set keeps the names of the attributes behind the first few.
+-- The set keeps the names of the attributes after the first few.
 use Rattle.std.proofs.Common.{◌∙◌, true, arith}
 use Rattle.std.specs.Prelude.{string_bytes}
 use Rattle.std.proofs.lemmas.Map.Text.{hash_set_updates_text}

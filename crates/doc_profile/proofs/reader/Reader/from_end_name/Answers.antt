@@ -1,4 +1,4 @@
--- A character of an end tag, in its name and behind it.
+-- A character of an end tag, in its name and after it.
 use Rattle.std.proofs.Common.{sym, subst, ◌∙◌, ap, drop, ◌+◌, arith}
 use Rattle.std.specs.Prelude.{nat_eq, encode_utf8}
 use Rattle.std.specs.List.{starts_with}

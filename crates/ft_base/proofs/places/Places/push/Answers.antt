@@ -1,4 +1,4 @@
--- The places ascend behind a push.
+-- The places ascend after a push.
 use Rattle.ft_base.proofs.PlacesLemmas.{is_ascending-push}
 use Rattle.ft_base.proofs.places.Places.push.Goals as goal
 

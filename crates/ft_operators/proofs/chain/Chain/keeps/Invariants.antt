@@ -1,4 +1,4 @@
--- The filters behind the number keep the hit, so that those before it decide.
+-- The filters after the number keep the hit, so that those before it decide.
 use Rattle.std.proofs.Common.{◌≡◌, ◌≤◌, length, take, reverse}
 use Rattle.all_matches.specs.Chain.{kept_by}
 use Rattle.ft_operators.specs.Chains.{links_from, links_of}

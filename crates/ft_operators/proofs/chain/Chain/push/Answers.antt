@@ -1,4 +1,4 @@
--- The includes of the filter stand behind those of the others.
+-- The includes of the filter stand after those of the others.
 use Rattle.std.proofs.Common.{◌≡◌, ◌∙◌, ◌++◌, ap, arith, length}
 use Rattle.ft_operators.proofs.ChainLemmas.{pushed}
 use Rattle.ft_operators.proofs.chain.Chain.push.Goals as goal

@@ -1,7 +1,7 @@
 -- The node inside moves, and its includes are held.
 use Rattle.std.proofs.Common.{◌≤◌, ◌∙◌, ap, sym, refl, subst, arith}
 use Rattle.ft_operators.specs.Course.{every}
-use Rattle.ft_operators.specs.Standing.{at_front}
+use Rattle.ft_operators.specs.Standing.{at_prefix}
 use Rattle.ft_operators.specs.steps.Nodes.{frame_of, standing}
 use Rattle.ft_operators.proofs.TupleLemmas.{standing_shape, moved_shape, answer_shown, every_shown, first_shown}
 use Rattle.ft_operators.proofs.tuples.Tuples.first.Goals as goal
@@ -17,7 +17,7 @@ pub invariant_of-self : goal.invariant_of-self
 invariant_of-self g c =
     let self = c.args.self.now in
     let at = standing g.P.PhraseHits.state (every self.item) in
-    let same = moved_shape g.P.PhraseHits.state (every self.item) self.node c.first-self.new.node (at_front (every self.item) (at self.node)) refl _ _ 0 _ _ c.first-self.result c.hold.new.held.items c.first-self.ensures in
+    let same = moved_shape g.P.PhraseHits.state (every self.item) self.node c.first-self.new.node (at_prefix (every self.item) (at self.node)) refl _ _ 0 _ _ c.first-self.result c.hold.new.held.items c.first-self.ensures in
     let room = ap (λ s. s.room) same in
     let fits = self.fits in
     let kept = c.first-self.ensures.kept_room in

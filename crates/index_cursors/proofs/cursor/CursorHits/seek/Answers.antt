@@ -1,4 +1,4 @@
--- The places that are passed are those in front of the position and of the end of the span.
+-- The places that are passed are those before the position and of the end of the span.
 use Rattle.std.proofs.Common.{◌≡◌, ap, ◌∙◌, arith}
 use Rattle.ft_base.specs.Hits.{hits_passed, sought}
 use Rattle.index_cursors.specs.SpanHits.{cursor_place}

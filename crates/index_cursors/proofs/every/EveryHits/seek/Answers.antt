@@ -1,4 +1,4 @@
--- As many hits are passed as places stand in front of the position, up to the end.
+-- As many hits are passed as places stand before the position, up to the end.
 use Rattle.std.proofs.Common.{◌-◌, ap, ◌∙◌}
 use Rattle.std.specs.Prelude.{map}
 use Rattle.std.specs.List.{range_with_len}

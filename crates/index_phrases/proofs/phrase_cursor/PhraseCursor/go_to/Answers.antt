@@ -18,7 +18,7 @@ pub invariant_of-self : goal.invariant_of-self
 invariant_of-self g c =
     let self = c.args.self.now in
     record {
-      sized = sizes_kept c.aim_variants.new.variants.items c.found_behind-self.new.variants.items c.found_behind-self.ensures.lists ∙ c.aim_variants.ensures.same ∙ self.sized
+      sized = sizes_kept c.aim_variants.new.variants.items c.found_after-self.new.variants.items c.found_after-self.ensures.lists ∙ c.aim_variants.ensures.same ∙ self.sized
           ∙ sym (ap (map (map wanted_size)) c.aim_variants.ensures.terms);
       there = subst (λ (terms : List (List WordTerms)). All (All (AreThere self.version.now)) terms) (sym c.aim_variants.ensures.terms) self.there;
       known = is_known self.version.now c.args.target.now c.requires;
@@ -30,7 +30,7 @@ returns-clause-moved g c =
     let same = c.aim_variants.ensures.terms in
     let target = c.args.target.now in
     let words = c.aim_variants.ensures.aimed ∙ by_version self.version.now target.doc.0 target.span (phrase_terms self) self.there in
-    let rest = sym c.found_behind-self.ensures.left
+    let rest = sym c.found_after-self.ensures.left
     ∙ all_left self.version.now self.number (phrase_terms self) target c.requires _ words in
     λ i. record {
       aims = phrase_aims self.version.now self.number (same i);

@@ -1,4 +1,4 @@
--- The plans that are left stand in front of those that were copied.
+-- The plans that are left stand before those that were copied.
 use Rattle.std.proofs.Common.{◌≡◌, ◌++◌}
 use Rattle.std.specs.Map.{values_of}
 use Rattle.kept_plans.proofs.recent_plans.RecentPlans.copy.Given as goal

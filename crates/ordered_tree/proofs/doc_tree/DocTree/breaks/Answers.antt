@@ -1,4 +1,4 @@
--- The starts that were seen behind the root are all of the document.
+-- The starts that were seen after the root are all of the document.
 use Rattle.std.proofs.Common.{[], ◌++◌, sym, ap, ◌∙◌, append-nil, arith}
 use Rattle.tokenizer.specs.Parts.{parts}
 use Rattle.tokenizer.specs.Tokens.{tokens, tokens_from, sentence_starts, paragraph_starts}

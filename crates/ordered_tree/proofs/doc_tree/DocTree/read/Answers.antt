@@ -7,7 +7,7 @@ use Rattle.tokenizer.specs.Tokens.{tokens, tokens_from, sentence_starts, paragra
 use Rattle.tokenizer.specs.steps.StartsLeft.{words_seen}
 use Rattle.tokenizer.specs.declared.tokens.TokenFault.TheVariants as Fault
 use Rattle.ordered_tree.specs.Counts.{word_count, element_depth}
-use Rattle.ordered_tree.specs.Leaves.{texts, leaves, leaves_behind}
+use Rattle.ordered_tree.specs.Leaves.{texts, leaves, leaves_after}
 use Rattle.ordered_tree.specs.Numbered.{plain}
 use Rattle.ordered_tree.specs.Numbering.{numbered, next_sibling}
 use Rattle.ordered_tree.specs.Slots.{slot, root_of, IsDocument}
@@ -53,7 +53,7 @@ returns-clause-tree c =
 pub returns-clause-leaves : goal.returns-clause-leaves
 returns-clause-leaves c =
     c.into_parts-leaves.ensures.leaves ∙ c.in_ok-added.ensures.gathers.leaves
-    ∙ ap₂ (λ l b. l ++ leaves_behind b (texts (numbered (length c.in-Ok.slots.items) (node c.into_tree-root.result)))) c.new-texts.ensures.leaves c.new-texts.ensures.last
+    ∙ ap₂ (λ l b. l ++ leaves_after b (texts (numbered (length c.in-Ok.slots.items) (node c.into_tree-root.result)))) c.new-texts.ensures.leaves c.new-texts.ensures.last
     ∙ ap₂ (λ s n. leaves (numbered (length s) n)) c.in-Ok.ensures.items c.into_tree-root.ensures.tree
 
 pub returns-clause-sentences : goal.returns-clause-sentences

@@ -1,4 +1,4 @@
--- The references are those of the free slots, and then the numbers behind all slots.
+-- The references are those of the free slots, and then the numbers after all slots.
 use Rattle.std.proofs.Common.{◌≡◌, ◌≢◌, ◌+◌, ◌<◌, ◌++◌, length, max, sym, ap, ◌∙◌, subst}
 use Rattle.std.specs.List.{All, AllPairs}
 use Rattle.std.proofs.lemmas.Result.{IfOk-weaker}

@@ -1,4 +1,4 @@
--- Each node of a document stands in a row with the siblings behind it.
+-- Each node of a document stands in a row with the siblings after it.
 use Rattle.std.proofs.Common.{sym, ap, ◌∙◌, subst}
 use Rattle.std.specs.List.{Contains}
 use Rattle.std.proofs.lemmas.List.Elements.{All-contains}

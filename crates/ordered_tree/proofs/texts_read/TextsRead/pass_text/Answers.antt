@@ -1,14 +1,14 @@
--- The text gives one leaf more, behind the last one, and the starts in it are those that its words bring.
+-- The text gives one leaf more, after the last one, and the starts in it are those that its words bring.
 use Rattle.std.proofs.Common.{◌≡◌, ℕ, List, [], ◌∷◌, ◌++◌, map, refl, ap, ◌∙◌, subst}
 use Rattle.unicode_segmentation.specs.Word.{word_bounds}
 use Rattle.tokenizer.specs.Parts.{Part, part_of_segment}
 use Rattle.tokenizer.specs.Words.{words}
 use Rattle.tokenizer.specs.steps.StartsLeft.{sentences_in, paragraphs_in}
-use Rattle.ordered_tree.specs.Leaves.{leaf_of, leaves_behind, last_leaf}
+use Rattle.ordered_tree.specs.Leaves.{leaf_of, leaves_after, last_leaf}
 use Rattle.ordered_tree.proofs.texts_read.TextsRead.pass_text.Goals as goal
 
 pub returns-clause-gathers : goal.returns-clause-gathers
-unfolding leaves_behind last_leaf
+unfolding leaves_after last_leaf
 returns-clause-gathers c =
     let old = c.args.self.now in
     let starts = c.pass_text.new.self in

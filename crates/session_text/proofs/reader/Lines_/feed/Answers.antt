@@ -1,4 +1,4 @@
--- The commands of what is left stay the same, whole or with the session's end behind them.
+-- The commands of what is left stay the same, whole or with the session's end after them.
 use Rattle.std.proofs.Common.{◌∙◌, sym, ap, ◌++◌, true, false}
 use Rattle.session_text.specs.steps.Reading.{Reading, commands_left, whole_left}
 use Rattle.session_text.proofs.ReadingLemmas.{commands_from-unended}

@@ -2,7 +2,7 @@
 use Rattle.std.proofs.Common.{◌≡◌, ◌∙◌, sym, ap, subst, ◌+◌, ◌++◌, [], length, rules}
 use Rattle.std.specs.Prelude.{Option, None, IfOk}
 use Rattle.session_text.specs.declared.command.Command.{Command}
-use Rattle.session_text.specs.steps.Reading.{OpenLines, Opened, behind_lines, between_lines, ended_at, line_ended}
+use Rattle.session_text.specs.steps.Reading.{OpenLines, Opened, after_lines, between_lines, ended_at, line_ended}
 use Rattle.session_text.proofs.HeldLemmas.{no_bytes, outside_rest}
 use Rattle.session_text.proofs.unfinished.Unfinished.end_outside.Goals as goal
 
@@ -15,5 +15,5 @@ returns-then-is_empty-clause-ended c =
     let rest : self.rest ≡ [] = outside_rest c.self.inside.lines c.self.inside.rest.items c.self.inside.opened self c.self.view_is c.requires.outside empty in
     let number : c.self.inside.lines ≡ self.lines = ap (λ p. p.lines) c.self.view_is in
     let same : between_lines (line_ended (c.self.inside.lines + 1) None c.skip_mark_at_start.result.now) ≡ between_lines (ended_at self part) =
-    (λ i. between_lines (line_ended (number i + 1) (sym c.requires.outside i) ((c.skip_mark_at_start.ensures ∙ (λ j. behind_lines (number j) (sym (ap (λ r. r ++ part) rest) j))) i))) in
+    (λ i. between_lines (line_ended (number i + 1) (sym c.requires.outside i) ((c.skip_mark_at_start.ensures ∙ (λ j. after_lines (number j) (sym (ap (λ r. r ++ part) rest) j))) i))) in
     subst (λ (e : Option Command × Option OpenLines). IfOk c.end_command_line.result (λ ended. ended ≡ e)) same c.end_command_line.ensures

@@ -1,4 +1,4 @@
--- The command of the line stands behind those before. It is readable, and its block was held or read.
+-- The command of the line stands after those before. It is readable, and its block was held or read.
 use Rattle.std.proofs.Common.{◌+◌, ap, length, take, arith, length-take, length-drop}
 use Rattle.std.proofs.lemmas.List.{take_rest}
 use Rattle.session_text.proofs.GivenLemmas.{added_readable, added_blocks}

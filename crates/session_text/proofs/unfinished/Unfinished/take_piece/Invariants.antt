@@ -8,13 +8,13 @@ use Rattle.session_text.proofs.unfinished.Unfinished.take_piece.Given as goal
 
 abbrev pub invariant-loop-end : goal.invariant-loop-end
 invariant-loop-end l = record {
-  feed : l.end ≡ position_or_len is_line_feed l.behind;
-  told : (at_end : Bool) (more : List ℕ) → commands_from at_end l.fn.self (l.piece ++ more) ≡ l.found ++ commands_from at_end l.self (l.behind ++ more);
+  feed : l.end ≡ position_or_len is_line_feed l.suffix;
+  known : (at_end : Bool) (more : List ℕ) → commands_from at_end l.fn.self (l.piece ++ more) ≡ l.found ++ commands_from at_end l.self (l.suffix ++ more);
   readable : list_all is_readable l.found ≡ true;
-  blocks : block_lengths l.found + held_length l.self + length l.behind ≤ held_length l.fn.self + length l.piece;
+  blocks : block_lengths l.found + held_length l.self + length l.suffix ≤ held_length l.fn.self + length l.piece;
   unended : is_unended l.self.rest ≡ true;
-  count : l.self.lines + length l.behind ≤ l.fn.self.lines + length l.piece;
+  count : l.self.lines + length l.suffix ≤ l.fn.self.lines + length l.piece;
 }
 
 abbrev pub decreases-loop-end : goal.decreases-loop-end
-decreases-loop-end l = length l.behind
+decreases-loop-end l = length l.suffix

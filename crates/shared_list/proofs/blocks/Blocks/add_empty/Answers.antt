@@ -1,4 +1,4 @@
--- The new start is behind all items.
+-- The new start is after all items.
 use Rattle.std.proofs.Common.{length, ap, sym, ◌∙◌}
 use Rattle.shared_list.specs.Blocks.{joined, starts_from}
 use Rattle.shared_list.proofs.StartLemmas.{push-starts}

@@ -1,4 +1,4 @@
--- Starts are those of the blocks, so that the last start in front of a place is that of its block.
+-- Starts are those of the blocks, so that the last start before a place is that of its block.
 use Rattle.std.proofs.Common.{length, subst, ap, arith}
 use Rattle.shared_list.specs.Blocks.{IsBlockOf}
 use Rattle.shared_list.proofs.StartLemmas.{same-length, first-start, block-of}

@@ -1,4 +1,4 @@
--- A block that got one item longer moves the starts behind it.
+-- A block that got one item longer moves the starts after it.
 use Rattle.std.proofs.Common.{◌≡◌, ◌<◌, ◌≤◌, ◌+◌, [], length, get_or, ap, arith}
 use Rattle.std.proofs.lemmas.List.{get_or_read}
 use Rattle.std.proofs.lemmas.List.Edits.{length-insert}

@@ -1,4 +1,4 @@
--- Two halves have the items of the block in whose place they come, and the second starts behind the first.
+-- Two halves have the items of the block in whose place they come, and the second starts after the first.
 use Rattle.std.proofs.Common.{◌≡◌, ◌+◌, ◌<◌, [], length, set, ap, sym, ◌∙◌, arith}
 use Rattle.std.specs.Prelude.{insert, remove}
 use Rattle.std.proofs.lemmas.List.{get_or_read, length-set}
@@ -17,14 +17,14 @@ pub invariant_of-self-in-Ok : goal.invariant_of-self-in-Ok
 invariant_of-self-in-Ok g c =
     let inside = c.self.inside in
     let number = c.args.number in
-    let front = c.in_ok-front.front in
+    let prefix = c.in_ok-prefix.prefix in
     let there : number < length inside.blocks.items = omega (arith, c.requires, ap length c.self.view_is) in
-    let halves = c.in_ok-front.ensures.0 ∙ get_or_read inside.blocks.items number c.index-2.result.now there c.index-2.ensures [] in
-    let middle : c.in-Some.middle ≡ start_of inside.blocks.items number + length front =
-    omega (arith, c.start.ensures, ap (λ blocks. start_of blocks number) c.self.view_is, c.in-Some.ensures, c.in_ok-front.ensures.1) in
+    let halves = c.in_ok-prefix.ensures.0 ∙ get_or_read inside.blocks.items number c.index-2.result.now there c.index-2.ensures [] in
+    let middle : c.in-Some.middle ≡ start_of inside.blocks.items number + length prefix =
+    omega (arith, c.start.ensures, ap (λ blocks. start_of blocks number) c.self.view_is, c.in-Some.ensures, c.in_ok-prefix.ensures.1) in
     c.in_ok-insert.ensures.items
-    ∙ split-starts inside.blocks.items inside.starts.items number c.in-Some.middle front c.in_ok-front.back c.self.invariant there halves middle
-    ∙ ap (λ blocks. starts_from 0 (set blocks number front)) (sym c.in-Ok.ensures.items)
+    ∙ split-starts inside.blocks.items inside.starts.items number c.in-Some.middle prefix c.in_ok-prefix.back c.self.invariant there halves middle
+    ∙ ap (λ blocks. starts_from 0 (set blocks number prefix)) (sym c.in-Ok.ensures.items)
 
 pub remove-requires : goal.remove-requires
 remove-requires g c =
@@ -46,23 +46,23 @@ pub returns-in-Ok-clause-same : goal.returns-in-Ok-clause-same
 returns-in-Ok-clause-same g c =
     let inside = c.self.inside in
     let number = c.args.number in
-    let front = c.in_ok-front.front in
+    let prefix = c.in_ok-prefix.prefix in
     let there : number < length inside.blocks.items = omega (arith, c.requires, ap length c.self.view_is) in
-    let halves = c.in_ok-front.ensures.0 ∙ get_or_read inside.blocks.items number c.index-2.result.now there c.index-2.ensures [] in
-    ap (λ blocks. joined (set blocks number front)) c.in-Ok.ensures.items
-    ∙ joined-split inside.blocks.items number front c.in_ok-front.back there halves
+    let halves = c.in_ok-prefix.ensures.0 ∙ get_or_read inside.blocks.items number c.index-2.result.now there c.index-2.ensures [] in
+    ap (λ blocks. joined (set blocks number prefix)) c.in-Ok.ensures.items
+    ∙ joined-split inside.blocks.items number prefix c.in_ok-prefix.back there halves
     ∙ ap (λ blocks. joined blocks) c.self.view_is
 
 pub returns-in-Ok-clause-more : goal.returns-in-Ok-clause-more
 returns-in-Ok-clause-more g c =
     let inside = c.self.inside in
     let number = c.args.number in
-    let front = c.in_ok-front.front in
-    let back = c.in_ok-front.back in
+    let prefix = c.in_ok-prefix.prefix in
+    let back = c.in_ok-prefix.back in
     omega (
       arith,
-      ap (λ blocks. length (set blocks number front)) c.in-Ok.ensures.items,
-      length-set (insert inside.blocks.items (number + 1) back) number front,
+      ap (λ blocks. length (set blocks number prefix)) c.in-Ok.ensures.items,
+      length-set (insert inside.blocks.items (number + 1) back) number prefix,
       length-insert inside.blocks.items (number + 1) back (omega (arith, c.requires, ap length c.self.view_is)),
       ap length c.self.view_is,
     )

@@ -1,4 +1,4 @@
--- The number that is kept is how many items stand in front of the block.
+-- The number that is kept is how many items stand before the block.
 use Rattle.std.proofs.Common.{length, ap, ◌∙◌, arith}
 use Rattle.shared_list.specs.Blocks.{start_of}
 use Rattle.shared_list.proofs.StartLemmas.{same-length, start-read}

@@ -1,8 +1,8 @@
--- A block that got one item shorter moves the starts behind it to the front.
+-- A block that got one item shorter moves the starts after it to the front.
 use Rattle.std.proofs.Common.{◌≡◌, ◌<◌, ◌+◌, [], length, get_or, ap, arith}
 use Rattle.std.proofs.lemmas.List.{get_or_read}
 use Rattle.std.proofs.lemmas.List.Edits.{length-remove}
-use Rattle.shared_list.proofs.StartLemmas.{same-length, starts-behind, take-starts}
+use Rattle.shared_list.proofs.StartLemmas.{same-length, starts-beyond, take-starts}
 use Rattle.shared_list.proofs.blocks.Blocks.take.Goals as goal
 
 pub lower-requires : goal.lower-requires
@@ -11,7 +11,7 @@ lower-requires g c = λ k from there.
     let number = c.args.number in
     let same = same-length inside.blocks.items inside.starts.items c.self.invariant in
     let some : 0 < length (get_or inside.blocks.items number []) = omega (arith, c.requires.place, ap (λ blocks. length (get_or blocks number [])) c.self.view_is) in
-    omega (arith, ap (λ starts. get_or starts k 0) c.self.invariant, starts-behind 0 inside.blocks.items number k (omega (arith, same, there)) (omega (arith, from)) some)
+    omega (arith, ap (λ starts. get_or starts k 0) c.self.invariant, starts-beyond 0 inside.blocks.items number k (omega (arith, same, there)) (omega (arith, from)) some)
 
 pub invariant_of-self-2 : goal.invariant_of-self-2
 invariant_of-self-2 g c =

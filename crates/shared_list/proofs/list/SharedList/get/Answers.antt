@@ -1,4 +1,4 @@
--- The item stands in its block, so far behind the block's start.
+-- The item stands in its block, so far after the block's start.
 use Rattle.std.proofs.Common.{◌<◌, ◌-◌, [], length, get_or, ap, ◌∙◌, arith}
 use Rattle.shared_list.specs.Blocks.{joined}
 use Rattle.shared_list.proofs.JoinedLemmas.{item-at}

@@ -1,4 +1,4 @@
--- The numbers of a key begin behind the smaller keys, and end behind its own terms.
+-- The numbers of a key begin after the smaller keys, and end after its own terms.
 use Rattle.std.proofs.Common.{[], ap, ◌∙◌, arith}
 use Rattle.index_meaning.specs.Entries.{found}
 use Rattle.index_meaning.specs.Dictionaries.{Dictionary, entries}

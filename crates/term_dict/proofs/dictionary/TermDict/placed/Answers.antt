@@ -3,7 +3,7 @@ use Rattle.std.proofs.Common.{◌≡◌, ◌<◌, length, Some, cond, None, subs
 use Rattle.index_meaning.specs.Entries.{entry, number_of}
 use Rattle.index_meaning.specs.Dictionaries.{Dictionary, entries, dictionary, id_of, with_new}
 use Rattle.term_dict.specs.Places.{brings_key}
-use Rattle.term_dict.proofs.DictionaryLemmas.{at_place, told, told_number, kept_is, keys_bounded, put_whole, put_sound}
+use Rattle.term_dict.proofs.DictionaryLemmas.{at_place, known, told_number, kept_is, keys_bounded, put_whole, put_sound}
 use Rattle.term_dict.proofs.IdLemmas.{new_id, numbered_id}
 use Rattle.term_dict.proofs.dictionary.TermDict.placed.Goals as goal
 
@@ -17,7 +17,7 @@ pub returns-then-stands_at-clause-becomes : goal.returns-then-stands_at-clause-b
 returns-then-stands_at-clause-becomes c =
     let e = entry c.args.key.now c.args.word.now in
     let inside = c.self.inside in
-    let there = told e inside.terms.terms c.count_before-number.result c.stands_at.result c.self.invariant.sorted c.count_before-number.ensures.count c.stands_at.ensures ∙ c.if-stands_at.true in
+    let there = known e inside.terms.terms c.count_before-number.result c.stands_at.result c.self.invariant.sorted c.count_before-number.ensures.count c.stands_at.ensures ∙ c.if-stands_at.true in
     subst (λ (d : Dictionary). d ≡ with_new e d) c.self.view_is (kept_is (dictionary inside.terms.terms inside.terms.given) e there)
 
 pub returns-then-stands_at-clause-id : goal.returns-then-stands_at-clause-id
@@ -40,7 +40,7 @@ invariant_of-result c =
     let e = entry c.args.key.now c.args.word.now in
     let inside = c.self.inside in
     let number = c.count_before-number.result in
-    let new = told e inside.terms.terms number c.stands_at.result c.self.invariant.sorted c.count_before-number.ensures.count c.stands_at.ensures ∙ c.if-stands_at.false in
+    let new = known e inside.terms.terms number c.stands_at.result c.self.invariant.sorted c.count_before-number.ensures.count c.stands_at.ensures ∙ c.if-stands_at.false in
     put_sound inside.terms.terms c.in-Ok.terms.terms inside.keys number c.brought_keys.result inside.terms.given c.in-Ok.terms.given e c.count_before-number.ensures.count
     (ap (λ (d : Dictionary). d.terms) c.in-Ok.ensures.becomes) (ap (λ (d : Dictionary). d.given) c.in-Ok.ensures.becomes) c.self.invariant new c.in-Ok.ensures.fits c.brought_keys.ensures
 
@@ -49,7 +49,7 @@ returns-in-Ok-clause-becomes c =
     let e = entry c.args.key.now c.args.word.now in
     let inside = c.self.inside in
     let number = c.count_before-number.result in
-    let new = told e inside.terms.terms number c.stands_at.result c.self.invariant.sorted c.count_before-number.ensures.count c.stands_at.ensures ∙ c.if-stands_at.false in
+    let new = known e inside.terms.terms number c.stands_at.result c.self.invariant.sorted c.count_before-number.ensures.count c.stands_at.ensures ∙ c.if-stands_at.false in
     put_whole inside.terms.terms c.in-Ok.terms.terms inside.keys number c.brought_keys.result inside.terms.given c.in-Ok.terms.given e c.count_before-number.ensures.count
     (ap (λ (d : Dictionary). d.terms) c.in-Ok.ensures.becomes) (ap (λ (d : Dictionary). d.given) c.in-Ok.ensures.becomes) c.self.invariant.sorted new
     ∙ ap (with_new e) c.self.view_is
@@ -59,7 +59,7 @@ returns-in-Ok-clause-id c =
     let e = entry c.args.key.now c.args.word.now in
     let inside = c.self.inside in
     let number = c.count_before-number.result in
-    let new = told e inside.terms.terms number c.stands_at.result c.self.invariant.sorted c.count_before-number.ensures.count c.stands_at.ensures ∙ c.if-stands_at.false in
+    let new = known e inside.terms.terms number c.stands_at.result c.self.invariant.sorted c.count_before-number.ensures.count c.stands_at.ensures ∙ c.if-stands_at.false in
     let whole = put_whole inside.terms.terms c.in-Ok.terms.terms inside.keys number c.brought_keys.result inside.terms.given c.in-Ok.terms.given e c.count_before-number.ensures.count
     (ap (λ (d : Dictionary). d.terms) c.in-Ok.ensures.becomes) (ap (λ (d : Dictionary). d.given) c.in-Ok.ensures.becomes) c.self.invariant.sorted new in
     ap (λ (d : Dictionary). id_of e d.terms) whole ∙ new_id e (dictionary inside.terms.terms inside.terms.given) new ∙ ap Some (sym c.in-Ok.ensures.id)

@@ -1,4 +1,4 @@
--- The blocks in front of an entry's are full.
+-- The blocks before an entry's are full.
 use Rattle.std.proofs.Common.{◌≡◌, ◌<◌, ◌/◌, ◌%◌, List, [], length, get_or, subst, ap, sym, ◌∙◌, arith}
 use Rattle.std.proofs.lemmas.List.{get_or_default}
 use Rattle.index_meaning.specs.Entries.{Entry}

@@ -9,8 +9,8 @@ returns-then-not-is_skipped c =
     let l = c.loop-self.self-inside in
     let some : 0 < length l.rest.now = search rules in
     c.loop-self.invariant.all
-    ∙ content_next (l.passed + 1) l.rest.now c.behind-self-inside.result.now c.line_end-end.result some c.line_end-end.ensures.first c.behind-self-inside.ensures (sym c.is_skipped.ensures ∙ search rules)
-    ∙ ap (λ (t : List ℕ). record { number = l.passed + 1; text = t } ∷ content_lines (l.passed + 1 + 1) (lines c.behind-self-inside.result.now)) (sym c.trim_line.ensures)
+    ∙ content_next (l.passed + 1) l.rest.now c.suffix-self-inside.result.now c.line_end-end.result some c.line_end-end.ensures.first c.suffix-self-inside.ensures (sym c.is_skipped.ensures ∙ search rules)
+    ∙ ap (λ (t : List ℕ). record { number = l.passed + 1; text = t } ∷ content_lines (l.passed + 1 + 1) (lines c.suffix-self-inside.result.now)) (sym c.trim_line.ensures)
 
 pub loop-self-preserved : goal.loop-self-preserved
 loop-self-preserved c =
@@ -18,8 +18,8 @@ loop-self-preserved c =
     let some : 0 < length l.rest.now = search rules in
     record {
       all = c.loop-self.invariant.all
-          ∙ skipped_next (l.passed + 1) l.rest.now c.behind-self-inside.result.now c.line_end-end.result some c.line_end-end.ensures.first c.behind-self-inside.ensures (sym c.is_skipped.ensures ∙ search rules);
-      room = omega (arith, some, ap length c.behind-self-inside.ensures, length-drop (c.line_end-end.result + 1) l.rest.now, c.loop-self.invariant.room);
+          ∙ skipped_next (l.passed + 1) l.rest.now c.suffix-self-inside.result.now c.line_end-end.result some c.line_end-end.ensures.first c.suffix-self-inside.ensures (sym c.is_skipped.ensures ∙ search rules);
+      room = omega (arith, some, ap length c.suffix-self-inside.ensures, length-drop (c.line_end-end.result + 1) l.rest.now, c.loop-self.invariant.room);
     }
 
 pub returns : goal.returns

@@ -1,4 +1,4 @@
--- The first level is the phrase alone; each turn passes one more; behind an empty level all are empty.
+-- The first level is the phrase alone; each turn passes one more; after an empty level all are empty.
 use Rattle.std.proofs.Common.{◌≡◌, ◌∙◌, sym, ap, ℕ, suc, ◌+◌, ◌-◌, ◌<◌, cond, List, [], ◌∷◌, ◌++◌, length, arith, append-nil, append_assoc}
 use Rattle.std.proofs.lemmas.List.{nil_from_length}
 use Rattle.std.specs.Prelude.{flat_map, fold, Option}
@@ -9,7 +9,7 @@ use Rattle.thesaurus_file.specs.Expansion.{asked_level, expanded, is_nearer, lev
 use Rattle.thesaurus_file.specs.Levels.{in_range}
 use Rattle.thesaurus_file.specs.Links.{Links}
 use Rattle.thesaurus_file.specs.Phrases.{Phrase, phrase_cmp, phrase_eq}
-use Rattle.thesaurus_file.specs.steps.Walks.{level_behind}
+use Rattle.thesaurus_file.specs.steps.Walks.{level_after}
 use Rattle.thesaurus_file.specs.declared.levels.Levels.{Levels}
 use Rattle.thesaurus_file.proofs.LevelLemmas.{known_0, known_next, level_0, level_suc, none_above, none_asked}
 use Rattle.thesaurus_file.proofs.thesaurus.Thesaurus.expand.Goals as goal
@@ -62,7 +62,7 @@ loop-passed-preserved c =
     let e : suc passed ≡ passed + 1 = omega arith in
     let next : c.in_ok-level-2.level.keys ≡ level thesaurus relation (suc passed) start =
     c.in_ok-level-2.ensures
-    ∙ ap (level_behind thesaurus relation c.loop-passed.seen.keys) c.loop-passed.invariant.last
+    ∙ ap (level_after thesaurus relation c.loop-passed.seen.keys) c.loop-passed.invariant.last
     ∙ level_suc thesaurus relation start passed c.loop-passed.seen.keys c.loop-passed.invariant.known in
     record {
       last = next ∙ ap (λ n. level thesaurus relation n start) e;

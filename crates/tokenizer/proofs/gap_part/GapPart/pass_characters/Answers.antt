@@ -1,4 +1,4 @@
--- Both gaps go past the characters, and what was seen in front of them stays seen.
+-- Both gaps go past the characters, and what was seen before them stays seen.
 use Rattle.std.proofs.Common.{◌∙◌, sym, ap₂, if◌then◌else◌}
 use Rattle.std.specs.Str.{chars}
 use Rattle.tokenizer.specs.steps.GapSteps.{both_seen}

@@ -1,4 +1,4 @@
--- The tokens behind characters in no word are those behind the gap with them.
+-- The tokens after characters in no word are those after the gap with them.
 use Rattle.std.proofs.Common.{sym, ap, ◌∙◌}
 use Rattle.tokenizer.specs.steps.Numbering.{tokens_left}
 use Rattle.tokenizer.proofs.NumberingLemmas.{tokens_left-characters}

@@ -1,4 +1,4 @@
--- The tokens behind a tag are those behind the gap with it.
+-- The tokens after a tag are those after the gap with it.
 use Rattle.std.proofs.Common.{sym, ap, ◌∙◌}
 use Rattle.tokenizer.specs.steps.Numbering.{tokens_left}
 use Rattle.tokenizer.proofs.NumberingLemmas.{tokens_left-tag}

@@ -4,4 +4,4 @@ use Rattle.tokenizer.proofs.numbering.Numbering.pass_word.Goals as goal
 
 pub returns-clause-tokens : goal.returns-clause-tokens
 returns-clause-tokens c bytes rest =
-    rw (c.raised-self.ensures.value, c.raised-self-2.ensures.value, c.new-self.ensures) (tokens_left-word c.args.self.now bytes rest)
+    rw (c.shifted-self.ensures.value, c.shifted-self-2.ensures.value, c.new-self.ensures) (tokens_left-word c.args.self.now bytes rest)

@@ -1,4 +1,4 @@
--- Characters between words start no sentence and no paragraph: the tokens behind them have the starts that they had.
+-- Characters between words start no sentence and no paragraph: the tokens after them have the starts that they had.
 use Rattle.std.proofs.Common.{sym, ap, ◌++◌, ◌+◌}
 use Rattle.tokenizer.specs.steps.Numbering.{tokens_left}
 use Rattle.tokenizer.specs.Tokens.{starts}

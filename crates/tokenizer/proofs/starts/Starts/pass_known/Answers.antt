@@ -9,39 +9,39 @@ use Rattle.tokenizer.proofs.starts.Starts.pass_known.Goals as goal
 pub returns-in_ok-pass_begun-clause-sentences : goal.returns-in_ok-pass_begun-clause-sentences
 returns-in_ok-pass_begun-clause-sentences c =
     let old = c.args.self.now in
-    let behind = c.args.known.now.behind in
+    let after = c.args.known.now.after in
     let part = c.pass_part.ensures in
     let done = c.in_ok-pass_begun.ensures in
-    sentences_in-known old c.pass_begun.new.self c.args.known.now (omega (arith, done.counted, part.words)) (done.last ∙ ap (after_begun behind.words behind.last) part.last)
-    (done.sentences ∙ ap₂ (λ b l. b.sentences ++ places_begun behind.words behind.breaks.sentences (sentence_ends l) c.pass_part.new.self.words) part.breaks part.last
-    ∙ ap (λ n. old.breaks.sentences ++ places_begun behind.words behind.breaks.sentences (sentence_ends (before_first (known_of c.args.known.now) old.last)) n) part.words)
+    sentences_in-known old c.pass_begun.new.self c.args.known.now (omega (arith, done.counted, part.words)) (done.last ∙ ap (after_begun after.words after.last) part.last)
+    (done.sentences ∙ ap₂ (λ b l. b.sentences ++ places_begun after.words after.breaks.sentences (sentence_ends l) c.pass_part.new.self.words) part.breaks part.last
+    ∙ ap (λ n. old.breaks.sentences ++ places_begun after.words after.breaks.sentences (sentence_ends (before_first (known_of c.args.known.now) old.last)) n) part.words)
 
 pub returns-in_ok-pass_begun-clause-paragraphs : goal.returns-in_ok-pass_begun-clause-paragraphs
 returns-in_ok-pass_begun-clause-paragraphs c =
     let old = c.args.self.now in
-    let behind = c.args.known.now.behind in
+    let after = c.args.known.now.after in
     let part = c.pass_part.ensures in
     let done = c.in_ok-pass_begun.ensures in
-    paragraphs_in-known old c.pass_begun.new.self c.args.known.now (omega (arith, done.counted, part.words)) (done.last ∙ ap (after_begun behind.words behind.last) part.last)
-    (done.paragraphs ∙ ap₂ (λ b l. b.paragraphs ++ places_begun behind.words behind.breaks.paragraphs (paragraph_ends l) c.pass_part.new.self.words) part.breaks part.last
-    ∙ ap (λ n. old.breaks.paragraphs ++ places_begun behind.words behind.breaks.paragraphs (paragraph_ends (before_first (known_of c.args.known.now) old.last)) n) part.words)
+    paragraphs_in-known old c.pass_begun.new.self c.args.known.now (omega (arith, done.counted, part.words)) (done.last ∙ ap (after_begun after.words after.last) part.last)
+    (done.paragraphs ∙ ap₂ (λ b l. b.paragraphs ++ places_begun after.words after.breaks.paragraphs (paragraph_ends l) c.pass_part.new.self.words) part.breaks part.last
+    ∙ ap (λ n. old.breaks.paragraphs ++ places_begun after.words after.breaks.paragraphs (paragraph_ends (before_first (known_of c.args.known.now) old.last)) n) part.words)
 
 pub returns-else-known-gt0-clause-sentences : goal.returns-else-known-gt0-clause-sentences
 returns-else-known-gt0-clause-sentences c =
     let old = c.args.self.now in
-    let behind = c.args.known.now.behind in
+    let after = c.args.known.now.after in
     let part = c.pass_part.ensures in
-    let none : 0 ≡ behind.words = omega arith in
+    let none : 0 ≡ after.words = omega arith in
     let first = before_first (known_of c.args.known.now) old.last in
-    sentences_in-known old c.pass_part.new.self c.args.known.now (omega (arith, part.words)) (part.last ∙ ap (λ w. after_begun w behind.last first) none)
-    (ap (λ b. b.sentences) part.breaks ∙ sym (append-nil _) ∙ ap (λ w. old.breaks.sentences ++ places_begun w behind.breaks.sentences (sentence_ends first) old.words) none)
+    sentences_in-known old c.pass_part.new.self c.args.known.now (omega (arith, part.words)) (part.last ∙ ap (λ w. after_begun w after.last first) none)
+    (ap (λ b. b.sentences) part.breaks ∙ sym (append-nil _) ∙ ap (λ w. old.breaks.sentences ++ places_begun w after.breaks.sentences (sentence_ends first) old.words) none)
 
 pub returns-else-known-gt0-clause-paragraphs : goal.returns-else-known-gt0-clause-paragraphs
 returns-else-known-gt0-clause-paragraphs c =
     let old = c.args.self.now in
-    let behind = c.args.known.now.behind in
+    let after = c.args.known.now.after in
     let part = c.pass_part.ensures in
-    let none : 0 ≡ behind.words = omega arith in
+    let none : 0 ≡ after.words = omega arith in
     let first = before_first (known_of c.args.known.now) old.last in
-    paragraphs_in-known old c.pass_part.new.self c.args.known.now (omega (arith, part.words)) (part.last ∙ ap (λ w. after_begun w behind.last first) none)
-    (ap (λ b. b.paragraphs) part.breaks ∙ sym (append-nil _) ∙ ap (λ w. old.breaks.paragraphs ++ places_begun w behind.breaks.paragraphs (paragraph_ends first) old.words) none)
+    paragraphs_in-known old c.pass_part.new.self c.args.known.now (omega (arith, part.words)) (part.last ∙ ap (λ w. after_begun w after.last first) none)
+    (ap (λ b. b.paragraphs) part.breaks ∙ sym (append-nil _) ∙ ap (λ w. old.breaks.paragraphs ++ places_begun w after.breaks.paragraphs (paragraph_ends first) old.words) none)

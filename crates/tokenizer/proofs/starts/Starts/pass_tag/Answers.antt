@@ -1,4 +1,4 @@
--- A tag starts no sentence and no paragraph by itself: the tokens behind it have the starts that they had.
+-- A tag starts no sentence and no paragraph by itself: the tokens after it have the starts that they had.
 use Rattle.std.proofs.Common.{sym, ap, ◌++◌, ◌+◌}
 use Rattle.tokenizer.specs.steps.Numbering.{tokens_left}
 use Rattle.tokenizer.specs.Tokens.{starts}

@@ -1,4 +1,4 @@
--- A word is the next of those that are left, and stands behind those so far.
+-- A word is the next of those that are left, and stands after those so far.
 use Rattle.std.proofs.Common.{◌≡◌, ◌∷◌, ◌++◌, [], map, filter, length, sym, ap, ◌∙◌, append_assoc, subst, arith}
 use Rattle.std.proofs.lemmas.Bool.{cond-true}
 use Rattle.unicode_segmentation.specs.Iter.{word_bounds_left}
