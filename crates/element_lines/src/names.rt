@@ -14,9 +14,32 @@ use ordered_tree::{DocTree, NodeRef};
 use std::alloc::Global;
 use text_list::TextList;
 
+/// Puts the lines that name elements of a document to the end, in the order of the elements. Where memory runs out, the lines
+/// stay as they were.
+pub fn push_names(
+    alloc: Global,
+    document: &str,
+    tree: &DocTree,
+    nodes: &[NodeRef],
+    lines: &mut TextList,
+) -> Result<(), Memory>
+    requires { All (IsElement tree.now.root) nodes.now }
+    ensures ok { OnOk result (lines.new ≡ lines.old ++ map (λ r. element_line document.now (plain tree.now.root) (element_of tree.now.root r)) nodes.now) }
+    ensures err { OnErr result (lines.new ≡ lines.old) }
+{
+    let count = lines.len();
+    match put_names(alloc, document, tree, nodes, lines) {
+        Ok(()) => Ok(()),
+        Err(memory) => {
+            lines.truncate(count);
+            Err(memory)
+        }
+    }
+}
+
 /// Puts the lines that name elements of a document to the end, in the order of the elements. Where memory runs out, some lines may
 /// stand after those that were there.
-pub fn push_names(
+fn put_names(
     alloc: Global,
     document: &str,
     tree: &DocTree,

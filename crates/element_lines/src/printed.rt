@@ -8,8 +8,29 @@ use ordered_tree::{DocTree, NodeRef};
 use std::alloc::Global;
 use text_list::TextList;
 
-/// Puts the printed forms of elements to the end, a line each. Where memory runs out, some lines may stand after those that were there.
+/// Puts the printed forms of elements to the end, a line each. Where memory runs out, the lines stay as they were.
 pub fn push_printed(
+    alloc: Global,
+    tree: &DocTree,
+    nodes: &[NodeRef],
+    lines: &mut TextList,
+) -> Result<(), Memory>
+    requires { All (IsElement tree.now.root) nodes.now }
+    ensures ok { OnOk result (lines.new ≡ lines.old ++ map (λ r. printed_line (element_of tree.now.root r).node) nodes.now) }
+    ensures err { OnErr result (lines.new ≡ lines.old) }
+{
+    let count = lines.len();
+    match put_printed(alloc, tree, nodes, lines) {
+        Ok(()) => Ok(()),
+        Err(memory) => {
+            lines.truncate(count);
+            Err(memory)
+        }
+    }
+}
+
+/// Puts the printed forms of elements to the end. Where memory runs out, some lines may stand after those that were there.
+fn put_printed(
     alloc: Global,
     tree: &DocTree,
     nodes: &[NodeRef],

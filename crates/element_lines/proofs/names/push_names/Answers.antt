@@ -1,7 +1,6 @@
--- A line that finds no room leaves those before it.
-use Rattle.element_lines.proofs.KeptLemmas.{kept-err}
+-- Where memory ran out, the lines that came are cut off.
+use Rattle.element_lines.proofs.KeptLemmas.{cut-off}
 use Rattle.element_lines.proofs.names.push_names.Goals as goal
 
-pub returns-in_err-push-clause-err : goal.returns-in_err-push-clause-err
-returns-in_err-push-clause-err c =
-    kept-err c.from_residual-in_err-push.result c.args.lines.now c.loop-node.lines c.push.new.self c.loop-node.invariant.kept c.in_err-push.ensures.err
+pub returns-in-Err-clause-err : goal.returns-in-Err-clause-err
+returns-in-Err-clause-err c = cut-off c.args.lines.now c.put_names.new.lines c.truncate.new.self c.len-count.result c.len-count.ensures c.in-Err.ensures.err c.truncate.ensures

@@ -4,7 +4,7 @@ use Rattle.ordered_tree.specs.Numbered.{plain}
 use Rattle.path_nodes.specs.References.{element_of}
 use Rattle.element_lines.specs.Lines.{element_line}
 use Rattle.element_lines.specs.steps.Known.{IsKnown}
-use Rattle.element_lines.proofs.names.push_names.Given as goal
+use Rattle.element_lines.proofs.names.put_names.Given as goal
 
 abbrev pub invariant-loop-node : goal.invariant-loop-node
 invariant-loop-node l = record {
