@@ -185,7 +185,7 @@ gone_taken ns os d = leaves_filter (is_one_of (gone ns os)) (λ t. not (stays ns
 -- ---- what is put
 
 pub after_text : (ts : List Text) (t : Text) (new : index.Leaf) (ls : List index.Leaf) → times t.0 (refs_of ts) ≡ 0
-    → index.after t.0.0 new (map text_leaf ts ++ text_leaf t ∷ ls) ≡ map text_leaf ts ++ text_leaf t ∷ new ∷ ls
+    → index.put_after t.0.0 new (map text_leaf ts ++ text_leaf t ∷ ls) ≡ map text_leaf ts ++ text_leaf t ∷ new ∷ ls
 after_text [] t new ls h = cond-true (t.0.0 == t.0.0) _ _ (eq-eqb t.0.0 t.0.0 refl)
 after_text (u ∷ ts) t new ls h =
     cond-false (u.0.0 == t.0.0) _ _ (weight_zero (is_same t.0 u.0) (times t.0 (refs_of ts)) h)

@@ -1,12 +1,15 @@
 -- Each node goes to the end as the edit leaves it.
-use Rattle.std.proofs.Common.{◌≡◌, ◌∷◌, ◌++◌, [], true, false, map, sym, ap, ◌∙◌}
+use Rattle.std.proofs.Common.{◌≡◌, ℕ, Bool, List, ◌∷◌, ◌++◌, [], true, false, map, sym, ap, ◌∙◌}
 use Rattle.std.proofs.lemmas.Result.{on_ok_weaker}
-use Rattle.ordered_tree.specs.Numbered.{element_at}
+use Rattle.ft_base.specs.declared.ids.NodeRef.{NodeRef}
+use Rattle.ordered_tree.specs.Numbered.{Numbered, Children, element_at}
 use Rattle.ordered_tree.specs.RefView.{ref_node}
+use Rattle.ordered_tree.specs.declared.ref_tree.RefTree.{RefTree}
 use Rattle.ordered_tree.specs.declared.ref_tree.RefTree.TheVariants.{Element}
 use Rattle.ordered_tree.proofs.RefViews.{ref_node_element, ref_node_text}
 use Rattle.plain_tree.specs.Document.{nodes}
 use Rattle.plain_tree.specs.View.{node}
+use Rattle.plain_tree.specs.declared.tree.Attr.{Attr}
 use Rattle.tree_edits.specs.Edits.{all_changed, append, changed, joined, only}
 use Rattle.tree_edits.specs.Fresh.{all_fresh}
 use Rattle.tree_edits.specs.steps.Acts.{act}
@@ -68,6 +71,13 @@ edit_tree-returns-then-is_marked t c =
     ∙ ap (λ ns. joined (append old ns)) (sym (changed_chosen chosen change r name attrs (row kids) holds))
     ∙ ap (λ n. joined (append old (changed chosen change n))) (sym (ap ref_node c.in-Element.is ∙ is))) c.apply.ensures
 
+-- an element that isn't chosen stays with what its children become
+unchosen : (chosen : NodeRef → Bool) (change : Numbered → Children) (old : Children) (tree : RefTree) (r : NodeRef) (name : List ℕ) (attrs : List Attr) (kids : List RefTree)
+    → tree ≡ Element r name attrs kids → chosen r ≡ false
+    → joined (append old (only (element_at r name attrs (all_changed chosen change (row kids))))) ≡ joined (append old (changed chosen change (ref_node tree)))
+unchosen chosen change old tree r name attrs kids is fails =
+    ap (λ ns. joined (append old ns)) (sym (ap (changed chosen change) (ap ref_node is ∙ ref_node_element r name attrs kids) ∙ changed_other chosen change r name attrs (row kids) fails))
+
 pub edit_tree-returns-then-are_one_text : goal.edit_tree-returns-then-are_one_text
 edit_tree-returns-then-are_one_text t c =
     let edit = c.args.edit.now in
@@ -78,15 +88,13 @@ edit_tree-returns-then-are_one_text t c =
     let name = c.in-Element.name in
     let attrs = c.in-Element.attrs in
     let kids = c.in-Element.kids in
-    let is = ref_node_element r name attrs kids in
     let fails : chosen r ≡ false = sym c.is_marked.ensures ∙ c.if-is_marked.false in
     let one : are_one_text (row kids) ≡ true = ap (λ l. are_one_text (row l)) (sym c.as_slice.ensures) ∙ c.are_one_text.ensures c.if-are_one_text.true in
     λ h.
     ap row c.in_ok-push-in-Element.ensures.items
     ∙ element_after old r name attrs (row kids) kids h (sym (joined_one (row kids) one))
     ∙ ap (λ ns. joined (append (row old) (only (element_at r name attrs ns)))) (sym (changed_one chosen change (row kids) one))
-    ∙ ap (λ ns. joined (append (row old) ns)) (sym (changed_other chosen change r name attrs (row kids) fails))
-    ∙ ap (λ n. joined (append (row old) (changed chosen change n))) (sym (ap ref_node c.in-Element.is ∙ is))
+    ∙ unchosen chosen change (row old) c.args.tree r name attrs kids c.in-Element.is fails
 
 pub edit_tree-returns-in_ok-push-in-Element-2 : goal.edit_tree-returns-in_ok-push-in-Element-2
 edit_tree-returns-in_ok-push-in-Element-2 t c =
@@ -98,7 +106,6 @@ edit_tree-returns-in_ok-push-in-Element-2 t c =
     let name = c.in-Element.name in
     let attrs = c.in-Element.attrs in
     let kids = c.in-Element.kids in
-    let is = ref_node_element r name attrs kids in
     let fails : chosen r ≡ false = sym c.is_marked.ensures ∙ c.if-is_marked.false in
     λ h.
     ap row c.in_ok-push-in-Element-2.ensures.items
@@ -106,5 +113,4 @@ edit_tree-returns-in_ok-push-in-Element-2 t c =
     ∙ element_after old r name attrs (all_changed chosen change (row kids)) c.edit_all.new.list.items h
     (c.in_ok-edit_all-in-Element.ensures (ap (λ l. are_joined_at (row l)) c.new-inner.ensures.items)
     ∙ ap (λ empty. joined (append (row empty) (all_changed chosen change (row kids)))) c.new-inner.ensures.items)
-    ∙ ap (λ ns. joined (append (row old) ns)) (sym (changed_other chosen change r name attrs (row kids) fails))
-    ∙ ap (λ n. joined (append (row old) (changed chosen change n))) (sym (ap ref_node c.in-Element.is ∙ is))
+    ∙ unchosen chosen change (row old) c.args.tree r name attrs kids c.in-Element.is fails
