@@ -1,5 +1,5 @@
 -- What heads tell of nodes: a short name is all in its mark, and no element has the mark of a text.
-use Rattle.std.proofs.Common.{◌≡◌, ◌≤◌, ◌<◌, ℕ, zero, suc, true, List, [], ◌∷◌, length, get_or, refl, sym, ap, ap₂, ◌∙◌, arith}
+use Rattle.std.proofs.Common.{◌≡◌, ◌≤◌, ◌<◌, ℕ, zero, suc, true, List, [], ◌∷◌, length, take, get_or, refl, sym, ap, ap₂, ◌∙◌, arith}
 use Rattle.std.specs.Prelude.{nat_eq, not}
 use Rattle.std.proofs.lemmas.Bool.Decides.{nat_tests}
 use Rattle.std.proofs.lemmas.Slice.Eq.{bytes_eq-Decides}
@@ -45,3 +45,22 @@ pub name-marked : (n : Numbered) (name : List ℕ) → length name ≤ 7 → mar
 unfolding mark_of
 name-marked (element_at r own attrs kids) name short same = (bytes_eq-Decides name own).1 (sym (short-is own name short same))
 name-marked (text_at r bytes) name short same = absurd (omega (arith, ap (λ m. get_or m 7 0) same))
+
+marked-name : (name : List ℕ) → length name ≤ 7 → take (length name) (mark_of name) ≡ name
+unfolding mark_of
+marked-name [] short = refl
+marked-name (a ∷ []) short = refl
+marked-name (a ∷ b ∷ []) short = refl
+marked-name (a ∷ b ∷ c ∷ []) short = refl
+marked-name (a ∷ b ∷ c ∷ d ∷ []) short = refl
+marked-name (a ∷ b ∷ c ∷ d ∷ e ∷ []) short = refl
+marked-name (a ∷ b ∷ c ∷ d ∷ e ∷ f ∷ []) short = refl
+marked-name (a ∷ b ∷ c ∷ d ∷ e ∷ f ∷ g ∷ []) short = refl
+marked-name (a ∷ b ∷ c ∷ d ∷ e ∷ f ∷ g ∷ h ∷ name) short = absurd (omega (arith, short))
+
+-- the first bytes of a mark are a name that is all in it
+pub marked : (mark name : List ℕ) (count : ℕ) → mark ≡ mark_of name → get_or mark 7 0 ≡ suc count → count ≤ 7 → take count mark ≡ name
+unfolding mark_of
+marked mark name count same last few =
+    let long : count ≡ length name = omega (arith, few, last, ap (λ m. get_or m 7 0) same) in
+    ap₂ take long same ∙ marked-name name (omega (arith, few, long))

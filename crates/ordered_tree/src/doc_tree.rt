@@ -189,20 +189,18 @@ impl DocTree {
         requires { Contains (references self.now.root) node }
         ensures stands { OnNode self.now.root node (λ s. slot_of result ≡ slot s) }
         ensures few { result.around.before + result.words < 2 ^ 31 }
-        ensures parent { IfSome result.around.parent (Contains (references self.now.root)) }
-        ensures next { IfSome result.around.next (Contains (references self.now.root)) }
-        ensures first { IfSome result.first_child (Contains (references self.now.root)) }
     {
         self.slots.get(node.0 as usize)
     }
 
     /// The head of a node.
-    pub(crate) fn head(&self, node: NodeRef) -> Head
+    pub(crate) fn head(&self, node: NodeRef) -> &Head
         requires { Contains (references self.now.root) node }
-        ensures stands { OnNode self.now.root node (λ s. result ≡ head_of (slot s)) }
-        ensures few { result.before + result.words < 2 ^ 31 }
-        ensures next { IfSome result.next (Contains (references self.now.root)) }
-        ensures first { IfSome result.first_child (Contains (references self.now.root)) }
+        ensures stands { OnNode self.now.root node (λ s. result.now ≡ head_of (slot s)) }
+        ensures few { result.now.before + result.now.words < 2 ^ 31 }
+        ensures parent { IfSome result.now.parent (Contains (references self.now.root)) }
+        ensures next { IfSome result.now.next (Contains (references self.now.root)) }
+        ensures first { IfSome result.now.first_child (Contains (references self.now.root)) }
     {
         self.slots.head(node.0 as usize)
     }

@@ -1,6 +1,6 @@
 //! Names of elements that are looked for, and the marks by which most of the others are told from them.
 
-ghost use Rattle.std.specs.Prelude.{◌≡◌, ◌≢◌, slice_index_or, IsFalse, IsTrue};
+ghost use Rattle.std.specs.Prelude.{◌≡◌, ◌≢◌, ℕ, List, slice_index_or, IfSome, IsFalse, IsTrue};
 ghost use Rattle.ordered_tree.specs.steps.Heads.{mark_of};
 
 /// The longest name whose mark says all of it.
@@ -42,6 +42,20 @@ pub(crate) fn mark_of(name: &str) -> [u8; 8]
         byte_at(bytes, 6),
         bytes.len().min(LONGEST_MARKED + 1) as u8 + 1,
     ]
+}
+
+/// The name of which this is the mark, where the mark says all of it.
+pub(crate) fn marked_name(mark: &[u8; 8]) -> Option<&str>
+    ensures { (name : List ℕ) → mark.now ≡ mark_of name → IfSome result (λ marked. marked.now ≡ name) }
+{
+    let last = mark[LONGEST_MARKED] as usize;
+    if last == 0 || last > LONGEST_MARKED + 1 {
+        return None;
+    }
+    match str::from_utf8(&mark[..last - 1]) {
+        Ok(name) => Some(name),
+        Err(_) => None,
+    }
 }
 
 /// The byte at a place, from 0; after the last one, 0.

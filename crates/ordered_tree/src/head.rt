@@ -3,8 +3,8 @@
 ghost use Rattle.std.specs.Prelude.{◌≡◌, IfOk, map};
 ghost use Rattle.ordered_tree.specs.steps.Heads as spec;
 
-use crate::NodeRef;
 use crate::element_name::{mark_of, same_mark};
+use crate::link::Link;
 use crate::slot::{Held, Slot};
 use crate::slot_core::same_link;
 use ft_base::Memory;
@@ -12,12 +12,13 @@ use shared_list::Share;
 use shared_vector::Same;
 use std::alloc::Global;
 
-/// The links of a node that lead on, the mark of its name, and where its words stand. What else a slot has is kept
+/// The links of a node that walks follow, the mark of its name, and where its words stand. What else a slot has is kept
 /// apart, so that a walk which looks at heads alone goes through less memory.
 #[derive(Clone, Copy)]
 pub(crate) struct Head {
-    pub(crate) first_child: Option<NodeRef>,
-    pub(crate) next: Option<NodeRef>,
+    pub(crate) first_child: Link,
+    pub(crate) next: Link,
+    pub(crate) parent: Link,
     /// The mark of an element's name; of a text, zeros
     pub(crate) mark: [u8; 8],
     /// How many words of the document stand before it.
@@ -37,8 +38,9 @@ impl Same for Head {
         self.before == other.before
             && self.words == other.words
             && same_mark(&self.mark, &other.mark)
-            && same_link(self.first_child, other.first_child)
-            && same_link(self.next, other.next)
+            && same_link(self.first_child.node(), other.first_child.node())
+            && same_link(self.next.node(), other.next.node())
+            && same_link(self.parent.node(), other.parent.node())
     }
 }
 
@@ -48,22 +50,23 @@ pub(crate) fn heads_of(alloc: Global, slots: &Vec<Slot>) -> Result<Vec<Head>, Me
 {
     let mut heads = Vec::with_capacity(alloc, slots.len())?;
     for slot in slots.as_slice() {
-        heads.push(head_of(slot))?;
+        heads.push(head_of(slot)?)?;
     }
     Ok(heads)
 }
 
 /// The head of a slot.
-fn head_of(slot: &Slot) -> Head
-    ensures { result ≡ spec.head_of slot.now }
+fn head_of(slot: &Slot) -> Result<Head, Memory>
+    ensures { IfOk result (λ head. head ≡ spec.head_of slot.now) }
 {
-    Head {
-        first_child: slot.first_child,
-        next: slot.around.next,
+    Ok(Head {
+        first_child: Link::to(slot.first_child)?,
+        next: Link::to(slot.around.next)?,
+        parent: Link::to(slot.around.parent)?,
         mark: mark_of_held(&slot.held),
         before: slot.around.before,
         words: slot.words,
-    }
+    })
 }
 
 /// The mark of what a slot holds.

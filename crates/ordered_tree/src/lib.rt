@@ -14,6 +14,7 @@ mod head;
 pub mod laws;
 mod leaf;
 mod leaves;
+mod link;
 mod names;
 mod placing;
 mod plain;

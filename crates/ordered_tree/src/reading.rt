@@ -5,7 +5,7 @@ ghost use Rattle.ordered_tree.specs.Stands.{OnNode, references, span};
 ghost use Rattle.tokenizer.specs.Tokens.{tokens};
 
 use crate::attrs::find_attr;
-use crate::element_name::{ElementName, LONGEST_MARKED, same_mark};
+use crate::element_name::{ElementName, LONGEST_MARKED, marked_name, same_mark};
 use crate::slot::Held;
 use crate::{DocTree, NodeRef};
 use ft_base::Span;
@@ -47,6 +47,18 @@ impl DocTree {
         requires element { OnNode self.now.root node (λ s. IsTrue (is_element s.node)) }
         ensures { OnNode self.now.root node (λ s. name_of s.node ≡ Some result.now) }
     {
+        match marked_name(&self.head(node).mark) {
+            Some(name) => name,
+            None => self.kept_name(node),
+        }
+    }
+
+    /// The same, where the name itself is kept.
+    fn kept_name(&self, node: NodeRef) -> &str
+        requires there { Contains (references self.now.root) node }
+        requires element { OnNode self.now.root node (λ s. IsTrue (is_element s.node)) }
+        ensures { OnNode self.now.root node (λ s. name_of s.node ≡ Some result.now) }
+    {
         match self.slot(node).held {
             Held::Element { name, .. } => name.as_str(),
             Held::Text { .. } | Held::Free => "",
@@ -70,7 +82,7 @@ impl DocTree {
         ensures first { OnNode self.now.root node (λ s. result ≡ first_of (children s.node)) }
         ensures there { IfSome result (Contains (references self.now.root)) }
     {
-        self.head(node).first_child
+        self.head(node).first_child.node()
     }
 
     /// The sibling after a node.
@@ -79,7 +91,7 @@ impl DocTree {
         ensures next { OnNode self.now.root node (λ s. result ≡ s.around.next) }
         ensures there { IfSome result (Contains (references self.now.root)) }
     {
-        self.head(node).next
+        self.head(node).next.node()
     }
 
     /// The element of which a node is a child; the root has none.
@@ -88,7 +100,7 @@ impl DocTree {
         ensures parent { OnNode self.now.root node (λ s. result ≡ s.around.parent) }
         ensures there { IfSome result (Contains (references self.now.root)) }
     {
-        self.slot(node).around.parent
+        self.head(node).parent.node()
     }
 
     /// The positions of the node's words in the document, counted from 1.

@@ -13,7 +13,6 @@ use std::alloc::Global;
 #[derive(Drop)]
 pub(crate) struct SlotCore {
     pub(crate) held: Held,
-    pub(crate) parent: Option<NodeRef>,
     pub(crate) previous: Option<NodeRef>,
     /// Its number among the children of its parent, from 1; 0 for the root.
     pub(crate) number: u32,
@@ -33,7 +32,6 @@ impl Share for SlotCore {
 impl Same for SlotCore {
     fn is_same(&self, other: &SlotCore) -> bool {
         self.number == other.number
-            && same_link(self.parent, other.parent)
             && same_link(self.previous, other.previous)
             && same_link(self.last_child, other.last_child)
             && same_held(&self.held, &other.held)
@@ -46,7 +44,6 @@ fn share_core(core: &SlotCore) -> Result<SlotCore, Memory>
 {
     Ok(SlotCore {
         held: share_held(&core.held)?,
-        parent: core.parent,
         previous: core.previous,
         number: core.number,
         last_child: core.last_child,

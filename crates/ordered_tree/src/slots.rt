@@ -96,27 +96,34 @@ impl Slots {
     {
         let core = self.cores.get(at);
         let head = self.heads.get(at);
-        SlotAt {
-            held: &core.held,
-            around: Around {
-                parent: core.parent,
-                previous: core.previous,
-                next: head.next,
-                number: core.number,
-                before: head.before,
-            },
-            first_child: head.first_child,
-            last_child: core.last_child,
-            words: head.words,
-        }
+        whole(core, head)
     }
 
     /// The head of the slot of that number.
-    pub(crate) fn head(&self, at: usize) -> Head
+    pub(crate) fn head(&self, at: usize) -> &Head
         requires { at < length self.now }
-        ensures { result ≡ slice_index_or (map head_of self.now) at result }
+        ensures { result.now ≡ slice_index_or (map head_of self.now) at result.now }
     {
-        *self.heads.get(at)
+        self.heads.get(at)
+    }
+}
+
+/// The slot of a core and a head.
+fn whole<'a>(core: &'a SlotCore, head: &Head) -> SlotAt<'a>
+    ensures { slot_of result ≡ whole core.now head.now }
+{
+    SlotAt {
+        held: &core.held,
+        around: Around {
+            parent: head.parent.node(),
+            previous: core.previous,
+            next: head.next.node(),
+            number: core.number,
+            before: head.before,
+        },
+        first_child: head.first_child.node(),
+        last_child: core.last_child,
+        words: head.words,
     }
 }
 
@@ -128,7 +135,6 @@ fn cores_of(alloc: Global, slots: Vec<Slot>) -> Result<Vec<SlotCore>, Memory>
     for slot in slots {
         cores.push(SlotCore {
             held: slot.held,
-            parent: slot.around.parent,
             previous: slot.around.previous,
             number: slot.around.number,
             last_child: slot.last_child,

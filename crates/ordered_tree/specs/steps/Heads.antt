@@ -25,6 +25,7 @@ abbrev pub head_of : Slot → Head
 head_of slot = record {
   first_child = slot.first_child;
   next = slot.around.next;
+  parent = slot.around.parent;
   mark = mark_of_held slot.held;
   before = slot.around.before;
   words = slot.words;

@@ -9,7 +9,6 @@ use Rattle.ordered_tree.specs.declared.slots.SlotAt.{SlotAt}
 abbrev pub core_of : Slot → SlotCore
 core_of slot = record {
   held = slot.held;
-  parent = slot.around.parent;
   previous = slot.around.previous;
   number = slot.around.number;
   last_child = slot.last_child;
@@ -19,7 +18,7 @@ core_of slot = record {
 abbrev pub whole : SlotCore → Head → Slot
 whole core head = record {
   held = core.held;
-  around = record { parent = core.parent; previous = core.previous; next = head.next; number = core.number; before = head.before };
+  around = record { parent = head.parent; previous = core.previous; next = head.next; number = core.number; before = head.before };
   first_child = head.first_child;
   last_child = core.last_child;
   words = head.words;

@@ -1,6 +1,6 @@
 -- The slot is that of the core and the head of its number.
 use Rattle.std.proofs.Common.{◌<◌, length, get_or, sym, ap, ap₂, ◌∙◌, arith}
-use Rattle.ordered_tree.specs.steps.Parts.{whole}
+use Rattle.ordered_tree.specs.steps.Parts.{slot_of, whole}
 use Rattle.ordered_tree.proofs.PartsLemmas.{length-wholes, get_or-wholes}
 use Rattle.ordered_tree.proofs.slots.Slots.get.Goals as goal
 
@@ -19,6 +19,8 @@ returns c =
     let core = c.get-core.result.now in
     let head = c.get-head.result.now in
     let there : at < length cores = omega (arith, c.requires, ap length c.self.view_is, length-wholes cores heads c.self.invariant.even) in
-    ap₂ whole c.get-core.ensures c.get-head.ensures
-    ∙ sym (get_or-wholes cores heads at (whole core head) core head c.self.invariant.even there)
-    ∙ ap (λ slots. get_or slots at (whole core head)) c.self.view_is
+    let slot = slot_of c.whole.result in
+    c.whole.ensures
+    ∙ ap₂ whole c.get-core.ensures c.get-head.ensures
+    ∙ sym (get_or-wholes cores heads at slot core head c.self.invariant.even there)
+    ∙ ap (λ slots. get_or slots at slot) c.self.view_is
