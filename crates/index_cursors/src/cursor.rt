@@ -1,6 +1,7 @@
 ghost use Rattle.std.specs.Prelude.{◌≡◌, ◌≤◌, ◌<◌, ◌+◌, ◌-◌, ◌^◌, true, drop, slice_get, option_map, IsTrue};
 ghost use Rattle.std.specs.List.{prefix_len};
 ghost use Rattle.std.specs.Option.{ForSome};
+ghost use Rattle.ft_base.specs.declared.places.Breaks.{Breaks};
 ghost use Rattle.ft_base.specs.Hits.{hit_at, hit_place, is_sorted};
 ghost use Rattle.ft_base.specs.Places.{is_ascending};
 ghost use Rattle.index_cursors.specs.SpanHits.{hits_in, is_before_both, places_up_to};
@@ -114,6 +115,23 @@ impl<'v> Hits for Cursor<'v> {
     fn rewind(&mut self) {
         self.at = self.first;
     }
+}
+
+/// The first of the places that is in the span, and `None` where none is. No sentence and no paragraph is looked up.
+pub fn first_word(places: &TermPlaces<'_>, span: Span) -> Option<u32>
+    ensures { (breaks : Breaks) → result ≡ option_map (λ hit. hit.from) (hit_at (hit_place (hits_in breaks span places.now) 0)) }
+{
+    place_at(places, first_place(places, span.from), span.to)
+}
+
+/// The same. The search begins at the number `near` of a place, which may be any, and leaves there how many places are before the span:
+/// who asks for one span after the other finds each of them soon.
+pub fn first_word_near(places: &TermPlaces<'_>, near: &mut usize, span: Span) -> Option<u32>
+    ensures { (breaks : Breaks) → result ≡ option_map (λ hit. hit.from) (hit_at (hit_place (hits_in breaks span places.now) 0)) }
+{
+    let first = first_from(places, *near, span.from);
+    *near = first;
+    place_at(places, first, span.to)
 }
 
 /// The place of that number, if it is before the position `end`.

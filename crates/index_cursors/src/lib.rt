@@ -14,5 +14,5 @@ mod search;
 mod tests;
 
 pub use break_view::BreakView;
-pub use cursor::Cursor;
+pub use cursor::{Cursor, first_word, first_word_near};
 pub use every::Every;

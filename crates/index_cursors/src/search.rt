@@ -27,6 +27,9 @@ pub(crate) fn first_place(places: &TermPlaces<'_>, from: u32) -> usize
     if len == 0 {
         return 0;
     }
+    if places.get(0) >= from {
+        return 0;
+    }
     let last = places.get(len - 1);
     if last < from {
         return len;

@@ -1,4 +1,4 @@
-ghost use Rattle.std.specs.Prelude.{◌≡◌, ◌+◌, ◌<◌, true, length, slice_index, IsTrue};
+ghost use Rattle.std.specs.Prelude.{◌≡◌, ◌+◌, ◌<◌, true, is_some, length, slice_index, IfSome, IsTrue};
 ghost use Rattle.ft_base.specs.Hits.{hit_place};
 ghost use Rattle.ft_base.specs.Places.{is_ascending};
 ghost use Rattle.index_meaning.specs.Documents.{breaks_of, document_at, document_ids, has_document, has_leaf, leaf_ids, token_count};
@@ -8,7 +8,7 @@ ghost use Rattle.index_versions.specs.steps.Found.{IsFoundTerm};
 ghost use Rattle.index_versions.specs.steps.Held.{document_under, held_at};
 ghost use Rattle.index_versions.specs.steps.Sound.{IsSound, meaning};
 
-use crate::documents::{document, has_document};
+use crate::documents::{document, has_document, place_of, stands_at};
 use crate::held::HeldDocument;
 use crate::parts::Parts;
 use crate::term_source::FoundTerm;
@@ -75,7 +75,7 @@ impl Version {
     }
 
     /// A cursor over the places of the term of that number in a span of the document, at the first of them. Counts one
-    /// step, for which it searches the rows of the term by halves.
+    /// step, for which it searches the places of the term from a guess on, by steps that double.
     pub fn cursor<'v, L: Ledger>(
         &'v self,
         term: usize,
@@ -113,23 +113,24 @@ impl Version {
         (places, BreakView::new(held.breaks()))
     }
 
-    /// The term of that number and the document, looked up.
-    pub(crate) fn find(&self, term: usize, doc: DocId) -> FoundTerm<'_>
-        requires term { term < length (terms_of self.now) }
-        requires there { has_document doc.0 self.now ≡ true }
-        ensures doc { result.doc ≡ doc }
-        ensures found { IsFoundTerm self.now term result }
+    /// The term of that number and the document, looked up; `None` exactly where the document isn't there.
+    pub(crate) fn find(&self, term: usize, doc: DocId) -> Option<FoundTerm<'_>>
+        requires { term < length (terms_of self.now) }
+        ensures there { is_some result ≡ has_document doc.0 self.now }
+        ensures doc { IfSome result (λ found. found.doc ≡ doc) }
+        ensures found { IfSome result (IsFoundTerm self.now term) }
     {
-        let held = held(&self.parts, doc);
+        let held = find_held(&self.parts, doc)?;
         let id = term_id(&self.parts, term);
         let places = held.index().places(id);
         let stands = !places.is_empty();
-        FoundTerm {
+        Some(FoundTerm {
             doc,
             held,
             places,
             stands,
-        }
+            near: 0,
+        })
     }
 }
 
@@ -141,4 +142,19 @@ fn held(parts: &Parts, doc: DocId) -> &HeldDocument
     ensures meant { document_under parts.now.dictionary.given result.now ≡ document_at doc.0 (meaning parts.now) }
 {
     document(&parts.documents, doc)
+}
+
+/// The document of that number, with what it means, and `None` exactly where there is none.
+fn find_held(parts: &Parts, doc: DocId) -> Option<&HeldDocument>
+    requires { IsSound parts.now }
+    ensures there { is_some result ≡ has_document doc.0 (meaning parts.now) }
+    ensures held { IfSome result (λ held. held.now ≡ held_at doc.0 parts.now.documents) }
+    ensures meant { IfSome result (λ held. document_under parts.now.dictionary.given held.now ≡ document_at doc.0 (meaning parts.now)) }
+{
+    let documents = &parts.documents;
+    let at = place_of(documents, doc);
+    if !stands_at(documents, at, doc) {
+        return None;
+    }
+    Some(documents.get(at))
 }

@@ -1,4 +1,4 @@
-ghost use Rattle.std.specs.Prelude.{◌≡◌, ◌<◌, ◌+◌, [], cond, true, length, option_map};
+ghost use Rattle.std.specs.Prelude.{◌≡◌, ◌<◌, ◌+◌, [], cond, false, true, length, option_map, IsFalse, IsTrue};
 ghost use Rattle.ft_base.specs.Hits.{hit_at, hit_place};
 ghost use Rattle.index_cursors.specs.SpanHits.{hits_in};
 ghost use Rattle.index_meaning.specs.Documents.{has_document};
@@ -11,10 +11,9 @@ use crate::term_cursor::TermCursor;
 use crate::version::Version;
 use doc_index::TermPlaces;
 use ft_base::{DocId, Span, Steps};
-use index_cursors::BreakView;
-use place_merges::FirstWords;
-use std::marker::{Brand, Model};
-use std::sync::ledger::{Blank, Ledger};
+use index_cursors::{BreakView, first_word, first_word_near};
+use std::marker::Model;
+use std::sync::ledger::Ledger;
 
 /// A document in which a term was looked up.
 #[derive(Drop)]
@@ -25,6 +24,8 @@ pub(crate) struct FoundTerm<'v> {
     pub(crate) places: TermPlaces<'v>,
     /// Whether the term stands in the document.
     pub(crate) stands: bool,
+    /// How many places are before the span that was sought last: where to look first for the next one.
+    pub(crate) near: usize,
 }
 
 impl<'v> FoundTerm<'v> {
@@ -48,21 +49,22 @@ impl<'v> FoundTerm<'v> {
         ensures { result ≡ option_map (λ hit. hit.from) (hit_at (hit_place (cond self.now.stands
             (hits_in self.now.held.now.breaks span self.now.places) []) 0)) }
     {
-        self.first_counted::<Brand>(span, Blank::new(1))
+        if !self.stands {
+            return None;
+        }
+        first_word(&self.places, span)
     }
 
-    /// The same with a count of steps, which nobody reads.
-    fn first_counted<L: Ledger>(&self, span: Span, blank: Blank) -> Option<u32>
-        requires name { blank.name ≡ L.name }
-        requires parts { blank.parts ≡ L.parts }
-        requires whole { 0 < blank.parts }
-        ensures { result ≡ option_map (λ hit. hit.from) (hit_at (hit_place (cond self.now.stands
-            (hits_in self.now.held.now.breaks span self.now.places) []) 0)) }
+    /// The same, searched on from the span that was sought last.
+    fn seek_in(&mut self, span: Span) -> Option<u32>
+        ensures says { result ≡ option_map (λ hit. hit.from) (hit_at (hit_place (cond self.old.stands
+            (hits_in self.old.held.now.breaks span self.old.places) []) 0)) }
+        ensures same { self.new ≡ record { doc = self.old.doc; held = self.old.held; places = self.old.places; stands = self.old.stands; near = self.new.near } }
     {
-        let mut steps = Steps::<L>::new(blank);
-        let mut cursor = TermCursor::new();
-        self.aim(&mut cursor, span, &mut steps);
-        cursor.first_word()
+        if !self.stands {
+            return None;
+        }
+        first_word_near(&self.places, &mut self.near, span)
     }
 }
 
@@ -106,7 +108,7 @@ impl<'v> TermSource<'v> {
     }
 
     /// The first place of the term in the span of the document, and `None` where it has none there. In a document that isn't
-    /// there no term stands. It searches the places by halves.
+    /// there no term stands. It searches the places from a guess on, by steps that double.
     pub fn first_in(&self, doc: DocId, span: Span) -> Option<u32>
         ensures { result ≡ first_in doc.0 span self.now }
     {
@@ -116,10 +118,10 @@ impl<'v> TermSource<'v> {
             }
         }
         let version = self.version;
-        if !version.has_doc(doc) {
-            return None;
+        match version.find(self.term, doc) {
+            Some(found) => found.first_in(span),
+            None => None,
         }
-        version.find(self.term, doc).first_in(span)
     }
 
     /// How many of the documents have the term.
@@ -135,14 +137,27 @@ impl<'v> TermSource<'v> {
         ensures says { result ≡ stands_in self.old.term doc.0 self.old.version }
         ensures same { self.new ≡ self.old }
     {
-        let version = self.version;
-        if !version.has_doc(doc) {
+        if !keep(&mut self.found, self.version, self.term, doc) {
             return false;
         }
-        keep(&mut self.found, version, self.term, doc);
         match &self.found {
             Some(found) => found.stands,
             None => false,
+        }
+    }
+
+    /// What `first_in` says. The term is looked up in the document once, and there the search goes on from the span that was sought
+    /// last, so that a later one is found at once.
+    pub fn seek_in(&mut self, doc: DocId, span: Span) -> Option<u32>
+        ensures says { result ≡ first_in doc.0 span self.old }
+        ensures same { self.new ≡ self.old }
+    {
+        if !keep(&mut self.found, self.version, self.term, doc) {
+            return None;
+        }
+        match &mut self.found {
+            Some(found) => found.seek_in(span),
+            None => None,
         }
     }
 
@@ -160,25 +175,36 @@ impl<'v> TermSource<'v> {
         ensures same { self.new ≡ self.old }
         ensures counted { steps.new ≡ steps.old + 1 }
     {
-        keep(&mut self.found, self.version, self.term, doc);
+        let _there = keep(&mut self.found, self.version, self.term, doc);
         if let Some(found) = &self.found {
             found.aim(cursor, span, steps);
         }
     }
 }
 
-/// Looks the term up in the document where it isn't kept what was found there.
-fn keep<'v>(found: &mut Option<FoundTerm<'v>>, version: &'v Version, term: usize, doc: DocId)
+/// Looks the term up in the document where it isn't kept what was found there. Whether the document is there.
+fn keep<'v>(
+    found: &mut Option<FoundTerm<'v>>,
+    version: &'v Version,
+    term: usize,
+    doc: DocId,
+) -> bool
     requires term { term < length (terms_of version.now) }
-    requires there { has_document doc.0 version.now ≡ true }
     requires found { IsFound version.now term found.old }
+    ensures there { IsFalse result → has_document doc.0 version.now ≡ false }
     ensures found { IsFound version.now term found.new }
-    ensures kept { IsKept doc.0 found.new }
+    ensures kept { IsTrue result → IsKept doc.0 found.new }
 {
     if let Some(found) = &*found {
         if found.doc.0 == doc.0 {
-            return;
+            return true;
         }
     }
-    *found = Some(version.find(term, doc));
+    match version.find(term, doc) {
+        Some(other) => {
+            *found = Some(other);
+            true
+        }
+        None => false,
+    }
 }

@@ -75,6 +75,14 @@ impl<'v> TermSources<'v> {
         first_of(&self.sources, doc, span)
     }
 
+    /// What `first_in` says, sought as by `TermSource::seek_in`: who asks for one span of a document after the other finds each soon.
+    pub fn seek_in(&mut self, doc: DocId, span: Span) -> Option<u32>
+        ensures says { result ≡ soonest (map (first_in doc.0 span) self.old) }
+        ensures same { self.new ≡ self.old }
+    {
+        seek_first(&mut self.sources, doc, span)
+    }
+
     /// Looks each of them up in the document, as `TermSource::look_up` does: who asks much of one document looks each term up
     /// there once. Whether one of them stands there.
     pub fn look_up(&mut self, doc: DocId) -> bool
@@ -108,6 +116,17 @@ fn first_of(sources: &Vec<TermSource<'_>>, doc: DocId, span: Span) -> Option<u32
     let mut first = None;
     for source in sources {
         first = sooner(first, source.first_in(doc, span));
+    }
+    first
+}
+
+fn seek_first(sources: &mut Vec<TermSource<'_>>, doc: DocId, span: Span) -> Option<u32>
+    ensures says { result ≡ soonest (map (first_in doc.0 span) sources.old.items) }
+    ensures same { sources.new.items ≡ sources.old.items }
+{
+    let mut first = None;
+    for number in 0..sources.len() {
+        first = sooner(first, sources[number].seek_in(doc, span));
     }
     first
 }

@@ -9,10 +9,10 @@ use Rattle.index_versions.specs.Versions.{term_at}
 use Rattle.index_versions.proofs.DocumentLemmas.{none_at}
 use Rattle.index_versions.proofs.term_source.TermSource.first_in.Goals as goal
 
-pub returns-then-not-has_doc : goal.returns-then-not-has_doc
-returns-then-not-has_doc c =
+pub returns-in-None : goal.returns-in-None
+returns-in-None c =
     let version = c.self.inside.version.now in
     let word = (term_at c.self.inside.term version).word in
     sym (ap (λ (document : Document). option_map (λ hit. hit.from) (hit_at (hit_place (hits_in (breaks_of document) c.args.span (places word document)) 0)))
-    (none_at c.args.doc.0 version (sym c.has_doc.ensures.there ∙ c.if-not-has_doc.true)))
+    (none_at c.args.doc.0 version (sym c.in-None.ensures.there)))
     ∙ ap (λ (source : VersionTerm). first_in c.args.doc.0 c.args.span source) c.self.view_is

@@ -8,10 +8,10 @@ use Rattle.index_versions.specs.Versions.{stands_in, term_at}
 use Rattle.index_versions.proofs.DocumentLemmas.{none_at}
 use Rattle.index_versions.proofs.term_source.TermSource.look_up.Goals as goal
 
-pub returns-then-not-has_doc-clause-says : goal.returns-then-not-has_doc-clause-says
-returns-then-not-has_doc-clause-says c =
+pub returns-then-not-keep-clause-says : goal.returns-then-not-keep-clause-says
+returns-then-not-keep-clause-says c =
     let version = c.self.inside.version.now in
     let word = (term_at c.self.inside.term version).word in
     sym (ap (λ (document : Document). nat_lt 0 (length (places word document)))
-    (none_at c.args.doc.0 version (sym c.has_doc.ensures.there ∙ c.if-not-has_doc.true)))
+    (none_at c.args.doc.0 version (c.keep.ensures.there c.if-not-keep.true)))
     ∙ ap (λ (source : VersionTerm). stands_in source.term c.args.doc.0 source.version) c.self.view_is
