@@ -8,6 +8,7 @@ mod TermCosts
 mod OpenedLemmas
 mod OpenedViews
 mod SkipLemmas
+mod EdgeLemmas
 mod SkipLaw
 mod NeedViews
 mod OpenedWays

@@ -1,20 +1,17 @@
 -- Single words that are joined under a window, `ordered`, `same sentence` or `same paragraph` satisfy it exactly where a merge of their hits says so.
-use Rattle.std.proofs.Common.{◌≡◌, refl, sym, ap, subst, ◌∙◌, ℕ, zero, suc, ◌+◌, ◌-◌, ◌==◌, ◌≤◌, Bool, true, false, ◌&&◌, not, cond, true≢false, List, [], ◌∷◌, ◌++◌, map, fold, filter, flat_map, length, get_or, Option, Some, None, append-nil, arith}
+use Rattle.std.proofs.Common.{◌≡◌, refl, sym, ap, subst, ◌∙◌, ℕ, zero, suc, ◌+◌, ◌-◌, ◌==◌, ◌≤◌, Bool, true, false, ◌&&◌, not, cond, true≢false, List, [], ◌∷◌, ◌++◌, map, filter, flat_map, length, get_or, Some, append-nil, arith}
 use Rattle.std.specs.Prelude.{nat_le}
 use Rattle.std.specs.List.{list_all, list_any, range_with_len}
 use Rattle.std.proofs.lemmas.Bool.{and_from, and_parts, eqb-true, eq-eqb, le-leb, leb-true}
-use Rattle.std.proofs.lemmas.List.{length-append, length-map, map_push}
+use Rattle.std.proofs.lemmas.List.{length-map}
 use Rattle.std.proofs.lemmas.List.Folds.{flat_map-map}
-use Rattle.std.proofs.lemmas.Option.{cond_some, none-some}
-use Rattle.std.proofs.lemmas.List.Sums.{fold-append}
 use Rattle.ft_base.specs.declared.filter.Filter.{Filter}
 use Rattle.ft_base.specs.declared.hit.Hit.{Hit}
 use Rattle.ft_base.specs.declared.places.Breaks.{Breaks}
 use Rattle.ft_base.specs.declared.span.Span.{Span}
 use Rattle.ft_base.specs.declared.unit.TextUnit.TheVariants as Unit
 use Rattle.all_matches.specs.Boolean.{satisfied}
-use Rattle.all_matches.specs.Operators.{together_of}
-use Rattle.all_matches.specs.Ways.{phrase, together, through_filter, matches_of}
+use Rattle.all_matches.specs.Ways.{through_filter, matches_of}
 use Rattle.index_meaning.specs.Documents.{Numbered, breaks_of, document_at}
 use Rattle.index_versions.specs.Terms.{VersionTerm, aimed_at, version_term}
 use Rattle.index_versions.specs.Versions.{term_hits}
@@ -44,7 +41,7 @@ use Rattle.plan_runs.specs.steps.OpenedItems.{opened_item, opened_variant, word_
 use Rattle.plan_compiler.specs.declared.item_matching.ItemTest.{ItemTest}
 use Rattle.plan_compiler.specs.declared.looks.Looks.{Looks}
 use Rattle.plan_kinds.specs.declared.merge_kind.MergeKind.{MergeKind}
-use Rattle.plan_compiler.specs.declared.operator_plan.OperatorPlan.{OperatorPlan, Phrase, Choice', Both', MildNot', Negated', Filtered'}
+use Rattle.plan_compiler.specs.declared.operator_plan.OperatorPlan.{OperatorPlan}
 use Rattle.plan_compiler.specs.declared.operator_plan.PhraseTests.{PhraseTests}
 use Rattle.plan_runs.proofs.OpenedWays.{phrase_law}
 use Rattle.plan_runs.proofs.RunSkipLaw.{not_true}

@@ -27,11 +27,11 @@ use Rattle.plan_runs.specs.steps.ChosenTerms.{is_among, numbers_of}
 use Rattle.plan_runs.specs.steps.AskedSpans.{AskedSpan, words_in}
 use Rattle.plan_kinds.specs.steps.MergeKinds.{stand_as}
 use Rattle.plan_runs.specs.steps.Merges.{MergeShape, merge_says, terms_places}
-use Rattle.plan_runs.specs.steps.RunSkips.{merge_skip, phrase_skip, skip, skips, terms_skip, words_skip}
+use Rattle.plan_runs.specs.steps.RunSkips.{merge_skip, phrase_skip, placed_skip, skip, skips, terms_skip, words_skip}
 use Rattle.index_phrases.specs.steps.Aiming.{AreThere, variant_words}
-use Rattle.plan_runs.specs.steps.RunShapes.{GroupShape, WordsShape, Shape, Shapes, words, any_of, all_of, not_of, by_ways, by_hits, by_merge, none, more, group_shape, merge_shape, phrase_shape, shape, shapes_of, words_shape, by_spots}
+use Rattle.plan_runs.specs.steps.RunShapes.{GroupShape, WordsShape, Shape, Shapes, words, any_of, all_of, not_of, by_ways, by_hits, by_merge, none, more, group_shape, merge_shape, phrase_shape, placed_shape, shape, shapes_of, words_shape, by_spots, PlacedShape, at_edge, outside}
 use Rattle.plan_runs.specs.steps.Skips.{IsWithin, ends_before, latest, skip_of, variant_skip, variants_skip, vectors_skip}
-use Rattle.plan_runs.specs.steps.RunTruth.{AreSound, IsGroup, IsSound, IsWords, all_true, group_count, is_wanted, phrase_total, run_truth, some_true, words_say}
+use Rattle.plan_runs.specs.steps.RunTruth.{ArePlaced, AreSound, IsGroup, IsSound, IsWords, all_true, group_count, is_wanted, phrase_spots, phrase_total, placed_say, run_truth, some_true, words_say}
 use Rattle.plan_runs.specs.declared.run_node.RunGroup.{RunGroup}
 use Rattle.plan_runs.specs.declared.run_node.RunPhrase.{RunPhrase}
 use Rattle.plan_runs.specs.declared.run_node.RunWords.{RunWords}
@@ -45,6 +45,9 @@ use Rattle.plan_runs.specs.declared.run_node.RunNode.{RunNode}
 use Rattle.plan_runs.specs.declared.run_node.RunNode as R
 use Rattle.index_phrases.specs.declared.word_terms.WordTerms.{WordTerms}
 use Rattle.index_phrases.specs.declared.word_terms.WordTerms.TheVariants as Terms
+use Rattle.spot_merges.specs.Apart.{some_apart}
+use Rattle.spot_merges.specs.Edges.{is_at}
+use Rattle.plan_runs.proofs.SkipLaw.{no_phrase_spots}
 use Rattle.plan_runs.proofs.SkipLemmas.{are_missing, ends_all, ends_any, ends_latest, ends_soonest, ends_variants, is_missing, none_there, nothing_before}
 use Rattle.plan_runs.proofs.RunViews.{shape-Words, shape-Or, shape-And, shape-Not, shape-Ways, shape-Hits, shape-Merge, shape-Placed}
 
@@ -246,6 +249,15 @@ module _ (version : List Numbered) (doc : ℕ) (part span : Span) (within : IsWi
       by_kind InSentence = no_choice (are_in_one (started (breaks_of (document_at asked.doc version)).sentences)) merge.words out
       by_kind InParagraph = no_choice (are_in_one (started (breaks_of (document_at asked.doc version)).paragraphs)) merge.words out
 
+  -- a phrase of which no variant stands there
+  no_spots : (variants : List (List WordTerms)) → All (All (AreThere version)) variants → ends_before span.to (variants_skip doc part variants) ≡ true
+      → phrase_spots version variants asked ≡ []
+  no_spots variants there h = no_phrase_spots version doc part span within variants there (sym (ends_variants doc part span.to variants) ∙ h)
+
+  no_placed : (run : PlacedShape) → ArePlaced version run → ends_before span.to (placed_skip doc part run) ≡ true → placed_say version run asked ≡ false
+  no_placed (at_edge edge variants) there h = ap (list_any (is_at edge span)) (no_spots variants there h)
+  no_placed (outside left right) groups h = ap (λ spots. some_apart spots (phrase_spots version right.terms asked)) (no_spots left.terms groups.0.there h)
+
   ends_each_all : (parts : Shapes) → ends_before span.to (soonest (skips doc part parts)) ≡ list_all (ends_before span.to) (skips doc part parts)
   ends_each_all parts = ends_all span.to None (skips doc part parts)
 
@@ -265,7 +277,7 @@ module _ (version : List Numbered) (doc : ℕ) (part span : Span) (within : IsWi
     skip_law (by_ways run) sound h = ap satisfied (sound.skipped doc part span within h)
     skip_law (by_hits run) sound h = sound.skipped doc part span within h
     skip_law (by_merge merge) sound h = no_merge merge h
-    skip_law (by_spots run) sound h = sound.skipped doc part span within h
+    skip_law (by_spots run) sound h = no_placed run sound h
 
     all_law : (parts : Shapes) → AreSound version parts → list_all (ends_before span.to) (skips doc part parts) ≡ true → some_true version parts asked ≡ false
     all_law none sound h = refl
@@ -320,7 +332,7 @@ module _ (doc : ℕ) (part : Span) where
   unfolding skip
   skip-Merge run = ap (skip doc part) (shape-Merge run)
 
-  pub skip-Placed : (run : RunPlaced) → skip doc part (shape (R.Placed run)) ≡ skip_of run.needs doc part
+  pub skip-Placed : (run : RunPlaced) → skip doc part (shape (R.Placed run)) ≡ placed_skip doc part (placed_shape run)
   unfolding skip
   skip-Placed run = ap (skip doc part) (shape-Placed run)
 

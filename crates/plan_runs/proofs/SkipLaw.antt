@@ -22,6 +22,7 @@ use Rattle.index_versions.specs.Versions.{term_hits}
 use Rattle.place_merges.specs.Places.{Wanted, fits, stands_at, stands_before}
 use Rattle.place_merges.specs.Spots.{some_at, spots_between}
 use Rattle.place_merges.specs.declared.spot.Spot.{Spot}
+use Rattle.spot_merges.specs.Edges.{spots_of}
 use Rattle.word_lists.specs.Stems.{Stem}
 use Rattle.plan_kinds.specs.steps.AskedKeys.{asked_key}
 use Rattle.plan_runs.specs.steps.Skips.{IsWithin, ends_before, needed_item, opened_skip}
@@ -91,11 +92,14 @@ module _ (version : List Numbered) (doc : ℕ) (part span : Span) (within : IsWi
       (and_right (nat_le (at.place + length own) span.to) (stands_at at.place own) (stands_nowhere at.place words (there 0 words (omega arith)) parts.0)) in
       λ i. first i || none_at variants (λ k d lt. there (suc k) d (omega (arith, lt))) parts.1 at i
 
+  pub no_phrase_spots : (variants : List (List WordTerms)) → All (All (AreThere version)) variants → are_missing doc part span.to variants ≡ true
+      → spots_of span (map (map wanted) variants) ≡ []
+  no_phrase_spots variants there h = filter_none (some_at span.to (map (map wanted) variants)) (none_at variants there h) (spots_between span.from span.to)
+
   no_phrase_hits : (number : ℕ) (variants : List (List WordTerms)) → All (All (AreThere version)) variants → are_missing doc part span.to variants ≡ true
       → phrase_hits version number variants doc span ≡ []
   no_phrase_hits number variants there h =
-      ap (map (numbered_hit number (breaks_of (document_at doc version)) span))
-      (filter_none (some_at span.to (map (map wanted) variants)) (none_at variants there h) (spots_between span.from span.to))
+      ap (map (numbered_hit number (breaks_of (document_at doc version)) span)) (no_phrase_spots variants there h)
 
 module _ (looks : Looks) (stems : List Stem) (version : List Numbered) (doc : ℕ) (part span : Span) (within : IsWithin part span) where
   abbrev needed : ItemTest → WordTerms

@@ -192,7 +192,7 @@ module _ (word : List ℕ) (part span : Span) (within : IsWithin part span) wher
 abbrev pub places_there : ℕ → VersionTerm → List ℕ
 places_there doc source = places (term_at source.term source.version).word (document_at doc source.version)
 
-first_found : (breaks : Breaks) (found : List ℕ) → option_map (λ (hit : Hit). hit.from) (hit_at (hit_place (map (word_hit breaks) found) 0)) ≡ slice_get found 0
+pub first_found : (breaks : Breaks) (found : List ℕ) → option_map (λ (hit : Hit). hit.from) (hit_at (hit_place (map (word_hit breaks) found) 0)) ≡ slice_get found 0
 first_found breaks [] = refl
 first_found breaks (place ∷ found) = refl
 

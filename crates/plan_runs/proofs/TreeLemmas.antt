@@ -12,7 +12,7 @@ use Rattle.plan_runs.specs.steps.Passes.{AreHits, hits_say}
 use Rattle.plan_runs.specs.steps.Merges.{IsMerge, merge_cost, merge_says}
 use Rattle.plan_runs.specs.steps.Skips.{skip_of}
 use Rattle.plan_runs.specs.steps.OpenedOperators.{AreAims, aims_of}
-use Rattle.plan_runs.specs.steps.RunTruth.{AreGroups, ArePlaced, AreSound, AreWays, IsSound, IsWords, aims_say, all_true, phrases_say, run_truth, some_true, words_say}
+use Rattle.plan_runs.specs.steps.RunTruth.{ArePlaced, AreSound, AreWays, IsSound, IsWords, aims_say, all_true, placed_say, run_truth, some_true, words_say}
 use Rattle.plan_runs.specs.declared.run_node.RunWords.{RunWords}
 use Rattle.plan_runs.specs.declared.run_hits.RunHits.{RunHits}
 use Rattle.plan_runs.specs.declared.run_merge.RunMerge.{RunMerge}
@@ -57,11 +57,9 @@ module _ (version : List Numbered) (asked : AskedSpan) (node : RunNode) where
   unfolding IsSound
   sound-Merge run is h = subst (IsSound version) (ap shape is ∙ shape-Merge run) h
 
-  pub sound-Placed : (run : RunPlaced) → node ≡ R.Placed run → IsSound version (shape node) → AreGroups version (placed_shape run).phrases
+  pub sound-Placed : (run : RunPlaced) → node ≡ R.Placed run → IsSound version (shape node) → ArePlaced version (placed_shape run)
   unfolding IsSound
-  sound-Placed run is h =
-      let fits : ArePlaced version (placed_shape run) = subst (IsSound version) (ap shape is ∙ shape-Placed run) h in
-      fits.groups
+  sound-Placed run is h = subst (IsSound version) (ap shape is ∙ shape-Placed run) h
 
   -- ---- what they say
 
@@ -93,7 +91,7 @@ module _ (version : List Numbered) (asked : AskedSpan) (node : RunNode) where
   unfolding run_truth
   says-Merge run is = sym (ap (λ s. run_truth version s asked) (ap shape is ∙ shape-Merge run))
 
-  pub says-Placed : (run : RunPlaced) → node ≡ R.Placed run → phrases_say version (placed_shape run).phrases asked ≡ run_truth version (shape node) asked
+  pub says-Placed : (run : RunPlaced) → node ≡ R.Placed run → placed_say version (placed_shape run) asked ≡ run_truth version (shape node) asked
   unfolding run_truth
   says-Placed run is = sym (ap (λ s. run_truth version s asked) (ap shape is ∙ shape-Placed run))
 
@@ -215,7 +213,7 @@ module _ (cost : WordTerms → ℕ) (node : RunNode) where
   unfolding run_cost
   cost-Merge run is = ap (run_cost cost) (ap shape is ∙ shape-Merge run)
 
-  pub cost-Placed : (run : RunPlaced) → node ≡ R.Placed run → run_cost cost (shape node) ≡ placed_cost cost (placed_shape run).phrases
+  pub cost-Placed : (run : RunPlaced) → node ≡ R.Placed run → run_cost cost (shape node) ≡ placed_cost cost (placed_shape run)
   unfolding run_cost
   cost-Placed run is = ap (run_cost cost) (ap shape is ∙ shape-Placed run)
 

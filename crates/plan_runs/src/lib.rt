@@ -2,16 +2,17 @@
 //!
 //! A run has terms of the version and cursors in the place of tests of words (`opening`). It counts words by merging their cursors
 //! (`words_holding`), decides filters over single words by merges of their own where one pass through their places tells
-//! (`merge_holding`), and so a phrase at an edge of the text and one phrase outside another (`placed_holding`). Windows, order, units
-//! and distances over phrases are decided by one pass through their hits (`hits_holding`). Each other filter and `not in` is decided by
-//! a walk through its ways (`ways_holding`). `plan_kinds` says which of these decides a plan. Up to where the words that a selection
-//! needs begin, a document can be skipped (`skipping`); those words are looked up in a document once (`looking_up`). A session asks a
-//! `Judge` with it.
+//! (`merge_holding`), and so one phrase outside another (`placed_holding`). A phrase at an edge of the text is asked for at its place
+//! there (`edge_holding`). Windows, order, units and distances over phrases are decided by one pass through their hits
+//! (`hits_holding`). Each other filter and `not in` is decided by a walk through its ways (`ways_holding`). `plan_kinds` says which of
+//! these decides a plan. Up to where the words that a selection needs begin, a document can be skipped (`skipping`); those words are
+//! looked up in a document once (`looking_up`). A session asks a `Judge` with it.
 #![tactic(auto)]
 
 mod aiming;
 mod asked_place;
 mod choosing;
+mod edge_holding;
 pub mod examples;
 mod hits_holding;
 mod holding;

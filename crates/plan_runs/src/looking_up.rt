@@ -132,10 +132,14 @@ fn look_hits_up(doc: DocId, hits: &mut Box<RunHits<'_>>) -> bool
     look_needs_up(doc, &mut hits.needs)
 }
 
+/// Looks up the phrase that has to stand somewhere.
 fn look_placed_up(doc: DocId, placed: &mut RunPlaced<'_>) -> bool
     ensures { placed_shape placed.new ≡ placed_shape placed.old }
 {
-    look_needs_up(doc, &mut placed.needs)
+    match placed {
+        RunPlaced::AtEdge(phrase) => look_variants_up(doc, &mut phrase.variants),
+        RunPlaced::Apart(phrases) => look_variants_up(doc, &mut phrases.left.terms),
+    }
 }
 
 fn look_merge_up(doc: DocId, merge: &mut RunMerge<'_>) -> bool

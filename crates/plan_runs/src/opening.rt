@@ -66,11 +66,11 @@ fn open_filtered<'v>(opening: &Opening<'v>, plan: &WaysPlan) -> Result<RunNode<'
         return Ok(RunNode::Merge(open_merge(opening, kind, operand)?));
     }
     if let Some((edge, phrase)) = edge_of(&plan.operator) {
-        let placed = open_at_edge(opening, edge, phrase, &plan.operator)?;
+        let placed = open_at_edge(opening, edge, phrase)?;
         return Ok(RunNode::Placed(placed));
     }
     if let Some((left, right)) = apart_of(&plan.operator) {
-        let placed = open_apart(opening, left, right, &plan.operator)?;
+        let placed = open_apart(opening, left, right)?;
         return Ok(RunNode::Placed(placed));
     }
     open_passed(opening, plan)

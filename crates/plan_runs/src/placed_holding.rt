@@ -2,16 +2,17 @@
 
 ghost use Rattle.std.specs.Prelude.{◌≡◌, ◌+◌, ◌≤◌};
 ghost use Rattle.plan_runs.specs.steps.AskedPlaces.{asked_at};
-ghost use Rattle.plan_runs.specs.declared.run_placed.PlacedPhrases.TheVariants.{Apart, AtEdge};
+ghost use Rattle.plan_runs.specs.declared.run_placed.RunPlaced.TheVariants.{Apart, AtEdge};
 ghost use Rattle.plan_runs.specs.steps.RunCosts.{moves_for, placed_cost};
-ghost use Rattle.plan_runs.specs.steps.RunShapes.{phrases_shape, placed_shape};
-ghost use Rattle.plan_runs.specs.steps.RunTruth.{AreGroups, phrases_say};
+ghost use Rattle.plan_runs.specs.steps.RunShapes.{placed_shape};
+ghost use Rattle.plan_runs.specs.steps.RunTruth.{ArePlaced, placed_say};
 
 use crate::aiming::aim_variants;
 use crate::asked_place::AskedPlace;
-use crate::run_placed::{ApartPhrases, EdgePhrase, PlacedPhrases, RunPlaced};
+use crate::edge_holding::stands_at_edge;
+use crate::run_placed::{ApartPhrases, EdgePhrase, RunPlaced};
 use ft_base::Steps;
-use spot_merges::{stand_apart, stands_at_edge};
+use spot_merges::stand_apart;
 use std::sync::ledger::Ledger;
 
 /// Whether the phrases stand in the span where they have to.
@@ -20,32 +21,24 @@ pub(crate) fn placed_holds<'v, L: Ledger>(
     placed: &mut RunPlaced<'v>,
     moves: &mut Steps<L>,
 ) -> bool
-    requires { AreGroups place.now.version.now (placed_shape placed.old).phrases }
-    ensures says { result ≡ phrases_say place.now.version.now (placed_shape placed.old).phrases (asked_at place.now) }
+    requires { ArePlaced place.now.version.now (placed_shape placed.old) }
+    ensures says { result ≡ placed_say place.now.version.now (placed_shape placed.old) (asked_at place.now) }
     ensures same { placed_shape placed.new ≡ placed_shape placed.old }
-    ensures price { moves.new ≤ moves.old + placed_cost (moves_for place.now) (placed_shape placed.old).phrases }
+    ensures price { moves.new ≤ moves.old + placed_cost (moves_for place.now) (placed_shape placed.old) }
     ensures grown { moves.old ≤ moves.new }
 {
-    match &mut placed.phrases {
-        PlacedPhrases::AtEdge(phrase) => holds_at_edge(place, phrase, moves),
-        PlacedPhrases::Apart(phrases) => holds_apart(place, phrases, moves),
+    match placed {
+        RunPlaced::AtEdge(phrase) => holds_at_edge(place, phrase),
+        RunPlaced::Apart(phrases) => holds_apart(place, phrases, moves),
     }
 }
 
-fn holds_at_edge<'v, L: Ledger>(
-    place: &AskedPlace<'v>,
-    phrase: &mut EdgePhrase<'v>,
-    moves: &mut Steps<L>,
-) -> bool
-    requires { AreGroups place.now.version.now (phrases_shape (AtEdge phrase.old)) }
-    ensures says { result ≡ phrases_say place.now.version.now (phrases_shape (AtEdge phrase.old)) (asked_at place.now) }
-    ensures same { phrases_shape (AtEdge phrase.new) ≡ phrases_shape (AtEdge phrase.old) }
-    ensures price { moves.new ≤ moves.old + placed_cost (moves_for place.now) (phrases_shape (AtEdge phrase.old)) }
-    ensures grown { moves.old ≤ moves.new }
+fn holds_at_edge(place: &AskedPlace<'_>, phrase: &mut EdgePhrase<'_>) -> bool
+    requires { ArePlaced place.now.version.now (placed_shape (AtEdge phrase.old)) }
+    ensures says { result ≡ placed_say place.now.version.now (placed_shape (AtEdge phrase.old)) (asked_at place.now) }
+    ensures same { placed_shape (AtEdge phrase.new) ≡ placed_shape (AtEdge phrase.old) }
 {
-    let group = &mut phrase.group;
-    aim_variants(place, &mut group.terms, &mut group.variants, moves);
-    stands_at_edge(&mut group.variants, phrase.edge, place.span, moves)
+    stands_at_edge(place, phrase.edge, &mut phrase.variants)
 }
 
 fn holds_apart<'v, L: Ledger>(
@@ -53,10 +46,10 @@ fn holds_apart<'v, L: Ledger>(
     phrases: &mut ApartPhrases<'v>,
     moves: &mut Steps<L>,
 ) -> bool
-    requires { AreGroups place.now.version.now (phrases_shape (Apart phrases.old)) }
-    ensures says { result ≡ phrases_say place.now.version.now (phrases_shape (Apart phrases.old)) (asked_at place.now) }
-    ensures same { phrases_shape (Apart phrases.new) ≡ phrases_shape (Apart phrases.old) }
-    ensures price { moves.new ≤ moves.old + placed_cost (moves_for place.now) (phrases_shape (Apart phrases.old)) }
+    requires { ArePlaced place.now.version.now (placed_shape (Apart phrases.old)) }
+    ensures says { result ≡ placed_say place.now.version.now (placed_shape (Apart phrases.old)) (asked_at place.now) }
+    ensures same { placed_shape (Apart phrases.new) ≡ placed_shape (Apart phrases.old) }
+    ensures price { moves.new ≤ moves.old + placed_cost (moves_for place.now) (placed_shape (Apart phrases.old)) }
     ensures grown { moves.old ≤ moves.new }
 {
     let left = &mut phrases.left;

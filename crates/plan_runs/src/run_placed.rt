@@ -1,28 +1,21 @@
-use crate::needs::Needs;
 use crate::run_node::RunGroup;
+use index_phrases::WordTerms;
 use spot_merges::Edge;
 
-/// Phrases that have to stand somewhere, opened over a version, and what they need of a document.
+/// Phrases that have to stand somewhere, opened over a version; of each phrase all variants.
 #[derive(Drop)]
-pub(crate) struct RunPlaced<'v> {
-    pub(crate) phrases: PlacedPhrases<'v>,
-    pub(crate) needs: Needs<'v>,
-}
-
-/// Where phrases have to stand; of each phrase all variants.
-#[derive(Drop)]
-pub(crate) enum PlacedPhrases<'v> {
+pub(crate) enum RunPlaced<'v> {
     /// One, at an edge of the text.
     AtEdge(EdgePhrase<'v>),
     /// One, outside another.
     Apart(ApartPhrases<'v>),
 }
 
-/// A phrase that has to stand at that edge of the text.
+/// A phrase that has to stand at that edge of the text: what the words of each variant may be.
 #[derive(Drop)]
 pub(crate) struct EdgePhrase<'v> {
     pub(crate) edge: Edge,
-    pub(crate) group: RunGroup<'v>,
+    pub(crate) variants: Vec<Vec<WordTerms<'v>>>,
 }
 
 /// A phrase, the left one, that has to stand where the right one doesn't cover it.

@@ -3,7 +3,7 @@
 ghost use Rattle.std.specs.Prelude.{◌≡◌, cond, map, Some};
 ghost use Rattle.all_matches.specs.Compositional.{enough};
 ghost use Rattle.index_versions.specs.FirstPlaces.{soonest};
-ghost use Rattle.plan_runs.specs.steps.RunShapes.{phrase_shape, shape};
+ghost use Rattle.plan_runs.specs.steps.RunShapes.{phrase_shape, placed_shape, shape};
 ghost use Rattle.plan_runs.specs.steps.RunSkips as spec;
 ghost use Rattle.plan_runs.specs.steps.RunSkips.{phrase_skip, terms_skip};
 ghost use Rattle.plan_runs.specs.steps.Skips.{latest, variant_skip, vectors_skip, word_skip};
@@ -11,6 +11,7 @@ ghost use Rattle.plan_runs.specs.steps.Skips.{latest, variant_skip, vectors_skip
 use crate::needed_skips::needs_skip;
 use crate::occurrence_ranges::is_enough;
 use crate::run_node::{RunGroup, RunNode, RunPhrase, RunWords};
+use crate::run_placed::RunPlaced;
 use ft_base::{DocId, Span};
 use index_phrases::WordTerms;
 use index_versions::{TermSources, sooner};
@@ -29,7 +30,7 @@ pub(crate) fn skip(doc: DocId, part: Span, node: &RunNode<'_>) -> Option<u32>
         RunNode::Ways(ways) => needs_skip(doc, part, &ways.needs),
         RunNode::Hits(hits) => needs_skip(doc, part, &hits.needs),
         RunNode::Merge(merge) => merge_skip(doc, part, &merge.words),
-        RunNode::Placed(placed) => needs_skip(doc, part, &placed.needs),
+        RunNode::Placed(placed) => placed_skip(doc, part, placed),
     }
 }
 
@@ -164,4 +165,14 @@ fn merge_skip(doc: DocId, part: Span, words: &Vec<TermSources<'_>>) -> Option<u3
         }
     }
     Some(last)
+}
+
+/// The phrase that has to stand somewhere has to stand there.
+fn placed_skip(doc: DocId, part: Span, placed: &RunPlaced<'_>) -> Option<u32>
+    ensures { result ≡ spec.placed_skip doc.0 part (placed_shape placed.now) }
+{
+    match placed {
+        RunPlaced::AtEdge(phrase) => variants_skip(doc, part, &phrase.variants),
+        RunPlaced::Apart(phrases) => variants_skip(doc, part, &phrases.left.terms),
+    }
 }

@@ -1,6 +1,6 @@
 pub mod SpotTests
 pub mod SpotRanges
-pub mod NearLemmas
+pub mod EdgeLemmas
 pub mod CoverLemmas
 pub mod HitLaws
 pub mod ToldLaws

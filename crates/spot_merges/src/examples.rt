@@ -1,7 +1,7 @@
 //! Which spots stand at the edges of a span, and which lie within others, on small texts, by computation.
 #![tactic(auto, unfolding(all_matches::specs::Ways::matches_of))]
 
-ghost use Rattle.std.specs.Prelude.{◌≡◌, ◌∷◌, [], true, false};
+ghost use Rattle.std.specs.Prelude.{◌≡◌, ◌∷◌, [], None, Some, true, false};
 ghost use Rattle.std.specs.List.{list_any};
 ghost use Rattle.ft_base.specs.declared.filter.Filter.TheVariants as F;
 ghost use Rattle.all_matches.specs.Boolean.{satisfied};
@@ -9,7 +9,7 @@ ghost use Rattle.all_matches.specs.Ways.{apart, matches_of, phrase, through_filt
 ghost use Rattle.place_merges.specs.Spots.{spot};
 ghost use Rattle.place_merges.specs.Examples.{a, b};
 ghost use Rattle.spot_merges.specs.Apart.{some_apart};
-ghost use Rattle.spot_merges.specs.Edges.{is_at, spots_of};
+ghost use Rattle.spot_merges.specs.Edges.{edge_place, is_at, spots_of, stands_at_edge};
 ghost use Rattle.spot_merges.specs.Examples.{hit, item};
 ghost use Rattle.spot_merges.specs.declared.edge.Edge.TheVariants as E;
 
@@ -28,6 +28,21 @@ pub fn edges()
     ensures all { is_at E.Both item (spot 1 6) ≡ true }
     ensures all_but_the_last { is_at E.Both item (spot 1 5) ≡ false }
     ensures all_but_the_first { is_at E.Both item (spot 2 5) ≡ false }
+{}
+
+/// So many words have one place at an edge of the six, unless there are more of them, none, or others beside them.
+pub fn places_at_edges()
+    ensures first { edge_place E.Start item 2 ≡ Some 1 }
+    ensures last { edge_place E.End item 2 ≡ Some 5 }
+    ensures all { edge_place E.Both item 6 ≡ Some 1 }
+    ensures not_all { edge_place E.Both item 5 ≡ None }
+    ensures all_at_the_end { edge_place E.End item 6 ≡ Some 1 }
+    ensures too_many { edge_place E.Start item 7 ≡ None }
+    ensures none { edge_place E.Start item 0 ≡ None }
+    ensures two_words { stands_at_edge E.Start item (a ∷ b ∷ []) ≡ true }
+    ensures not_at_the_end { stands_at_edge E.End item (a ∷ b ∷ []) ≡ false }
+    ensures one_word_at_the_end { stands_at_edge E.End item (a ∷ []) ≡ true }
+    ensures no_word { stands_at_edge E.Start item [] ≡ false }
 {}
 
 /// A spot is covered by one that has all its words, and not by two that have them together.

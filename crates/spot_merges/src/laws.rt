@@ -7,7 +7,8 @@ ghost use Rattle.ft_base.specs.declared.span.Span.{Span};
 ghost use Rattle.all_matches.specs.Boolean.{satisfied};
 ghost use Rattle.all_matches.specs.Ways.{apart, matches_of, phrase, through_filter};
 ghost use Rattle.spot_merges.specs.Apart.{some_hit_apart};
-ghost use Rattle.spot_merges.specs.Edges.{edge_filter, hit_is_at};
+ghost use Rattle.place_merges.specs.Places.{Wanted};
+ghost use Rattle.spot_merges.specs.Edges.{edge_filter, hit_is_at, is_at, spots_of, stands_at_edge};
 ghost use Rattle.spot_merges.specs.Phrases.{is_hit, lies_inside};
 ghost use Rattle.spot_merges.specs.declared.edge.Edge.{Edge};
 
@@ -15,6 +16,12 @@ ghost use Rattle.spot_merges.specs.declared.edge.Edge.{Edge};
 pub fn edge_law()
     ensures { (edge : Edge) (item : Span) (hits : List Hit) → list_all (lies_inside item) hits ≡ true
         → satisfied (matches_of item (through_filter (phrase hits) (edge_filter edge))) ≡ list_any (hit_is_at edge item) hits }
+{}
+
+/// A phrase stands at an edge of a span where a variant of it stands at the place for its number of words.
+pub fn edge_place_law()
+    ensures { (edge : Edge) (span : Span) (variants : List (List Wanted))
+        → list_any (stands_at_edge edge span) variants ≡ list_any (is_at edge span) (spots_of span variants) }
 {}
 
 /// Of `not in` over two phrases, some hit of the left one has to lie within none of the right one.

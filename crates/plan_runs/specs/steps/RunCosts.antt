@@ -6,7 +6,7 @@ use Rattle.index_versions.specs.Terms.{VersionTerm}
 use Rattle.plan_runs.specs.steps.AskedPlaces.{hits_at}
 use Rattle.plan_runs.specs.steps.ChosenTerms.{numbers_of}
 use Rattle.plan_runs.specs.steps.Merges.{merge_cost}
-use Rattle.plan_runs.specs.steps.RunShapes.{GroupShape, WordsShape, PhrasesShape, Shape, Shapes, none, more, at_edge, outside}
+use Rattle.plan_runs.specs.steps.RunShapes.{GroupShape, WordsShape, PlacedShape, Shape, Shapes, none, more, at_edge, outside}
 use Rattle.plan_runs.specs.steps.RunShapes.{words, any_of, all_of, not_of, by_ways, by_hits, by_merge, by_spots}
 use Rattle.plan_runs.specs.declared.asked_place.AskedPlace.{AskedPlace}
 use Rattle.index_phrases.specs.declared.word_terms.WordTerms.{WordTerms}
@@ -22,8 +22,9 @@ module _ (cost : WordTerms → ℕ) where
   abbrev pub words_cost : WordsShape → ℕ
   words_cost run = sum_by phrase_cost run.phrases
 
-  abbrev pub placed_cost : PhrasesShape → ℕ
-  placed_cost (at_edge edge group) = group_cost group
+  -- a phrase at an edge moves no cursor
+  abbrev pub placed_cost : PlacedShape → ℕ
+  placed_cost (at_edge edge variants) = 0
   placed_cost (outside left right) = group_cost left + group_cost right
 
   unfoldable mutual
@@ -35,7 +36,7 @@ module _ (cost : WordTerms → ℕ) where
     run_cost (by_ways run) = 0
     run_cost (by_hits run) = 0
     run_cost (by_merge merge) = merge_cost cost merge
-    run_cost (by_spots run) = placed_cost run.phrases
+    run_cost (by_spots run) = placed_cost run
 
     pub run_costs : Shapes → ℕ
     run_costs none = 0

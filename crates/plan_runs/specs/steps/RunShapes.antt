@@ -20,9 +20,8 @@ use Rattle.plan_runs.specs.declared.run_merge.RunMerge.{RunMerge}
 use Rattle.plan_runs.specs.declared.run_node.RunGroup.{RunGroup}
 use Rattle.plan_runs.specs.declared.run_node.RunPhrase.{RunPhrase}
 use Rattle.plan_runs.specs.declared.run_node.RunWords.{RunWords}
-use Rattle.plan_runs.specs.declared.run_placed.PlacedPhrases.{PlacedPhrases}
-use Rattle.plan_runs.specs.declared.run_placed.PlacedPhrases.TheVariants.{AtEdge, Apart}
 use Rattle.plan_runs.specs.declared.run_placed.RunPlaced.{RunPlaced}
+use Rattle.plan_runs.specs.declared.run_placed.RunPlaced.TheVariants.{AtEdge, Apart}
 use Rattle.plan_runs.specs.declared.run_ways.RunWays.{RunWays}
 use Rattle.plan_runs.specs.declared.run_node.RunNode.{RunNode, fold-RunNode}
 use Rattle.plan_runs.specs.declared.run_node.RunNode.TheOpen.{RunNode-F}
@@ -42,15 +41,10 @@ pub record WaysShape : Type 0 where
   pub aims : Aims
   pub skips : ℕ → Span → Option ℕ
 
--- a phrase at an edge of the text, or one outside another
-pub data PhrasesShape : Type 0 where
-  at_edge : Edge → GroupShape → PhrasesShape
-  outside : GroupShape → GroupShape → PhrasesShape
-
--- the same, and up to where parts of documents can be skipped
-pub record PlacedShape : Type 0 where
-  pub phrases : PhrasesShape
-  pub skips : ℕ → Span → Option ℕ
+-- a phrase at an edge of the text, by the terms of each word of each variant, or one outside another
+pub data PlacedShape : Type 0 where
+  at_edge : Edge → List (List WordTerms) → PlacedShape
+  outside : GroupShape → GroupShape → PlacedShape
 
 mutual
   pub data Shape : Type 0 where
@@ -96,12 +90,9 @@ ways_shape run = record { aims = aims_of run.tuples; skips = skip_of run.needs }
 abbrev pub hits_shape : RunHits → HitsShape
 hits_shape run = record { kind = run.kind; phrases = all_aims state_of run.phrases.items; skips = skip_of run.needs }
 
-abbrev pub phrases_shape : PlacedPhrases → PhrasesShape
-phrases_shape (AtEdge phrase) = at_edge phrase.edge (group_shape phrase.group)
-phrases_shape (Apart phrases) = outside (group_shape phrases.left) (group_shape phrases.right)
-
 abbrev pub placed_shape : RunPlaced → PlacedShape
-placed_shape run = record { phrases = phrases_shape run.phrases; skips = skip_of run.needs }
+placed_shape (AtEdge phrase) = at_edge phrase.edge (map variant_words phrase.variants.items)
+placed_shape (Apart phrases) = outside (group_shape phrases.left) (group_shape phrases.right)
 
 -- one level, with the shape of each part
 abbrev pub layer : RunNode-F Shape → Shape

@@ -5,7 +5,7 @@ use Rattle.all_matches.specs.Compositional.{enough}
 use Rattle.index_versions.specs.FirstPlaces.{soonest}
 use Rattle.index_versions.specs.Terms.{VersionTerm, first_in}
 use Rattle.plan_runs.specs.steps.Merges.{MergeShape}
-use Rattle.plan_runs.specs.steps.RunShapes.{GroupShape, WordsShape, Shape, Shapes, none, more}
+use Rattle.plan_runs.specs.steps.RunShapes.{GroupShape, WordsShape, PlacedShape, at_edge, outside, Shape, Shapes, none, more}
 use Rattle.plan_runs.specs.steps.RunShapes.{words, any_of, all_of, not_of, by_ways, by_hits, by_merge, by_spots}
 use Rattle.plan_runs.specs.steps.Skips.{latest, variants_skip}
 
@@ -25,6 +25,11 @@ module _ (doc : ℕ) (part : Span) where
   abbrev pub merge_skip : MergeShape → Option ℕ
   merge_skip merge = latest (map terms_skip merge.words)
 
+  -- of phrases that have to stand somewhere: the first has to stand there
+  abbrev pub placed_skip : PlacedShape → Option ℕ
+  placed_skip (at_edge edge variants) = variants_skip doc part variants
+  placed_skip (outside left right) = variants_skip doc part left.terms
+
   unfoldable mutual
     pub skip : Shape → Option ℕ
     skip (words run) = words_skip run
@@ -34,7 +39,7 @@ module _ (doc : ℕ) (part : Span) where
     skip (by_ways run) = run.skips doc part
     skip (by_hits run) = run.skips doc part
     skip (by_merge merge) = merge_skip merge
-    skip (by_spots run) = run.skips doc part
+    skip (by_spots run) = placed_skip run
 
     pub skips : Shapes → List (Option ℕ)
     skips none = []

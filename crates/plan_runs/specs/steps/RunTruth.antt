@@ -16,7 +16,7 @@ use Rattle.plan_runs.specs.steps.OpenedOperators.{AreAims}
 use Rattle.plan_runs.specs.steps.Passes.{AreHits, hits_say}
 use Rattle.index_phrases.specs.steps.Aiming.{AreThere, wanted_size}
 use Rattle.plan_runs.specs.steps.Skips.{IsWithin, ends_before}
-use Rattle.plan_runs.specs.steps.RunShapes.{GroupShape, WaysShape, WordsShape, PhrasesShape, at_edge, outside, PlacedShape}
+use Rattle.plan_runs.specs.steps.RunShapes.{GroupShape, WaysShape, WordsShape, PlacedShape, at_edge, outside}
 use Rattle.plan_runs.specs.steps.RunShapes.{Shape, Shapes, words, any_of, all_of, not_of, by_ways, by_hits, by_merge, none, more, by_spots}
 use Rattle.index_phrases.specs.Phrases.{wanted_at}
 use Rattle.place_merges.specs.declared.spot.Spot.{Spot}
@@ -49,14 +49,14 @@ words_say version run text = enough run.times (words_total version run text)
 abbrev pub aims_say : Aims → AskedSpan → Bool
 aims_say aims asked = satisfied (matches_of (own_span asked.span) (aims.operators asked.doc asked.span))
 
--- the spots at which the variants of a group stand
-abbrev pub group_spots : List Numbered → GroupShape → AskedSpan → List Spot
-group_spots version group asked = spots_of asked.span (map (map (wanted_at version asked.doc asked.span)) group.terms)
+-- the spots at which the variants of a phrase stand
+abbrev pub phrase_spots : List Numbered → List (List WordTerms) → AskedSpan → List Spot
+phrase_spots version variants asked = spots_of asked.span (map (map (wanted_at version asked.doc asked.span)) variants)
 
 -- whether phrases stand where they have to
-abbrev pub phrases_say : List Numbered → PhrasesShape → AskedSpan → Bool
-phrases_say version (at_edge edge group) asked = list_any (is_at edge asked.span) (group_spots version group asked)
-phrases_say version (outside left right) asked = some_apart (group_spots version left asked) (group_spots version right asked)
+abbrev pub placed_say : List Numbered → PlacedShape → AskedSpan → Bool
+placed_say version (at_edge edge variants) asked = list_any (is_at edge asked.span) (phrase_spots version variants asked)
+placed_say version (outside left right) asked = some_apart (phrase_spots version left.terms asked) (phrase_spots version right.terms asked)
 
 unfoldable mutual
   pub run_truth : List Numbered → Shape → AskedSpan → Bool
@@ -67,7 +67,7 @@ unfoldable mutual
   run_truth version (by_ways run) asked = aims_say run.aims asked
   run_truth version (by_hits run) asked = hits_say run asked
   run_truth version (by_merge merge) asked = merge_says version merge asked
-  run_truth version (by_spots run) asked = phrases_say version run.phrases asked
+  run_truth version (by_spots run) asked = placed_say version run asked
 
   pub some_true : List Numbered → Shapes → AskedSpan → Bool
   some_true version none asked = false
@@ -93,15 +93,9 @@ pub record AreWays (version : List Numbered) (run : WaysShape) : Type 0 where
   pub skipped : (doc : ℕ) (part span : Span) → IsWithin part span → ends_before span.to (run.skips doc part) ≡ true
       → matches_of (own_span span) (run.aims.operators doc span) ≡ []
 
-abbrev pub AreGroups : List Numbered → PhrasesShape → Type 0
-AreGroups version (at_edge edge group) = IsGroup version group
-AreGroups version (outside left right) = IsGroup version left × IsGroup version right
-
--- the groups fit the version, and in spans that can be skipped they don't stand like this
-pub record ArePlaced (version : List Numbered) (run : PlacedShape) : Type 0 where
-  pub groups : AreGroups version run.phrases
-  pub skipped : (doc : ℕ) (part span : Span) → IsWithin part span → ends_before span.to (run.skips doc part) ≡ true
-      → phrases_say version run.phrases (record { doc = doc; span = span }) ≡ false
+abbrev pub ArePlaced : List Numbered → PlacedShape → Type 0
+ArePlaced version (at_edge edge variants) = All (All (AreThere version)) variants
+ArePlaced version (outside left right) = IsGroup version left × IsGroup version right
 
 unfoldable mutual
   pub IsSound : List Numbered → Shape → Type 0

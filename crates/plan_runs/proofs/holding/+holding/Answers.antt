@@ -6,7 +6,7 @@ use Rattle.plan_runs.specs.steps.Passes.{AreHits, hits_say}
 use Rattle.plan_runs.specs.steps.Merges.{IsMerge, merge_cost, merge_says}
 use Rattle.plan_runs.specs.steps.OpenedOperators.{AreAims, aims_of}
 use Rattle.plan_runs.specs.steps.Skips.{skip_of}
-use Rattle.plan_runs.specs.steps.RunTruth.{AreGroups, AreSound, IsSound, IsWords, all_true, aims_say, phrases_say, run_truth, some_true, words_say}
+use Rattle.plan_runs.specs.steps.RunTruth.{ArePlaced, AreSound, IsSound, IsWords, all_true, aims_say, placed_say, run_truth, some_true, words_say}
 use Rattle.plan_runs.specs.steps.AskedPlaces.{asked_at, text_at}
 use Rattle.plan_runs.specs.declared.run_node.RunNode.{RunNode, the_lemmas}
 use Rattle.plan_runs.specs.declared.run_hits.RunHits.{RunHits}
@@ -135,11 +135,11 @@ node_holds-returns-in-Merge-clause-price g t c =
 
 pub node_holds-placed_holds-requires : goal.node_holds-placed_holds-requires
 node_holds-placed_holds-requires g t c =
-    subst (λ (run : RunPlaced). AreGroups c.args.place.now.version.now (placed_shape run).phrases) (sym c.in-Placed.placed-is) (sound-Placed c.args.place.now.version.now (asked_at c.args.place.now) c.args.node.now c.in-Placed.placed c.in-Placed.is c.requires)
+    subst (λ (run : RunPlaced). ArePlaced c.args.place.now.version.now (placed_shape run)) (sym c.in-Placed.placed-is) (sound-Placed c.args.place.now.version.now (asked_at c.args.place.now) c.args.node.now c.in-Placed.placed c.in-Placed.is c.requires)
 
 pub node_holds-returns-in-Placed-clause-says : goal.node_holds-returns-in-Placed-clause-says
 node_holds-returns-in-Placed-clause-says g t c =
-    c.placed_holds.ensures.says ∙ ap (λ (run : RunPlaced). phrases_say c.args.place.now.version.now (placed_shape run).phrases (asked_at c.args.place.now)) c.in-Placed.placed-is ∙ says-Placed c.args.place.now.version.now (asked_at c.args.place.now) c.args.node.now c.in-Placed.placed c.in-Placed.is
+    c.placed_holds.ensures.says ∙ ap (λ (run : RunPlaced). placed_say c.args.place.now.version.now (placed_shape run) (asked_at c.args.place.now)) c.in-Placed.placed-is ∙ says-Placed c.args.place.now.version.now (asked_at c.args.place.now) c.args.node.now c.in-Placed.placed c.in-Placed.is
 
 pub node_holds-returns-in-Placed-clause-same : goal.node_holds-returns-in-Placed-clause-same
 node_holds-returns-in-Placed-clause-same g t c =
@@ -148,7 +148,7 @@ node_holds-returns-in-Placed-clause-same g t c =
 pub node_holds-returns-in-Placed-clause-price : goal.node_holds-returns-in-Placed-clause-price
 node_holds-returns-in-Placed-clause-price g t c =
     let cost = moves_for c.args.place.now in
-    let own = ap (λ (run : RunPlaced). placed_cost cost (placed_shape run).phrases) c.in-Placed.placed-is in
+    let own = ap (λ (run : RunPlaced). placed_cost cost (placed_shape run)) c.in-Placed.placed-is in
     let whole = cost-Placed cost c.args.node.now c.in-Placed.placed c.in-Placed.is in
     omega (arith, own, whole, c.placed_holds.ensures.price)
 

@@ -1,5 +1,5 @@
 -- Each kind is looked up by its parts, which keep their shapes.
-use Rattle.std.proofs.Common.{◌∙◌, ap, sym, refl, rules, map, arith, Box, Global, Vec}
+use Rattle.std.proofs.Common.{◌∙◌, ap, refl, rules, map, arith, Box, Global, Vec}
 use Rattle.index_phrases.proofs.PartLemmas.{as_many, part_at, parts_kept}
 use Rattle.plan_runs.specs.steps.RunShapes.{hits_shape, merge_shape, placed_shape, shape, shapes_of, words_shape}
 use Rattle.plan_runs.specs.declared.run_node.RunNode.{RunNode, the_lemmas}
@@ -8,7 +8,7 @@ use Rattle.plan_runs.specs.declared.run_hits.RunHits.{RunHits}
 use Rattle.plan_runs.specs.declared.run_ways.RunWays.{RunWays}
 use Rattle.plan_runs.specs.steps.OpenedOperators.{aims_of}
 use Rattle.plan_runs.specs.steps.Skips.{skip_of}
-use Rattle.plan_runs.proofs.TreeLemmas.{same-And, same-Hits, same-Merge, same-Or, same-Placed, same-Ways, same-Words, weight, weights, weight_at, weight-And, weight-Or}
+use Rattle.plan_runs.proofs.TreeLemmas.{same-And, same-Hits, same-Merge, same-Or, same-Placed, same-Ways, same-Words, weights, weight_at, weight-And, weight-Or}
 use Rattle.plan_runs.proofs.looking_up.+looking_up.Goals as goal
 
 pub look_parts_up-look_up-part-requires : goal.look_parts_up-look_up-part-requires

@@ -1,5 +1,6 @@
 -- A merge or the spots of phrases, where these decide it.
-use Rattle.std.proofs.Common.{sym}
+use Rattle.std.proofs.Common.{sym, map}
+use Rattle.plan_runs.specs.steps.OpenedItems.{opened_variant}
 use Rattle.plan_runs.specs.steps.OpenedWords.{opened_group}
 use Rattle.plan_runs.specs.steps.RunShapes.{at_edge, outside}
 use Rattle.plan_runs.proofs.OpenedMerges.{merge_opened}
@@ -18,9 +19,9 @@ returns-in-Some-edge_of c =
     let edge = c.in-Some-edge_of.edge in
     let phrase = c.in-Some-edge_of.phrase.now in
     placed_opened opening.looks opening.lists.now.stems opening.version.now c.in_ok-placed.placed c.args.plan.now
-    (at_edge edge (opened_group opening.looks opening.lists.now.stems opening.version.now phrase.variants))
+    (at_edge edge (map (opened_variant opening.looks opening.lists.now.stems opening.version.now) phrase.variants))
     (edge_placed opening.looks opening.lists.now.stems opening.version.now c.args.plan.now.operator edge phrase (sym c.in-Some-edge_of.ensures))
-    c.in_ok-placed.ensures.phrases c.in_ok-placed.ensures.skips
+    c.in_ok-placed.ensures
 
 pub returns-in-Some-apart_of : goal.returns-in-Some-apart_of
 returns-in-Some-apart_of c =
@@ -31,4 +32,4 @@ returns-in-Some-apart_of c =
     (outside (opened_group opening.looks opening.lists.now.stems opening.version.now left.variants)
     (opened_group opening.looks opening.lists.now.stems opening.version.now right.variants))
     (apart_placed opening.looks opening.lists.now.stems opening.version.now c.args.plan.now.operator left right (sym c.in-Some-apart_of.ensures))
-    c.in_ok-placed-2.ensures.phrases c.in_ok-placed-2.ensures.skips
+    c.in_ok-placed-2.ensures

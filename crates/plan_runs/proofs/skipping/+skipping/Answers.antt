@@ -49,7 +49,7 @@ skip-returns-in-Merge t c =
 pub skip-returns-in-Placed : goal.skip-returns-in-Placed
 skip-returns-in-Placed t c =
     let doc = c.args.doc.0 in
-    c.needs_skip-in-Placed.ensures ∙ sym (ap (λ n. skip doc c.args.part (shape n)) c.in-Placed.is ∙ skip-Placed doc c.args.part c.in-Placed.placed)
+    c.placed_skip.ensures ∙ sym (ap (λ n. skip doc c.args.part (shape n)) c.in-Placed.is ∙ skip-Placed doc c.args.part c.in-Placed.placed)
 
 pub last_skip-returns-in-None : goal.last_skip-returns-in-None
 last_skip-returns-in-None t c =

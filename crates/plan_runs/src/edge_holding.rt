@@ -1,0 +1,89 @@
+//! Whether a phrase stands at an edge of a span: its words are asked for at the places where they would stand there, and no cursor is
+//! moved for it.
+
+ghost use Rattle.std.specs.Prelude.{◌≡◌, ◌+◌, ◌<◌, ◌≤◌, length, map};
+ghost use Rattle.std.specs.List.{All, list_any};
+ghost use Rattle.index_phrases.specs.Phrases.{wanted_at};
+ghost use Rattle.index_phrases.specs.steps.Aiming.{AreThere, variant_words};
+ghost use Rattle.place_merges.specs.Places.{fits, stands_at};
+ghost use Rattle.spot_merges.specs.Edges as spec;
+
+use crate::asked_place::AskedPlace;
+use ft_base::Span;
+use index_phrases::WordTerms;
+use spot_merges::{Edge, edge_place};
+
+/// Whether one of the variants stands at that edge.
+pub(crate) fn stands_at_edge(
+    place: &AskedPlace<'_>,
+    edge: Edge,
+    variants: &mut Vec<Vec<WordTerms<'_>>>,
+) -> bool
+    requires { All (All (AreThere place.now.version.now)) (map variant_words variants.old.items) }
+    ensures says { result ≡ list_any
+        (λ words. spec.stands_at_edge edge place.now.span (map (wanted_at place.now.version.now place.now.doc.0 place.now.span) words))
+        (map variant_words variants.old.items) }
+    ensures same { map variant_words variants.new.items ≡ map variant_words variants.old.items }
+{
+    for number in 0..variants.len() {
+        if variant_stands(place, edge, &mut variants[number]) {
+            return true;
+        }
+    }
+    false
+}
+
+/// Whether the words of a variant stand at that edge.
+fn variant_stands(place: &AskedPlace<'_>, edge: Edge, words: &mut Vec<WordTerms<'_>>) -> bool
+    requires { All (AreThere place.now.version.now) words.old.items }
+    ensures says { result ≡ spec.stands_at_edge edge place.now.span (map (wanted_at place.now.version.now place.now.doc.0 place.now.span) words.old.items) }
+    ensures same { words.new.items ≡ words.old.items }
+{
+    let span = place.span;
+    match edge_place(edge, span, words.len()) {
+        Some(from) => words_stand(place, Span { from, to: span.to }, words),
+        None => false,
+    }
+}
+
+/// Whether the words stand one after the other, the first at the start of that part of the span.
+fn words_stand(place: &AskedPlace<'_>, part: Span, words: &mut Vec<WordTerms<'_>>) -> bool
+    requires there { All (AreThere place.now.version.now) words.old.items }
+    requires from { place.now.span.from ≤ part.from }
+    requires to { part.to ≤ place.now.span.to }
+    requires within { part.from + length words.old.items ≤ part.to }
+    ensures says { result ≡ stands_at part.from (map (wanted_at place.now.version.now place.now.doc.0 place.now.span) words.old.items) }
+    ensures same { words.new.items ≡ words.old.items }
+{
+    for number in 0..words.len() {
+        let rest = Span {
+            from: part.from + number as u32,
+            to: part.to,
+        };
+        if !word_stands(place, rest, &mut words[number]) {
+            return false;
+        }
+    }
+    true
+}
+
+/// Whether the word stands at the start of that part of the span.
+fn word_stands(place: &AskedPlace<'_>, part: Span, word: &mut WordTerms<'_>) -> bool
+    requires there { AreThere place.now.version.now word.old }
+    requires from { place.now.span.from ≤ part.from }
+    requires to { part.to ≤ place.now.span.to }
+    requires some { part.from < part.to }
+    ensures says { result ≡ fits part.from (wanted_at place.now.version.now place.now.doc.0 place.now.span word.old) }
+    ensures same { word.new ≡ word.old }
+{
+    match word {
+        WordTerms::Any => true,
+        WordTerms::Of(terms) => {
+            let only = Span {
+                from: part.from,
+                to: part.from + 1,
+            };
+            terms.seek_in(place.doc, only).is_some()
+        }
+    }
+}
