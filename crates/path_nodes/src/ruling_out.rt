@@ -21,7 +21,13 @@ pub(crate) fn lead_nowhere<T: TextTest>(tree: &DocTree, steps: &Steps, test: &T)
     ensures { result ≡ true → selected (satisfied tree.now.root (T.meaning test.now)) (form.steps (map view.step steps.now)) (plain tree.now.root) ≡ [] }
 {
     let place = skip_steps(tree, steps, 1, test);
-    tree.span_of(tree.root()).to <= place
+    let root = tree.root();
+    if place == u32::MAX {
+        // All words stand before the greatest number, as the type of a span says: the tree itself isn't looked at.
+        let _words = tree.span_of(root);
+        return true;
+    }
+    tree.span_of(root).to <= place
 }
 
 /// Up to where a step has a predicate that is ruled out: then nothing is after it.
