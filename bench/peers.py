@@ -58,9 +58,29 @@ class Fts5:
         return found, (time.perf_counter() - start) / repeated
 
 
+def words_of(documents):
+    """The words of the documents, each once, in order."""
+    words = set()
+    for document in documents:
+        words.update(re.findall(r"\w+", re.sub(r"<[^>]*>", " ", document.decode("utf-8")).lower()))
+    return sorted(words)
+
+
+def stems_of(folder, words):
+    """The words whose stem is another one, each with its stem, by BaseX's stemmer of English."""
+    path = os.path.join(folder, "words.txt")
+    with open(path, "w", encoding="utf-8") as file:
+        file.write("\n".join(words))
+    options = 'map { "stemming": true(), "language": "en" }'
+    query = f'for $word in tokenize(file:read-text("{path}"), "\n") return $word || " " || ft:tokenize($word, {options})'
+    ran = subprocess.run(["basex", query], capture_output=True, text=True, check=True)
+    pairs = [line.split(" ") for line in ran.stdout.split("\n") if line]
+    return [(word, stem) for word, stem in pairs if word != stem]
+
+
 class BaseX:
     """The documents in a database of BaseX's with a full-text index, made and asked in one run of the program: how many elements a query
-    finds, and the path of each of them, as ftq prints it."""
+    finds, and the path of each of them, as ftq prints it. Queries that use stemming are put to a second database, whose index has stems."""
 
     name = "BaseX"
 
@@ -69,11 +89,13 @@ class BaseX:
         os.makedirs(os.path.join(home, "documents"))
         for path in paths:
             shutil.copy(path, os.path.join(home, "documents"))
-        asked = [form.format(query) for query in queries for form in ("count({})", "({}) ! (db:path(.) || path(.))")]
-        # Each is asked twice: the first time the program gets warm.
-        asked = [f"XQUERY {query}" for query in asked for _ in range(2)]
+        queries = sorted(queries, key=lambda query: "using stemming" in query)
+        plain = [query for query in queries if "using stemming" not in query]
         # Blanks between elements stay, as in ftq: without them a title's last word would be one with the first of what follows.
-        commands = ["SET CHOP false", "SET FTINDEX true", f"CREATE DB bench {home}/documents", f"SET RUNS {repeated}", "SET QUERYINFO true", *asked]
+        commands = ["SET CHOP false", "SET FTINDEX true", f"SET RUNS {repeated}"]
+        commands += [f"CREATE DB bench {home}/documents", "SET QUERYINFO true", *self.asked(plain), "SET QUERYINFO false"]
+        commands += ["SET STEMMING true", "SET LANGUAGE en", f"CREATE DB stems {home}/documents", "SET QUERYINFO true"]
+        commands += self.asked(queries[len(plain) :])
         script = os.path.join(home, "bench.bxs")
         with open(script, "w", encoding="utf-8") as file:
             file.write("\n".join(commands) + "\n")
@@ -88,6 +110,13 @@ class BaseX:
             raise ValueError(f"BaseX counted {counts} and printed {hits} for {len(queries)} queries: {ran.stdout[-400:]}")
         self.counted = dict(zip(queries, zip(counts, seconds[0::2])))
         self.printed = dict(zip(queries, zip(hits, seconds[1::2])))
+
+    @staticmethod
+    def asked(queries):
+        """The commands that ask: each query is counted and printed, and each of that twice, since the first time the program gets warm."""
+        forms = ("count({})", "({}) ! (db:path(.) || path(.))")
+        asked = [form.format(query) for query in queries for form in forms]
+        return [f"XQUERY {query}" for query in asked for _ in range(2)]
 
     def count(self, query, _repeated):
         """How many elements the query finds, and the seconds that it takes to count them."""
