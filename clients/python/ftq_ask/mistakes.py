@@ -145,7 +145,7 @@ MISTAKES: list[Mistake] = [
         r"[\1]",
         "collection()//p[position() = 2]",
     ),
-    _mistake("places are counted from the front alone", r"\blast\s*\(\s*\)", None, "collection()//p[last()]"),
+    _mistake("places are counted from the first alone", r"\blast\s*\(\s*\)", None, "collection()//p[last()]"),
     _mistake(
         "a number stands alone in its brackets",
         r"\[\s*([0-9]+)\s+and\s+([^\]]+)\]",
@@ -276,13 +276,13 @@ MISTAKES: list[Mistake] = [
     _mistake("a path ends with a name", r"\s*/+\s*$", "", "collection()//p/"),
     _mistake("there are no comments in a path", r"\(:.*?:\)", "", "collection()//p(: paragraphs :)"),
     _mistake(
-        "a question is a path; a string stands in brackets behind contains text",
+        "a question is a path; a string stands in brackets after contains text",
         rf"^\s*({_STRING}(?:.*\S)?)\s*$",
         r"collection()//*[. contains text \1]",
         '"storm" ftand "ship"',
     ),
     _mistake(
-        "a question is a path; a string stands in brackets behind contains text",
+        "a question is a path; a string stands in brackets after contains text",
         r"^\s*([\w’' -]+?)\s*$",
         r'collection()//*[. contains text "\1"]',
         "heavy storm",
@@ -296,7 +296,7 @@ FAULTS = {
     "number": "the number is over 1,000,000",
     "phrases": "with this string there are more than 64 phrases: ask in several queries",
     "option twice": "this is the second option of its group here: keep one",
-    "bad wildcard": "the pattern is badly formed: .{n,m} has two numbers, the smaller in front; a backslash stands before what is no pattern",
+    "bad wildcard": "the pattern is badly formed: .{n,m} has two numbers, the smaller first; a backslash stands before what is no pattern",
     "mild not exclude": "ftnot and occurs have no place inside an operand of not in",
     "inside filter": "ftnot inside another, and occurs, have no place inside a selection with a filter: put the filter on a part",
 }

@@ -1,6 +1,6 @@
 """Packs XML files into a session for ftq, on standard output.
 
-Each file becomes a `load` command behind a comment with its path; a folder gives all its files that end in .xml, in the order of
+Each file becomes a `load` command after a comment with its path; a folder gives all its files that end in .xml, in the order of
 their paths. Files are read as `ask` reads them: document types, CDATA sections, entities and encodings are no hindrance. What can't
 be taken is named on standard error with its line and the reason; the rest goes on, and the status is then 1.
 """
@@ -30,7 +30,7 @@ class Packing:
         self.bytes = 0
 
     def document(self, path: Path, reading: Reading) -> None:
-        """Writes a document behind a comment with its file."""
+        """Writes a document after a comment with its file."""
         comment = f"# {reading.path}".replace("\n", " ").encode("utf-8", errors="replace") + b"\n"
         self.write(comment + command_bytes(f"load {self.names.name_for(path)}", reading.content))
         self.documents += 1
@@ -54,7 +54,7 @@ def main(arguments: list[str]) -> int:
     """The tool: 0, or 1 where something was left out or is too much."""
     parser = argparse.ArgumentParser(prog="pack", description=__doc__, formatter_class=argparse.RawDescriptionHelpFormatter)
     parser.add_argument("paths", nargs="+", type=Path, metavar="FILE|FOLDER")
-    parser.add_argument("--query", action="append", default=[], metavar="PATH", help="adds a query behind the documents; may be given again")
+    parser.add_argument("--query", action="append", default=[], metavar="PATH", help="adds a query after the documents; may be given again")
     options = parser.parse_args(arguments)
     packing, status = Packing(sys.stdout.buffer), 0
     for shown, path in files_of(options.paths):

@@ -83,7 +83,7 @@ KEYWORDS = frozenset(
     + "case diacritics sensitive insensitive lowercase uppercase stemming wildcards stop thesaurus relationship levels no".split()
     + "language union except ordered window distance sentences paragraphs same different sentence paragraph start end entire content".split()
 )
-"""The words of the language, as they stand behind a value or between predicates."""
+"""The words of the language, as they stand after a value or between predicates."""
 
 _BEFORE_NAME = frozenset({"/", "//", "[", "(", "and", "or"})
 

@@ -27,7 +27,7 @@ SHOWN = 10
 """How many elements are shown at a time."""
 
 HELP = """\
-A question is a path; query may stand in front of it:
+A question is a path; query may stand before it:
 
     collection()//p[. contains text "storm"]           elements named p with the word
     collection()//p[. contains text "heavy storm"]     a phrase

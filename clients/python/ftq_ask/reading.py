@@ -179,7 +179,7 @@ class _Resolver(etree.Resolver):
 
 
 def _parser(resolver: _Resolver, huge: bool) -> etree.XMLParser:
-    """A parser that reads on behind faults, so that all of them are in its log and those of namespaces can be let pass."""
+    """A parser that reads on after faults, so that all of them are in its log and those of namespaces can be let pass."""
     parser = etree.XMLParser(
         recover=True,
         resolve_entities=True,

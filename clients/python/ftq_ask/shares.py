@@ -92,11 +92,11 @@ class Shares:
         self._all(lambda it: it.thesaurus(name, lines))
 
     def query(self, path: str) -> list[Element]:
-        """The elements that the path selects, those of the first share in front."""
+        """The elements that the path selects, those of the first share first."""
         return self._joined(lambda it: it.query(path))
 
     def print(self, path: str) -> list[str]:
-        """The elements that the path selects as XML, those of the first share in front."""
+        """The elements that the path selects as XML, those of the first share first."""
         return self._joined(lambda it: it.print(path))
 
     def command(self, line: str, block: bytes | None = None) -> Reply:

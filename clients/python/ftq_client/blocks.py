@@ -1,4 +1,4 @@
-"""Commands as the bytes of a session: a line, and behind some lines a block."""
+"""Commands as the bytes of a session: a line, and after some lines a block."""
 
 from __future__ import annotations
 
@@ -9,7 +9,7 @@ BLOCK_WORDS = frozenset({"load", "insert", "replace", "stop", "stems", "thesauru
 def block_bytes(content: bytes) -> bytes:
     """The lines of a block that holds `content`, and the line that ends it.
 
-    A line that begins with a period gets one more in front of it, so that any bytes can stand in a block.
+    A line that begins with a period gets one more before it, so that any bytes can stand in a block.
     """
     lines = content.split(b"\n")
     quoted = [b"." + line if line.startswith(b".") else line for line in lines]

@@ -10,7 +10,7 @@ LOOKS_BACK = frozenset({"insert", "replace", "delete", "mark", "unmark"})
 
 @dataclass(frozen=True)
 class Kept:
-    """A command that was accepted: its words in front, and its bytes."""
+    """A command that was accepted: its words first, and its bytes."""
 
     kind: str
     name: str

@@ -45,7 +45,7 @@ class Done:
 
 @dataclass(frozen=True)
 class Found:
-    """`= N`, and the N lines behind it."""
+    """`= N`, and the N lines after it."""
 
     lines: tuple[str, ...]
 
