@@ -78,24 +78,34 @@ def stems_of(folder, words):
     return [(word, stem) for word, stem in pairs if word != stem]
 
 
+# A database of BaseX's: its name, how it is set up, and whether a query is put to it. With an index of stems queries are answered that
+# use stemming; a thesaurus is looked at only without an index, with which the word alone is found.
+DATABASES = [
+    ("indexed", [], lambda query: "using stemming" not in query and "using thesaurus" not in query),
+    ("stems", ["SET STEMMING true", "SET LANGUAGE en"], lambda query: "using stemming" in query),
+    ("scanned", ["SET STEMMING false", "SET FTINDEX false"], lambda query: "using thesaurus" in query),
+]
+
+
 class BaseX:
-    """The documents in a database of BaseX's with a full-text index, made and asked in one run of the program: how many elements a query
-    finds, and the path of each of them, as ftq prints it. Queries that use stemming are put to a second database, whose index has stems."""
+    """The documents in databases of BaseX's, made and asked in one run of the program: how many elements a query finds, and the path of
+    each of them, as ftq prints it."""
 
     name = "BaseX"
 
-    def __init__(self, folder, paths, queries, repeated):
+    def __init__(self, folder, paths, queries, synonyms, repeated):
         home = os.path.join(folder, "basex")
         os.makedirs(os.path.join(home, "documents"))
         for path in paths:
             shutil.copy(path, os.path.join(home, "documents"))
-        queries = sorted(queries, key=lambda query: "using stemming" in query)
-        plain = [query for query in queries if "using stemming" not in query]
+        thesaurus = self.write_thesaurus(home, synonyms)
         # Blanks between elements stay, as in ftq: without them a title's last word would be one with the first of what follows.
-        commands = ["SET CHOP false", "SET FTINDEX true", f"SET RUNS {repeated}"]
-        commands += [f"CREATE DB bench {home}/documents", "SET QUERYINFO true", *self.asked(plain), "SET QUERYINFO false"]
-        commands += ["SET STEMMING true", "SET LANGUAGE en", f"CREATE DB stems {home}/documents", "SET QUERYINFO true"]
-        commands += self.asked(queries[len(plain) :])
+        commands, ordered = ["SET CHOP false", "SET FTINDEX true", f"SET RUNS {repeated}"], []
+        for name, settings, is_for in DATABASES:
+            chosen = [query for query in queries if is_for(query)]
+            ordered += chosen
+            commands += [*settings, f"CREATE DB {name} {home}/documents", "SET QUERYINFO true"]
+            commands += [*self.asked([query.replace("THESAURUS", thesaurus) for query in chosen]), "SET QUERYINFO false"]
         script = os.path.join(home, "bench.bxs")
         with open(script, "w", encoding="utf-8") as file:
             file.write("\n".join(commands) + "\n")
@@ -108,8 +118,19 @@ class BaseX:
         seconds = [float(found) / 1000 for found in re.findall(r"^Total Time: ([\d.]+) ms", ran.stdout, re.MULTILINE)][1::2]
         if counts != hits or 2 * len(counts) != len(seconds) or len(counts) != len(queries):
             raise ValueError(f"BaseX counted {counts} and printed {hits} for {len(queries)} queries: {ran.stdout[-400:]}")
-        self.counted = dict(zip(queries, zip(counts, seconds[0::2])))
-        self.printed = dict(zip(queries, zip(hits, seconds[1::2])))
+        self.counted = dict(zip(ordered, zip(counts, seconds[0::2])))
+        self.printed = dict(zip(ordered, zip(hits, seconds[1::2])))
+
+    @staticmethod
+    def write_thesaurus(home, synonyms):
+        """The path of a thesaurus in which each first word leads to the second as its synonym."""
+        path = os.path.join(home, "thesaurus.xml")
+        entries = (
+            f"<entry><term>{term}</term><synonym><term>{other}</term><relationship>synonym</relationship></synonym></entry>" for term, other in synonyms
+        )
+        with open(path, "w", encoding="utf-8") as file:
+            file.write(f'<thesaurus xmlns="http://www.w3.org/2007/xqftts/thesaurus">{"".join(entries)}</thesaurus>')
+        return path
 
     @staticmethod
     def asked(queries):
