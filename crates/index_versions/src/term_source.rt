@@ -59,7 +59,8 @@ impl<'v> FoundTerm<'v> {
     fn seek_in(&mut self, span: Span) -> Option<u32>
         ensures says { result ≡ option_map (λ hit. hit.from) (hit_at (hit_place (cond self.old.stands
             (hits_in self.old.held.now.breaks span self.old.places) []) 0)) }
-        ensures same { self.new ≡ record { doc = self.old.doc; held = self.old.held; places = self.old.places; stands = self.old.stands; near = self.new.near } }
+        ensures same { self.new ≡
+            record { doc = self.old.doc; held = self.old.held; places = self.old.places; stands = self.old.stands; near = self.new.near } }
     {
         if !self.stands {
             return None;
