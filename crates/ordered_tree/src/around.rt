@@ -45,7 +45,7 @@ impl Around {
     }
 
     /// What stands round the sibling after the node of this reference and so many words.
-    pub(crate) fn suffix(self, node: NodeRef, words: u32) -> Around
+    pub(crate) fn following(self, node: NodeRef, words: u32) -> Around
         requires number { self.number + 1 < 2 ^ 32 }
         requires before { self.before + words < 2 ^ 32 }
         ensures { result ≡ record self { previous = Some node; number = self.number + 1; before = self.before + words } }

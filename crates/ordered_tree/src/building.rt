@@ -137,7 +137,7 @@ fn add_children(
         left -= 1;
         let here = NodeRef(slots.len() as u32);
         let added = add_tree(slots, read, kid, around, left == 0)?;
-        around = around.suffix(here, added.words);
+        around = around.following(here, added.words);
         levels = greater(levels, added.levels);
     }
     Ok(Row {

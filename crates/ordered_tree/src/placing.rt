@@ -130,7 +130,7 @@ fn place_children(
         let node = kid.reference();
         let next = last_reference(left.as_slice());
         let done = place_tree(slots, kid, Around { next, ..around })?;
-        around = around.suffix(node, done.words);
+        around = around.following(node, done.words);
         levels = greater(levels, done.levels);
         nodes += done.nodes;
     }

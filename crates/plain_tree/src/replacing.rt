@@ -100,10 +100,10 @@ fn put_between(
     // Those after come first, then those before, so that those that make way are the last.
     row.rotate_left(last);
     row.truncate(row.len() - (last - first));
-    let suffix = row.len() - first;
+    let rest_count = row.len() - first;
     let Ok(()) = row.append(&mut between) else {
         unreachable!()
     };
-    row.rotate_left(suffix);
+    row.rotate_left(rest_count);
     Ok(())
 }

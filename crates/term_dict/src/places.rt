@@ -33,7 +33,7 @@ struct Window {
     low: usize,
     high: usize,
     first: usize,
-    suffix: usize,
+    end: usize,
 }
 
 /// How many terms stand before the place.
@@ -64,9 +64,9 @@ fn in_one_block(terms: &Terms, place: Place, sought: &EntryRef) -> Window
         low: 0,
         high: terms.len(),
         first: 0,
-        suffix: terms.block_count(),
+        end: terms.block_count(),
     };
-    while window.suffix.saturating_sub(window.first) > 1 {
+    while window.end.saturating_sub(window.first) > 1 {
         window = halved(terms, place, sought, window);
     }
     window
@@ -75,21 +75,21 @@ fn in_one_block(terms: &Terms, place: Place, sought: &EntryRef) -> Window
 /// The window with half of the blocks, by the first term of the middle one.
 fn halved(terms: &Terms, place: Place, sought: &EntryRef, window: Window) -> Window
     requires sorted { is_sorted (entries terms.now.terms) ≡ true }
-    requires some { window.first + 1 < window.suffix }
+    requires some { window.first + 1 < window.end }
     requires window { IsWindow place sought.now (entries terms.now.terms) window.low window.high }
     ensures window { IsWindow place sought.now (entries terms.now.terms) result.low result.high }
-    ensures smaller { result.suffix - result.first < window.suffix - window.first }
+    ensures smaller { result.end - result.first < window.end - window.first }
 {
-    let middle = window.first + (window.suffix - window.first) / 2;
+    let middle = window.first + (window.end - window.first) / 2;
     let Some((start, items)) = terms.block(middle) else {
         return Window {
-            suffix: middle,
+            end: middle,
             ..window
         };
     };
     if items.len() == 0 {
         return Window {
-            suffix: middle,
+            end: middle,
             ..window
         };
     }
@@ -102,7 +102,7 @@ fn halved(terms: &Terms, place: Place, sought: &EntryRef, window: Window) -> Win
     }
     Window {
         high: start,
-        suffix: middle,
+        end: middle,
         ..window
     }
 }

@@ -20,4 +20,4 @@ IsAfter old used (next.Others plans hits) = ArePlansAfter old used plans hits
 -- The plans may be kept, and what is kept then was made ready.
 pub record IsNext (old : Preparation) (used : List PlanOf) (ready : NextPlans) : Type 0 where
   pub can_keep : CanKeep old used
-  pub suffix : IsAfter old used ready
+  pub after : IsAfter old used ready

@@ -35,7 +35,7 @@ pub fn prices_at_elements()
     ensures words { (e : Element) → words_of e ≡ map (λ token. token.word) (tokens e.node) }
     ensures first { (f g : List (List ℕ) → ℕ) → (e : Element) → element_price (f ∷ g ∷ []) 0 e ≡ f (words_of e) }
     ensures second { (f g : List (List ℕ) → ℕ) → (e : Element) → element_price (f ∷ g ∷ []) 1 e ≡ g (words_of e) }
-    ensures suffix { (f g : List (List ℕ) → ℕ) → (e : Element) → element_price (f ∷ g ∷ []) 2 e ≡ 0 }
+    ensures after { (f g : List (List ℕ) → ℕ) → (e : Element) → element_price (f ∷ g ∷ []) 2 e ≡ 0 }
 {}
 
 /// A path costs in a document what its tests do: each predicate asks of the elements that those before it have left.
@@ -77,5 +77,5 @@ pub fn texts_at_extents()
     ensures inside { text_at (codes "//p[. contains text 'b']") (record { from = 20; to = 23 }) ≡ codes "'b'" }
     ensures to_the_end { text_at (codes "'b'") (record { from = 0; to = 3 }) ≡ codes "'b'" }
     ensures nothing { text_at (codes "'b'") (record { from = 2; to = 2 }) ≡ [] }
-    ensures suffix { text_at (codes "'b'") (record { from = 2; to = 9 }) ≡ codes "'" }
+    ensures after { text_at (codes "'b'") (record { from = 2; to = 9 }) ≡ codes "'" }
 {}

@@ -58,11 +58,11 @@ add_children-returns-in_err-added-clause-full t c full =
     let inv = c.loop-kid.invariant in
     omega (arith, c.in_err-added.ensures.full (ap Err (sym same)), inv.most, inv.words, inv.before, c.requires.before, ap (λ l. word_counts (nodes (map node l))) c.in-Some.ensures.steps.0)
 
-pub add_children-suffix-around-requires-clause-number : goal.add_children-suffix-around-requires-clause-number
-add_children-suffix-around-requires-clause-number t c = omega (arith, c.loop-kid.invariant.number, c.loop-kid.invariant.count, c.requires.few_nodes)
+pub add_children-following-around-requires-clause-number : goal.add_children-following-around-requires-clause-number
+add_children-following-around-requires-clause-number t c = omega (arith, c.loop-kid.invariant.number, c.loop-kid.invariant.count, c.requires.few_nodes)
 
-pub add_children-suffix-around-requires-clause-before : goal.add_children-suffix-around-requires-clause-before
-add_children-suffix-around-requires-clause-before t c =
+pub add_children-following-around-requires-clause-before : goal.add_children-following-around-requires-clause-before
+add_children-following-around-requires-clause-before t c =
     omega (arith, c.loop-kid.invariant.before, c.in_ok-added.ensures.words, c.in_ok-added.ensures.counted, c.add_tree.new.read.few, c.add_tree.new.read.countable)
 
 pub add_children-loop-kid-preserved : goal.add_children-loop-kid-preserved
@@ -80,27 +80,27 @@ add_children-loop-kid-preserved t c =
     let added = c.in_ok-added.ensures.words in
     let levels = c.in_ok-added.ensures.levels in
     let longer = length-added before after c.loop-kid.around n _ done in
-    let suffix : c.suffix-around.result ≡ next_around c.loop-kid.around (length before) n =
-    c.suffix-around.ensures ∙ ap₂ (λ h w. record c.loop-kid.around { previous = Some (record { 0 = h }); number = c.loop-kid.around.number + 1; before = c.loop-kid.around.before + w }) here added in
+    let following : c.following-around.result ≡ next_around c.loop-kid.around (length before) n =
+    c.following-around.ensures ∙ ap₂ (λ h w. record c.loop-kid.around { previous = Some (record { 0 = h }); number = c.loop-kid.around.number + 1; before = c.loop-kid.around.before + w }) here added in
     let left : c.loop-kid.left ≡ length kids + 1 = inv.left ∙ ap length next ∙ omega arith in
     let last : c.loop-kid.left - 1 ≡ length kids = omega arith in
     record {
-      slots = ap (λ a. after ++ map slot (child_stands a (children_numbered (length after) rest))) suffix
+      slots = ap (λ a. after ++ map slot (child_stands a (children_numbered (length after) rest))) following
           ∙ slots-next before after c.loop-kid.around n _ done kids (next_sibling-first_of _ _ kids (ap (λ l. l == 0) last))
           ∙ ap (λ l. before ++ map slot (child_stands c.loop-kid.around (children_numbered (length before) (nodes (map node l))))) (sym next)
           ∙ inv.slots;
-      last = ap (λ a. last_from a.previous (children_numbered (length after) rest)) suffix
+      last = ap (λ a. last_from a.previous (children_numbered (length after) rest)) following
           ∙ last-next before after c.loop-kid.around n _ done rest c.loop-kid.around.previous
           ∙ ap (λ l. last_from c.loop-kid.around.previous (children_numbered (length before) (nodes (map node l)))) (sym next)
           ∙ inv.last;
-      words = omega (arith, ap (λ a. a.before) suffix, ap (λ l. word_counts (nodes (map node l))) next, inv.words);
+      words = omega (arith, ap (λ a. a.before) following, ap (λ l. word_counts (nodes (map node l))) next, inv.words);
       levels = omega (arith, c.greater-levels.ensures, levels, ap (λ l. element_depths (nodes (map node l))) next, inv.levels);
       left = last;
       ends = omega (arith, c.in-Some.ensures.steps.1, ap length next, inv.ends);
       count = omega (arith, longer, ap (λ l. nodes_count (nodes (map node l))) next, inv.count);
       fewer = omega (arith, ap (λ l. nodes_count (nodes (map node l))) next, inv.fewer);
-      number = omega (arith, ap (λ a. a.number) suffix, longer, node_count-some n, inv.number);
-      before = omega (arith, ap (λ a. a.before) suffix, c.in_ok-added.ensures.counted, inv.before);
+      number = omega (arith, ap (λ a. a.number) following, longer, node_count-some n, inv.number);
+      before = omega (arith, ap (λ a. a.before) following, c.in_ok-added.ensures.counted, inv.before);
       most = c.in_ok-added.ensures.gathers.most ∙ inv.most;
       gathers = λ end g. inv.gathers end
           (subst (λ l. Gathers c.loop-kid.read (texts_of (children_numbered (length before) (nodes (map node l)))) (parts_of (nodes (map node l))) end) (sym next)

@@ -25,22 +25,22 @@ place_children-loop-kid-preserved t c =
     ap (λ l. ref_nodes (map ref_node l)) (reverse-pop c.loop-kid.left.items c.pop.new.self.items kid c.in-Some.ensures.items) in
     let next-is : c.last_reference-next.result ≡ first_of rest =
     c.last_reference-next.ensures ∙ ap (λ l. first_of (ref_nodes (map ref_node (reverse l)))) c.as_slice-in-Some.ensures.value in
-    let suffix : c.suffix-around.result ≡ round_next around n =
-    c.suffix-around.ensures
+    let following : c.following-around.result ≡ round_next around n =
+    c.following-around.ensures
     ∙ ap₂ (λ r w. record around { previous = Some r; number = around.number + 1; before = around.before + w }) c.reference-node.ensures c.in_ok-done.ensures.words in
     let filled : c.place_tree.new.slots.items ≡ placed (record around { next = first_of rest }) n slots =
     c.in_ok-done.ensures.slots ∙ ap (λ x. placed (record around { next = x }) n slots) next-is in
     let long : length c.place_tree.new.slots.items ≡ length slots = ap length filled ∙ length-placed n (record around { next = first_of rest }) slots in
     let low : Below (length slots) n × AllBelow (length slots) rest = subst (AllBelow (length slots)) left-is inv.below in
     record {
-      slots = ap₂ (λ a s. all_placed a rest s) suffix filled ∙ sym (all_placed-then around n rest slots) ∙ ap (λ ns. all_placed around ns slots) (sym left-is) ∙ inv.slots;
-      last = ap (λ a. last_from a.previous rest) suffix ∙ ap (λ ns. last_from around.previous ns) (sym left-is) ∙ inv.last;
-      words = omega (arith, ap (λ a. a.before) suffix, ap (λ ns. word_counts (plain_children ns)) left-is, inv.words);
+      slots = ap₂ (λ a s. all_placed a rest s) following filled ∙ sym (all_placed-then around n rest slots) ∙ ap (λ ns. all_placed around ns slots) (sym left-is) ∙ inv.slots;
+      last = ap (λ a. last_from a.previous rest) following ∙ ap (λ ns. last_from around.previous ns) (sym left-is) ∙ inv.last;
+      words = omega (arith, ap (λ a. a.before) following, ap (λ ns. word_counts (plain_children ns)) left-is, inv.words);
       levels = omega (arith, c.greater-levels.ensures, c.in_ok-done.ensures.levels, ap (λ ns. element_depths (plain_children ns)) left-is, inv.levels);
       nodes = omega (arith, c.in_ok-done.ensures.nodes, ap (λ ns. nodes_count (plain_children ns)) left-is, inv.nodes);
       below = subst (λ l. AllBelow l rest) (sym long) low.1;
-      number = omega (arith, ap (λ a. a.number) suffix, c.in_ok-done.ensures.nodes, some_node n, inv.number);
-      none = ap (λ a. a.next) suffix ∙ inv.none;
+      number = omega (arith, ap (λ a. a.number) following, c.in_ok-done.ensures.nodes, some_node n, inv.number);
+      none = ap (λ a. a.next) following ∙ inv.none;
     }
 
 pub place_children-returns-clause-slots : goal.place_children-returns-clause-slots

@@ -8,4 +8,4 @@ abbrev pub invariant-loop-place : goal.invariant-loop-place
 invariant-loop-place l = IsWindow l.place l.sought (entries l.terms.terms) l.window.low l.window.high
 
 abbrev pub decreases-loop-place : goal.decreases-loop-place
-decreases-loop-place l = l.window.suffix - l.window.first
+decreases-loop-place l = l.window.end - l.window.first

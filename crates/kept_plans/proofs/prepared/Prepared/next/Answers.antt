@@ -15,7 +15,7 @@ returns-then-have_all c =
     let used = c.args.used.now in
     record {
       can_keep = c.requires;
-      suffix = subst (λ (p : Preparation). AllKept (texts_of used) p.kept.texts) c.self.view_is
+      after = subst (λ (p : Preparation). AllKept (texts_of used) p.kept.texts) c.self.view_is
           (AllPass-from_list_all (λ t. is_kept t texts) (texts_of used)
           (list_all-map (λ t. is_kept t texts) (λ (p : PlanOf). p.text) used ∙ (sym c.have_all.ensures ∙ c.if-have_all.true)));
     }
@@ -28,7 +28,7 @@ returns-in-Ok c =
     subst (λ (p : Preparation). All (λ plan. plan.lists ≡ p.lists) c.self.inside.plans) c.self.view_is c.self.invariant in
     record {
       can_keep = c.requires;
-      suffix = record {
+      after = record {
         under = c.in-Ok.ensures.under c.args.self.now.lists c.requires.lists (subst (All under) (sym c.in_ok-plans.ensures) before);
         kept = c.in-Ok.ensures.kept
             ∙ (ap (λ ps. all_used (texts_of used) (kept_of ps c.self.inside.hits)) c.in_ok-plans.ensures
