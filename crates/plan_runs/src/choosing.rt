@@ -82,7 +82,7 @@ fn push_passing(
     Ok(())
 }
 
-/// Whether the word of the term of that number passes.
+/// Whether the word of the term of that number passes. Where its key tells, nothing is made of the word.
 fn passes(
     opening: &Opening<'_>,
     test: &ItemTest,
@@ -94,6 +94,21 @@ fn passes(
         passed ≡ word_test opening.now.looks opening.now.lists.now.stems test.now (term_at number opening.now.version.now).word) }
 {
     let term = opening.version.term(number);
-    let word = TextWord::new(opening.alloc, opening.looks, opening.lists, term.word)?;
+    match test.passes_key(opening.looks, opening.lists, term.key, row)? {
+        Some(passed) => Ok(passed),
+        None => word_passes(opening, test, row, term.word),
+    }
+}
+
+/// Whether a word passes, by all that is looked at of it.
+fn word_passes(
+    opening: &Opening<'_>,
+    test: &ItemTest,
+    row: &mut PlaceRow,
+    word: &str,
+) -> Result<bool, Memory>
+    ensures { IfOk result (λ passed. passed ≡ word_test opening.now.looks opening.now.lists.now.stems test.now word.now) }
+{
+    let word = TextWord::new(opening.alloc, opening.looks, opening.lists, word)?;
     test.passes_in(&word, row)
 }
