@@ -2,3 +2,4 @@ pub mod JoinedLaw
 pub mod FilteredLaw
 pub mod PassLaw
 pub mod PlacedLaw
+pub mod OutsideLaw

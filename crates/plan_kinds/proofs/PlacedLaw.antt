@@ -1,4 +1,4 @@
--- Phrases at an edge of the text and phrases outside one another, as they are recognized.
+-- Phrases, and phrases at an edge of the text, as they are recognized.
 use Rattle.std.proofs.Common.{◌≡◌, ap, Option, Some, None}
 use Rattle.std.proofs.lemmas.Option.{none-some, same_Some}
 use Rattle.ft_base.specs.declared.filter.Filter.{Filter}

@@ -8,14 +8,16 @@ ghost use Rattle.ft_base.specs.declared.range.Range.TheVariants.{AtMost, Exactly
 ghost use Rattle.ft_base.specs.declared.unit.TextUnit.TheVariants.{Sentences, Words};
 ghost use Rattle.match_options.specs.declared.word_matching.WordTest.TheVariants as Test;
 ghost use Rattle.plan_compiler.specs.declared.item_matching.ItemTest.TheVariants.{ByForms};
-ghost use Rattle.plan_compiler.specs.declared.operator_plan.OperatorPlan.{OperatorPlan, Phrase, Choice', Both', MildNot', Filtered'};
+ghost use Rattle.plan_compiler.specs.declared.operator_plan.OperatorPlan.{OperatorPlan, Phrase, Choice', Both', MildNot', Negated', Filtered'};
 ghost use Rattle.plan_compiler.specs.declared.operator_plan.PhraseTests.{PhraseTests};
 ghost use Rattle.spot_merges.specs.declared.edge.Edge.TheVariants as E;
-ghost use Rattle.plan_kinds.specs.Examples.{numbered, some_phrases, some_words};
+ghost use Rattle.spot_merges.specs.declared.outside.Outside.TheVariants as O;
+ghost use Rattle.plan_kinds.specs.Examples.{a_word, any_word, numbered, some_phrases, some_words, two_words};
 ghost use Rattle.plan_kinds.specs.steps.JoinedPhrases.{is_single, joined_of};
 ghost use Rattle.plan_kinds.specs.steps.MergeKinds.{merge_kind, merge_of};
 ghost use Rattle.plan_kinds.specs.steps.PassKinds.{pass_kind, pass_of};
-ghost use Rattle.plan_kinds.specs.steps.PlacedPhrases.{apart_of, edge_of};
+ghost use Rattle.plan_kinds.specs.steps.OutsidePhrases.{outside_of};
+ghost use Rattle.plan_kinds.specs.steps.PlacedPhrases.{edge_of};
 ghost use Rattle.plan_kinds.specs.declared.merge_kind.MergeKind.TheVariants as M;
 ghost use Rattle.plan_kinds.specs.declared.pass_kind.PassKind.TheVariants as P;
 
@@ -63,10 +65,38 @@ pub fn phrases_at_edges()
 {}
 
 /// `not in` over two phrases, and over nothing else.
-pub fn phrases_apart()
-    ensures two { (p : _) (left right : PhraseTests) → apart_of (MildNot' p (Phrase left) (Phrase right)) ≡ Some (left, right) }
-    ensures over_a_choice { (p q : _) (a b : OperatorPlan) (right : PhraseTests) → apart_of (MildNot' p (Choice' q a b) (Phrase right)) ≡ None }
+pub fn phrases_not_in_another()
+    ensures two { (p : _) (left right : PhraseTests) → outside_of (MildNot' p (Phrase left) (Phrase right)) ≡ Some (O.Cover, left, right) }
+    ensures over_a_choice { (p q : _) (a b : OperatorPlan) (right : PhraseTests) → outside_of (MildNot' p (Choice' q a b) (Phrase right)) ≡ None }
     ensures over_a_filter { (p q : _) (operand : OperatorPlan) (kind : Filter) (left : PhraseTests)
-        → apart_of (MildNot' p (Phrase left) (Filtered' q operand kind)) ≡ None }
-    ensures both { (p : _) (left right : OperatorPlan) → apart_of (Both' p left right) ≡ None }
+        → outside_of (MildNot' p (Phrase left) (Filtered' q operand kind)) ≡ None }
+    ensures both { (p : _) (left right : OperatorPlan) → outside_of (Both' p left right) ≡ None }
+{}
+
+/// A window in words over a single word and another one that is negated, in either order, and over nothing else.
+pub fn words_without_another()
+    ensures in_a_window { (p : _) (q : _) (r : _)
+        → outside_of (Filtered' p (Both' q (Phrase (a_word 1)) (Negated' r (Phrase (a_word 2)))) (F.Window 9 Words))
+        ≡ Some (O.Window 9, a_word 1, a_word 2) }
+    ensures negated_first { (p : _) (q : _) (r : _)
+        → outside_of (Filtered' p (Both' q (Negated' r (Phrase (a_word 1))) (Phrase (a_word 2))) (F.Window 9 Words))
+        ≡ Some (O.Window 9, a_word 2, a_word 1) }
+    ensures in_sentences { (p : _) (q : _) (r : _)
+        → outside_of (Filtered' p (Both' q (Phrase (a_word 1)) (Negated' r (Phrase (a_word 2)))) (F.Window 9 Sentences)) ≡ None }
+    ensures at_a_distance { (p : _) (q : _) (r : _)
+        → outside_of (Filtered' p (Both' q (Phrase (a_word 1)) (Negated' r (Phrase (a_word 2)))) (F.Distance (AtMost 9) Words)) ≡ None }
+    ensures in_one_sentence { (p : _) (q : _) (r : _)
+        → outside_of (Filtered' p (Both' q (Phrase (a_word 1)) (Negated' r (Phrase (a_word 2)))) F.SameSentence) ≡ None }
+    ensures a_phrase { (p : _) (q : _) (r : _)
+        → outside_of (Filtered' p (Both' q (Phrase (two_words 1)) (Negated' r (Phrase (a_word 2)))) (F.Window 9 Words)) ≡ None }
+    ensures without_a_phrase { (p : _) (q : _) (r : _)
+        → outside_of (Filtered' p (Both' q (Phrase (a_word 1)) (Negated' r (Phrase (two_words 2)))) (F.Window 9 Words)) ≡ None }
+    ensures any_word { (p : _) (q : _) (r : _)
+        → outside_of (Filtered' p (Both' q (Phrase (any_word 1)) (Negated' r (Phrase (a_word 2)))) (F.Window 9 Words)) ≡ None }
+    ensures two_negations { (p : _) (q : _) (r s : _) (left right : PhraseTests)
+        → outside_of (Filtered' p (Both' q (Negated' r (Phrase left)) (Negated' s (Phrase right))) (F.Window 9 Words)) ≡ None }
+    ensures no_negation { (p : _) (q : _) (left right : PhraseTests)
+        → outside_of (Filtered' p (Both' q (Phrase left) (Phrase right)) (F.Window 9 Words)) ≡ None }
+    ensures a_negation_alone { (p : _) (r : _) (found : PhraseTests)
+        → outside_of (Filtered' p (Negated' r (Phrase found)) (F.Window 9 Words)) ≡ None }
 {}

@@ -71,8 +71,8 @@ pub(crate) fn are_two(joined: Joined) -> bool
     joined.last.saturating_sub(joined.first) == 1
 }
 
-/// Whether each variant is one word.
-fn is_word(phrase: &PhraseTests) -> bool
+/// Whether each variant is one word, and not any word.
+pub(crate) fn is_word(phrase: &PhraseTests) -> bool
     ensures { result ≡ spec.is_word phrase.now }
 {
     are_single(phrase.variants.as_slice())

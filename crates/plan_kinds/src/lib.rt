@@ -1,8 +1,8 @@
 //! Which way decides a compiled selection with filters or `not in`.
 //!
 //! Over phrases that are joined by `ftand` and numbered one after the other, a filter is decided by a merge of the places of single words
-//! (`merge_of`) or by one pass through the hits of phrases (`pass_of`). A phrase at an edge of the text (`edge_of`) and one phrase outside
-//! another (`apart_of`) are decided by their spots. What is left takes a walk through its ways.
+//! (`merge_of`) or by one pass through the hits of phrases (`pass_of`). A phrase at an edge of the text (`edge_of`) and one outside another
+//! (`outside_of`) are decided by their spots. What is left takes a walk through its ways.
 #![tactic(auto)]
 
 mod asked_keys;
@@ -12,13 +12,15 @@ mod joined;
 mod joining;
 mod merge_kind;
 mod merges;
+mod outside;
 mod pass_kind;
 mod passes;
 mod phrases;
 
 pub use asked_keys::{asked_key, asks_nothing};
-pub use edges::{apart_of, edge_of};
+pub use edges::edge_of;
 pub use merge_kind::MergeKind;
 pub use merges::merge_of;
+pub use outside::outside_of;
 pub use pass_kind::PassKind;
 pub use passes::pass_of;

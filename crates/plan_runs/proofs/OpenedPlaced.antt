@@ -1,17 +1,28 @@
 -- Opened phrases that have to stand somewhere say of the spans of documents what the compiled selections say of their tokens.
-use Rattle.std.proofs.Common.{◌≡◌, refl, sym, ap, subst, ◌∙◌, ℕ, ◌≤◌, List, map, Some, arith}
+use Rattle.std.proofs.Common.{◌≡◌, refl, sym, ap, subst, ◌∙◌, ℕ, ◌+◌, ◌==◌, ◌≤◌, true, ◌&&◌, not, List, [], ◌∷◌, map, length, Some, arith}
+use Rattle.std.specs.List.{list_all, sum_by}
+use Rattle.std.proofs.lemmas.Bool.{and_parts}
+use Rattle.std.proofs.lemmas.List.{length-map}
 use Rattle.std.proofs.lemmas.Option.{none-some}
 use Rattle.ft_base.specs.declared.filter.Filter.{Filter}
+use Rattle.ft_base.specs.declared.filter.Filter.TheVariants as F
+use Rattle.ft_base.specs.declared.hit.Hit.{Hit}
+use Rattle.ft_base.specs.declared.unit.TextUnit.TheVariants as Unit
 use Rattle.all_matches.specs.Boolean.{satisfied}
-use Rattle.all_matches.specs.Ways.{matches_of, through_filter}
+use Rattle.all_matches.specs.Filters.{ft_filtered}
+use Rattle.all_matches.specs.Ways.{Operator, matches_of, negated, through_filter, together}
 use Rattle.ft_operators.specs.Walk.{own_span}
 use Rattle.index_meaning.specs.Documents.{Numbered, breaks_of, document_at}
 use Rattle.index_phrases.specs.Phrases.{numbered_hit, wanted_at}
 use Rattle.index_phrases.specs.declared.word_terms.WordTerms.{WordTerms}
 use Rattle.place_merges.specs.Places.{Wanted}
-use Rattle.spot_merges.specs.Edges.{edge_filter}
+use Rattle.place_merges.specs.declared.spot.Spot.{Spot}
+use Rattle.spot_merges.specs.Edges.{edge_filter, spots_of}
 use Rattle.spot_merges.specs.declared.edge.Edge.{Edge}
-use Rattle.spot_merges.proofs.ToldLaws.{told_apart, told_edge}
+use Rattle.spot_merges.specs.declared.outside.Outside.{Outside}
+use Rattle.spot_merges.specs.declared.outside.Outside.TheVariants.{Cover, Window}
+use Rattle.spot_merges.proofs.ClearLaws.{negated_first}
+use Rattle.spot_merges.proofs.ToldLaws.{told_apart, told_clear, told_edge}
 use Rattle.word_lists.specs.Stems.{Stem}
 use Rattle.plan_compiler.specs.NodeCosts.{operator_cost}
 use Rattle.plan_compiler.specs.Operators.{looked_text}
@@ -19,8 +30,11 @@ use Rattle.plan_runs.specs.steps.AskedSpans.{AskedSpan, tokens_in}
 use Rattle.plan_runs.specs.steps.OpenedItems.{opened_item, opened_variant}
 use Rattle.plan_runs.specs.steps.OpenedOperators.{opened_aims, phrase_opened}
 use Rattle.plan_runs.specs.steps.OpenedWords.{IsOpened, opened_group}
-use Rattle.plan_kinds.specs.steps.JoinedPhrases.{phrase_of}
-use Rattle.plan_kinds.specs.steps.PlacedPhrases.{apart_of, edge_of, filter_edge}
+use Rattle.plan_kinds.specs.steps.AskedKeys.{asks_nothing}
+use Rattle.plan_kinds.specs.steps.JoinedPhrases.{is_single, is_word, phrase_of}
+use Rattle.plan_kinds.specs.steps.OutsidePhrases.{outside_of}
+use Rattle.plan_kinds.specs.steps.PlacedPhrases.{edge_of, filter_edge}
+use Rattle.plan_kinds.proofs.OutsideLaw.{outside_law}
 use Rattle.plan_kinds.proofs.PlacedLaw.{both_found, filter_is, phrase_is}
 use Rattle.plan_runs.specs.steps.RunCosts.{placed_cost, run_cost}
 use Rattle.plan_runs.specs.steps.RunShapes.{PlacedShape, Shape, at_edge, by_spots, outside, placed_shape, shape}
@@ -84,33 +98,80 @@ module _ (looks : Looks) (stems : List Stem) (version : List Numbered) where
 
   -- ---- a phrase outside another one
 
-  both_placed : (p : _) (left right : PhraseTests)
-      → IsPlaced (MildNot' p (Phrase left) (Phrase right)) (outside (opened_group looks stems version left.variants) (opened_group looks stems version right.variants))
+  -- the hit of a phrase on a spot
+  abbrev hit_on : AskedSpan → PhraseTests → Spot → Hit
+  hit_on asked found = numbered_hit found.number (breaks_of (document_at asked.doc version)) asked.span
+
+  abbrev both_opened : Outside → PhraseTests → PhraseTests → PlacedShape
+  both_opened kind left right = outside kind (opened_group looks stems version left.variants) (opened_group looks stems version right.variants)
+
+  both_cheap : (kind : Outside) (left right : PhraseTests) (word_cost : WordTerms → ℕ) (test_cost : ItemTest → ℕ)
+      → ((test : ItemTest) → word_cost (opened_item looks stems version test) ≤ test_cost test)
+      → placed_cost word_cost (both_opened kind left right) ≤ sum_by (sum_by test_cost) left.variants + sum_by (sum_by test_cost) right.variants
+  both_cheap kind left right word_cost test_cost most =
+      let first = group_cheap looks stems version word_cost test_cost most left.variants in
+      let second = group_cheap looks stems version word_cost test_cost most right.variants in
+      omega (arith, first, second)
+
+  uncovered_placed : (p : _) (left right : PhraseTests) → IsPlaced (MildNot' p (Phrase left) (Phrase right)) (both_opened Cover left right)
   unfolding opened_aims operator_cost
-  both_placed p left right = record {
+  uncovered_placed p left right = record {
     there = (group_fits looks stems version left.variants, group_fits looks stems version right.variants);
     says = λ asked.
-        told_apart asked.span (numbered_hit left.number (breaks_of (document_at asked.doc version)) asked.span) (numbered_hit right.number (breaks_of (document_at asked.doc version)) asked.span)
-        (λ at. record { from = refl; to = refl; whole = refl }) (λ at. record { from = refl; to = refl; whole = refl }) (wants asked left) (wants asked right);
-    cost = λ word_cost test_cost most.
-        let first = group_cheap looks stems version word_cost test_cost most left.variants in
-        let second = group_cheap looks stems version word_cost test_cost most right.variants in
-        omega (arith, first, second);
+        told_apart asked.span (hit_on asked left) (hit_on asked right) (λ at. record { from = refl; to = refl; whole = refl }) (λ at. record { from = refl; to = refl; whole = refl })
+        (wants asked left) (wants asked right);
+    cost = both_cheap Cover left right;
   }
 
-  pub apart_placed : (plan : OperatorPlan) (left right : PhraseTests) → apart_of plan ≡ Some (left, right)
-      → IsPlaced plan (outside (opened_group looks stems version left.variants) (opened_group looks stems version right.variants))
-  apart_placed (Phrase own) left right h = absurd (none-some (left, right) h)
-  apart_placed (Choice' p a b) left right h = absurd (none-some (left, right) h)
-  apart_placed (Both' p a b) left right h = absurd (none-some (left, right) h)
-  apart_placed (MildNot' p a b) left right h =
-      let parts = both_found (phrase_of a) (phrase_of b) left right h in
-      subst (λ (own : OperatorPlan). IsPlaced (MildNot' p own b) (outside (opened_group looks stems version left.variants) (opened_group looks stems version right.variants)))
-      (sym (phrase_is a left parts.0))
-      (subst (λ (own : OperatorPlan). IsPlaced (MildNot' p (Phrase left) own) (outside (opened_group looks stems version left.variants) (opened_group looks stems version right.variants)))
-      (sym (phrase_is b right parts.1)) (both_placed p left right))
-  apart_placed (Negated' p operand) left right h = absurd (none-some (left, right) h)
-  apart_placed (Filtered' p operand kind) left right h = absurd (none-some (left, right) h)
+  -- ---- a word in a window without another one
+
+  -- variants of one word want one word
+  single_wants : (asked : AskedSpan) (variants : List (List ItemTest)) → list_all is_single variants ≡ true
+      → list_all (λ (variant : List Wanted). length variant == 1) (map (map (wanted_at version asked.doc asked.span)) (map (opened_variant looks stems version) variants)) ≡ true
+  single_wants asked [] h = refl
+  single_wants asked (tests ∷ variants) h =
+      let parts = and_parts (is_single tests) (list_all is_single variants) h in
+      let one = and_parts (length tests == 1) (list_all (λ test. not (asks_nothing test)) tests) parts.0 in
+      let opened = opened_variant looks stems version tests in
+      let long = length-map opened (wanted_at version asked.doc asked.span) ∙ length-map tests (opened_item looks stems version) in
+      λ i. ((ap (λ words. words == 1) long ∙ one.0) i) && single_wants asked variants parts.1 i
+
+  abbrev without : AskedSpan → PhraseTests → PhraseTests → Operator
+  without asked word other =
+      together ((phrase_opened looks stems version word).operators asked.doc asked.span) (negated ((phrase_opened looks stems version other).operators asked.doc asked.span))
+
+  clear_says : (size : ℕ) (word other : PhraseTests) → is_word word ≡ true → is_word other ≡ true → (asked : AskedSpan)
+      → satisfied (matches_of (own_span asked.span) (through_filter (without asked word other) (F.Window size Unit.Words)))
+      ≡ placed_say version (both_opened (Window size) word other) asked
+  clear_says size word other one two asked =
+      told_clear asked.span (hit_on asked word) (hit_on asked other) (λ at. record { from = refl; to = refl; whole = refl }) (λ at. record { from = refl; to = refl; whole = refl })
+      size (wants asked word) (wants asked other) (single_wants asked word.variants one) (single_wants asked other.variants two)
+
+  word_placed : (p : _) (q : _) (r : _) (size : ℕ) (word other : PhraseTests) → is_word word ≡ true → is_word other ≡ true
+      → IsPlaced (Filtered' p (Both' q (Phrase word) (Negated' r (Phrase other))) (F.Window size Unit.Words)) (both_opened (Window size) word other)
+  unfolding opened_aims operator_cost
+  word_placed p q r size word other one two = record {
+    there = (group_fits looks stems version word.variants, group_fits looks stems version other.variants);
+    says = clear_says size word other one two;
+    cost = both_cheap (Window size) word other;
+  }
+
+  last_word_placed : (p : _) (q : _) (r : _) (size : ℕ) (word other : PhraseTests) → is_word word ≡ true → is_word other ≡ true
+      → IsPlaced (Filtered' p (Both' q (Negated' r (Phrase other)) (Phrase word)) (F.Window size Unit.Words)) (both_opened (Window size) word other)
+  unfolding opened_aims operator_cost matches_of
+  last_word_placed p q r size word other one two = record {
+    there = (group_fits looks stems version word.variants, group_fits looks stems version other.variants);
+    says = λ asked.
+        ap (λ ms. satisfied (ft_filtered (F.Window size Unit.Words) (own_span asked.span) ms))
+        (negated_first (own_span asked.span) (map (hit_on asked word) (spots_of asked.span (wants asked word))) (map (hit_on asked other) (spots_of asked.span (wants asked other))))
+        ∙ clear_says size word other one two asked;
+    cost = λ word_cost test_cost most. let cheap = both_cheap (Window size) word other word_cost test_cost most in omega (arith, cheap);
+  }
+
+  pub outside_placed : (plan : OperatorPlan) (kind : Outside) (left right : PhraseTests) → outside_of plan ≡ Some (kind, left, right) → IsPlaced plan (both_opened kind left right)
+  outside_placed =
+      outside_law (λ plan kind left right. IsPlaced plan (both_opened kind left right))
+      (record { not_in = uncovered_placed; negated_last = word_placed; negated_first = last_word_placed })
 
   -- ---- opened
 

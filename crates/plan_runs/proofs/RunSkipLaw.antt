@@ -45,7 +45,8 @@ use Rattle.plan_runs.specs.declared.run_node.RunNode.{RunNode}
 use Rattle.plan_runs.specs.declared.run_node.RunNode as R
 use Rattle.index_phrases.specs.declared.word_terms.WordTerms.{WordTerms}
 use Rattle.index_phrases.specs.declared.word_terms.WordTerms.TheVariants as Terms
-use Rattle.spot_merges.specs.Apart.{some_apart}
+use Rattle.spot_merges.specs.Outside.{stands_outside}
+use Rattle.spot_merges.specs.declared.outside.Outside.TheVariants.{Cover, Window}
 use Rattle.spot_merges.specs.Edges.{is_at}
 use Rattle.plan_runs.proofs.SkipLaw.{no_phrase_spots}
 use Rattle.plan_runs.proofs.SkipLemmas.{are_missing, ends_all, ends_any, ends_latest, ends_soonest, ends_variants, is_missing, none_there, nothing_before}
@@ -256,7 +257,9 @@ module _ (version : List Numbered) (doc : ℕ) (part span : Span) (within : IsWi
 
   no_placed : (run : PlacedShape) → ArePlaced version run → ends_before span.to (placed_skip doc part run) ≡ true → placed_say version run asked ≡ false
   no_placed (at_edge edge variants) there h = ap (list_any (is_at edge span)) (no_spots variants there h)
-  no_placed (outside left right) groups h = ap (λ spots. some_apart spots (phrase_spots version right.terms asked)) (no_spots left.terms groups.0.there h)
+  no_placed (outside Cover left right) groups h = ap (λ spots. stands_outside Cover spots (phrase_spots version right.terms asked)) (no_spots left.terms groups.0.there h)
+  no_placed (outside (Window size) left right) groups h =
+      ap (λ spots. stands_outside (Window size) spots (phrase_spots version right.terms asked)) (no_spots left.terms groups.0.there h)
 
   ends_each_all : (parts : Shapes) → ends_before span.to (soonest (skips doc part parts)) ≡ list_all (ends_before span.to) (skips doc part parts)
   ends_each_all parts = ends_all span.to None (skips doc part parts)

@@ -14,7 +14,7 @@ use crate::choosing::{Opening, terms_for};
 use crate::opening_hits::open_hits;
 use crate::opening_merges::open_merge;
 use crate::opening_operators::open_ways;
-use crate::opening_placed::{open_apart, open_at_edge};
+use crate::opening_placed::{open_at_edge, open_outside};
 use crate::rarity::rarest;
 use crate::run_node::{RunGroup, RunNode, RunPhrase, RunWords};
 use ft_base::{Items, Memory};
@@ -22,7 +22,7 @@ use index_phrases::WordTerms;
 use index_versions::{TermCursor, TermSource, TermSources};
 use place_merges::{Item, Variant};
 use plan_compiler::{ItemTest, Node, PhrasePlan, WaysPlan, WordsPlan};
-use plan_kinds::{apart_of, asks_nothing, edge_of, merge_of, pass_of};
+use plan_kinds::{asks_nothing, edge_of, merge_of, outside_of, pass_of};
 
 /// The compiled selection, opened.
 #[cycle(open)]
@@ -69,8 +69,8 @@ fn open_filtered<'v>(opening: &Opening<'v>, plan: &WaysPlan) -> Result<RunNode<'
         let placed = open_at_edge(opening, edge, phrase)?;
         return Ok(RunNode::Placed(placed));
     }
-    if let Some((left, right)) = apart_of(&plan.operator) {
-        let placed = open_apart(opening, left, right)?;
+    if let Some((kind, left, right)) = outside_of(&plan.operator) {
+        let placed = open_outside(opening, kind, left, right)?;
         return Ok(RunNode::Placed(placed));
     }
     open_passed(opening, plan)

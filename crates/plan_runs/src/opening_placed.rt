@@ -10,7 +10,7 @@ use crate::opening::{open_group, open_variants};
 use crate::run_placed::{ApartPhrases, EdgePhrase, RunPlaced};
 use ft_base::Memory;
 use plan_compiler::PhraseTests;
-use spot_merges::Edge;
+use spot_merges::{Edge, Outside};
 use std::mem::drop;
 
 /// The phrase opened to stand at the edge.
@@ -26,19 +26,21 @@ pub(crate) fn open_at_edge<'v>(
     Ok(RunPlaced::AtEdge(EdgePhrase { edge, variants }))
 }
 
-/// The phrases opened so that the first stands where the second doesn't cover it.
-pub(crate) fn open_apart<'v>(
+/// The phrases opened so that the first stands outside the second.
+pub(crate) fn open_outside<'v>(
     opening: &Opening<'v>,
+    kind: Outside,
     left: &PhraseTests,
     right: &PhraseTests,
 ) -> Result<RunPlaced<'v>, Memory>
     ensures { IfOk result (λ run. placed_shape run
-        ≡ outside (opened_group opening.now.looks opening.now.lists.now.stems opening.now.version.now left.now.variants)
+        ≡ outside kind (opened_group opening.now.looks opening.now.lists.now.stems opening.now.version.now left.now.variants)
         (opened_group opening.now.looks opening.now.lists.now.stems opening.now.version.now right.now.variants)) }
 {
     let first = open_group(opening, left.variants.as_slice())?;
     match open_group(opening, right.variants.as_slice()) {
         Ok(second) => Ok(RunPlaced::Apart(ApartPhrases {
+            outside: kind,
             left: first,
             right: second,
         })),

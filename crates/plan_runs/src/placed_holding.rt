@@ -12,7 +12,7 @@ use crate::asked_place::AskedPlace;
 use crate::edge_holding::stands_at_edge;
 use crate::run_placed::{ApartPhrases, EdgePhrase, RunPlaced};
 use ft_base::Steps;
-use spot_merges::stand_apart;
+use spot_merges::stand_outside;
 use std::sync::ledger::Ledger;
 
 /// Whether the phrases stand in the span where they have to.
@@ -56,5 +56,11 @@ fn holds_apart<'v, L: Ledger>(
     let right = &mut phrases.right;
     aim_variants(place, &mut left.terms, &mut left.variants, moves);
     aim_variants(place, &mut right.terms, &mut right.variants, moves);
-    stand_apart(&mut left.variants, &mut right.variants, place.span, moves)
+    stand_outside(
+        phrases.outside,
+        &mut left.variants,
+        &mut right.variants,
+        place.span,
+        moves,
+    )
 }

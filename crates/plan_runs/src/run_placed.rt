@@ -1,13 +1,13 @@
 use crate::run_node::RunGroup;
 use index_phrases::WordTerms;
-use spot_merges::Edge;
+use spot_merges::{Edge, Outside};
 
 /// Phrases that have to stand somewhere, opened over a version; of each phrase all variants.
 #[derive(Drop)]
 pub(crate) enum RunPlaced<'v> {
     /// One, at an edge of the text.
     AtEdge(EdgePhrase<'v>),
-    /// One, outside another.
+    /// One, outside another one.
     Apart(ApartPhrases<'v>),
 }
 
@@ -18,9 +18,10 @@ pub(crate) struct EdgePhrase<'v> {
     pub(crate) variants: Vec<Vec<WordTerms<'v>>>,
 }
 
-/// A phrase, the left one, that has to stand where the right one doesn't cover it.
+/// A phrase, the left one, that has to stand so outside the right one.
 #[derive(Drop)]
 pub(crate) struct ApartPhrases<'v> {
+    pub(crate) outside: Outside,
     pub(crate) left: RunGroup<'v>,
     pub(crate) right: RunGroup<'v>,
 }

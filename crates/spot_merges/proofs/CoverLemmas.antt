@@ -1,9 +1,11 @@
 -- Spots that are passed, and the first one that begins after a place.
-use Rattle.std.proofs.Common.{◌≡◌, refl, sym, ap, ◌∙◌, ℕ, ◌+◌, ◌<◌, ◌≤◌, Bool, true, ◌&&◌, ◌||◌, not, List, ◌∷◌, Option, Some, None, arith}
+use Rattle.std.proofs.Common.{◌≡◌, refl, sym, ap, subst, ◌∙◌, ℕ, ◌+◌, ◌<◌, ◌≤◌, Bool, true, ◌&&◌, not, List, Option, Some, None, arith}
 use Rattle.std.specs.Prelude.{nat_le, nat_lt}
 use Rattle.std.specs.List.{list_all, list_any}
 use Rattle.std.specs.Option.{ForSome}
+use Rattle.std.proofs.lemmas.Bool.{leb-true}
 use Rattle.std.proofs.lemmas.Bool.Decides.{nat_tests}
+use Rattle.std.proofs.lemmas.Option.{cond_some, none-some}
 use Rattle.std.proofs.Math.Bool.{and-true}
 use Rattle.ft_base.specs.Hits.{HitPlace}
 use Rattle.place_merges.specs.Places.{Wanted}
@@ -14,8 +16,16 @@ use Rattle.place_merges.specs.declared.spot.Spot.{Spot}
 use Rattle.place_merges.specs.steps.Spotting.{is_before}
 use Rattle.spot_merges.specs.Apart.{lies_within}
 use Rattle.spot_merges.specs.declared.covering.Cover.{Cover}
-use Rattle.spot_merges.specs.steps.Covering.{SameAt, is_free, spots_ahead}
+use Rattle.spot_merges.specs.steps.Covering.{due, is_free, spots_ahead}
 use Rattle.spot_merges.proofs.SpotTests.{all_after, any_after}
+
+-- the next spot, where it is due
+pub due_is : (place : ℕ) (next : Option Spot) (at : Spot) → due place next ≡ Some at → (next ≡ Some at) × (at.place ≤ place)
+due_is place None at h = absurd (none-some at h)
+due_is place (Some other) at h =
+    let parts = cond_some (nat_le other.place place) other at h in
+    let first = leb-true other.place place parts.0 in
+    (ap Some parts.1, subst (λ (one : Spot). one.place ≤ place) parts.1 first)
 
 abbrev end_of : Spot → ℕ
 end_of at = at.place + at.words
@@ -49,15 +59,6 @@ module _ {H : Type 0} (stand : H → HitPlace) (to : ℕ) where
 
   abbrev some_free : List (Variant H) → Cover → List Spot → Bool
   some_free right cover spots = list_any (is_free stand to right cover) spots
-
-  -- the cover was led on to the first of them
-  pub free_led : (left old now : List (Variant H)) (at : Spot) (before after : Cover) → SameAt at.place (is_free stand to now after) (is_free stand to old before)
-      → some_free now after (at ∷ spots_left to (wants left) at) ≡ some_free old before (at ∷ spots_left to (wants left) at)
-  free_led left old now at before after same =
-      λ i. same.same at (omega arith) i || any_after to at (some_at to (wants left)) (is_free stand to now after) (is_free stand to old before) (λ other h. same.same other (later other h)) i
-    where
-      later : (other : Spot) → is_before at other ≡ true → at.place ≤ other.place
-      later other h = grind (arith, nat_tests, h)
 
   -- before the first
   pub free_starts : (from : ℕ) (left right now : List (Variant H)) (next : Option Spot) → spots_left to (wants right) (spot from 0) ≡ from_found (spots_left to (wants now)) next

@@ -1,8 +1,8 @@
 -- Filters at the edges and `not in`, over hits of phrases.
-use Rattle.std.proofs.Common.{◌≡◌, refl, sym, ap, ◌∙◌, ℕ, zero, suc, ◌+◌, ◌-◌, ◌<◌, ◌≤◌, ◌==◌, Bool, true, false, cond, ◌&&◌, ◌||◌, not, List, [], ◌∷◌, map, arith, inl, inr}
+use Rattle.std.proofs.Common.{◌≡◌, refl, sym, ap, ◌∙◌, ℕ, suc, ◌-◌, ◌<◌, ◌≤◌, ◌==◌, Bool, true, false, cond, ◌&&◌, ◌||◌, not, List, [], ◌∷◌, map, arith}
 use Rattle.std.specs.Prelude.{nat_le, nat_lt}
-use Rattle.std.specs.List.{list_all, list_any, range_with_len}
-use Rattle.std.proofs.lemmas.Bool.{and_from, and_parts, cases_lt, eq-eqb, eqb-true, le-leb, leb-true, ltb-true, or_left}
+use Rattle.std.specs.List.{list_all, list_any}
+use Rattle.std.proofs.lemmas.Bool.{and_from, and_parts, eq-eqb, eqb-true, le-leb, leb-true, ltb-true, or_left}
 use Rattle.std.proofs.Math.Bool.{and-true, or-false}
 use Rattle.ft_base.specs.Lists.{is_not_empty}
 use Rattle.ft_base.specs.declared.filter.Filter.{Filter}
@@ -24,23 +24,8 @@ use Rattle.spot_merges.specs.Edges.{edge_filter, hit_is_at}
 use Rattle.spot_merges.specs.Phrases.{is_hit, lies_inside}
 use Rattle.spot_merges.specs.declared.edge.Edge.{Edge}
 use Rattle.spot_merges.specs.declared.edge.Edge.TheVariants.{Start, End, Both}
+use Rattle.spot_merges.proofs.RangeTests.{all_in_range, one_of_range}
 use Rattle.spot_merges.proofs.SpotTests.{any_kept, any_not_all, any_on}
-
--- ---- ranges of places
-
-all_in_range : (test : ℕ → Bool) (from count : ℕ) → ((place : ℕ) → from ≤ place → place < from + count → test place ≡ true) → list_all test (range_with_len from count) ≡ true
-all_in_range test from zero h = refl
-all_in_range test from (suc count) h =
-    λ i. h from (omega arith) (omega arith) i && all_in_range test (from + 1) count (λ place low high. h place (omega (arith, low)) (omega (arith, high))) i
-
-one_of_range : (test : ℕ → Bool) (from count place : ℕ) → list_all test (range_with_len from count) ≡ true → from ≤ place → place < from + count → test place ≡ true
-one_of_range test from zero place all low high = absurd (omega (arith, low, high))
-one_of_range test from (suc count) place all low high =
-    let parts = and_parts (test from) (list_all test (range_with_len (from + 1) count)) all in
-    elim (cases_lt from place) [
-      | inl less ↦ one_of_range test (from + 1) count place parts.1 (omega (arith, less)) (omega (arith, high))
-      | inr most ↦ let same : from ≡ place = omega (arith, low, most) in sym (ap test same) ∙ parts.0
-    ]
 
 -- ---- edges
 

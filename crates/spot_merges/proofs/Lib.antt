@@ -1,6 +1,9 @@
 pub mod SpotTests
+pub mod RangeTests
 pub mod SpotRanges
 pub mod EdgeLemmas
 pub mod CoverLemmas
+pub mod ClearLemmas
 pub mod HitLaws
+pub mod ClearLaws
 pub mod ToldLaws

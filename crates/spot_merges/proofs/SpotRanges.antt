@@ -1,12 +1,18 @@
 -- A test holds at some spot of a span exactly where there is such a spot.
-use Rattle.std.proofs.Common.{◌≡◌, refl, sym, ap, subst, ◌∙◌, ℕ, zero, suc, ◌+◌, ◌-◌, ◌<◌, ◌≤◌, Bool, true, false, true≢false, cond, not, ◌&&◌, List, [], ◌∷◌, map, filter, flat_map, arith, inl, inr}
-use Rattle.std.specs.Prelude.{nat_le}
+use Rattle.std.proofs.Common.{◌≡◌, refl, sym, ap, subst, ◌∙◌, ℕ, zero, suc, ◌+◌, ◌-◌, ◌<◌, ◌≤◌, Bool, true, false, true≢false, ◌==◌, cond, not, ◌&&◌, List, [], ◌∷◌, filter, flat_map, arith, inl, inr}
+use Rattle.std.specs.Prelude.{nat_le, length}
 use Rattle.std.specs.List.{list_all, list_any, range_with_len}
 use Rattle.std.proofs.lemmas.Bool.{and_from, and_parts, cases_lt, le-leb, leb-true, or_cases, or_left, or_right}
+use Rattle.std.proofs.lemmas.Bool.Decides.{nat_tests}
 use Rattle.std.proofs.lemmas.List.Folds.{list_any-append}
-use Rattle.place_merges.specs.Spots.{spot, spots_at, spots_between}
+use Rattle.all_matches.proofs.ListTests.{list_any-map}
+use Rattle.ft_base.specs.declared.span.Span.{Span}
+use Rattle.place_merges.specs.Places.{Wanted, stands_before}
+use Rattle.place_merges.specs.Spots.{some_at, spot, spots_at, spots_between}
 use Rattle.place_merges.specs.declared.spot.Spot.{Spot}
-use Rattle.spot_merges.proofs.SpotTests.{any_not_all}
+use Rattle.spot_merges.specs.Edges.{spots_of}
+use Rattle.spot_merges.proofs.RangeTests.{found_in_range, some_in_range}
+use Rattle.spot_merges.proofs.SpotTests.{any_not_all, kept_pass}
 
 -- a spot from one place on, before another, at which the test holds
 pub record IsThere (test : Spot → Bool) (from to : ℕ) : Type 0 where
@@ -17,44 +23,16 @@ pub record IsThere (test : Spot → Bool) (from to : ℕ) : Type 0 where
   pub holds : test at ≡ true
 
 module _ (test : Spot → Bool) (to : ℕ) where
-  record InRow (place first count : ℕ) : Type 0 where
-    words : ℕ
-    low : first ≤ words
-    high : words < first + count
-    holds : test (spot place words) ≡ true
-
-  row_found : (place first count : ℕ) → list_any test (map (spot place) (range_with_len first count)) ≡ true → InRow place first count
-  row_found place first zero h = absurd (true≢false (sym h))
-  row_found place first (suc count) h = elim (or_cases (test (spot place first)) (list_any test (map (spot place) (range_with_len (first + 1) count))) h) [
-    | inl here ↦ record { words = first; low = omega arith; high = omega arith; holds = here }
-    | inr there ↦
-        let rest = row_found place (first + 1) count there in
-        let low = rest.low in
-        let high = rest.high in
-        record { words = rest.words; low = omega (arith, low); high = omega (arith, high); holds = rest.holds }
-  ]
-
-  row_has : (place first count words : ℕ) → first ≤ words → words < first + count → test (spot place words) ≡ true
-      → list_any test (map (spot place) (range_with_len first count)) ≡ true
-  row_has place first zero words low high h = absurd (omega (arith, low, high))
-  row_has place first (suc count) words low high h = elim (cases_lt first words) [
-    | inl less ↦ or_right (test (spot place first)) (list_any test (map (spot place) (range_with_len (first + 1) count)))
-        (row_has place (first + 1) count words (omega (arith, less)) (omega (arith, high)) h)
-    | inr most ↦
-        let same : words ≡ first = omega (arith, low, most) in
-        or_left (test (spot place first)) (list_any test (map (spot place) (range_with_len (first + 1) count))) (subst (λ n. test (spot place n) ≡ true) same h)
-  ]
-
   rows_found : (from count : ℕ) → list_any test (flat_map (spots_at to) (range_with_len from count)) ≡ true → IsThere test from to
   rows_found from zero h = absurd (true≢false (sym h))
   rows_found from (suc count) h =
       let apart = sym (list_any-append test (spots_at to from) (flat_map (spots_at to) (range_with_len (from + 1) count))) ∙ h in
       elim (or_cases (list_any test (spots_at to from)) (list_any test (flat_map (spots_at to) (range_with_len (from + 1) count))) apart) [
         | inl here ↦
-            let row = row_found from 1 (to - from) here in
+            let row = found_in_range (λ words. test (spot from words)) 1 (to - from) (sym (list_any-map test (spot from) (range_with_len 1 (to - from))) ∙ here) in
             let low = row.low in
             let high = row.high in
-            record { at = spot from row.words; first = omega arith; some = low; last = omega (arith, low, high); holds = row.holds }
+            record { at = spot from row.number; first = omega arith; some = low; last = omega (arith, low, high); holds = row.holds }
         | inr there ↦
             let rest = rows_found (from + 1) count there in
             let first = rest.first in
@@ -70,7 +48,8 @@ module _ (test : Spot → Bool) (to : ℕ) where
     | inr most ↦
         let same : at.place ≡ from = omega (arith, low, most) in
         or_left (list_any test (spots_at to from)) (list_any test (flat_map (spots_at to) (range_with_len (from + 1) count)))
-        (subst (λ p. list_any test (spots_at to p) ≡ true) same (row_has at.place 1 (to - at.place) at.words some (omega (arith, last)) h))
+        (subst (λ p. list_any test (spots_at to p) ≡ true) same
+        (list_any-map test (spot at.place) (range_with_len 1 (to - at.place)) ∙ some_in_range (λ words. test (spot at.place words)) 1 (to - at.place) at.words some (omega (arith, last)) h))
   ]
 
   pub spot_found : (from : ℕ) → list_any test (spots_between from to) ≡ true → IsThere test from to
@@ -124,3 +103,20 @@ kept_lie kept from to = all_kept (spots_between from to) (all_lie from to)
             → list_all (lies_in from to) (cond b (at ∷ filter kept spots) (filter kept spots)) ≡ true
         by true first rest = λ i. first i && rest i
         by false first rest = rest
+
+-- ---- the spots of variants of one word
+
+pub one_word_spots : (span : Span) (variants : List (List Wanted)) → list_all (λ variant. length variant == 1) variants ≡ true → list_all (λ at. at.words == 1) (spots_of span variants) ≡ true
+one_word_spots span variants h = kept_pass (λ at. at.words == 1) (some_at span.to variants) (λ at. has_one at variants h) (spots_between span.from span.to)
+  where
+    has_one : (at : Spot) (variants : List (List Wanted)) → list_all (λ variant. length variant == 1) variants ≡ true → some_at span.to variants at ≡ true → (at.words == 1) ≡ true
+    has_one at [] h is = absurd (true≢false (sym is))
+    has_one at (variant ∷ variants) h is =
+        let all = and_parts (length variant == 1) (list_all (λ other. length other == 1) variants) h in
+        elim (or_cases ((length variant == at.words) && stands_before span.to at.place variant) (some_at span.to variants at) is) [
+          | inl here ↦
+              let words = (and_parts (length variant == at.words) (stands_before span.to at.place variant) here).0 in
+              let one = all.0 in
+              grind (arith, nat_tests, words, one)
+          | inr there ↦ has_one at variants all.1 there
+        ]

@@ -1,12 +1,14 @@
 -- Tests of the elements that a filter keeps, and of the spots after one.
-use Rattle.std.proofs.Common.{◌≡◌, refl, sym, ap, ◌∙◌, ℕ, Bool, true, false, cond, ◌&&◌, ◌||◌, not, List, [], ◌∷◌, filter}
+use Rattle.std.proofs.Common.{◌≡◌, refl, sym, ap, ◌∙◌, ℕ, Bool, true, false, ◌≤◌, cond, ◌&&◌, ◌||◌, not, List, [], ◌∷◌, filter, arith}
 use Rattle.std.specs.List.{list_all, list_any}
 use Rattle.std.proofs.lemmas.Bool.{and_parts}
+use Rattle.std.proofs.lemmas.Bool.Decides.{nat_tests}
 use Rattle.ft_base.specs.Lists.{is_not_empty}
 use Rattle.place_merges.specs.Spots.{spots_after}
 use Rattle.place_merges.specs.declared.spot.Spot.{Spot}
 use Rattle.place_merges.specs.steps.Spotting.{is_before}
 use Rattle.place_merges.proofs.SpotLemmas.{left_same}
+use Rattle.spot_merges.specs.steps.Covering.{SameAt}
 
 module _ {X : Type 0} (test kept : X → Bool) where
   pub any_kept : (xs : List X) → list_any test (filter kept xs) ≡ list_any (λ x. kept x && test x) xs
@@ -42,6 +44,21 @@ module _ {X : Type 0} (test kept : X → Bool) where
           → list_all test (cond b (x ∷ filter (λ y. kept y && test y) xs) (filter (λ y. kept y && test y) xs)) ≡ true
       by true is rest = λ i. is i && rest i
       by false is rest = rest
+
+  -- those that are kept pass a test that passes all of them
+  pub kept_pass : ((x : X) → kept x ≡ true → test x ≡ true) → (xs : List X) → list_all test (filter kept xs) ≡ true
+  kept_pass pass [] = refl
+  kept_pass pass (x ∷ xs) = by (kept x) refl (kept_pass pass xs)
+    where
+      by : (b : Bool) → kept x ≡ b → list_all test (filter kept xs) ≡ true → list_all test (cond b (x ∷ filter kept xs) (filter kept xs)) ≡ true
+      by true is rest = λ i. pass x is i && rest i
+      by false is rest = rest
+
+pub all_more : {X : Type 0} (test more : X → Bool) → ((x : X) → test x ≡ true → more x ≡ true) → (xs : List X) → list_all test xs ≡ true → list_all more xs ≡ true
+all_more test more pass [] h = refl
+all_more test more pass (x ∷ xs) h =
+    let parts = and_parts (test x) (list_all test xs) h in
+    λ i. pass x parts.0 i && all_more test more pass xs parts.1 i
 
 pub any_not_all : {X : Type 0} (test : X → Bool) (xs : List X) → list_any (λ x. not (test x)) xs ≡ not (list_all test xs)
 any_not_all test [] = refl
@@ -82,3 +99,10 @@ module _ (to : ℕ) (at : Spot) (kept : Spot → Bool) where
       kept_alone : (b : Bool) → (b && true) ≡ b
       kept_alone true = refl
       kept_alone false = refl
+
+  -- two tests that are the same from the spot on
+  pub any_from : (test other : Spot → Bool) → SameAt at.place test other → list_any test (at ∷ filter kept (spots_after to at)) ≡ list_any other (at ∷ filter kept (spots_after to at))
+  any_from test other same = λ i. same.same at (omega arith) i || any_after test other (λ a h. same.same a (later a h)) i
+    where
+      later : (a : Spot) → is_before at a ≡ true → at.place ≤ a.place
+      later a h = grind (arith, nat_tests, h)

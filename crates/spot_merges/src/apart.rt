@@ -14,7 +14,7 @@ use std::sync::ledger::Ledger;
 ///
 /// Both sides go forward only: for each spot of the left side, the right one goes on to the first spot that begins after it, and keeps
 /// the farthest end of those that it passed. Of plain sources each hit that is passed counts two steps at most.
-pub fn stand_apart<H: FirstWords, L: Ledger>(
+pub(crate) fn stand_apart<H: FirstWords, L: Ledger>(
     left: &mut Vec<Variant<H>>,
     right: &mut Vec<Variant<H>>,
     span: Span,

@@ -47,7 +47,7 @@ pub(crate) fn cover_up_to<H: FirstWords, L: Ledger>(
 }
 
 /// The spot, where it begins at the place or before it.
-fn due(next: Option<Spot>, place: u32) -> Option<Spot>
+pub(crate) fn due(next: Option<Spot>, place: u32) -> Option<Spot>
     ensures { result ≡ spec.due place next }
 {
     match next {

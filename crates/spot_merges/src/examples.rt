@@ -9,9 +9,12 @@ ghost use Rattle.all_matches.specs.Ways.{apart, matches_of, phrase, through_filt
 ghost use Rattle.place_merges.specs.Spots.{spot};
 ghost use Rattle.place_merges.specs.Examples.{a, b};
 ghost use Rattle.spot_merges.specs.Apart.{some_apart};
+ghost use Rattle.spot_merges.specs.Clear.{begins, has_clear_window, lies_before, some_clear};
 ghost use Rattle.spot_merges.specs.Edges.{edge_place, is_at, spots_of, stands_at_edge};
-ghost use Rattle.spot_merges.specs.Examples.{hit, item};
+ghost use Rattle.spot_merges.specs.Examples.{hit, item, without};
+ghost use Rattle.spot_merges.specs.Outside.{stands_outside};
 ghost use Rattle.spot_merges.specs.declared.edge.Edge.TheVariants as E;
+ghost use Rattle.spot_merges.specs.declared.outside.Outside.TheVariants as O;
 
 /// `a` stands at the places 1, 4 and 6, `b` at 2, 3 and 7.
 pub fn spots_of_spans()
@@ -58,6 +61,46 @@ pub fn spots_apart()
     ensures none { some_apart [] (spot 1 2 ∷ []) ≡ false }
 {}
 
+/// The places 3 and 4 are the two before 5.
+pub fn places_before()
+    ensures first { lies_before 2 5 3 ≡ true }
+    ensures last { lies_before 2 5 4 ≡ true }
+    ensures too_early { lies_before 2 5 2 ≡ false }
+    ensures too_late { lies_before 2 5 5 ≡ false }
+    ensures none { lies_before 0 5 4 ≡ false }
+{}
+
+/// The place 5 has a window of so many places with none of the others where one before it or behind it, or one that lies between two of them, does.
+pub fn clear_windows()
+    ensures before { has_clear_window 3 (6 ∷ []) 5 ≡ true }
+    ensures behind { has_clear_window 3 (4 ∷ []) 5 ≡ true }
+    ensures between { has_clear_window 3 (3 ∷ 7 ∷ []) 5 ≡ true }
+    ensures one_more { has_clear_window 4 (3 ∷ 7 ∷ []) 5 ≡ false }
+    ensures in_any_order { has_clear_window 3 (7 ∷ 3 ∷ []) 5 ≡ true }
+    ensures next_to_both { has_clear_window 2 (4 ∷ 6 ∷ []) 5 ≡ false }
+    ensures alone { has_clear_window 1 (4 ∷ 6 ∷ []) 5 ≡ true }
+    ensures over_the_start { has_clear_window 9 (6 ∷ []) 5 ≡ true }
+    ensures at_its_place { has_clear_window 1 (5 ∷ []) 5 ≡ false }
+    ensures no_word { has_clear_window 0 [] 5 ≡ false }
+    ensures no_other { has_clear_window 1 [] 5 ≡ true }
+{}
+
+/// One of some places is enough.
+pub fn clear_places()
+    ensures second { some_clear 2 (5 ∷ 8 ∷ []) (4 ∷ 6 ∷ []) ≡ true }
+    ensures neither { some_clear 2 (5 ∷ 8 ∷ []) (4 ∷ 6 ∷ 8 ∷ []) ≡ false }
+    ensures none { some_clear 2 [] (4 ∷ []) ≡ false }
+{}
+
+/// A spot that another one covers may stand in a window that has none of its first words, and the other way round.
+pub fn spots_outside()
+    ensures places { begins (spot 1 2 ∷ spot 4 1 ∷ []) ≡ 1 ∷ 4 ∷ [] }
+    ensures covered { stands_outside O.Cover (spot 2 1 ∷ []) (spot 1 2 ∷ []) ≡ false }
+    ensures alone { stands_outside (O.Window 1) (spot 2 1 ∷ []) (spot 1 2 ∷ []) ≡ true }
+    ensures not_covered { stands_outside O.Cover (spot 2 1 ∷ []) (spot 1 1 ∷ spot 3 1 ∷ []) ≡ true }
+    ensures between { stands_outside (O.Window 2) (spot 2 1 ∷ []) (spot 1 1 ∷ spot 3 1 ∷ []) ≡ false }
+{}
+
 /// Hits under the filters and `not in`, by all their Matches: as the spots have it.
 pub fn hits_at_edges_and_apart()
     ensures at_start { satisfied (matches_of item (through_filter (phrase (hit 1 2 ∷ hit 4 5 ∷ [])) F.AtStart)) ≡ true }
@@ -68,4 +111,16 @@ pub fn hits_at_edges_and_apart()
     ensures within { satisfied (matches_of item (apart (phrase (hit 2 2 ∷ [])) (phrase (hit 1 2 ∷ [])))) ≡ false }
     ensures over_the_end { satisfied (matches_of item (apart (phrase (hit 2 3 ∷ [])) (phrase (hit 1 2 ∷ [])))) ≡ true }
     ensures by_two { satisfied (matches_of item (apart (phrase (hit 2 3 ∷ [])) (phrase (hit 1 2 ∷ hit 3 4 ∷ [])))) ≡ true }
+{}
+
+/// Hits of one word under `ftand ftnot` in a window, by all their Matches: as the places have it.
+pub fn hits_in_clear_windows()
+    ensures between { satisfied (matches_of item (without 2 (hit 3 3 ∷ []) (hit 2 2 ∷ hit 5 5 ∷ []))) ≡ true }
+    ensures one_more { satisfied (matches_of item (without 3 (hit 3 3 ∷ []) (hit 2 2 ∷ hit 5 5 ∷ []))) ≡ false }
+    ensures at_its_place { satisfied (matches_of item (without 1 (hit 3 3 ∷ []) (hit 3 3 ∷ []))) ≡ false }
+    ensures over_the_start { satisfied (matches_of item (without 9 (hit 3 3 ∷ []) (hit 4 4 ∷ []))) ≡ true }
+    ensures one_of_two { satisfied (matches_of item (without 2 (hit 3 3 ∷ hit 5 5 ∷ []) (hit 2 2 ∷ hit 4 4 ∷ []))) ≡ true }
+    ensures no_other { satisfied (matches_of item (without 2 (hit 3 3 ∷ []) [])) ≡ true }
+    ensures no_word { satisfied (matches_of item (without 0 (hit 3 3 ∷ []) [])) ≡ false }
+    ensures none { satisfied (matches_of item (without 2 [] (hit 2 2 ∷ []))) ≡ false }
 {}

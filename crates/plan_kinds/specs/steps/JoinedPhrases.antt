@@ -26,6 +26,15 @@ phrase_of (MildNot' p left right) = None
 phrase_of (Negated' p operand) = None
 phrase_of (Filtered' p operand kind) = None
 
+-- the phrase that a plan negates
+abbrev pub negated_phrase : OperatorPlan → Option PhraseTests
+negated_phrase (Phrase found) = None
+negated_phrase (Choice' p left right) = None
+negated_phrase (Both' p left right) = None
+negated_phrase (MildNot' p left right) = None
+negated_phrase (Negated' p operand) = phrase_of operand
+negated_phrase (Filtered' p operand kind) = None
+
 -- the filter that a plan is, with its operand
 abbrev pub filtered_of : OperatorPlan → Option FilteredPlan
 filtered_of (Phrase found) = None

@@ -1,11 +1,11 @@
--- Filters at the edges of a text over one phrase, and `not in` over two.
+-- Filters at the edges of a text over one phrase.
 use Rattle.std.specs.Prelude.{Option, Some, None}
 use Rattle.ft_base.specs.declared.filter.Filter.{Filter}
 use Rattle.ft_base.specs.declared.filter.Filter.TheVariants as F
 use Rattle.spot_merges.specs.declared.edge.Edge.{Edge}
 use Rattle.spot_merges.specs.declared.edge.Edge.TheVariants.{Start, End, Both}
 use Rattle.plan_compiler.specs.declared.operator_plan.FilteredPlan.{FilteredPlan}
-use Rattle.plan_compiler.specs.declared.operator_plan.OperatorPlan.{OperatorPlan, Phrase, Choice', Both', MildNot', Negated', Filtered'}
+use Rattle.plan_compiler.specs.declared.operator_plan.OperatorPlan.{OperatorPlan}
 use Rattle.plan_compiler.specs.declared.operator_plan.PhraseTests.{PhraseTests}
 use Rattle.plan_kinds.specs.steps.JoinedPhrases.{filtered_of, phrase_of}
 
@@ -38,12 +38,3 @@ edge_under (Some plan) = filtered_edge plan
 
 abbrev pub edge_of : OperatorPlan → Option (Edge × PhraseTests)
 edge_of plan = edge_under (filtered_of plan)
-
--- two phrases, of which the first has to stand where the second doesn't cover it
-abbrev pub apart_of : OperatorPlan → Option (PhraseTests × PhraseTests)
-apart_of (Phrase found) = None
-apart_of (Choice' p left right) = None
-apart_of (Both' p left right) = None
-apart_of (MildNot' p left right) = both_of (phrase_of left) (phrase_of right)
-apart_of (Negated' p operand) = None
-apart_of (Filtered' p operand kind) = None

@@ -25,7 +25,7 @@ module _ (cost : WordTerms → ℕ) where
   -- a phrase at an edge moves no cursor
   abbrev pub placed_cost : PlacedShape → ℕ
   placed_cost (at_edge edge variants) = 0
-  placed_cost (outside left right) = group_cost left + group_cost right
+  placed_cost (outside kind left right) = group_cost left + group_cost right
 
   unfoldable mutual
     pub run_cost : Shape → ℕ

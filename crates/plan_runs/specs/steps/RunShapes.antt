@@ -11,6 +11,7 @@ use Rattle.index_phrases.specs.declared.word_terms.WordTerms.{WordTerms}
 use Rattle.index_phrases.specs.steps.Aiming.{sizes_of, variant_words}
 use Rattle.phrase_merges.specs.Rows.{all_aims}
 use Rattle.spot_merges.specs.declared.edge.Edge.{Edge}
+use Rattle.spot_merges.specs.declared.outside.Outside.{Outside}
 use Rattle.plan_runs.specs.steps.Merges.{MergeShape}
 use Rattle.plan_runs.specs.steps.Skips.{skip_of}
 use Rattle.plan_runs.specs.steps.OpenedOperators.{aims_of}
@@ -41,10 +42,10 @@ pub record WaysShape : Type 0 where
   pub aims : Aims
   pub skips : ℕ → Span → Option ℕ
 
--- a phrase at an edge of the text, by the terms of each word of each variant, or one outside another
+-- a phrase at an edge of the text, by the terms of each word of each variant, or one that stands so outside another
 pub data PlacedShape : Type 0 where
   at_edge : Edge → List (List WordTerms) → PlacedShape
-  outside : GroupShape → GroupShape → PlacedShape
+  outside : Outside → GroupShape → GroupShape → PlacedShape
 
 mutual
   pub data Shape : Type 0 where
@@ -92,7 +93,7 @@ hits_shape run = record { kind = run.kind; phrases = all_aims state_of run.phras
 
 abbrev pub placed_shape : RunPlaced → PlacedShape
 placed_shape (AtEdge phrase) = at_edge phrase.edge (map variant_words phrase.variants.items)
-placed_shape (Apart phrases) = outside (group_shape phrases.left) (group_shape phrases.right)
+placed_shape (Apart phrases) = outside phrases.outside (group_shape phrases.left) (group_shape phrases.right)
 
 -- one level, with the shape of each part
 abbrev pub layer : RunNode-F Shape → Shape

@@ -28,7 +28,7 @@ module _ (doc : ℕ) (part : Span) where
   -- of phrases that have to stand somewhere: the first has to stand there
   abbrev pub placed_skip : PlacedShape → Option ℕ
   placed_skip (at_edge edge variants) = variants_skip doc part variants
-  placed_skip (outside left right) = variants_skip doc part left.terms
+  placed_skip (outside kind left right) = variants_skip doc part left.terms
 
   unfoldable mutual
     pub skip : Shape → Option ℕ

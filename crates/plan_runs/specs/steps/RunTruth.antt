@@ -20,8 +20,8 @@ use Rattle.plan_runs.specs.steps.RunShapes.{GroupShape, WaysShape, WordsShape, P
 use Rattle.plan_runs.specs.steps.RunShapes.{Shape, Shapes, words, any_of, all_of, not_of, by_ways, by_hits, by_merge, none, more, by_spots}
 use Rattle.index_phrases.specs.Phrases.{wanted_at}
 use Rattle.place_merges.specs.declared.spot.Spot.{Spot}
-use Rattle.spot_merges.specs.Apart.{some_apart}
 use Rattle.spot_merges.specs.Edges.{is_at, spots_of}
+use Rattle.spot_merges.specs.Outside.{stands_outside}
 use Rattle.plan_compiler.specs.WordsMeaning.{joined}
 use Rattle.index_phrases.specs.declared.word_terms.WordTerms.{WordTerms}
 use Rattle.index_phrases.specs.declared.word_terms.WordTerms.TheVariants as Terms
@@ -56,7 +56,7 @@ phrase_spots version variants asked = spots_of asked.span (map (map (wanted_at v
 -- whether phrases stand where they have to
 abbrev pub placed_say : List Numbered → PlacedShape → AskedSpan → Bool
 placed_say version (at_edge edge variants) asked = list_any (is_at edge asked.span) (phrase_spots version variants asked)
-placed_say version (outside left right) asked = some_apart (phrase_spots version left.terms asked) (phrase_spots version right.terms asked)
+placed_say version (outside kind left right) asked = stands_outside kind (phrase_spots version left.terms asked) (phrase_spots version right.terms asked)
 
 unfoldable mutual
   pub run_truth : List Numbered → Shape → AskedSpan → Bool
@@ -95,7 +95,7 @@ pub record AreWays (version : List Numbered) (run : WaysShape) : Type 0 where
 
 abbrev pub ArePlaced : List Numbered → PlacedShape → Type 0
 ArePlaced version (at_edge edge variants) = All (All (AreThere version)) variants
-ArePlaced version (outside left right) = IsGroup version left × IsGroup version right
+ArePlaced version (outside kind left right) = IsGroup version left × IsGroup version right
 
 unfoldable mutual
   pub IsSound : List Numbered → Shape → Type 0

@@ -4,7 +4,7 @@ use Rattle.plan_runs.specs.steps.OpenedItems.{opened_variant}
 use Rattle.plan_runs.specs.steps.OpenedWords.{opened_group}
 use Rattle.plan_runs.specs.steps.RunShapes.{at_edge, outside}
 use Rattle.plan_runs.proofs.OpenedMerges.{merge_opened}
-use Rattle.plan_runs.proofs.OpenedPlaced.{apart_placed, edge_placed, placed_opened}
+use Rattle.plan_runs.proofs.OpenedPlaced.{edge_placed, outside_placed, placed_opened}
 use Rattle.plan_runs.proofs.opening.open_filtered.Goals as goal
 
 pub returns-in-Some : goal.returns-in-Some
@@ -23,13 +23,14 @@ returns-in-Some-edge_of c =
     (edge_placed opening.looks opening.lists.now.stems opening.version.now c.args.plan.now.operator edge phrase (sym c.in-Some-edge_of.ensures))
     c.in_ok-placed.ensures
 
-pub returns-in-Some-apart_of : goal.returns-in-Some-apart_of
-returns-in-Some-apart_of c =
+pub returns-in-Some-outside_of : goal.returns-in-Some-outside_of
+returns-in-Some-outside_of c =
     let opening = c.args.opening.now in
-    let left = c.in-Some-apart_of.left.now in
-    let right = c.in-Some-apart_of.right.now in
+    let kind = c.in-Some-outside_of.kind in
+    let left = c.in-Some-outside_of.left.now in
+    let right = c.in-Some-outside_of.right.now in
     placed_opened opening.looks opening.lists.now.stems opening.version.now c.in_ok-placed-2.placed c.args.plan.now
-    (outside (opened_group opening.looks opening.lists.now.stems opening.version.now left.variants)
+    (outside kind (opened_group opening.looks opening.lists.now.stems opening.version.now left.variants)
     (opened_group opening.looks opening.lists.now.stems opening.version.now right.variants))
-    (apart_placed opening.looks opening.lists.now.stems opening.version.now c.args.plan.now.operator left right (sym c.in-Some-apart_of.ensures))
+    (outside_placed opening.looks opening.lists.now.stems opening.version.now c.args.plan.now.operator kind left right (sym c.in-Some-outside_of.ensures))
     c.in_ok-placed-2.ensures

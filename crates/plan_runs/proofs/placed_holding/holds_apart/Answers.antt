@@ -4,7 +4,7 @@ use Rattle.std.proofs.lemmas.Bool.{and_from}
 use Rattle.index_phrases.specs.steps.Aiming.{variant_words}
 use Rattle.index_phrases.proofs.AimLemmas.{sizes_kept}
 use Rattle.place_merges.specs.Sources.{all_plain}
-use Rattle.spot_merges.specs.Apart.{some_apart}
+use Rattle.spot_merges.specs.Outside.{stands_outside}
 use Rattle.plan_runs.specs.steps.RunShapes.{outside}
 use Rattle.plan_runs.proofs.GroupLaw.{aimed_spots, all_are_plain}
 use Rattle.plan_runs.proofs.placed_holding.holds_apart.Goals as goal
@@ -14,13 +14,13 @@ returns-clause-says g c =
     let place = c.args.place.now in
     let left = aimed_spots place (map variant_words c.args.phrases.now.left.terms.items) c.aim_variants.new.variants.items c.aim_variants.ensures.aimed in
     let right = aimed_spots place (map variant_words c.args.phrases.now.right.terms.items) c.aim_variants-2.new.variants.items c.aim_variants-2.ensures.aimed in
-    c.stand_apart.ensures.apart ∙ (λ i. some_apart (left i) (right i))
+    c.stand_outside.ensures.outside ∙ (λ i. stands_outside c.args.phrases.now.outside (left i) (right i))
 
 pub returns-clause-same : goal.returns-clause-same
 returns-clause-same g c =
-    let left = sizes_kept c.aim_variants.new.variants.items c.stand_apart.new.left.items c.stand_apart.ensures.left_lists ∙ c.aim_variants.ensures.same in
-    let right = sizes_kept c.aim_variants-2.new.variants.items c.stand_apart.new.right.items c.stand_apart.ensures.right_lists ∙ c.aim_variants-2.ensures.same in
-    λ i. outside (record { terms = c.aim_variants.ensures.terms i; sizes = left i }) (record { terms = c.aim_variants-2.ensures.terms i; sizes = right i })
+    let left = sizes_kept c.aim_variants.new.variants.items c.stand_outside.new.left.items c.stand_outside.ensures.left_lists ∙ c.aim_variants.ensures.same in
+    let right = sizes_kept c.aim_variants-2.new.variants.items c.stand_outside.new.right.items c.stand_outside.ensures.right_lists ∙ c.aim_variants-2.ensures.same in
+    λ i. outside c.args.phrases.now.outside (record { terms = c.aim_variants.ensures.terms i; sizes = left i }) (record { terms = c.aim_variants-2.ensures.terms i; sizes = right i })
 
 pub returns-clause-price : goal.returns-clause-price
 returns-clause-price g c =
@@ -28,5 +28,5 @@ returns-clause-price g c =
     let second = c.aim_variants-2.ensures.price in
     let plain = and_from (all_plain (λ cursor. true) c.aim_variants.new.variants.items) (all_plain (λ cursor. true) c.aim_variants-2.new.variants.items)
     (all_are_plain c.aim_variants.new.variants.items) (all_are_plain c.aim_variants-2.new.variants.items) in
-    let passed = c.stand_apart.ensures.counted plain in
+    let passed = c.stand_outside.ensures.counted plain in
     omega (arith, first, second, passed)

@@ -10,7 +10,8 @@ use Rattle.place_merges.proofs.SpotLemmas.{from_place}
 use Rattle.std.specs.Prelude.{filter}
 use Rattle.spot_merges.specs.Apart.{some_apart}
 use Rattle.spot_merges.specs.steps.Covering.{is_free}
-use Rattle.spot_merges.proofs.CoverLemmas.{free_is, free_led, free_starts}
+use Rattle.spot_merges.proofs.CoverLemmas.{free_is, free_starts}
+use Rattle.spot_merges.proofs.SpotTests.{any_from}
 use Rattle.spot_merges.proofs.apart.stand_apart.Goals as goal
 
 pub loop-at-init : goal.loop-at-init
@@ -45,7 +46,7 @@ returns-then-cover-at-clause-apart g c =
     let free = is_free g.H.Hits.stand to right cover in
     let rest = spots_left to (wanted_words g.H.Hits.stand left) at in
     sym (or_left (free at) (list_any free rest) (free_is g.H.Hits.stand to right cover at c.cover_up_to-cover.ensures.ahead ∙ lt-ltb cover.end (at.place + at.words) c.if-cover-at.true))
-    ∙ free_led g.H.Hits.stand to left c.loop-at.right.items right at c.loop-at.cover cover c.cover_up_to-cover.ensures.same
+    ∙ any_from to at (some_at to (wanted_words g.H.Hits.stand left)) free (is_free g.H.Hits.stand to c.loop-at.right.items c.loop-at.cover) c.cover_up_to-cover.ensures.same
     ∙ sym (ap (list_any (is_free g.H.Hits.stand to c.loop-at.right.items c.loop-at.cover)) c.in-Some.ensures.spots)
     ∙ c.loop-at.invariant.says
 
@@ -64,7 +65,7 @@ loop-at-preserved g c =
     let last = c.cover_up_to-cover.ensures.grown in
     record {
       says = sym (ap (λ b. b || list_any free rest) (free_is g.H.Hits.stand to right cover at c.cover_up_to-cover.ensures.ahead ∙ covered))
-          ∙ free_led g.H.Hits.stand to left c.loop-at.right.items right at c.loop-at.cover cover c.cover_up_to-cover.ensures.same
+          ∙ any_from to at (some_at to (wanted_words g.H.Hits.stand left)) free (is_free g.H.Hits.stand to c.loop-at.right.items c.loop-at.cover) c.cover_up_to-cover.ensures.same
           ∙ sym (ap (list_any (is_free g.H.Hits.stand to c.loop-at.right.items c.loop-at.cover)) c.in-Some.ensures.spots)
           ∙ c.loop-at.invariant.says;
       inside = c.cover_up_to-cover.ensures.inside;

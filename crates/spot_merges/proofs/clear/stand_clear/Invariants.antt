@@ -1,0 +1,30 @@
+-- A spot of the left side has a clear window where one that is left has.
+use Rattle.std.proofs.Common.{◌≡◌, ◌≤◌, ◌+◌, ◌*◌, ◌&&◌, length}
+use Rattle.std.specs.Prelude.{IsTrue}
+use Rattle.std.specs.List.{list_any}
+use Rattle.std.specs.Option.{ForSome}
+use Rattle.place_merges.specs.Sources.{all_left, all_lists, all_plain, wanted_words}
+use Rattle.place_merges.specs.Spots.{spots_left}
+use Rattle.spot_merges.specs.Clear.{begins, some_clear}
+use Rattle.spot_merges.specs.Edges.{spots_of}
+use Rattle.spot_merges.specs.steps.Clearing.{is_clear}
+use Rattle.spot_merges.proofs.clear.stand_clear.Given as goal
+
+abbrev pub invariant-loop-at : goal.invariant-loop-at
+invariant-loop-at g l = record {
+  says : list_any (is_clear g.H.Hits.stand l.span.to l.size l.right.items l.passed) (spots_left l.span.to (wanted_words g.H.Hits.stand l.left.items) l.after)
+      ≡ some_clear l.size (begins (spots_of l.span (wanted_words g.H.Hits.stand l.fn.left.items))) (begins (spots_of l.span (wanted_words g.H.Hits.stand l.fn.right.items)));
+  behind : ForSome l.passed.last (λ last. last ≤ l.after.place);
+  ordered : ForSome l.passed.last (λ last. ForSome l.passed.next (λ at. last ≤ at.place));
+  left_lists : all_lists g.H.Hits.stand l.left.items ≡ all_lists g.H.Hits.stand l.fn.left.items;
+  right_lists : all_lists g.H.Hits.stand l.right.items ≡ all_lists g.H.Hits.stand l.fn.right.items;
+  left_plain : all_plain g.H.Hits.plain l.left.items ≡ all_plain g.H.Hits.plain l.fn.left.items;
+  right_plain : all_plain g.H.Hits.plain l.right.items ≡ all_plain g.H.Hits.plain l.fn.right.items;
+  counted : IsTrue (all_plain g.H.Hits.plain l.fn.left.items && all_plain g.H.Hits.plain l.fn.right.items)
+      → l.steps + (2 * all_left g.H.Hits.stand l.left.items + 2 * all_left g.H.Hits.stand l.right.items)
+      ≤ l.fn.steps + (2 * all_left g.H.Hits.stand l.fn.left.items + 2 * all_left g.H.Hits.stand l.fn.right.items);
+  grown : l.fn.steps ≤ l.steps;
+}
+
+abbrev pub decreases-loop-at : goal.decreases-loop-at
+decreases-loop-at g l = length (spots_left l.span.to (wanted_words g.H.Hits.stand l.left.items) l.after)
