@@ -1,8 +1,10 @@
 -- One document is exchanged for another: how often an id is counted then, and which ids stay in the dictionary.
-use Rattle.std.proofs.Common.{◌≡◌, ℕ, ◌<◌, ◌+◌, ◌-◌, Bool, true, false, ◌&&◌, ◌||◌, ◌==◌, cond, not, List, [], ◌∷◌, Option, Some, None, refl, ap, sym, ◌∙◌, arith, true≢false, inl, inr}
+use Rattle.std.proofs.Common.{◌≡◌, ℕ, ◌<◌, ◌+◌, ◌-◌, Bool, true, false, ◌&&◌, ◌||◌, ◌==◌, cond, not, List, [], ◌∷◌, Option, Some, None, refl, ap, sym, ◌∙◌, arith, true≢false, inl, inr, subst}
 use Rattle.std.specs.Prelude.{nat_lt, filter}
+use Rattle.std.specs.List.{All}
 use Rattle.std.proofs.lemmas.Bool.{and_parts, and_from, or_cases, or_left, or_right, false_from_ne_true, not_from_false, lt-ltb, eqb-true}
 use Rattle.std.proofs.lemmas.List.Sums.{sum_by-cons}
+use Rattle.std.proofs.lemmas.List.Elements.{All-weaker}
 use Rattle.ft_base.specs.Places.{is_ascending}
 use Rattle.doc_index.specs.Terms.{are_distinct, has, terms_of}
 use Rattle.ft_base.proofs.PlacesLemmas.{rest-ascending}
@@ -13,8 +15,9 @@ use Rattle.index_versions.specs.declared.parts.Parts.{Parts}
 use Rattle.index_versions.specs.steps.Held.{Held, held_ids, documents_with, numbers, listed, listed_ids}
 use Rattle.index_versions.specs.steps.Exchange.{held_before, of_number, in_back, exchanged}
 use Rattle.index_versions.specs.steps.Naming.{are_keyed}
-use Rattle.index_versions.specs.steps.Sound.{IsSound, IsSoundFor}
+use Rattle.index_versions.specs.steps.Sound.{IsGrouped, IsSound, IsSoundFor}
 use Rattle.index_versions.proofs.ExchangeLemmas.{whole, counts_exchanged, ascending_exchanged, HasNumber}
+use Rattle.index_versions.proofs.GroupLemmas.{exchanged_grouped}
 
 -- ---- the ids that no document has any more are all different
 
@@ -137,8 +140,9 @@ pub sound_then : (doc : ℕ) (old new : Option Held) (before after : Parts) (shi
     → ((id : ℕ) → shifted id ≡ count_of before.counts id + documents_with id (listed new)) → ((id : ℕ) → count_of after.counts id ≡ shifted id - documents_with id (listed old))
     → ((id : ℕ) → has id gone ≡ (has id (listed_ids old) && not (nat_lt 0 (count_of after.counts id))))
     → ((id : ℕ) → has id (ids after.dictionary.terms) ≡ (not (has id gone) && has id (ids before.dictionary.terms)))
+    → ((held : Held) → IsGrouped before.groups held → IsGrouped after.groups held) → All (IsGrouped after.groups) (listed new)
     → after.dictionary.given ≡ before.dictionary.given → IsSound after
-sound_then doc old new before after shifted gone number sound is becomes first second fallen_are left given =
+sound_then doc old new before after shifted gone number sound is becomes first second fallen_are left others next given =
     let hs = before.documents in
     let counted : (id : ℕ) → count_of after.counts id ≡ documents_with id (exchanged doc (listed new) hs) =
     λ id. counted_then id doc hs old new (count_of before.counts id) (shifted id) (count_of after.counts id) sound.ascending is (sound.counted id) (first id) (second id) in
@@ -149,5 +153,7 @@ sound_then doc old new before after shifted gone number sound is becomes first s
           (sound.used id) (fallen_are id) (counted id) (left id)
           ∙ ap (λ xs. nat_lt 0 (documents_with id xs)) (sym becomes);
       counted = λ id. counted id ∙ ap (documents_with id) (sym becomes);
+      grouped = subst (All (IsGrouped after.groups)) (sym becomes)
+          (exchanged_grouped after.groups doc (listed new) hs (All-weaker (IsGrouped before.groups) (IsGrouped after.groups) others hs sound.grouped) next);
       keyed = ap are_keyed given ∙ sound.keyed;
     }

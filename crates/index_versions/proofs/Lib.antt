@@ -3,6 +3,7 @@ pub mod WordLemmas
 pub mod DocumentLemmas
 pub mod EntryLemmas
 pub mod ExchangeLemmas
+pub mod GroupLemmas
 pub mod LeafLemmas
 pub mod LikelyLemmas
 pub mod NamingLemmas

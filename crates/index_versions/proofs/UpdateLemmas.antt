@@ -1,10 +1,12 @@
 -- What each change of a document means, and that what always holds of a version holds before the document is exchanged.
-use Rattle.std.proofs.Common.{◌≡◌, ℕ, Bool, true, false, ◌||◌, ◌==◌, cond, not, List, [], ◌∷◌, length, map, Option, Some, None, refl, ap, sym, ◌∙◌, arith, inl, inr}
+use Rattle.std.proofs.Common.{◌≡◌, ℕ, Bool, true, false, ◌||◌, ◌==◌, cond, not, List, [], ◌∷◌, length, map, Option, Some, None, refl, ap, sym, ◌∙◌, arith, inl, inr, subst}
 use Rattle.std.specs.Prelude.{nat_lt, filter, IfSome}
+use Rattle.std.specs.List.{All}
 use Rattle.std.specs.Ordering.{is_eq}
 use Rattle.std.proofs.lemmas.Bool.{and_from, eqb-true, cases_Bool}
 use Rattle.std.proofs.lemmas.Cmp.{eq_by_cmp_equiv, nat_list_cmp_total}
 use Rattle.std.proofs.lemmas.List.{length-map}
+use Rattle.std.proofs.lemmas.List.Elements.{All-cons, All-nil}
 use Rattle.ft_base.specs.declared.ids.LeafId.{LeafId}
 use Rattle.ft_base.specs.declared.places.Breaks.{Breaks}
 use Rattle.ft_base.specs.Places.{is_ascending}
@@ -16,19 +18,21 @@ use Rattle.index_meaning.specs.Dictionaries.{Dictionary, ids}
 use Rattle.index_meaning.specs.Documents.{Leaf, Document, leaf_of, document_of, numbered, leaf_words, has_leaf, token_count, with_leaf, without_leaf, with_breaks}
 use Rattle.index_meaning.specs.Documents.{document_at, with_document, leaves_with}
 use Rattle.document_counts.specs.Counts.{count_of}
+use Rattle.term_groups.specs.Groups.{may_be}
 use Rattle.index_versions.specs.declared.parts.Parts.{Parts}
 use Rattle.index_versions.specs.steps.Held.{Held, held_of, word_of, leaf_under, document_under, documents_under, numbers, held_ids, documents_with, held_at, listed, ids_of_leaf, place_following}
 use Rattle.index_versions.specs.steps.Exchange.{of_number, exchanged}
 use Rattle.index_versions.specs.steps.Naming.{are_keyed, entries_of, all_words, IsNamed}
-use Rattle.index_versions.specs.steps.Sound.{IsSound, IsSoundFor, meaning}
+use Rattle.index_versions.specs.steps.Sound.{IsGrouped, IsSound, IsSoundFor, meaning}
 use Rattle.index_versions.proofs.ChangeLemmas.{once}
 use Rattle.index_versions.proofs.WordLemmas.{words_of_entries}
 use Rattle.index_versions.proofs.DocumentLemmas.{all_ids, used_has, used_at, at_under, words_under, Agree, same_leaves, same_under}
 use Rattle.index_versions.proofs.ExchangeLemmas.{where_is, whole, counts_exchanged, ascending_exchanged, HasNumber, with_under}
+use Rattle.index_versions.proofs.GroupLemmas.{at_grouped, exchanged_grouped}
 use Rattle.index_versions.proofs.LeafLemmas.{put_under, taken_under, words_under_leaf, has_inserted, has_taken}
 
 abbrev pub parts_with : Parts → Dictionary → Parts
-parts_with parts dictionary = record { documents = parts.documents; dictionary = dictionary; counts = parts.counts }
+parts_with parts dictionary = record { documents = parts.documents; dictionary = dictionary; counts = parts.counts; groups = parts.groups }
 
 pub held_number : (n : ℕ) (hs : List Held) → (held_at n hs).index.doc ≡ n
 held_number n [] = refl
@@ -99,6 +103,7 @@ module _ (parts : Parts) (n : ℕ) (after : Option LeafId) (leaf : ℕ) (words :
             ∙ absorb (has id named) (has id (held_ids held)) (nat_lt 0 (documents_with id parts.documents)) (used_there n id parts.documents)
             ∙ ap (λ b. b || nat_lt 0 (documents_with id parts.documents)) (sym own);
         counted = put.sound.counted;
+        grouped = put.sound.grouped;
         keyed = put.names.keyed put.sound.keyed (entries_keyed words);
       }
 
@@ -137,6 +142,7 @@ module _ (parts : Parts) (n leaf : ℕ) (next : Held) (taken : IsTaken parts n l
         ∙ absorb false (has id (held_ids next)) (nat_lt 0 (documents_with id parts.documents))
         (λ there. used_there n id parts.documents (has_taken id leaf (held_at n parts.documents).index.leaves (ap (λ (h : Held). has id (held_ids h)) (sym taken.next_is) ∙ there)));
     counted = taken.sound.counted;
+    grouped = taken.sound.grouped;
     keyed = taken.sound.keyed;
   }
 
@@ -171,6 +177,7 @@ module _ (parts : Parts) (n : ℕ) (leaves : List Leaf) (breaks : Breaks) (new :
         ∙ ap (λ b. has id (by_id.words_of made) || b) (comes.sound.used id)
         ∙ ap (λ (h : Held). has id (held_ids h) || nat_lt 0 (documents_with id parts.documents)) (sym comes.next_is);
     counted = comes.sound.counted;
+    grouped = comes.sound.grouped;
     keyed = comes.names.keyed comes.sound.keyed (entries_keyed (all_words leaves));
   }
 
@@ -201,14 +208,17 @@ same_counts id n new hs up same =
 
 pub same_sound : (parts after : Parts) (n : ℕ) (new : Option Held) → IsSound parts → HasNumber n new
     → ((id : ℕ) → documents_with id (listed new) ≡ cond (has id (held_ids (held_at n parts.documents))) 1 0)
-    → after.documents ≡ exchanged n (listed new) parts.documents → after.dictionary ≡ parts.dictionary → after.counts ≡ parts.counts → IsSound after
-same_sound parts after n new sound number same documents dictionary counts =
+    → All (IsGrouped parts.groups) (listed new) → after.documents ≡ exchanged n (listed new) parts.documents → after.dictionary ≡ parts.dictionary → after.counts ≡ parts.counts
+    → after.groups ≡ parts.groups → IsSound after
+same_sound parts after n new sound number same next documents dictionary counts groups =
     let hs = parts.documents in
     let total : (id : ℕ) → documents_with id after.documents ≡ documents_with id hs = λ id. ap (documents_with id) documents ∙ same_counts id n new hs sound.ascending (same id) in
     record {
       ascending = ap (λ xs. is_ascending (numbers xs)) documents ∙ ascending_exchanged n new hs number sound.ascending;
       used = λ id. ap (λ (d : Dictionary). has id (ids d.terms)) dictionary ∙ sound.used id ∙ ap (nat_lt 0) (sym (total id));
       counted = λ id. ap (λ cs. count_of cs id) counts ∙ sound.counted id ∙ sym (total id);
+      grouped = subst (λ gs. All (IsGrouped gs) after.documents) (sym groups)
+          (subst (All (IsGrouped parts.groups)) (sym documents) (exchanged_grouped parts.groups n (listed new) hs sound.grouped next));
       keyed = ap (λ (d : Dictionary). are_keyed d.given) dictionary ∙ sound.keyed;
     }
 
@@ -222,6 +232,16 @@ breaks_means parts n breaks next sound is =
 pub breaks_counted : (parts : Parts) (n id : ℕ) (breaks : Breaks) (next : Held) → next ≡ held_of (held_at n parts.documents).index breaks
     → documents_with id (next ∷ []) ≡ cond (has id (held_ids (held_at n parts.documents))) 1 0
 breaks_counted parts n id breaks next is = once id (Some next) ∙ ap (λ (h : Held). cond (has id (held_ids h)) 1 0) is
+
+pub breaks_grouped : (parts : Parts) (n : ℕ) (breaks : Breaks) (next : Held) → IsSound parts → next ≡ held_of (held_at n parts.documents).index breaks
+    → All (IsGrouped parts.groups) (next ∷ [])
+breaks_grouped parts n breaks next sound is =
+    let hs = parts.documents in
+    All-cons (IsGrouped parts.groups) next []
+    (λ id there.
+    ap (may_be parts.groups id) (ap (λ (h : Held). h.index.doc) is ∙ held_number n hs)
+    ∙ at_grouped parts.groups n hs sound.grouped id (ap (λ (h : Held). has id (held_ids h)) (sym is) ∙ there))
+    (All-nil (IsGrouped parts.groups))
 
 -- ---- a document without leaves goes
 

@@ -1,11 +1,12 @@
-//! One document of a version goes, comes or is exchanged for another, and the dictionary and the counts follow.
+//! One document of a version goes, comes or is exchanged for another, and the dictionary, the counts and the groups follow.
 ghost use Rattle.std.specs.Prelude.{◌≡◌, ◌<◌, ◌+◌, ◌-◌, ◌&&◌, ◌==◌, ℕ, nat_lt, not, true, IfOk, IfSome, OnOk};
 ghost use Rattle.doc_index.specs.Terms.{are_distinct, has};
 ghost use Rattle.index_meaning.specs.Dictionaries.{ids};
 ghost use Rattle.document_counts.specs.Counts.{count_of};
-ghost use Rattle.index_versions.specs.steps.Held.{documents_with, listed, listed_ids};
+ghost use Rattle.std.specs.List.{All};
+ghost use Rattle.index_versions.specs.steps.Held.{Held, documents_with, listed, listed_ids};
 ghost use Rattle.index_versions.specs.steps.Exchange.{exchanged};
-ghost use Rattle.index_versions.specs.steps.Sound.{IsSound, IsSoundFor};
+ghost use Rattle.index_versions.specs.steps.Sound.{IsGrouped, IsSound, IsSoundFor};
 
 use crate::exchange::exchange;
 use crate::held::HeldDocument;
@@ -15,6 +16,7 @@ use ft_base::{DocId, Line, Memory};
 use std::alloc::Global;
 use std::mem;
 use term_dict::TermDict;
+use term_groups::TermGroups;
 
 /// Puts a document, whose words the dictionary has, in the place of the one with that number, or takes that one out. A
 /// term that no document has any more leaves the dictionary.
@@ -31,6 +33,7 @@ pub(crate) fn change(
     ensures given { OnOk result (parts.new.dictionary.given ≡ parts.old.dictionary.given) }
 {
     raise(alloc, &mut parts.counts, &next)?;
+    mark(alloc, &mut parts.groups, &next)?;
     let old = exchange(&mut parts.documents, doc, next)?;
     let fallen = lower(alloc, &mut parts.counts, old)?;
     drop_terms(alloc, &mut parts.dictionary, &fallen)?;
@@ -49,6 +52,21 @@ fn raise(
         Some(held) => {
             let before = mem::replace(counts, DocumentCounts::empty(alloc));
             *counts = before.shifted(held.index())?;
+            Ok(())
+        }
+        None => Ok(()),
+    }
+}
+
+/// Marks the group of a document that comes at its ids. Those of the other documents stay marked.
+fn mark(alloc: Global, groups: &mut TermGroups, next: &Option<HeldDocument>) -> Result<(), Memory>
+    ensures others { OnOk result ((held : Held) → IsGrouped groups.old held → IsGrouped groups.new held) }
+    ensures next { OnOk result (All (IsGrouped groups.new) (listed next.now)) }
+{
+    match next {
+        Some(held) => {
+            let before = mem::replace(groups, TermGroups::empty(alloc));
+            *groups = before.with_document(held.index())?;
             Ok(())
         }
         None => Ok(()),

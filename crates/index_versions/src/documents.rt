@@ -24,11 +24,24 @@ pub(crate) fn place_of(documents: &Documents, doc: DocId) -> usize
     requires { is_ascending (numbers documents.now) ≡ true }
     ensures { result ≡ below doc.0 (numbers documents.now) }
 {
-    let likely = doc.0 as usize;
+    let mut left_out = 0;
+    place_near(documents, doc, &mut left_out)
+}
+
+/// The same, where so many numbers are likely left out before the document, which decides at which place is looked first, and nothing
+/// else. Where another place is found, it says how many are.
+pub(crate) fn place_near(documents: &Documents, doc: DocId, left_out: &mut usize) -> usize
+    requires { is_ascending (numbers documents.now) ≡ true }
+    ensures { result ≡ below doc.0 (numbers documents.now) }
+{
+    let number = doc.0 as usize;
+    let likely = number.saturating_sub(*left_out);
     if stands_at(documents, likely, doc) {
         return likely;
     }
-    sought_place(documents, doc)
+    let place = sought_place(documents, doc);
+    *left_out = number.saturating_sub(place);
+    place
 }
 
 /// The same, found by halves.

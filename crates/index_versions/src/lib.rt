@@ -3,10 +3,13 @@
 //!
 //! `version` is the type with its terms, `reading` has the calls that read a document, `changing` those that change one.
 //! `term_source` and `term_sources` aim cursors at the hits of terms, which `term_cursor` has, and tell the first place of a span
-//! (`first_places`). `word_leaf` is a text that comes in. Inside,
-//! `parts` is what a version is made of, `held` one of its documents, `documents` finds one, and `terms` has the terms and
-//! their ids; `words` makes words into ids, `hints` says where to look for one first, `leaves` puts leaves in and takes them
-//! out, `exchange` puts a document in the place of another, and `changes` keeps the dictionary and the counts with it.
+//! (`first_places`). `word_leaf` is a text that comes in. Inside, `parts` is what a version is made of, `held` one of its documents,
+//! `documents` finds one, and `terms` has the terms and their ids.
+//! `words` makes words into ids, `hints` says where to look for one first, `leaves` puts leaves in and takes them out, `exchange`
+//! puts a document in the place of another, and `changes` keeps the dictionary, the counts and the groups with it.
+//!
+//! Of each term it is known in which groups of documents it may stand. A term is looked up in the documents of these groups only, so
+//! that a rare one is found without a look at most of the other documents.
 #![tactic(auto)]
 
 mod changes;

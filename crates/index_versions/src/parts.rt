@@ -6,14 +6,16 @@ use document_counts::DocumentCounts;
 use ft_base::Memory;
 use std::alloc::Global;
 use term_dict::TermDict;
+use term_groups::TermGroups;
 
 /// What a version is made of: its documents in the order of their numbers, over the ids of their words; the dictionary
-/// that names these ids; and how many documents have each.
+/// that names these ids; how many documents have each; and in which groups of documents each may stand.
 #[derive(Drop)]
 pub struct Parts {
     pub documents: Documents,
     pub dictionary: TermDict,
     pub counts: DocumentCounts,
+    pub groups: TermGroups,
 }
 
 impl Parts {
@@ -22,11 +24,13 @@ impl Parts {
         ensures documents { result.documents ≡ [] }
         ensures dictionary { result.dictionary ≡ dictionary [] [] }
         ensures counts { result.counts ≡ [] }
+        ensures groups { result.groups ≡ [] }
     {
         Parts {
             documents: Documents::new(alloc),
             dictionary: TermDict::empty(alloc),
             counts: DocumentCounts::empty(alloc),
+            groups: TermGroups::empty(alloc),
         }
     }
 
@@ -35,14 +39,17 @@ impl Parts {
         ensures documents { IfOk result (λ copy. copy.documents ≡ self.now.documents) }
         ensures dictionary { IfOk result (λ copy. copy.dictionary ≡ self.now.dictionary) }
         ensures counts { IfOk result (λ copy. copy.counts ≡ self.now.counts) }
+        ensures groups { IfOk result (λ copy. copy.groups ≡ self.now.groups) }
     {
         let documents = self.documents.copy()?;
         let dictionary = self.dictionary.copy()?;
         let counts = self.counts.copy()?;
+        let groups = self.groups.copy()?;
         Ok(Parts {
             documents,
             dictionary,
             counts,
+            groups,
         })
     }
 }

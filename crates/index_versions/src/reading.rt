@@ -4,11 +4,11 @@ ghost use Rattle.ft_base.specs.Places.{is_ascending};
 ghost use Rattle.index_meaning.specs.Documents.{breaks_of, document_at, document_ids, has_document, has_leaf, leaf_ids, token_count};
 ghost use Rattle.index_meaning.specs.Postings.{places};
 ghost use Rattle.index_versions.specs.Versions.{all_hits, stands_in, term_at, term_hits, terms_of};
-ghost use Rattle.index_versions.specs.steps.Found.{IsFoundTerm};
+ghost use Rattle.index_versions.specs.steps.Found.{AreGroupsOf, IsFoundTerm};
 ghost use Rattle.index_versions.specs.steps.Held.{document_under, held_at};
 ghost use Rattle.index_versions.specs.steps.Sound.{IsSound, meaning};
 
-use crate::documents::{document, has_document, place_of, stands_at};
+use crate::documents::{document, has_document, place_near, stands_at};
 use crate::held::HeldDocument;
 use crate::parts::Parts;
 use crate::term_source::FoundTerm;
@@ -18,6 +18,7 @@ use doc_index::TermPlaces;
 use ft_base::{DocId, LeafId, Span, Steps};
 use index_cursors::{BreakView, Cursor, Every};
 use std::sync::ledger::Ledger;
+use term_groups::Groups;
 
 impl Version {
     /// Whether the document is there. Documents are in the order of their numbers, each once.
@@ -74,6 +75,15 @@ impl Version {
         places.len() > 0
     }
 
+    /// In which groups of documents the term of that number, counted from 0, may stand: in a document of another group it doesn't.
+    pub(crate) fn groups(&self, term: usize) -> Groups
+        requires { term < length (terms_of self.now) }
+        ensures { AreGroupsOf self.now term result }
+    {
+        let id = term_id(&self.parts, term);
+        self.parts.groups.groups_of(id)
+    }
+
     /// A cursor over the places of the term of that number in a span of the document, at the first of them. Counts one
     /// step, for which it searches the places of the term from a guess on, by steps that double.
     pub fn cursor<'v, L: Ledger>(
@@ -113,14 +123,20 @@ impl Version {
         (places, BreakView::new(held.breaks()))
     }
 
-    /// The term of that number and the document, looked up; `None` exactly where the document isn't there.
-    pub(crate) fn find(&self, term: usize, doc: DocId) -> Option<FoundTerm<'_>>
+    /// The term of that number and the document, looked up; `None` exactly where the document isn't there. So many numbers are likely
+    /// left out before the document, as `place_near` has it.
+    pub(crate) fn find(
+        &self,
+        term: usize,
+        doc: DocId,
+        left_out: &mut usize,
+    ) -> Option<FoundTerm<'_>>
         requires { term < length (terms_of self.now) }
         ensures there { is_some result ≡ has_document doc.0 self.now }
         ensures doc { IfSome result (λ found. found.doc ≡ doc) }
         ensures found { IfSome result (IsFoundTerm self.now term) }
     {
-        let held = find_held(&self.parts, doc)?;
+        let held = find_held(&self.parts, doc, left_out)?;
         let id = term_id(&self.parts, term);
         let places = held.index().places(id);
         let stands = !places.is_empty();
@@ -144,15 +160,15 @@ fn held(parts: &Parts, doc: DocId) -> &HeldDocument
     document(&parts.documents, doc)
 }
 
-/// The document of that number, with what it means, and `None` exactly where there is none.
-fn find_held(parts: &Parts, doc: DocId) -> Option<&HeldDocument>
+/// The document of that number, with what it means, and `None` exactly where there is none. So many numbers are likely left out before it.
+fn find_held<'v>(parts: &'v Parts, doc: DocId, left_out: &mut usize) -> Option<&'v HeldDocument>
     requires { IsSound parts.now }
     ensures there { is_some result ≡ has_document doc.0 (meaning parts.now) }
     ensures held { IfSome result (λ held. held.now ≡ held_at doc.0 parts.now.documents) }
     ensures meant { IfSome result (λ held. document_under parts.now.dictionary.given held.now ≡ document_at doc.0 (meaning parts.now)) }
 {
     let documents = &parts.documents;
-    let at = place_of(documents, doc);
+    let at = place_near(documents, doc, left_out);
     if !stands_at(documents, at, doc) {
         return None;
     }

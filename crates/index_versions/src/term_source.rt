@@ -14,6 +14,7 @@ use ft_base::{DocId, Span, Steps};
 use index_cursors::{BreakView, first_word, first_word_near};
 use std::marker::Model;
 use std::sync::ledger::Ledger;
+use term_groups::Groups;
 
 /// A document in which a term was looked up.
 #[derive(Drop)]
@@ -72,25 +73,30 @@ impl<'v> FoundTerm<'v> {
 /// A term of a version, at whose hits cursors are aimed. Contracts see the version and the term's number.
 ///
 /// It keeps where the term stands in the document that was looked up or aimed at last: who goes through the spans of one
-/// document after the other looks each document up once.
+/// document after the other looks each document up once. A document of a group in which the term cannot stand isn't looked at.
 #[derive(Drop)]
 pub struct TermSource<'v> {
     version: &'v Version,
     term: usize,
+    // In which groups of documents the term may stand.
+    groups: Groups,
     found: Option<FoundTerm<'v>>,
+    // How many numbers were left out before the document that was found last: as many likely are before the next one.
+    left_out: usize,
 }
 
 impl<'v> Model for TermSource<'v> {
     ghost use Rattle.std.specs.Prelude.{◌<◌, length};
     ghost use Rattle.index_versions.specs.Terms.{VersionTerm, version_term};
     ghost use Rattle.index_versions.specs.Versions.{terms_of};
-    ghost use Rattle.index_versions.specs.steps.Found.{IsFound};
+    ghost use Rattle.index_versions.specs.steps.Found.{AreGroupsOf, IsFound};
 
     ghost Value = { VersionTerm };
 
     ghost view = { λ inside. version_term inside.version.now inside.term };
 
-    ghost invariant = { λ inside. (inside.term < length (terms_of inside.version.now)) × IsFound inside.version.now inside.term inside.found };
+    ghost invariant = { λ inside. (inside.term < length (terms_of inside.version.now))
+        × IsFound inside.version.now inside.term inside.found × AreGroupsOf inside.version.now inside.term inside.groups };
 }
 
 impl<'v> TermSource<'v> {
@@ -104,7 +110,9 @@ impl<'v> TermSource<'v> {
         TermSource {
             version,
             term,
+            groups: version.groups(term),
             found: None,
+            left_out: 0,
         }
     }
 
@@ -113,13 +121,17 @@ impl<'v> TermSource<'v> {
     pub fn first_in(&self, doc: DocId, span: Span) -> Option<u32>
         ensures { result ≡ first_in doc.0 span self.now }
     {
+        if !self.may_stand(doc) {
+            return None;
+        }
         if let Some(found) = &self.found {
             if found.doc.0 == doc.0 {
                 return found.first_in(span);
             }
         }
         let version = self.version;
-        match version.find(self.term, doc) {
+        let mut left_out = self.left_out;
+        match version.find(self.term, doc, &mut left_out) {
             Some(found) => found.first_in(span),
             None => None,
         }
@@ -138,7 +150,16 @@ impl<'v> TermSource<'v> {
         ensures says { result ≡ stands_in self.old.term doc.0 self.old.version }
         ensures same { self.new ≡ self.old }
     {
-        if !keep(&mut self.found, self.version, self.term, doc) {
+        if !self.may_stand(doc) {
+            return false;
+        }
+        if !keep(
+            &mut self.found,
+            &mut self.left_out,
+            self.version,
+            self.term,
+            doc,
+        ) {
             return false;
         }
         match &self.found {
@@ -153,7 +174,16 @@ impl<'v> TermSource<'v> {
         ensures says { result ≡ first_in doc.0 span self.old }
         ensures same { self.new ≡ self.old }
     {
-        if !keep(&mut self.found, self.version, self.term, doc) {
+        if !self.may_stand(doc) {
+            return None;
+        }
+        if !keep(
+            &mut self.found,
+            &mut self.left_out,
+            self.version,
+            self.term,
+            doc,
+        ) {
             return None;
         }
         match &mut self.found {
@@ -176,16 +206,34 @@ impl<'v> TermSource<'v> {
         ensures same { self.new ≡ self.old }
         ensures counted { steps.new ≡ steps.old + 1 }
     {
-        let _there = keep(&mut self.found, self.version, self.term, doc);
+        if !self.may_stand(doc) {
+            cursor.empty(steps);
+            return;
+        }
+        let _there = keep(
+            &mut self.found,
+            &mut self.left_out,
+            self.version,
+            self.term,
+            doc,
+        );
         if let Some(found) = &self.found {
             found.aim(cursor, span, steps);
         }
+    }
+
+    /// Whether the term may stand in the document, by the document's group alone.
+    fn may_stand(&self, doc: DocId) -> bool
+        ensures { IsFalse result → stands_in self.now.term doc.0 self.now.version ≡ false }
+    {
+        self.groups.may_have(doc)
     }
 }
 
 /// Looks the term up in the document where it isn't kept what was found there. Whether the document is there.
 fn keep<'v>(
     found: &mut Option<FoundTerm<'v>>,
+    left_out: &mut usize,
     version: &'v Version,
     term: usize,
     doc: DocId,
@@ -201,7 +249,7 @@ fn keep<'v>(
             return true;
         }
     }
-    match version.find(term, doc) {
+    match version.find(term, doc, left_out) {
         Some(other) => {
             *found = Some(other);
             true

@@ -1,8 +1,9 @@
 -- What was looked up for a term.
-use Rattle.std.specs.Prelude.{◌≡◌, ⊤, ℕ, [], List, Option, Some, None}
+use Rattle.std.specs.Prelude.{◌≡◌, ⊤, ℕ, false, [], List, Option, Some, None}
 use Rattle.ft_base.specs.Hits.{HitPlace, hit_place}
 use Rattle.index_meaning.specs.Documents.{Numbered, breaks_of, document_at}
 use Rattle.index_meaning.specs.Postings.{places}
+use Rattle.term_groups.specs.Groups.{in_group}
 use Rattle.index_versions.specs.Versions.{stands_in, term_at}
 use Rattle.index_versions.specs.declared.term_source.FoundTerm.{FoundTerm}
 
@@ -16,6 +17,10 @@ pub record IsFoundTerm (version : List Numbered) (term : ℕ) (found : FoundTerm
 abbrev pub IsFound : List Numbered → ℕ → Option FoundTerm → Type 0
 IsFound version term None = ⊤
 IsFound version term (Some found) = IsFoundTerm version term found
+
+-- in a document of another group the term doesn't stand
+abbrev pub AreGroupsOf : List Numbered → ℕ → ℕ → Type 0
+AreGroupsOf version term groups = (doc : ℕ) → in_group groups doc ≡ false → stands_in term doc version ≡ false
 
 -- what was looked up last is the document of that number
 abbrev pub IsKept : ℕ → Option FoundTerm → Type 0

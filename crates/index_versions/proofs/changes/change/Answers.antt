@@ -23,6 +23,6 @@ drop_terms-requires-clause-there c = λ id there.
 
 pub returns-clause-sound : goal.returns-clause-sound
 returns-clause-sound c =
-    sound_then c.args.doc.0 c.in_ok-old.old c.args.next c.args.parts.now (record { documents = c.exchange.new.documents; dictionary = c.drop_terms.new.dictionary; counts = c.lower.new.counts })
+    sound_then c.args.doc.0 c.in_ok-old.old c.args.next c.args.parts.now (record { documents = c.exchange.new.documents; dictionary = c.drop_terms.new.dictionary; counts = c.lower.new.counts; groups = c.mark.new.groups })
     (λ id. count_of c.raise.new.counts id) c.in_ok-fallen.fallen.items c.requires.number c.requires.sound c.in_ok-old.ensures.old c.in_ok-old.ensures.documents
-    c.in_ok-raise.ensures c.in_ok-fallen.ensures.counts c.in_ok-fallen.ensures.fallen c.in_ok-drop_terms.ensures.left c.in_ok-drop_terms.ensures.given
+    c.in_ok-raise.ensures c.in_ok-fallen.ensures.counts c.in_ok-fallen.ensures.fallen c.in_ok-drop_terms.ensures.left c.in_ok-mark.ensures.others c.in_ok-mark.ensures.next c.in_ok-drop_terms.ensures.given

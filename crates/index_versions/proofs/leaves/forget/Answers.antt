@@ -1,6 +1,8 @@
 -- A document without leaves uses no id, so that all is sound without it.
 use Rattle.std.proofs.Common.{None, refl, ap, ◌∙◌}
+use Rattle.std.proofs.lemmas.List.Elements.{All-nil}
 use Rattle.index_versions.specs.steps.Held.{documents_under}
+use Rattle.index_versions.specs.steps.Sound.{IsGrouped}
 use Rattle.index_versions.proofs.ExchangeLemmas.{without_under}
 use Rattle.index_versions.proofs.UpdateLemmas.{same_sound, bare_counted}
 use Rattle.index_versions.proofs.leaves.forget.Goals as goal
@@ -8,8 +10,8 @@ use Rattle.index_versions.proofs.leaves.forget.Goals as goal
 pub returns-clause-sound : goal.returns-clause-sound
 returns-clause-sound c =
     let parts = c.args.parts.now in
-    same_sound parts (record { documents = c.exchange.new.documents; dictionary = parts.dictionary; counts = parts.counts }) c.args.doc.0 None c.requires.sound tt
-    (λ id. bare_counted parts c.args.doc.0 id c.requires.no_leaf) c.in_ok-exchange.ensures.documents refl refl
+    same_sound parts (record { documents = c.exchange.new.documents; dictionary = parts.dictionary; counts = parts.counts; groups = parts.groups }) c.args.doc.0 None c.requires.sound tt
+    (λ id. bare_counted parts c.args.doc.0 id c.requires.no_leaf) (All-nil (IsGrouped parts.groups)) c.in_ok-exchange.ensures.documents refl refl refl
 
 pub returns-clause-ok : goal.returns-clause-ok
 returns-clause-ok c =

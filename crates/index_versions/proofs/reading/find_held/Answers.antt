@@ -9,16 +9,16 @@ pub get-requires : goal.get-requires
 get-requires c =
     let id = c.args.doc.0 in
     let hs = c.args.parts.now.documents in
-    let at = c.place_of-at.result in
+    let at = c.place_near-at.result in
     let there : stands id hs at ≡ true = sym c.stands_at.ensures ∙ c.if-not-stands_at.false in
-    (omega arith, within id at hs (stands id hs at) c.requires.ascending c.place_of-at.ensures refl there)
+    (omega arith, within id at hs (stands id hs at) c.requires.ascending c.place_near-at.ensures refl there)
 
 pub returns-then-not-stands_at-clause-there : goal.returns-then-not-stands_at-clause-there
 returns-then-not-stands_at-clause-there c =
     let parts = c.args.parts.now in
     sym c.if-not-stands_at.true
     ∙ c.stands_at.ensures
-    ∙ stands_has c.args.doc.0 c.place_of-at.result parts.documents c.requires.ascending c.place_of-at.ensures
+    ∙ stands_has c.args.doc.0 c.place_near-at.result parts.documents c.requires.ascending c.place_near-at.ensures
     ∙ sym (has_under parts.dictionary.given c.args.doc.0 parts.documents)
 
 pub returns-clause-there : goal.returns-clause-there
@@ -26,16 +26,16 @@ returns-clause-there c =
     let parts = c.args.parts.now in
     sym c.if-not-stands_at.false
     ∙ c.stands_at.ensures
-    ∙ stands_has c.args.doc.0 c.place_of-at.result parts.documents c.requires.ascending c.place_of-at.ensures
+    ∙ stands_has c.args.doc.0 c.place_near-at.result parts.documents c.requires.ascending c.place_near-at.ensures
     ∙ sym (has_under parts.dictionary.given c.args.doc.0 parts.documents)
 
 pub returns-clause-held : goal.returns-clause-held
 returns-clause-held c =
     let id = c.args.doc.0 in
     let hs = c.args.parts.now.documents in
-    let at = c.place_of-at.result in
+    let at = c.place_near-at.result in
     let there : stands id hs at ≡ true = sym c.stands_at.ensures ∙ c.if-not-stands_at.false in
-    c.get.ensures ∙ read_held id at hs (stands id hs at) c.requires.ascending c.place_of-at.ensures refl c.get.result.now there
+    c.get.ensures ∙ read_held id at hs (stands id hs at) c.requires.ascending c.place_near-at.ensures refl c.get.result.now there
 
 pub returns-clause-meant : goal.returns-clause-meant
 returns-clause-meant c =

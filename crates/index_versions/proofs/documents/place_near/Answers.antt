@@ -2,10 +2,11 @@
 use Rattle.std.proofs.Common.{sym, ◌∙◌}
 use Rattle.index_versions.specs.steps.Held.{numbers}
 use Rattle.index_versions.proofs.LikelyLemmas.{Standing, standing, below-at}
-use Rattle.index_versions.proofs.documents.place_of.Goals as goal
+use Rattle.index_versions.proofs.documents.place_near.Goals as goal
 
 pub returns-then-stands_at : goal.returns-then-stands_at
 returns-then-stands_at c =
     let all = numbers c.args.documents.now in
-    let s : Standing all c.args.doc.0 c.args.doc.0 = standing all c.args.doc.0 c.args.doc.0 (sym c.stands_at.ensures ∙ c.if-stands_at.true) in
-    sym (below-at all c.args.doc.0 c.args.doc.0 c.requires s.there s.is)
+    let at = c.saturating_sub-likely.result in
+    let s : Standing all at c.args.doc.0 = standing all at c.args.doc.0 (sym c.stands_at.ensures ∙ c.if-stands_at.true) in
+    sym (below-at all at c.args.doc.0 c.requires s.there s.is)
