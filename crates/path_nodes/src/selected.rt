@@ -51,13 +51,16 @@ pub fn nodes<T: TextTest>(
         → Costs tree.now.root (T.meaning test.old) price
         → T.cost test.new ≤ T.cost test.old + total_price price (selected_tests satisfies (form.steps (map view.step steps.now)) (plain tree.now.root)) }
 {
-    let root = tree.root();
+    // No two nodes have one number, as the clauses of `root` say.
+    let _root = tree.root();
     if steps.is_empty() {
         return Ok(Vec::new(alloc));
     }
     if lead_nowhere(tree, steps, test) {
         return Ok(Vec::new(alloc));
     }
+    // Nothing of a document without an answer is read, not even where its root is.
+    let root = tree.root();
     let mut known = Known::new(alloc, steps);
     let step = steps.get(0);
     let number = after_step(0, step)?;

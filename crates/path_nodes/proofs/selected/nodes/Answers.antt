@@ -51,10 +51,10 @@ returns-then-lead_nowhere-clause-agrees g c = λ satisfies agree.
 
 pub from_document-requires-clause-root : goal.from_document-requires-clause-root
 from_document-requires-clause-root g c =
-    root-there c.args.tree.now.root c.root-root.result c.root-root.ensures.root c.root-root.ensures.apart c.requires.root
+    root-there c.args.tree.now.root c.root-root-2.result c.root-root-2.ensures.root c.root-root-2.ensures.apart c.requires.root
 
 pub from_document-requires-clause-first : goal.from_document-requires-clause-first
-from_document-requires-clause-first g c = root-placed c.args.tree.now.root c.root-root.result c.root-root.ensures.root c.root-root.ensures.apart
+from_document-requires-clause-first g c = root-placed c.args.tree.now.root c.root-root-2.result c.root-root-2.ensures.root c.root-root-2.ensures.apart
 
 pub from_document-requires-clause-asked : goal.from_document-requires-clause-asked
 from_document-requires-clause-asked g c =
@@ -74,14 +74,14 @@ from_document-requires-clause-known g c =
 
 pub led-requires-clause-base : goal.led-requires-clause-base
 led-requires-clause-base g c =
-    root-there c.args.tree.now.root c.root-root.result c.root-root.ensures.root c.root-root.ensures.apart c.requires.root
+    root-there c.args.tree.now.root c.root-root-2.result c.root-root-2.ensures.root c.root-root-2.ensures.apart c.requires.root
 
 pub led-requires-clause-inside : goal.led-requires-clause-inside
 led-requires-clause-inside g c =
     let root = c.args.tree.now.root in
-    let base = element_of root c.root-root.result in
+    let base = element_of root c.root-root-2.result in
     all-refs root (AtOrBelow base) c.in_ok-first.first
-    (below-root root base (root-placed root c.root-root.result c.root-root.ensures.root c.root-root.ensures.apart) (map (element_of root) c.in_ok-first.first))
+    (below-root root base (root-placed root c.root-root-2.result c.root-root-2.ensures.root c.root-root-2.ensures.apart) (map (element_of root) c.in_ok-first.first))
 
 pub led-requires-clause-ordered : goal.led-requires-clause-ordered
 led-requires-clause-ordered g c =
@@ -122,7 +122,7 @@ returns-clause-agrees g c = λ satisfies agree.
     let root = c.args.tree.now.root in
     returns-clause-elements g c
     ∙ selected-alike (satisfied root (g.T.TextTest.meaning c.args.test.now)) satisfies (plain root)
-    (agrees-there root c.root-root.ensures.apart (g.T.TextTest.meaning c.args.test.now) satisfies agree) (form.steps (map view.step c.args.steps.now))
+    (agrees-there root c.root-root-2.ensures.apart (g.T.TextTest.meaning c.args.test.now) satisfies agree) (form.steps (map view.step c.args.steps.now))
 
 pub returns-in_err-first-clause-cost : goal.returns-in_err-first-clause-cost
 returns-in_err-first-clause-cost g c =
@@ -147,17 +147,17 @@ returns-clause-cost g c =
 pub returns-in_err-first-clause-costs : goal.returns-in_err-first-clause-costs
 returns-in_err-first-clause-costs g c = λ satisfies price agree costs.
     subst (λ n. g.T.TextTest.cost c.from_document.new.test ≤ g.T.TextTest.cost c.args.test.now + n)
-    (selected-prices c.args.tree.now.root (g.T.TextTest.meaning c.args.test.now) satisfies price c.root-root.ensures.apart agree costs (form.steps (map view.step c.args.steps.now)))
+    (selected-prices c.args.tree.now.root (g.T.TextTest.meaning c.args.test.now) satisfies price c.root-root-2.ensures.apart agree costs (form.steps (map view.step c.args.steps.now)))
     (returns-in_err-first-clause-cost g c)
 
 pub returns-in_err-found-clause-costs : goal.returns-in_err-found-clause-costs
 returns-in_err-found-clause-costs g c = λ satisfies price agree costs.
     subst (λ n. g.T.TextTest.cost c.led.new.test ≤ g.T.TextTest.cost c.args.test.now + n)
-    (selected-prices c.args.tree.now.root (g.T.TextTest.meaning c.args.test.now) satisfies price c.root-root.ensures.apart agree costs (form.steps (map view.step c.args.steps.now)))
+    (selected-prices c.args.tree.now.root (g.T.TextTest.meaning c.args.test.now) satisfies price c.root-root-2.ensures.apart agree costs (form.steps (map view.step c.args.steps.now)))
     (returns-in_err-found-clause-cost g c)
 
 pub returns-clause-costs : goal.returns-clause-costs
 returns-clause-costs g c = λ satisfies price agree costs.
     subst (λ n. g.T.TextTest.cost c.led.new.test ≤ g.T.TextTest.cost c.args.test.now + n)
-    (selected-prices c.args.tree.now.root (g.T.TextTest.meaning c.args.test.now) satisfies price c.root-root.ensures.apart agree costs (form.steps (map view.step c.args.steps.now)))
+    (selected-prices c.args.tree.now.root (g.T.TextTest.meaning c.args.test.now) satisfies price c.root-root-2.ensures.apart agree costs (form.steps (map view.step c.args.steps.now)))
     (returns-clause-cost g c)
