@@ -1,9 +1,9 @@
 -- A cursor that has passed some hits of its span: what it reads, and where it goes.
-use Rattle.std.proofs.Common.{◌≡◌, ℕ, ◌+◌, ◌-◌, ◌<◌, ◌≤◌, suc, zero, Bool, true, false, cond, ◌&&◌, List, [], ◌∷◌, length, drop, get_or, Option, refl, sym, ap, ◌∙◌, arith, length-drop}
+use Rattle.std.proofs.Common.{◌≡◌, ℕ, ◌+◌, ◌-◌, ◌<◌, ◌≤◌, suc, zero, Bool, true, false, cond, ◌&&◌, List, [], ◌∷◌, length, drop, Option, refl, sym, ap, ◌∙◌, arith, length-drop}
 use Rattle.std.specs.Prelude.{nat_lt, take_while, map, slice_get, option_map, Some, None}
 use Rattle.std.specs.List.{prefix_len}
-use Rattle.std.proofs.lemmas.Bool.{lt-ltb, le-ltb}
-use Rattle.std.proofs.lemmas.List.{drop-map, drop-drop, drop_more, drop_all}
+use Rattle.std.proofs.lemmas.Bool.{lt-ltb}
+use Rattle.std.proofs.lemmas.List.{drop-map, drop-drop}
 use Rattle.std.proofs.lemmas.List.Sums.{take_while-cons}
 use Rattle.std.proofs.lemmas.List.Folds.{length-prefix_len}
 use Rattle.ft_base.specs.declared.hit.Hit.{Hit}
@@ -57,22 +57,14 @@ module _ (breaks : Breaks) (to first at : ℕ) (xs : List ℕ) (order : first �
 
 -- ---- the first place that is left
 
-module _ (to at : ℕ) (xs : List ℕ) where
-  pub first-past : length xs ≤ at → None ≡ slice_get (places_up_to to at xs) 0
-  first-past past = sym (ap (λ l. slice_get (take_while (λ p. nat_lt p to) l) 0) (drop_all at xs past))
-
-  head : at < length xs → places_up_to to at xs ≡ cond (nat_lt (get_or xs at 0) to) (get_or xs at 0 ∷ places_up_to to (at + 1) xs) []
-  head there = ap (take_while (λ p. nat_lt p to)) (drop_more xs at 0 there) ∙ take_while-cons (λ p. nat_lt p to) (get_or xs at 0) (drop (at + 1) xs)
-
-  pub first-end : at < length xs → to ≤ get_or xs at 0 → None ≡ slice_get (places_up_to to at xs) 0
-  first-end there after =
-      sym (ap (λ l. slice_get l 0) (head there)
-      ∙ ap (λ b. slice_get (cond b (get_or xs at 0 ∷ places_up_to to (at + 1) xs) []) 0) (le-ltb (get_or xs at 0) to after))
-
-  pub first-place : at < length xs → get_or xs at 0 < to → Some (get_or xs at 0) ≡ slice_get (places_up_to to at xs) 0
-  first-place there less =
-      sym (ap (λ l. slice_get l 0) (head there)
-      ∙ ap (λ b. slice_get (cond b (get_or xs at 0 ∷ places_up_to to (at + 1) xs) []) 0) (lt-ltb (get_or xs at 0) to less))
+pub first-place : (end at : ℕ) (xs : List ℕ) (place : ℕ) → Some place ≡ slice_get xs at → place < end → Some place ≡ slice_get (places_up_to end at xs) 0
+first-place end at xs place is less = front (drop at xs) (is ∙ slice-drop xs at)
+  where
+    front : (ys : List ℕ) → Some place ≡ slice_get ys 0 → Some place ≡ slice_get (take_while (λ p. nat_lt p end) ys) 0
+    front [] is = is
+    front (y ∷ ys) is =
+        let below : y < end = grind (arith, is, less) in
+        is ∙ ap (λ l. slice_get l 0) (sym (take_while-cons (λ p. nat_lt p end) y ys ∙ ap (λ b. cond b (y ∷ take_while (λ p. nat_lt p end) ys) []) (lt-ltb y end below)))
 
 -- hits before a word are as many as places before it and of the span's end
 both-prefix : (breaks : Breaks) (from to : ℕ) (ys : List ℕ) →

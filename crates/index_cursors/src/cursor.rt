@@ -7,7 +7,7 @@ ghost use Rattle.ft_base.specs.Places.{is_ascending};
 ghost use Rattle.index_cursors.specs.SpanHits.{hits_in, is_before_both, places_up_to};
 
 use crate::BreakView;
-use crate::search::{first_from, first_place};
+use crate::search::{Reached, first_from, first_place};
 use doc_index::TermPlaces;
 use ft_base::{Hit, Hits, Span, Steps};
 use std::marker::Model;
@@ -21,18 +21,25 @@ pub struct Cursor<'v> {
     to: u32,
     first: usize,
     at: usize,
+    // The place of the number `at`, where it is in the span: it is read once, however often the hit is asked for.
+    word: Option<u32>,
 }
 
 impl<'v> Model for Cursor<'v> {
-    ghost use Rattle.std.specs.Prelude.{◌≤◌, ◌-◌, length};
+    ghost use Rattle.std.specs.Prelude.{◌≡◌, ◌≤◌, ◌<◌, ◌-◌, ◌^◌, length, slice_get, IsTrue};
+    ghost use Rattle.std.specs.Option.{ForSome};
     ghost use Rattle.ft_base.specs.Hits.{HitPlace};
+    ghost use Rattle.ft_base.specs.Places.{is_ascending};
     ghost use Rattle.index_cursors.specs.SpanHits.{cursor_place, places_up_to};
 
     ghost Value = { HitPlace };
 
     ghost view = { λ inside. cursor_place inside.breaks.breaks.now inside.to inside.first inside.at inside.places };
 
-    ghost invariant = { λ inside. (inside.first ≤ inside.at) × (inside.at - inside.first ≤ length (places_up_to inside.to inside.first inside.places)) };
+    ghost invariant = { λ inside. (inside.first ≤ inside.at) × (inside.at - inside.first ≤ length (places_up_to inside.to inside.first inside.places))
+        × (inside.word ≡ slice_get (places_up_to inside.to inside.at inside.places) 0)
+        × ForSome inside.word (λ place. place < 2 ^ 32 - 1)
+        × IsTrue (is_ascending inside.places) };
 }
 
 impl<'v> Cursor<'v> {
@@ -52,8 +59,9 @@ impl<'v> Cursor<'v> {
             places,
             breaks,
             to: span.to,
-            first,
-            at: first,
+            first: first.number,
+            at: first.number,
+            word: first.place_before(span.to),
         }
     }
 
@@ -71,13 +79,12 @@ impl<'v> Cursor<'v> {
     {
         steps.tick();
         let first = first_from(&places, self.at, span.from);
-        *self = Cursor {
-            places,
-            breaks,
-            to: span.to,
-            first,
-            at: first,
-        };
+        self.places = places;
+        self.breaks = breaks;
+        self.to = span.to;
+        self.first = first.number;
+        self.at = first.number;
+        self.word = first.place_before(span.to);
     }
 
     /// The word of the hit at the place, and `None` exactly at the end of the list. No sentence and no paragraph is looked up.
@@ -85,7 +92,7 @@ impl<'v> Cursor<'v> {
         ensures first { result ≡ option_map (λ hit. hit.from) (hit_at self.now) }
         ensures sorted { IsTrue (is_sorted self.now.hits) }
     {
-        place_at(&self.places, self.at, self.to)
+        self.word
     }
 }
 
@@ -95,7 +102,7 @@ impl<'v> Hits for Cursor<'v> {
     ghost plain = { λ cursor. true };
 
     fn here(&self) -> Option<Hit> {
-        match place_at(&self.places, self.at, self.to) {
+        match self.word {
             Some(place) => Some(self.breaks.hit(place)),
             None => None,
         }
@@ -105,15 +112,19 @@ impl<'v> Hits for Cursor<'v> {
         steps.tick();
         if self.at < self.places.len() {
             self.at += 1;
+            self.word = Reached::at(&self.places, self.at).place_before(self.to);
         }
     }
 
     fn seek<L: Ledger>(&mut self, from: u32, steps: &mut Steps<L>) {
-        self.at = walk(&self.places, self.at, from, self.to, steps);
+        let reached = walk(&self.places, self.at, from, self.to, steps);
+        self.at = reached.number;
+        self.word = reached.place_before(self.to);
     }
 
     fn rewind(&mut self) {
         self.at = self.first;
+        self.word = Reached::at(&self.places, self.first).place_before(self.to);
     }
 }
 
@@ -121,7 +132,7 @@ impl<'v> Hits for Cursor<'v> {
 pub fn first_word(places: &TermPlaces<'_>, span: Span) -> Option<u32>
     ensures { (breaks : Breaks) → result ≡ option_map (λ hit. hit.from) (hit_at (hit_place (hits_in breaks span places.now) 0)) }
 {
-    place_at(places, first_place(places, span.from), span.to)
+    first_place(places, span.from).place_before(span.to)
 }
 
 /// The same. The search begins at the number `near` of a place, which may be any, and leaves there how many places are before the span:
@@ -130,36 +141,20 @@ pub fn first_word_near(places: &TermPlaces<'_>, near: &mut usize, span: Span) ->
     ensures { (breaks : Breaks) → result ≡ option_map (λ hit. hit.from) (hit_at (hit_place (hits_in breaks span places.now) 0)) }
 {
     let first = first_from(places, *near, span.from);
-    *near = first;
-    place_at(places, first, span.to)
+    *near = first.number;
+    first.place_before(span.to)
 }
 
-/// The place of that number, if it is before the position `end`.
-fn place_at(places: &TermPlaces<'_>, at: usize, end: u32) -> Option<u32>
-    ensures place { result ≡ slice_get (places_up_to end at places.now) 0 }
-    ensures few { ForSome result (λ place. place < 2 ^ 32 - 1) }
-    ensures ascending { IsTrue (is_ascending places.now) }
-{
-    if at >= places.len() {
-        return None;
-    }
-    let place = places.get(at);
-    if place >= end {
-        return None;
-    }
-    Some(place)
-}
-
-/// The number of the first place, from that number on, that isn't before both positions. Counts a step for each
-/// place that it compares.
+/// The first place, from that number on, that isn't before both positions. Counts a step for each place that it compares.
 fn walk<L: Ledger>(
     places: &TermPlaces<'_>,
     start: usize,
     from: u32,
     to: u32,
     steps: &mut Steps<L>,
-) -> usize
-    ensures walked { result ≡ start + prefix_len (is_before_both from to) (drop start places.now) }
+) -> Reached
+    ensures walked { result.number ≡ start + prefix_len (is_before_both from to) (drop start places.now) }
+    ensures place { result.place ≡ slice_get places.now result.number }
     ensures counted { steps.new ≤ steps.old + prefix_len (is_before_both from to) (drop start places.now) + 1 }
     ensures grown { steps.old ≤ steps.new }
 {
@@ -168,13 +163,20 @@ fn walk<L: Ledger>(
     while at < len {
         steps.tick();
         let place = places.get(at);
+        let reached = Reached {
+            number: at,
+            place: Some(place),
+        };
         if place >= from {
-            return at;
+            return reached;
         }
         if place >= to {
-            return at;
+            return reached;
         }
         at += 1;
     }
-    at
+    Reached {
+        number: at,
+        place: None,
+    }
 }

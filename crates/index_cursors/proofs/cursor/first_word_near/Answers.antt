@@ -9,7 +9,7 @@ use Rattle.index_cursors.proofs.cursor.first_word_near.Goals as goal
 
 pub returns : goal.returns
 returns c breaks =
-    let first = c.first_from-first.result in
+    let first = c.first_from-first.result.number in
     let places = c.args.places.now in
-    reads-first breaks c.args.span.to first first places (omega arith) (omega arith) c.place_at.result c.place_at.ensures.place
+    reads-first breaks c.args.span.to first first places (omega arith) (omega arith) c.place_before.result (c.place_before.ensures.place places c.first_from-first.ensures.place)
     ∙ ap (λ (v : HitPlace). option_map (λ (hit : Hit). hit.from) (hit_at v)) (first-hit breaks c.args.span first places c.first_from-first.ensures.ascending c.first_from-first.ensures.number)

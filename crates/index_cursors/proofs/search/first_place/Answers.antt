@@ -5,10 +5,10 @@ use Rattle.std.proofs.lemmas.List.Sums.{count_by-le-length}
 use Rattle.index_cursors.proofs.AscendingLemmas.{below-fails, below-holds}
 use Rattle.index_cursors.proofs.search.first_place.Goals as goal
 
-pub returns-then-get-from-clause-number : goal.returns-then-get-from-clause-number
-returns-then-get-from-clause-number c =
+pub returns-then-first-from-clause-number : goal.returns-then-first-from-clause-number
+returns-then-first-from-clause-number c =
     let there : 0 < length c.args.places.now = omega (arith, c.if-len-eq0.false, c.len-len.ensures.len) in
-    let test : c.args.from ≤ get_or c.args.places.now 0 0 = subst (λ n. c.args.from ≤ n) c.get.ensures c.if-get-from.true in
+    let test : c.args.from ≤ get_or c.args.places.now 0 0 = subst (λ n. c.args.from ≤ n) c.get-first.ensures c.if-first-from.true in
     let most = below-fails c.args.from c.args.places.now 0 c.len-len.ensures.ascending there test in
     omega (arith, most)
 

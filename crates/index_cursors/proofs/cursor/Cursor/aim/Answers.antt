@@ -4,4 +4,4 @@ use Rattle.index_cursors.proofs.cursor.Cursor.aim.Goals as goal
 
 pub returns-clause-cursor : goal.returns-clause-cursor
 returns-clause-cursor g c =
-    first-hit c.args.breaks.breaks.now c.args.span c.first_from-first.result c.args.places c.first_from-first.ensures.ascending c.first_from-first.ensures.number
+    first-hit c.args.breaks.breaks.now c.args.span c.first_from-first.result.number c.args.places c.first_from-first.ensures.ascending c.first_from-first.ensures.number

@@ -10,10 +10,10 @@ use Rattle.index_cursors.proofs.cursor.Cursor.first_word.Goals as goal
 pub returns-clause-first : goal.returns-clause-first
 returns-clause-first c =
     let i = c.self.inside in
-    reads-first i.breaks.breaks.now i.to i.first i.at i.places c.self.invariant.0 c.self.invariant.1 c.place_at.result c.place_at.ensures.place
+    reads-first i.breaks.breaks.now i.to i.first i.at i.places c.self.invariant.0 c.self.invariant.1 i.word c.self.invariant.2
     ∙ ap (λ (v : HitPlace). option_map (λ (hit : Hit). hit.from) (hit_at v)) c.self.view_is
 
 pub returns-clause-sorted : goal.returns-clause-sorted
 returns-clause-sorted c =
     let i = c.self.inside in
-    subst (λ (v : HitPlace). IsTrue (is_sorted v.hits)) c.self.view_is (span-sorted i.breaks.breaks.now i.to i.first i.places c.place_at.ensures.ascending)
+    subst (λ (v : HitPlace). IsTrue (is_sorted v.hits)) c.self.view_is (span-sorted i.breaks.breaks.now i.to i.first i.places c.self.invariant.4)

@@ -4,4 +4,4 @@ use Rattle.index_cursors.proofs.cursor.Cursor.new.Goals as goal
 
 pub returns-clause-cursor : goal.returns-clause-cursor
 returns-clause-cursor g c =
-    first-hit c.args.breaks.breaks.now c.args.span c.first_place-first.result c.args.places c.first_place-first.ensures.ascending c.first_place-first.ensures.number
+    first-hit c.args.breaks.breaks.now c.args.span c.first_place-first.result.number c.args.places c.first_place-first.ensures.ascending c.first_place-first.ensures.number
