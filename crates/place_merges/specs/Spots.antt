@@ -1,5 +1,5 @@
 -- The spots of a text, each some words one after the other: place after place, and at a place by their numbers of words.
-use Rattle.std.specs.Prelude.{ℕ, suc, ◌-◌, ◌==◌, Bool, ◌&&◌, List, [], ◌∷◌, ◌++◌, map, filter, flat_map, length, Option, Some, None}
+use Rattle.std.specs.Prelude.{ℕ, suc, ◌-◌, ◌==◌, Bool, ◌&&◌, List, [], ◌∷◌, ◌++◌, map, filter, flat_map, length, Option, Some, None, cond, nat_lt}
 use Rattle.std.specs.List.{list_any, range_with_len}
 use Rattle.place_merges.specs.declared.spot.Spot.{Spot}
 use Rattle.place_merges.specs.Places.{Wanted, stands_before}
@@ -31,3 +31,7 @@ spots_left to variants at = filter (some_at to variants) (spots_after to at)
 abbrev pub from_found : (Spot → List Spot) → Option Spot → List Spot
 from_found left None = []
 from_found left (Some at) = at ∷ left at
+
+-- a spot to which a search led, with those that are left after it: where it has no words, nothing was found there
+abbrev pub from_lead : (Spot → List Spot) → Spot → List Spot
+from_lead left at = cond (nat_lt 0 at.words) (at ∷ left at) (left at)

@@ -4,7 +4,7 @@ ghost use Rattle.std.specs.declared.alloc.Global.{Global};
 ghost use Rattle.std.specs.declared.vec.Vec.{Vec};
 ghost use Rattle.ft_base.specs.Hits.{HitPlace, hit_place};
 ghost use Rattle.place_merges.specs.Places.{one_of, fits, stands_at, stands_before, places_between};
-ghost use Rattle.place_merges.specs.Spots.{from_found, some_at, spot, spots_after, spots_between, spots_left};
+ghost use Rattle.place_merges.specs.Spots.{from_found, from_lead, some_at, spot, spots_after, spots_between, spots_left};
 ghost use Rattle.place_merges.specs.Sources.{all_left, places_left, wanted_words};
 ghost use Rattle.place_merges.specs.declared.item.Item.{Item};
 ghost use Rattle.place_merges.specs.Examples.{a, b, any, hit};
@@ -80,4 +80,7 @@ pub fn variants_on_spots()
     ensures once { spots_left 6 ((a ∷ []) ∷ (a ∷ []) ∷ []) (spot 1 0) ≡ spot 1 1 ∷ spot 4 1 ∷ [] }
     ensures found { from_found (spots_after 4) (Some (spot 2 2)) ≡ spot 2 2 ∷ spot 3 1 ∷ [] }
     ensures none_found { from_found (spots_after 4) None ≡ [] }
+    ensures led_to_a_word { from_lead (spots_after 4) (spot 2 1) ≡ spot 2 1 ∷ spot 2 2 ∷ spot 3 1 ∷ [] }
+    ensures led_to_no_words { from_lead (spots_after 4) (spot 2 0) ≡ spot 2 1 ∷ spot 2 2 ∷ spot 3 1 ∷ [] }
+    ensures led_to_two_words { from_lead (spots_after 4) (spot 2 2) ≡ spot 2 2 ∷ spot 3 1 ∷ [] }
 {}

@@ -1,11 +1,11 @@
 //! Where the variants stand, spot by spot.
 
-ghost use Rattle.std.specs.Prelude.{◌≡◌, ◌+◌, ◌-◌, ◌*◌, ◌^◌, ◌<◌, ◌≤◌, IsTrue, cond, nat_lt};
+ghost use Rattle.std.specs.Prelude.{◌≡◌, ◌+◌, ◌-◌, ◌*◌, ◌^◌, ◌<◌, ◌≤◌, IsTrue, cond, nat_lt, true};
 ghost use Rattle.std.specs.Option.{ForSome};
 ghost use Rattle.place_merges.specs.Sources.{all_left, all_lists, all_plain, wanted_words};
-ghost use Rattle.place_merges.specs.Spots.{from_found, spots_left};
-ghost use Rattle.place_merges.specs.steps.Searching.{Moved, shown_variant, shown_variants};
-ghost use Rattle.place_merges.specs.steps.Spotting.{IsInside, LeadsAfter, SameAfter, is_before, one_at, variant_at};
+ghost use Rattle.place_merges.specs.Spots.{from_found, from_lead, spots_left};
+ghost use Rattle.place_merges.specs.steps.Searching.{Moved, shown_variant};
+ghost use Rattle.place_merges.specs.steps.Spotting.{IsInside, LeadsAfter, SameAfter, is_before, variant_at};
 
 use crate::first_words::FirstWords;
 use crate::variant::lead_of_variant;
@@ -36,7 +36,7 @@ pub fn next_spot<H: FirstWords, L: Ledger>(
 {
     let mut at = past;
     while at.place < to {
-        let next = lead_after(variants, at, to, steps);
+        let next = next_lead(variants, at, to, steps);
         if next.words > 0 {
             return Some(next);
         }
@@ -45,25 +45,33 @@ pub fn next_spot<H: FirstWords, L: Ledger>(
     None
 }
 
-/// The first spot after that one at which one of the variants stands; or else one of no words, at a later place up to `to`,
-/// before which none does.
-fn lead_after<H: FirstWords, L: Ledger>(
+/// One step of the search for that spot: the spot itself, or else one of no words at a later place up to `to`, before which none of the
+/// variants stands. So who needs no spot beyond some place needs no step beyond it, and may go on with the next one later.
+///
+/// The next call may ask after the spot that is given. Of plain sources each hit that is passed counts two steps at most.
+pub fn next_lead<H: FirstWords, L: Ledger>(
     variants: &mut Vec<Variant<H>>,
-    at: Spot,
+    past: Spot,
     to: u32,
     steps: &mut Steps<L>,
 ) -> Spot
-    requires { at.place < to }
-    ensures leads { LeadsAfter (one_at H.stand to variants.old.items) at to result }
-    ensures same { SameAfter at (one_at H.stand to variants.new.items) (one_at H.stand to variants.old.items) }
-    ensures moved { Moved (shown_variants H.stand H.plain variants.old.items) (shown_variants H.stand H.plain variants.new.items) steps.old steps.new }
+    requires { past.place < to }
+    ensures spots { spots_left to (wanted_words H.stand variants.old.items) past ≡
+        from_lead (spots_left to (wanted_words H.stand variants.new.items)) result }
+    ensures ahead { is_before past result ≡ true }
+    ensures last { result.place + result.words ≤ to }
+    ensures lists { all_lists H.stand variants.new.items ≡ all_lists H.stand variants.old.items }
+    ensures plain { all_plain H.plain variants.new.items ≡ all_plain H.plain variants.old.items }
+    ensures counted { IsTrue (all_plain H.plain variants.old.items) →
+        steps.new + 2 * all_left H.stand variants.new.items ≤ steps.old + 2 * all_left H.stand variants.old.items }
+    ensures grown { steps.old ≤ steps.new }
 {
     let mut first = Spot {
         place: to,
         words: 0,
     };
     for number in 0..variants.len() {
-        let next = lead_of_variant_after(&mut variants[number], at, to, steps);
+        let next = lead_of_variant_after(&mut variants[number], past, to, steps);
         first = sooner(first, next);
     }
     first
@@ -82,7 +90,8 @@ fn sooner(first: Spot, second: Spot) -> Spot
     first
 }
 
-/// The same of one variant.
+/// The first spot after that one at which the variant stands; or else one of no words, at a later place up to `to`, before which it
+/// doesn't.
 fn lead_of_variant_after<H: FirstWords, L: Ledger>(
     variant: &mut Variant<H>,
     at: Spot,

@@ -24,7 +24,7 @@ mod tests;
 mod variant;
 
 pub use counting::count_places;
-pub use finding::next_spot;
+pub use finding::{next_lead, next_spot};
 pub use first_words::FirstWords;
 pub use item::{Item, Variant};
 pub use source::lead_of_sources;
