@@ -1,3 +1,4 @@
 pub mod KeyLemmas
+pub mod KeysOfStem
 pub mod StemLemmas
 pub mod WordLemmas

@@ -1,5 +1,6 @@
 -- Dictionaries of stems as files: a word and its stem in each line (XQuery and XPath Full Text 3.0, section 3.4.4, leaves stemming open).
-use Rattle.std.specs.Prelude.{ℕ, Bool, if◌then◌else◌, List, [], ◌∷◌, ◌++◌, Option, Some, None, Result, bytes_eq, unwrap_or}
+use Rattle.std.specs.Prelude.{◌≡◌, ℕ, Bool, if◌then◌else◌, List, [], ◌∷◌, ◌++◌, Option, Some, None, Result, bytes_eq, unwrap_or}
+use Rattle.std.specs.Borrow.{Bor}
 use Rattle.std.specs.Map.{lookup}
 use Rattle.std.specs.List.{list_any}
 use Rattle.std.specs.Option.{option_and_then}
@@ -30,3 +31,11 @@ stems_of file = read_lines with_stem_line [] (content_lines 1 (lines file))
 -- the stem of a key: the key itself where it has none
 abbrev pub stem_in : List Stem → List ℕ → List ℕ
 stem_in stems key = unwrap_or (lookup (bytes_eq key) stems) key
+
+-- whether the key is one of the texts
+abbrev pub is_one_of : List (Bor (List ℕ)) → List ℕ → Bool
+is_one_of texts key = list_any (λ text. bytes_eq key text.now) texts
+
+-- the texts are the keys with this stem, all of them and no others
+abbrev pub AreKeysOf : List Stem → List ℕ → List (Bor (List ℕ)) → Type 0
+AreKeysOf stems stem texts = (key : List ℕ) → is_one_of texts key ≡ bytes_eq (stem_in stems key) stem

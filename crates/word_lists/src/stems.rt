@@ -1,9 +1,9 @@
 ghost use Rattle.std.specs.Prelude.{◌≡◌, Ok, [], IfErr, IfOk};
 ghost use Rattle.word_lists.specs.Adding.{Added, IsFault};
-ghost use Rattle.word_lists.specs.Stems.{stem_in, stems_of, with_stem_line};
+ghost use Rattle.word_lists.specs.Stems.{AreKeysOf, stem_in, stems_of, with_stem_line};
 
 use crate::words::{only_two_words, text_key};
-use ft_base::{ListFault, Memory};
+use ft_base::{Items, ListFault, Memory};
 use indexmap::IndexMap;
 use std::alloc::Global;
 use std::marker::Model;
@@ -65,6 +65,23 @@ impl Stems {
             Some(stem) => stem.as_str(),
             None => key,
         }
+    }
+
+    /// All keys with this stem: those that are listed with it, in the order of the list, and the stem itself where its own stem is
+    /// itself. One that is listed as its own stem comes twice.
+    pub fn keys_of<'a>(&'a self, alloc: Global, stem: &'a str) -> Result<Items<&'a str>, Memory>
+        ensures { IfOk result (λ keys. AreKeysOf self.now stem.now keys) }
+    {
+        let mut keys = Items::new(alloc);
+        for (word, listed) in self.stems.iter() {
+            if listed.as_str() == stem && self.stem(word) == stem {
+                keys.push(word.as_str())?;
+            }
+        }
+        if self.stem(stem) == stem {
+            keys.push(stem)?;
+        }
+        Ok(keys)
     }
 
     /// Adds what the line says, unless it is bad.
