@@ -54,21 +54,24 @@ impl<'v> BreakView<'v> {
     }
 }
 
-/// How many of the places are at most this one.
+/// How many of the places are at most this one. The number of turns depends on that of the places alone, and a turn only chooses between two
+/// values: which half is taken is as good as random, so a branch on it would often be guessed wrong by the processor.
 fn started_at(starts: &Places, place: u32) -> u32
     requires { place < 2 ^ 32 - 1 }
     ensures { result ≡ started starts.now place }
 {
     let items = starts.as_slice();
     let mut low = 0;
-    let mut high = items.len();
-    while low < high {
-        let middle = low + (high - low) / 2;
-        if items[middle] <= place {
-            low = middle + 1;
+    let mut size = items.len();
+    while size > 0 {
+        let half = size / 2;
+        let start = items[low + half];
+        low = if start <= place {
+            low + (size - half)
         } else {
-            high = middle;
-        }
+            low
+        };
+        size = half;
     }
     low as u32
 }
