@@ -12,8 +12,9 @@ use std::sync::ledger::Ledger;
 
 /// Whether one of the left variants that count stands in the span on words that no right variant covers all of.
 ///
-/// Both sides go forward only: for each spot of the left side, the right one goes on to the first spot that begins after it, and keeps
-/// the farthest end of those that it passed. Of plain sources each hit that is passed counts two steps at most.
+/// Both sides go forward only: for each spot of the left side, the right one is led on until it is past the place where that spot begins,
+/// and keeps the farthest end of those that it passed. No spot that begins later covers the left one, so none is looked for: beyond the
+/// last spot of the left side the hits of the right one aren't read. Of plain sources each hit that is passed counts two steps at most.
 pub(crate) fn stand_apart<H: FirstWords, L: Ledger>(
     left: &mut Vec<Variant<H>>,
     right: &mut Vec<Variant<H>>,
@@ -36,7 +37,7 @@ pub(crate) fn stand_apart<H: FirstWords, L: Ledger>(
     };
     let mut cover = Cover {
         end: span.from,
-        next: next_spot(right, after, span.to, steps),
+        lead: after,
     };
     while let Some(at) = next_spot(left, after, span.to, steps) {
         cover = cover_up_to(right, cover, at.place, span.to, steps);

@@ -1,13 +1,12 @@
 -- From one spot of the left side to the next.
 use Rattle.std.proofs.Common.{◌≡◌, ◌∙◌, ◌+◌, ◌||◌, false, sym, ap, refl, arith}
-use Rattle.std.specs.Prelude.{nat_lt}
+use Rattle.std.specs.Prelude.{filter, nat_lt}
 use Rattle.std.specs.List.{list_any}
 use Rattle.std.proofs.lemmas.Bool.{and_parts, lt-ltb, or_left}
 use Rattle.std.proofs.lemmas.Bool.Decides.{nat_tests}
 use Rattle.place_merges.specs.Sources.{all_plain, wanted_words}
 use Rattle.place_merges.specs.Spots.{some_at, spots_left}
 use Rattle.place_merges.proofs.SpotLemmas.{from_place}
-use Rattle.std.specs.Prelude.{filter}
 use Rattle.spot_merges.specs.Apart.{some_apart}
 use Rattle.spot_merges.specs.steps.Covering.{is_free}
 use Rattle.spot_merges.proofs.CoverLemmas.{free_is, free_starts}
@@ -22,18 +21,15 @@ loop-at-init g c =
     let right = wanted_words g.H.Hits.stand c.args.right.now.items in
     let all = sym (from_place to from) in
     record {
-      says = free_starts g.H.Hits.stand to from c.args.left.now.items c.args.right.now.items c.next_spot.new.variants.items c.next_spot.result c.next_spot.ensures.spots
+      says = free_starts g.H.Hits.stand to from c.args.left.now.items c.args.right.now.items
           ∙ (λ i. some_apart (filter (some_at to left) (all i)) (filter (some_at to right) (all i)));
-      inside = λ at is. (c.next_spot.ensures.inside at is).last;
+      inside = omega arith;
       left_lists = refl;
-      right_lists = c.next_spot.ensures.lists;
+      right_lists = refl;
       left_plain = refl;
-      right_plain = c.next_spot.ensures.plain;
-      counted = λ plain.
-          let parts = and_parts (all_plain g.H.Hits.plain c.args.left.now.items) (all_plain g.H.Hits.plain c.args.right.now.items) plain in
-          let first = c.next_spot.ensures.counted parts.1 in
-          omega (arith, first);
-      grown = c.next_spot.ensures.grown;
+      right_plain = refl;
+      counted = λ plain. omega arith;
+      grown = omega arith;
     }
 
 pub returns-then-cover-at-clause-apart : goal.returns-then-cover-at-clause-apart
@@ -42,7 +38,7 @@ returns-then-cover-at-clause-apart g c =
     let at = c.in-Some.at in
     let right = c.cover_up_to-cover.new.variants.items in
     let cover = c.cover_up_to-cover.result in
-    let left = c.next_spot-in-loop-at.new.variants.items in
+    let left = c.next_spot.new.variants.items in
     let free = is_free g.H.Hits.stand to right cover in
     let rest = spots_left to (wanted_words g.H.Hits.stand left) at in
     sym (or_left (free at) (list_any free rest) (free_is g.H.Hits.stand to right cover at c.cover_up_to-cover.ensures.ahead ∙ lt-ltb cover.end (at.place + at.words) c.if-cover-at.true))
@@ -56,12 +52,12 @@ loop-at-preserved g c =
     let at = c.in-Some.at in
     let right = c.cover_up_to-cover.new.variants.items in
     let cover = c.cover_up_to-cover.result in
-    let left = c.next_spot-in-loop-at.new.variants.items in
+    let left = c.next_spot.new.variants.items in
     let free = is_free g.H.Hits.stand to right cover in
     let rest = spots_left to (wanted_words g.H.Hits.stand left) at in
     let covered : nat_lt cover.end (at.place + at.words) ≡ false = grind (arith, nat_tests, c.if-cover-at.false) in
     let before = c.loop-at.invariant.grown in
-    let then = c.next_spot-in-loop-at.ensures.grown in
+    let then = c.next_spot.ensures.grown in
     let last = c.cover_up_to-cover.ensures.grown in
     record {
       says = sym (ap (λ b. b || list_any free rest) (free_is g.H.Hits.stand to right cover at c.cover_up_to-cover.ensures.ahead ∙ covered))
@@ -69,14 +65,14 @@ loop-at-preserved g c =
           ∙ sym (ap (list_any (is_free g.H.Hits.stand to c.loop-at.right.items c.loop-at.cover)) c.in-Some.ensures.spots)
           ∙ c.loop-at.invariant.says;
       inside = c.cover_up_to-cover.ensures.inside;
-      left_lists = c.next_spot-in-loop-at.ensures.lists ∙ c.loop-at.invariant.left_lists;
+      left_lists = c.next_spot.ensures.lists ∙ c.loop-at.invariant.left_lists;
       right_lists = c.cover_up_to-cover.ensures.lists ∙ c.loop-at.invariant.right_lists;
-      left_plain = c.next_spot-in-loop-at.ensures.plain ∙ c.loop-at.invariant.left_plain;
+      left_plain = c.next_spot.ensures.plain ∙ c.loop-at.invariant.left_plain;
       right_plain = c.cover_up_to-cover.ensures.plain ∙ c.loop-at.invariant.right_plain;
       counted = λ plain.
           let parts = and_parts (all_plain g.H.Hits.plain c.args.left.now.items) (all_plain g.H.Hits.plain c.args.right.now.items) plain in
           let so_far = c.loop-at.invariant.counted plain in
-          let first = c.next_spot-in-loop-at.ensures.counted (c.loop-at.invariant.left_plain ∙ parts.0) in
+          let first = c.next_spot.ensures.counted (c.loop-at.invariant.left_plain ∙ parts.0) in
           let second = c.cover_up_to-cover.ensures.counted (c.loop-at.invariant.right_plain ∙ parts.1) in
           omega (arith, so_far, first, second);
       grown = omega (arith, before, then, last);

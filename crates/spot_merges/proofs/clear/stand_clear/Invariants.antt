@@ -15,7 +15,7 @@ invariant-loop-at g l = record {
   says : list_any (is_clear g.H.Hits.stand l.span.to l.size l.right.items l.passed) (spots_left l.span.to (wanted_words g.H.Hits.stand l.left.items) l.after)
       ≡ some_clear l.size (begins (spots_of l.span (wanted_words g.H.Hits.stand l.fn.left.items))) (begins (spots_of l.span (wanted_words g.H.Hits.stand l.fn.right.items)));
   behind : ForSome l.passed.last (λ last. last ≤ l.after.place);
-  ordered : ForSome l.passed.last (λ last. ForSome l.passed.next (λ at. last ≤ at.place));
+  ordered : ForSome l.passed.last (λ last. last ≤ l.passed.lead.place);
   left_lists : all_lists g.H.Hits.stand l.left.items ≡ all_lists g.H.Hits.stand l.fn.left.items;
   right_lists : all_lists g.H.Hits.stand l.right.items ≡ all_lists g.H.Hits.stand l.fn.right.items;
   left_plain : all_plain g.H.Hits.plain l.left.items ≡ all_plain g.H.Hits.plain l.fn.left.items;
