@@ -2,7 +2,8 @@
 //!
 //! A phrase has variants, and a variant has items, one for each of its words: any word, or a word at which one of some
 //! sources has a hit. `count_places` says at how many places of a span one of the variants stands, without a look at the
-//! words of the text.
+//! words of the text. `next_spot` gives the next place where one does, and how many words it has; `next_lead` is one step on the way there,
+//! for who needs no spot beyond some place.
 //!
 //! Each search begins at a place and ends there, or leads to a later place before which there is nothing to be
 //! found: a source leads to its next hit (`source`), a variant to where its leading item leads, or else the first of its

@@ -13,8 +13,8 @@ use std::sync::ledger::Ledger;
 /// Whether one of the left variants that count stands in the span on words that no right variant covers all of.
 ///
 /// Both sides go forward only: for each spot of the left side, the right one is led on until it is past the place where that spot begins,
-/// and keeps the farthest end of those that it passed. No spot that begins later covers the left one, so none is looked for: beyond the
-/// last spot of the left side the hits of the right one aren't read. Of plain sources each hit that is passed counts two steps at most.
+/// and keeps the farthest end of those that it passed. No spot that begins later covers the left one, so the right side is sought no
+/// further. Of plain sources each hit that is passed counts two steps at most.
 pub(crate) fn stand_apart<H: FirstWords, L: Ledger>(
     left: &mut Vec<Variant<H>>,
     right: &mut Vec<Variant<H>>,
