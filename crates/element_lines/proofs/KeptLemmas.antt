@@ -1,5 +1,5 @@
 -- Where no more lines come, those that were there stay first, and are all that is left once those after them are cut off.
-use Rattle.std.proofs.Common.{◌≡◌, ◌++◌, ℕ, List, Ok, Err, take, length, ap₂, ap, ◌∙◌}
+use Rattle.std.proofs.Common.{◌≡◌, ◌++◌, ℕ, List, Ok, Err, take, length, ap₂, ◌∙◌}
 use Rattle.std.proofs.Math.Seq.{take-append_seam}
 use Rattle.std.specs.Prelude.{Result, OnErr}
 

@@ -5,7 +5,7 @@ ghost use Rattle.ordered_tree.specs.Numbered.{plain};
 ghost use Rattle.path_nodes.specs.References.{IsElement, element_of};
 
 use crate::counting::Counting;
-use crate::leading::{Leading, lead_to};
+use crate::leading::{LINE_BYTES, Leads, lead_to};
 use crate::numbers::{Numbers, number_of};
 use crate::siblings::count_to;
 use crate::step_texts::{push_after, push_root};
@@ -51,11 +51,11 @@ fn put_names(
     ensures err { OnErr result ((more : List (List ℕ)) × (lines.new ≡ lines.old ++ more)) }
 {
     let mut known = Known {
-        leading: Leading::new(alloc),
+        leads: Leads::new(alloc)?,
         numbers: Numbers::new(alloc),
         counting: None,
     };
-    let mut line = String::new(alloc);
+    let mut line = String::with_capacity(alloc, LINE_BYTES)?;
     for node in nodes {
         name_line(alloc, document, tree, *node, &mut known, &mut line)?;
         lines.push(line.as_str())?;
@@ -66,7 +66,7 @@ fn put_names(
 /// What is known of elements from those that were named so far.
 #[derive(Drop)]
 struct Known<'t> {
-    leading: Leading,
+    leads: Leads,
     numbers: Numbers,
     /// How far the children are counted of the parent whose child was named last
     counting: Option<Counting<'t>>,
@@ -88,9 +88,9 @@ fn name_line<'t>(
 {
     line.clear();
     if let Some(counting) = &mut known.counting {
-        if known.leading.is_of(counting.parent) {
+        if known.leads.parent.is_of(counting.parent) {
             if let Some(number) = count_to(tree, counting, node) {
-                return push_after(known.leading.text(), counting.name, number, line);
+                return push_after(known.leads.parent.text(), counting.name, number, line);
             }
         }
     }
@@ -112,17 +112,18 @@ fn name_anew<'t>(
         ≡ string_bytes line.old ++ element_line document.now (plain tree.now.root) (element_of tree.now.root node)) }
     ensures known { OnOk result (IsKnown document.now tree.now.root known.new) }
 {
+    let name = tree.name(node);
     match tree.parent(node) {
         Some(parent) => {
             let Known {
-                leading,
+                leads,
                 numbers,
                 counting,
             } = known;
-            lead_to(alloc, document, tree, parent, leading, numbers)?;
-            let number = number_of(alloc, tree, parent, node, numbers, counting)?;
-            push_after(leading.text(), tree.name(node), number, line)
+            lead_to(alloc, document, tree, parent, leads, numbers)?;
+            let number = number_of(alloc, tree, parent, node, name, numbers, counting)?;
+            push_after(leads.parent.text(), name, number, line)
         }
-        None => push_root(document, tree.name(node), line),
+        None => push_root(document, name, line),
     }
 }

@@ -14,13 +14,14 @@ use std::alloc::Global;
 /// The numbers of elements among their siblings of the same name, by their references; 0 where none is kept.
 pub(crate) type Numbers = Vec<u32>;
 
-/// The number of an element that is a child of the other one. If it isn't there yet, it is counted, where it is one of the first
-/// children; else those of all children are found and kept.
+/// The number of an element that has that name and is a child of the other one. If it isn't there yet, it is counted, where it is one of the
+/// first children; else those of all children are found and kept.
 pub(crate) fn number_of<'t>(
     alloc: Global,
     tree: &'t DocTree,
     parent: NodeRef,
     node: NodeRef,
+    name: &'t str,
     numbers: &mut Numbers,
     counting: &mut Option<Counting<'t>>,
 ) -> Result<u32, Memory>
@@ -35,7 +36,7 @@ pub(crate) fn number_of<'t>(
     if let Some(number) = kept(numbers, node) {
         return Ok(number);
     }
-    let mut first = before_children(tree, parent, tree.name(node));
+    let mut first = before_children(tree, parent, name);
     if let Some(number) = count_to(tree, &mut first, node) {
         *counting = Some(first);
         return Ok(number);

@@ -1,5 +1,5 @@
 -- The children of an element, of which those before a link are counted.
-use Rattle.std.specs.Prelude.{◌≡◌, ℕ, ◌+◌, suc, List, ◌++◌, length, count_by, Option, IfSome}
+use Rattle.std.specs.Prelude.{◌≡◌, ◌+◌, suc, List, ◌++◌, length, count_by, Option, IfSome}
 use Rattle.std.specs.List.{All, Contains}
 use Rattle.plain_tree.specs.Document.{Node}
 use Rattle.ordered_tree.specs.Numbered.{Numbered, Children, plain_children, first_of}

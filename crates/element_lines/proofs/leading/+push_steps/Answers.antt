@@ -38,18 +38,18 @@ number_of-requires-clause-node t c =
     parent-found root c.args.node c.in-Some.parent c.requires.node c.parent.result c.in-Some.is c.parent.ensures.parent in
     (c.requires.node, p.number, p.place)
 
+pub name-name-requires-clause-there : goal.name-name-requires-clause-there
+name-name-requires-clause-there t c = element_there c.args.tree.now.root c.args.node c.requires.node
+
+pub name-name-requires-clause-element : goal.name-name-requires-clause-element
+name-name-requires-clause-element t c = λ s among refers.
+    ap (λ u. is_element u.node) (one-stand c.args.tree.now.root c.args.node c.requires.node s among refers) ∙ c.requires.node.element
+
 pub name-requires-clause-there : goal.name-requires-clause-there
 name-requires-clause-there t c = element_there c.args.tree.now.root c.args.node c.requires.node
 
 pub name-requires-clause-element : goal.name-requires-clause-element
 name-requires-clause-element t c = λ s among refers.
-    ap (λ u. is_element u.node) (one-stand c.args.tree.now.root c.args.node c.requires.node s among refers) ∙ c.requires.node.element
-
-pub name-requires-in-None-clause-there : goal.name-requires-in-None-clause-there
-name-requires-in-None-clause-there t c = element_there c.args.tree.now.root c.args.node c.requires.node
-
-pub name-requires-in-None-clause-element : goal.name-requires-in-None-clause-element
-name-requires-in-None-clause-element t c = λ s among refers.
     ap (λ u. is_element u.node) (one-stand c.args.tree.now.root c.args.node c.requires.node s among refers) ∙ c.requires.node.element
 
 pub returns-in_ok-number-in-Some-clause-text : goal.returns-in_ok-number-in-Some-clause-text
@@ -59,12 +59,12 @@ returns-in_ok-number-in-Some-clause-text t c =
     let x = c.requires.node in
     let p : Parent root node c.in-Some.parent = parent-found root node c.in-Some.parent x c.parent.result c.in-Some.is c.parent.ensures.parent in
     let before = string_bytes c.args.text.now in
-    let own = step_text (step c.name.result.now c.in_ok-number-in-Some.number) in
+    let own = step_text (step c.name-name.result.now c.in_ok-number-in-Some.number) in
     let all : string_bytes c.push_steps.new.text ++ own ≡ before ++ flat_map step_text (steps_to (plain root) (element_of root node).place) =
     ap (λ l. l ++ own) c.in_ok-push_steps-in-Some.ensures.text
     ∙ append_assoc before (flat_map step_text (steps_to (plain root) (element_of root c.in-Some.parent).place)) own
-    ∙ ap (λ l. before ++ l) (text-further root node c.in-Some.parent p x c.name.result.now c.in_ok-number-in-Some.number
-    (element-name root node x c.name.result.now c.name.ensures) c.in_ok-number-in-Some.ensures.number) in
+    ∙ ap (λ l. before ++ l) (text-further root node c.in-Some.parent p x c.name-name.result.now c.in_ok-number-in-Some.number
+    (element-name root node x c.name-name.result.now c.name-name.ensures) c.in_ok-number-in-Some.ensures.number) in
     subst (λ l. OnOk c.push_step.result (string_bytes c.push_step.new.text ≡ l)) all c.push_step.ensures
 
 pub returns-in-None-clause-text : goal.returns-in-None-clause-text
@@ -74,6 +74,6 @@ returns-in-None-clause-text t c =
     let x = c.requires.node in
     let none = root-of root node x (subst (λ o. OnNode root node (λ s. o ≡ s.around.parent)) c.in-None.is c.parent.ensures.parent) in
     let before = string_bytes c.args.text.now in
-    let all : before ++ step_text (step c.name-in-None.result.now 1) ≡ before ++ flat_map step_text (steps_to (plain root) (element_of root node).place) =
-    ap (λ l. before ++ l) (text-root root node x none c.name-in-None.result.now (element-name root node x c.name-in-None.result.now c.name-in-None.ensures)) in
+    let all : before ++ step_text (step c.name.result.now 1) ≡ before ++ flat_map step_text (steps_to (plain root) (element_of root node).place) =
+    ap (λ l. before ++ l) (text-root root node x none c.name.result.now (element-name root node x c.name.result.now c.name.ensures)) in
     subst (λ l. OnOk c.push_step-in-None.result (string_bytes c.push_step-in-None.new.text ≡ l)) all c.push_step-in-None.ensures

@@ -1,5 +1,5 @@
 -- The line of an element's parent, and one step more; above the root there is nothing.
-use Rattle.std.proofs.Common.{◌≡◌, ◌++◌, [], ◌∷◌, ap, ◌∙◌, subst, append_assoc, string_bytes}
+use Rattle.std.proofs.Common.{◌≡◌, ◌++◌, ap, ◌∙◌, subst, append_assoc, string_bytes}
 use Rattle.std.specs.Prelude.{OnOk}
 use Rattle.ordered_tree.specs.Numbered.{plain, is_element}
 use Rattle.ordered_tree.specs.Stands.{OnNode}
@@ -34,31 +34,24 @@ number_of-requires-clause-node c =
     parent-found c.args.tree.now.root c.args.node c.in-Some.parent c.requires.node c.parent.result c.in-Some.is c.parent.ensures.parent in
     (c.requires.node, p.number, p.place)
 
-pub name-requires-clause-there : goal.name-requires-clause-there
-name-requires-clause-there c = element_there c.args.tree.now.root c.args.node c.requires.node
+pub name-name-requires-clause-there : goal.name-name-requires-clause-there
+name-name-requires-clause-there c = element_there c.args.tree.now.root c.args.node c.requires.node
 
-pub name-requires-clause-element : goal.name-requires-clause-element
-name-requires-clause-element c = λ s among refers.
-    ap (λ u. is_element u.node) (one-stand c.args.tree.now.root c.args.node c.requires.node s among refers) ∙ c.requires.node.element
-
-pub name-requires-in-None-clause-there : goal.name-requires-in-None-clause-there
-name-requires-in-None-clause-there c = element_there c.args.tree.now.root c.args.node c.requires.node
-
-pub name-requires-in-None-clause-element : goal.name-requires-in-None-clause-element
-name-requires-in-None-clause-element c = λ s among refers.
+pub name-name-requires-clause-element : goal.name-name-requires-clause-element
+name-name-requires-clause-element c = λ s among refers.
     ap (λ u. is_element u.node) (one-stand c.args.tree.now.root c.args.node c.requires.node s among refers) ∙ c.requires.node.element
 
 pub returns-in_ok-number-in-Some-clause-line : goal.returns-in_ok-number-in-Some-clause-line
 returns-in_ok-number-in-Some-clause-line c =
     let root = c.args.tree.now.root in
-    let own = step_text (step c.name.result.now c.in_ok-number-in-Some.number) in
+    let own = step_text (step c.name-name.result.now c.in_ok-number-in-Some.number) in
     let before = string_bytes c.args.line.now in
     let all : before ++ c.text.result.now ++ own ≡ before ++ element_line c.args.document.now (plain root) (element_of root c.args.node) =
     append_assoc before c.text.result.now own
     ∙ ap (λ l. before ++ (l ++ own)) (c.text.ensures ∙ c.in_ok-lead_to-in-Some.ensures.text)
     ∙ ap (λ l. before ++ l) (line-further c.args.document.now root c.args.node c.in-Some.parent
-    (parent-found c.args.tree.now.root c.args.node c.in-Some.parent c.requires.node c.parent.result c.in-Some.is c.parent.ensures.parent) c.requires.node c.name.result.now c.in_ok-number-in-Some.number
-    (element-name root c.args.node c.requires.node c.name.result.now c.name.ensures) c.in_ok-number-in-Some.ensures.number) in
+    (parent-found c.args.tree.now.root c.args.node c.in-Some.parent c.requires.node c.parent.result c.in-Some.is c.parent.ensures.parent) c.requires.node c.name-name.result.now c.in_ok-number-in-Some.number
+    (element-name root c.args.node c.requires.node c.name-name.result.now c.name-name.ensures) c.in_ok-number-in-Some.ensures.number) in
     subst (λ l. OnOk c.push_after.result (string_bytes c.push_after.new.text ≡ l)) all c.push_after.ensures
 
 pub returns-in-None-clause-line : goal.returns-in-None-clause-line
@@ -66,5 +59,5 @@ returns-in-None-clause-line c =
     let root = c.args.tree.now.root in
     let none = root-of root c.args.node c.requires.node (subst (λ o. OnNode root c.args.node (λ s. o ≡ s.around.parent)) c.in-None.is c.parent.ensures.parent) in
     subst (λ l. OnOk c.push_root.result (string_bytes c.push_root.new.text ≡ string_bytes c.args.line.now ++ l))
-    (line-root c.args.document.now root c.args.node c.requires.node none c.name-in-None.result.now
-    (element-name root c.args.node c.requires.node c.name-in-None.result.now c.name-in-None.ensures)) c.push_root.ensures
+    (line-root c.args.document.now root c.args.node c.requires.node none c.name-name.result.now
+    (element-name root c.args.node c.requires.node c.name-name.result.now c.name-name.ensures)) c.push_root.ensures

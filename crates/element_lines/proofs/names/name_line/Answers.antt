@@ -22,7 +22,7 @@ returns-in-Some-count_to-clause-line c =
     let own = step_text (step name c.in-Some-count_to.number) in
     let all : string_bytes c.clear.new.self ++ c.text.result.now ++ own ≡ element_line c.args.document.now (plain root) (element_of root node) =
     ap (λ l. l ++ c.text.result.now ++ own) c.clear.ensures.bytes
-    ∙ ap (λ l. l ++ own) (c.text.ensures ∙ c.requires.known.leading parent (c.is_of.ensures c.if-is_of.true))
+    ∙ ap (λ l. l ++ own) (c.text.ensures ∙ c.requires.known.leading.0 parent (c.is_of.ensures c.if-is_of.true))
     ∙ line-further c.args.document.now root node parent p c.requires.node name c.in-Some-count_to.number
     (ap (λ w. w.now) c.count_to.ensures.name ∙ c.in-Some-count_to.ensures.named) c.in-Some-count_to.ensures.number in
     subst (λ l. OnOk c.push_after.result (string_bytes c.push_after.new.text ≡ l)) all c.push_after.ensures
