@@ -2,11 +2,11 @@
 
 ghost use Rattle.std.specs.Prelude.{◌≡◌, length, map, option_map, IfOk, OnErr, OnOk};
 ghost use Rattle.std.specs.Option.{is_some};
-ghost use Rattle.word_lists.specs.Stems.{stem_in};
+ghost use Rattle.word_lists.specs.Stems.{AreKeysOf, stem_in};
 ghost use Rattle.plan_compiler.specs.SharedLists.{dictionary, named};
 ghost use Rattle.plan_compiler.specs.NamedLists.{list_named, no_lists, with_list, with_stems, with_stop_list, with_thesaurus};
 
-use ft_base::Memory;
+use ft_base::{Items, Memory};
 use indexmap::IndexMap;
 use std::alloc::Global;
 use std::marker::Model;
@@ -155,6 +155,16 @@ impl Lists {
         match &self.stems {
             Some(stems) => stems.stem(key),
             None => key,
+        }
+    }
+
+    /// All keys with this stem, by the dictionary.
+    pub fn keys_of<'a>(&'a self, stem: &'a str) -> Result<Items<&'a str>, Memory>
+        ensures { IfOk result (λ keys. AreKeysOf self.now.stems stem.now keys) }
+    {
+        match &self.stems {
+            Some(stems) => stems.keys_of(self.alloc, stem),
+            None => Items::from_slice(self.alloc, &[stem]),
         }
     }
 }
