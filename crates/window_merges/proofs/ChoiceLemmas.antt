@@ -194,8 +194,8 @@ close_pair size (first ∷ rest) h p q a b =
     ]
 
 -- where the farthest of the first hits is near enough, all choices of hits up to it are near
-pub close_enough : (size low far : ℕ) → low ≤ far → far - low < size → (chosen : List ℕ) → 0 < length chosen → all_between low far chosen ≡ true → are_close size chosen ≡ true
-close_enough size low far order near chosen some within = close_between size low far chosen some within (omega (arith, order, near))
+pub close_enough : (size low near far : ℕ) → low ≤ near → low ≤ far → far - low < size → (chosen : List ℕ) → 0 < length chosen → all_between near far chosen ≡ true → are_close size chosen ≡ true
+close_enough size low near far begins order less chosen some within = close_between size near far chosen some within (omega (arith, begins, order, less))
 
 -- a choice that is near has no place too far before one that is as far as the farthest
 pub close_rule : (size low far : ℕ) → size ≤ far - low → (chosen : List ℕ) → are_close size chosen ≡ true → (p q : ℕ) → has chosen p ≡ true → has chosen q ≡ true → far ≤ q → far - size + 1 ≤ p

@@ -1,5 +1,5 @@
 -- Words that stand together: the hits that a search reaches, and the choices that are left as the places that count become fewer.
-use Rattle.std.proofs.Common.{◌≡◌, refl, sym, ap, subst, ◌∙◌, ℕ, suc, ◌+◌, ◌<◌, ◌≤◌, max, Bool, true, false, ◌&&◌, eqb, List, [], ◌∷◌, map, length, get_or, set, arith, inl, inr}
+use Rattle.std.proofs.Common.{◌≡◌, refl, sym, ap, subst, ◌∙◌, ℕ, suc, ◌+◌, ◌<◌, ◌≤◌, min, max, Bool, true, false, ◌&&◌, eqb, List, [], ◌∷◌, map, length, get_or, set, arith, inl, inr}
 use Rattle.std.specs.Prelude.{nat_le, nat_lt}
 use Rattle.std.proofs.lemmas.Bool.{and_from, and_parts, both_ways, cases_eq, cases_lt, eqb-true, false_from_ne_true, le-leb, lt-ltb, leb-true, ltb-true, or_cases}
 use Rattle.std.proofs.lemmas.List.{get_or_read}
@@ -12,18 +12,19 @@ use Rattle.window_merges.proofs.WordLemmas.{same_after, same_later, same_set, sa
 
 -- ---- one search through all words
 
--- the words before the number have a hit up to the farthest, and where it is farther than the place, one of them has none before
--- of it
-pub record Reaching {A L : Type 0} (passes : A → ℕ → Bool) (shown : A → Shown L) (old now : List A) (place limit far number start end : ℕ) : Type 0 where
+-- the words before the number have a hit from the nearest to the farthest, and where this is farther than the place, one of them has none
+-- before it
+pub record Reaching {A L : Type 0} (passes : A → ℕ → Bool) (shown : A → Shown L) (old now : List A) (place limit near far number start end : ℕ) : Type 0 where
   pub same : SameWords passes place now old
   pub from : place ≤ far
   pub below : far < limit
-  pub near : (i : ℕ) (other : A) → i < number → Between (passes (get_or old i other)) place far
+  pub begins : place ≤ near
+  pub each : (i : ℕ) (other : A) → i < number → Between (passes (get_or old i other)) near far
   pub lacks : place < far → Lacks passes place far old number
   pub moved : Moved (shown_all shown old) (shown_all shown now) start end
 
 module _ {A L : Type 0} (passes : A → ℕ → Bool) (shown : A → Shown L) where
-  module _ (old now : List A) (place limit far number start middle end : ℕ) (so_far : Reaching passes shown old now place limit far number start middle)
+  module _ (old now : List A) (place limit near far number start middle end : ℕ) (so_far : Reaching passes shown old now place limit near far number start middle)
       (x y : A) (within : number < length now) (read : x ≡ get_or now number x) (first : ℕ) (leads : Leads (passes x) place limit first)
       (same : SameFrom place (passes y) (passes x)) (moved : Moved (shown x) (shown y) middle end) where
     pub reached_same : SameWords passes place (set now number y) old
@@ -41,30 +42,34 @@ module _ {A L : Type 0} (passes : A → ℕ → Bool) (shown : A → Shown L) wh
     lacks_word : Lacks passes place first old (number + 1)
     lacks_word = record { number = number; within = omega arith; none = λ other p le less. sym (was other p le) ∙ leads.none p le less }
 
-    pub reaching_goes_on : (first < limit → passes x first ≡ true) → first < limit → (farther : ℕ) → farther ≡ max far first → Reaching passes shown old (set now number y) place limit farther (number + 1) start end
-    reaching_goes_on there less farther e =
+    pub reaching_goes_on : (first < limit → passes x first ≡ true) → first < limit → (nearer farther : ℕ) → nearer ≡ min near first → farther ≡ max far first
+        → Reaching passes shown old (set now number y) place limit nearer farther (number + 1) start end
+    reaching_goes_on there less nearer farther n e =
         let below = so_far.below in
         let from = so_far.from in
+        let begins = so_far.begins in
+        let leads_from = leads.from in
         record {
           same = reached_same;
           from = omega (arith, e, from);
           below = omega (arith, e, below, less);
-          near = near;
+          begins = omega (arith, n, begins, leads_from);
+          each = each;
           lacks = lacks;
           moved = reached_moved;
         }
       where
-        near : (i : ℕ) (other : A) → i < number + 1 → Between (passes (get_or old i other)) place farther
-        near i other inside = elim (cases_eq i number) [
+        each : (i : ℕ) (other : A) → i < number + 1 → Between (passes (get_or old i other)) nearer farther
+        each i other inside = elim (cases_eq i number) [
           | inl here ↦ record {
             place = first;
-            from = leads.from;
+            from = omega (arith, n);
             to = omega (arith, e);
             there = ap (λ n. passes (get_or old n other) first) here ∙ sym (was other first leads.from) ∙ there less;
           }
           | inr ne ↦
-              let b = so_far.near i other (omega (arith, inside, ne)) in
-              record { place = b.place; from = b.from; to = omega (arith, e, b.to); there = b.there }
+              let b = so_far.each i other (omega (arith, inside, ne)) in
+              record { place = b.place; from = omega (arith, n, b.from); to = omega (arith, e, b.to); there = b.there }
         ]
 
         lacks : place < farther → Lacks passes place farther old (number + 1)
@@ -76,18 +81,24 @@ module _ {A L : Type 0} (passes : A → ℕ → Bool) (shown : A → Shown L) wh
               subst (λ f. Lacks passes place f old (number + 1)) is (record { number = l.number; within = omega (arith, l.within); none = l.none })
         ]
 
-    pub reaching_fails : place < limit → limit ≤ first → Reaches passes old place limit limit
+    pub reaching_fails : place < limit → limit ≤ first → Reaches passes old place limit limit limit
     reaching_fails order h =
         let to = leads.to in
         let is : first ≡ limit = omega (arith, to, h) in
         record {
           from = omega (arith, order);
           to = omega arith;
-          near = λ less number other inside. absurd (omega (arith, less));
+          begins = omega (arith, order);
+          each = λ less number other inside. absurd (omega (arith, less));
           lacks = λ less.
               let l = subst (λ f. Lacks passes place f old (number + 1)) is lacks_word in
               record { number = l.number; within = omega (arith, l.within, within, so_far.same.long); none = l.none };
         }
+
+-- the nearest of the first hits is not after the farthest
+pub reaches_order : {A : Type 0} (passes : A → ℕ → Bool) (words : List A) (place limit near far : ℕ) → 0 < length words → Reaches passes words place limit near far → far < limit → near ≤ far
+reaches_order passes [] place limit near far some reaches below = absurd (omega (arith, some))
+reaches_order passes (x ∷ words) place limit near far some reaches below = let first = reaches.each below 0 x (omega arith) in omega (arith, first.from, first.to)
 
 -- ---- the places that count
 
@@ -151,16 +162,16 @@ module _ {A : Type 0} (passes : A → ℕ → Bool) (places : A → List ℕ) (f
       }
 
   module _ (good : List ℕ → Bool) where
-    choice_found : (words now : List A) (low far : ℕ) → 0 < length words → from ≤ low → SameWords passes low now words → Reaches passes now low to far → far < to
-        → ((chosen : List ℕ) → 0 < length chosen → all_between low far chosen ≡ true → good chosen ≡ true) → some_choice good (map places words) ≡ true
-    choice_found words now low far some order same reaches below enough =
-        let g = gather words low far order below old_near in
+    choice_found : (words now : List A) (low near far : ℕ) → 0 < length words → from ≤ low → SameWords passes low now words → Reaches passes now low to near far → far < to
+        → ((chosen : List ℕ) → 0 < length chosen → all_between near far chosen ≡ true → good chosen ≡ true) → some_choice good (map places words) ≡ true
+    choice_found words now low near far some order same reaches below enough =
+        let g = gather words near far (omega (arith, order, reaches.begins)) below old_each in
         from_choice places good words g.chosen g.each (enough g.chosen (omega (arith, some, g.long)) g.within)
       where
-        old_near : (number : ℕ) (other : A) → number < length words → Between (passes (get_or words number other)) low far
-        old_near number other h =
-            let b = reaches.near below number other (omega (arith, h, same.long)) in
-            record { place = b.place; from = b.from; to = b.to; there = sym ((same.same number other h).same b.place b.from) ∙ b.there }
+        old_each : (number : ℕ) (other : A) → number < length words → Between (passes (get_or words number other)) near far
+        old_each number other h =
+            let b = reaches.each below number other (omega (arith, h, same.long)) in
+            record { place = b.place; from = b.from; to = b.to; there = sym ((same.same number other h).same b.place (omega (arith, reaches.begins, b.from))) ∙ b.there }
 
     -- where a word lacks a hit up to a place, the place that is chosen for it is not before that
     module _ (words now : List A) (low : ℕ) (ahead : Ahead places good low words) (same : SameWords passes low now words) (chosen : List ℕ) (each : is_chosen places words chosen ≡ true)
@@ -185,9 +196,9 @@ module _ {A : Type 0} (passes : A → ℕ → Bool) (places : A → List ℕ) (f
             below = there.to;
           }
 
-    choice_fails : (words now : List A) (low far : ℕ) → low < to → to ≤ far → Ahead places good low words → SameWords passes low now words → Reaches passes now low to far
+    choice_fails : (words now : List A) (low near far : ℕ) → low < to → to ≤ far → Ahead places good low words → SameWords passes low now words → Reaches passes now low to near far
         → some_choice good (map places words) ≡ false
-    choice_fails words now low far order h ahead same reaches =
+    choice_fails words now low near far order h ahead same reaches =
         false_from_ne_true (some_choice good (map places words)) (λ e. none (choice places good words e))
       where
         none : Chosen places good words → ⊥
@@ -209,9 +220,9 @@ module _ {A : Type 0} (passes : A → ℕ → Bool) (places : A → List ℕ) (f
             absurd (omega (arith, past, below, h))
 
     -- a choice that passes has a place as far as the farthest hit, and so none before what that one allows
-    ahead_goes_on : (words now : List A) (low far next : ℕ) → Ahead places good low words → SameWords passes low now words → Reaches passes now low to far
+    ahead_goes_on : (words now : List A) (low near far next : ℕ) → Ahead places good low words → SameWords passes low now words → Reaches passes now low to near far
         → ((chosen : List ℕ) → good chosen ≡ true → (p q : ℕ) → has chosen p ≡ true → has chosen q ≡ true → far ≤ q → next ≤ p) → Ahead places good next words
-    ahead_goes_on words now low far next ahead same reaches rule = record { ahead = later }
+    ahead_goes_on words now low near far next ahead same reaches rule = record { ahead = later }
       where
         later : (chosen : List ℕ) → is_chosen places words chosen ≡ true → good chosen ≡ true → (place : ℕ) → has chosen place ≡ true → next ≤ place
         later chosen each passed place e = elim (cases_lt low far) [
@@ -244,16 +255,16 @@ module _ {A : Type 0} (passes : A → ℕ → Bool) (places : A → List ℕ) (f
         moved = unmoved (shown_all shown words) steps;
       }
 
-      module _ (old now after : List A) (low start middle end : ℕ) (so_far : Narrowing passes places shown old now good from low start middle) (far : ℕ)
-          (reaches : Reaches passes now low to far) (same : SameWords passes low after now) (moved : Moved (shown_all shown now) (shown_all shown after) middle end) where
+      module _ (old now after : List A) (low start middle end : ℕ) (so_far : Narrowing passes places shown old now good from low start middle) (near far : ℕ)
+          (reaches : Reaches passes now low to near far) (same : SameWords passes low after now) (moved : Moved (shown_all shown now) (shown_all shown after) middle end) where
         narrowing_moved : Moved (shown_all shown old) (shown_all shown after) start end
         narrowing_moved = moved_on (shown_all shown old) (shown_all shown now) (shown_all shown after) start middle end so_far.moved moved
 
-        pub narrowing_found : far < to → ((chosen : List ℕ) → 0 < length chosen → all_between low far chosen ≡ true → good chosen ≡ true) → some_choice good (map places old) ≡ true
-        narrowing_found below enough = choice_found old now low far so_far.some so_far.from so_far.same reaches below enough
+        pub narrowing_found : far < to → ((chosen : List ℕ) → 0 < length chosen → all_between near far chosen ≡ true → good chosen ≡ true) → some_choice good (map places old) ≡ true
+        narrowing_found below enough = choice_found old now low near far so_far.some so_far.from so_far.same reaches below enough
 
         pub narrowing_fails : low < to → to ≤ far → some_choice good (map places old) ≡ false
-        narrowing_fails order h = choice_fails old now low far order h so_far.ahead so_far.same reaches
+        narrowing_fails order h = choice_fails old now low near far order h so_far.ahead so_far.same reaches
 
         pub narrowing_goes_on : (next : ℕ) → ((chosen : List ℕ) → good chosen ≡ true → (p q : ℕ) → has chosen p ≡ true → has chosen q ≡ true → far ≤ q → next ≤ p) → low ≤ next
             → Narrowing passes places shown old after good from next start end
@@ -261,7 +272,7 @@ module _ {A : Type 0} (passes : A → ℕ → Bool) (places : A → List ℕ) (f
           some = so_far.some;
           from = omega (arith, later, so_far.from);
           same = same_later passes after old low next later (same_after passes old now after low so_far.same same);
-          ahead = ahead_goes_on old now low far next so_far.ahead so_far.same reaches rule;
+          ahead = ahead_goes_on old now low near far next so_far.ahead so_far.same reaches rule;
           moved = narrowing_moved;
         }
 

@@ -38,6 +38,13 @@ module _ (unit : ℕ → ℕ) where
   same_unit (first ∷ rest) h p q a b = in_unit first rest p h a ∙ sym (in_unit first rest q h b)
 
   module _ (rises : (first second : ℕ) → first ≤ second → unit first ≤ unit second) where
+    -- a place of an earlier unit is before one of a later unit
+    pub earlier : (p q : ℕ) → unit p < unit q → p < q
+    earlier p q h = elim (cases_lt p q) [
+      | inl less ↦ less
+      | inr le ↦ let above = rises q p le in absurd (omega (arith, h, above))
+    ]
+
     -- between two places of one unit all places are of it
     between : (low far p : ℕ) → unit low ≡ unit far → low ≤ p → p ≤ far → unit p ≡ unit far
     between low far p h a b = let below = rises low p a in let above = rises p far b in omega (arith, h, below, above)

@@ -4,7 +4,7 @@ ghost use Rattle.std.specs.Prelude.{◌≡◌, ◌+◌, ◌*◌, ◌<◌, ◌≤
 ghost use Rattle.window_merges.specs.Choices.{are_close, some_choice};
 ghost use Rattle.window_merges.specs.Rows.{all_places, word_lists, words_left, words_plain};
 
-use crate::farthest::farthest;
+use crate::first_hits::first_hits;
 use ft_base::{Span, Steps};
 use place_merges::FirstWords;
 use std::sync::ledger::Ledger;
@@ -31,7 +31,7 @@ pub fn stand_close<H: FirstWords, L: Ledger>(
     }
     let mut low = span.from;
     while low < span.to {
-        let far = farthest(words, low, span.to, steps);
+        let far = first_hits(words, low, span.to, steps).far;
         if far >= span.to {
             return false;
         }

@@ -10,7 +10,7 @@
 
 mod close;
 pub mod examples;
-mod farthest;
+mod first_hits;
 mod in_order;
 pub mod laws;
 mod together;

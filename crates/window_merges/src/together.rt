@@ -4,7 +4,7 @@ ghost use Rattle.std.specs.Prelude.{◌≡◌, ◌+◌, ◌-◌, ◌*◌, ◌<�
 ghost use Rattle.window_merges.specs.Choices.{are_in_one, some_choice};
 ghost use Rattle.window_merges.specs.Rows.{all_places, word_lists, words_left, words_plain};
 
-use crate::farthest::farthest;
+use crate::first_hits::{FirstHits, first_hits};
 use crate::units::Units;
 use ft_base::{Span, Steps};
 use place_merges::FirstWords;
@@ -32,14 +32,14 @@ pub fn stand_together<H: FirstWords, U: Units, L: Ledger>(
     }
     let mut low = span.from;
     while low < span.to {
-        let far = farthest(words, low, span.to, steps);
+        let FirstHits { near, far } = first_hits(words, low, span.to, steps);
         if far >= span.to {
             return false;
         }
-        if units.number_of(low) == units.number_of(far) {
+        if units.number_of(near) == units.number_of(far) {
             return true;
         }
-        low = first_place(units, low, far);
+        low = first_place(units, near, far);
     }
     false
 }

@@ -34,10 +34,11 @@ pub record Lacks {A : Type 0} (passes : A → ℕ → Bool) (first last : ℕ) (
   pub within : number < count
   pub none : (other : A) (place : ℕ) → first ≤ place → place < last → passes (get_or words number other) place ≡ false
 
--- each word passes somewhere from the place up to the result, and one doesn't before the result; where the result is the
+-- each word passes somewhere from `near` to `far`, which are not before the place, and one doesn't before `far`; where `far` is the
 -- limit, one passes nowhere before it
-pub record Reaches {A : Type 0} (passes : A → ℕ → Bool) (words : List A) (place limit result : ℕ) : Type 0 where
-  pub from : place ≤ result
-  pub to : result ≤ limit
-  pub near : result < limit → (number : ℕ) (other : A) → number < length words → Between (passes (get_or words number other)) place result
-  pub lacks : place < result → Lacks passes place result words (length words)
+pub record Reaches {A : Type 0} (passes : A → ℕ → Bool) (words : List A) (place limit near far : ℕ) : Type 0 where
+  pub from : place ≤ far
+  pub to : far ≤ limit
+  pub begins : place ≤ near
+  pub each : far < limit → (number : ℕ) (other : A) → number < length words → Between (passes (get_or words number other)) near far
+  pub lacks : place < far → Lacks passes place far words (length words)

@@ -18,22 +18,22 @@ loop-low-init g c =
 pub returns-then-far-span-clause-close : goal.returns-then-far-span-clause-close
 returns-then-far-span-clause-close g c =
     sym (narrowing_fails (has_hit g.H.Hits.stand) (λ word. places_in g.H.Hits.stand c.args.span word.items) c.args.span.from c.args.span.to (known g.H.Hits.stand c.args.span) (are_close c.args.size)
-    (shown_word g.H.Hits.stand g.H.Hits.plain) c.args.words.now.items c.loop-low.words.items c.farthest-far.new.words.items c.loop-low.low c.args.steps.now c.loop-low.steps c.farthest-far.new.steps
-    c.loop-low.invariant c.farthest-far.result c.farthest-far.ensures.reaches c.farthest-far.ensures.same c.farthest-far.ensures.moved c.loop-low-test.true c.if-far-span.true)
+    (shown_word g.H.Hits.stand g.H.Hits.plain) c.args.words.now.items c.loop-low.words.items c.first_hits-far.new.words.items c.loop-low.low c.args.steps.now c.loop-low.steps c.first_hits-far.new.steps
+    c.loop-low.invariant c.first_hits-far.result.near c.first_hits-far.result.far c.first_hits-far.ensures.reaches c.first_hits-far.ensures.same c.first_hits-far.ensures.moved c.loop-low-test.true c.if-far-span.true)
 
 pub returns-then-far-low-clause-close : goal.returns-then-far-low-clause-close
 returns-then-far-low-clause-close g c =
     sym (narrowing_found (has_hit g.H.Hits.stand) (λ word. places_in g.H.Hits.stand c.args.span word.items) c.args.span.from c.args.span.to (known g.H.Hits.stand c.args.span) (are_close c.args.size)
-    (shown_word g.H.Hits.stand g.H.Hits.plain) c.args.words.now.items c.loop-low.words.items c.farthest-far.new.words.items c.loop-low.low c.args.steps.now c.loop-low.steps c.farthest-far.new.steps
-    c.loop-low.invariant c.farthest-far.result c.farthest-far.ensures.reaches c.farthest-far.ensures.same c.farthest-far.ensures.moved (omega (arith, c.if-far-span.false))
-    (close_enough c.args.size c.loop-low.low c.farthest-far.result c.farthest-far.ensures.reaches.from c.if-far-low.true))
+    (shown_word g.H.Hits.stand g.H.Hits.plain) c.args.words.now.items c.loop-low.words.items c.first_hits-far.new.words.items c.loop-low.low c.args.steps.now c.loop-low.steps c.first_hits-far.new.steps
+    c.loop-low.invariant c.first_hits-far.result.near c.first_hits-far.result.far c.first_hits-far.ensures.reaches c.first_hits-far.ensures.same c.first_hits-far.ensures.moved (omega (arith, c.if-far-span.false))
+    (close_enough c.args.size c.loop-low.low c.first_hits-far.result.near c.first_hits-far.result.far c.first_hits-far.ensures.reaches.begins c.first_hits-far.ensures.reaches.from c.if-far-low.true))
 
 pub loop-low-preserved : goal.loop-low-preserved
 loop-low-preserved g c =
     narrowing_goes_on (has_hit g.H.Hits.stand) (λ word. places_in g.H.Hits.stand c.args.span word.items) c.args.span.from c.args.span.to (known g.H.Hits.stand c.args.span) (are_close c.args.size)
-    (shown_word g.H.Hits.stand g.H.Hits.plain) c.args.words.now.items c.loop-low.words.items c.farthest-far.new.words.items c.loop-low.low c.args.steps.now c.loop-low.steps c.farthest-far.new.steps
-    c.loop-low.invariant c.farthest-far.result c.farthest-far.ensures.reaches c.farthest-far.ensures.same c.farthest-far.ensures.moved (c.farthest-far.result - c.args.size + 1)
-    (close_rule c.args.size c.loop-low.low c.farthest-far.result (omega (arith, c.if-far-low.false))) (omega (arith, c.if-far-low.false, c.farthest-far.ensures.reaches.from))
+    (shown_word g.H.Hits.stand g.H.Hits.plain) c.args.words.now.items c.loop-low.words.items c.first_hits-far.new.words.items c.loop-low.low c.args.steps.now c.loop-low.steps c.first_hits-far.new.steps
+    c.loop-low.invariant c.first_hits-far.result.near c.first_hits-far.result.far c.first_hits-far.ensures.reaches c.first_hits-far.ensures.same c.first_hits-far.ensures.moved (c.first_hits-far.result.far - c.args.size + 1)
+    (close_rule c.args.size c.loop-low.low c.first_hits-far.result.far (omega (arith, c.if-far-low.false))) (omega (arith, c.if-far-low.false, c.first_hits-far.ensures.reaches.from))
 
 pub returns-clause-close : goal.returns-clause-close
 returns-clause-close g c =
