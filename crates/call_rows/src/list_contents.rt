@@ -50,3 +50,32 @@ fn keys_have_their_stems(rt: HostRuntime) -> Result<(), Fail> {
     assert!(rt; Stems::empty(rt.alloc()).stem("roses") == "roses");
     Ok(())
 }
+
+/// Whether the dictionary has these keys of the stem, in this order.
+fn has_keys(alloc: Global, dictionary: &str, stem: &str, wanted: &[&str]) -> Result<bool, Fail> {
+    match Stems::read(alloc, dictionary.as_bytes()) {
+        Ok(stems) => Ok(stems.keys_of(alloc, stem)?.as_slice() == wanted),
+        Err(_) => Err(Fail::from("not read")),
+    }
+}
+
+// A stem that has another stem is none of its own keys.
+const KEYS: [(&str, &str, &[&str]); 5] = [
+    (
+        "Roses Rose\nrosy rose\n",
+        "rose",
+        &["roses", "rosy", "rose"],
+    ),
+    ("Roses Rose\nrose ros\n", "rose", &["roses"]),
+    ("Roses Rose\nrose ros\n", "ros", &["rose", "ros"]),
+    ("Roses Rose\nrose ros\n", "ships", &["ships"]),
+    ("Roses Rose\n", "roses", &[]),
+];
+
+#[test]
+fn stems_have_their_keys(rt: HostRuntime) -> Result<(), Fail> {
+    for (dictionary, stem, wanted) in KEYS {
+        assert!(rt; has_keys(rt.alloc(), dictionary, stem, wanted)?, "{stem}");
+    }
+    Ok(())
+}

@@ -40,6 +40,15 @@ number_more p from number h =
     ∙ filter-append p (range_with_len from (number - from)) ((from + (number - from)) ∷ [])
     ∙ ap (λ m. filter p (range_with_len from (number - from)) ++ cond (p m) (m ∷ []) []) last
 
+-- of the first numbers
+pub first_more : (p : ℕ → Bool) (number : ℕ) → filter p (range_with_len 0 (number + 1)) ≡ filter p (range_with_len 0 number) ++ cond (p number) (number ∷ []) []
+first_more p number =
+    let more : number + 1 ≡ number + 1 - 0 = omega arith in
+    let all : number - 0 ≡ number = omega arith in
+    ap (λ n. filter p (range_with_len 0 n)) more
+    ∙ number_more p 0 number (omega arith)
+    ∙ ap (λ n. filter p (range_with_len 0 n) ++ cond (p number) (number ∷ []) []) all
+
 -- ---- the key of words that pass
 
 looked_at_key : (all : Bool) (word : List ℕ) → (tests.forms_as all word).key ≡ key_of word

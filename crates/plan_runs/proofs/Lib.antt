@@ -25,4 +25,5 @@ mod RunLaw
 mod RunSkipLaw
 mod TellingLemmas
 mod ChoosingLemmas
+mod MarkLemmas
 mod TreeLemmas

@@ -4,13 +4,14 @@ use Rattle.std.specs.List.{list_any, range_with_len}
 use Rattle.std.specs.Ordering.{is_lt, is_le, is_eq}
 use Rattle.std.specs.declared.cmp.Ordering.TheVariants.{Equal}
 use Rattle.std.proofs.Math.Bool.{and-true, or-false}
-use Rattle.std.proofs.lemmas.Bool.{or_left, or_right, ne_eqb, false_from_ne_true}
+use Rattle.std.proofs.lemmas.Bool.{eqb-true, or_left, or_right, ne_eqb, false_from_ne_true}
 use Rattle.std.proofs.lemmas.Cmp.{nat_list_cmp_total, tied_itself}
 use Rattle.std.proofs.lemmas.List.{get_or_default}
 use Rattle.std.proofs.lemmas.List.Folds.{Any-from_list_any, list_any-append, list_any_at}
 use Rattle.std.proofs.lemmas.List.FromFn.{get_or-range_with_len, length-range_with_len}
 use Rattle.std.proofs.lemmas.Map.Views.{any-filter_same}
 use Rattle.all_matches.proofs.ListTests.{list_any-map}
+use Rattle.ft_base.specs.declared.span.Span.{Span}
 use Rattle.text_forms.specs.Forms.{key_of}
 use Rattle.index_meaning.specs.Documents.{Numbered, document_at, has_document, token_count, words_of}
 use Rattle.index_meaning.specs.Entries.{Entry, entry, entry_cmp, text_cmp, found, has_entry, is_sorted, same_keys, smaller_keys, span}
@@ -165,3 +166,24 @@ key_law version test key one =
     ∙ only_between (λ number. test (term_at number version).word) (smaller_keys key es) (same_keys key es) (length es)
     (omega (arith, rank_within AfterKey (entry key []) es, upto_key (entry key []) es))
     (λ n within passes. key_between key es n (entry [] []) (terms_sorted version) within (term_keyed version n within ∙ one (term_at n version).word passes))
+
+-- the number of a term is one of those that are found by its key
+pub number_found : (version : List Numbered) (key : List ℕ) (n : ℕ) → n < length (terms_of version) → (term_at n version).key ≡ key
+    → (s : Span) × (found key (terms_of version) ≡ Some s) × (s.from ≤ n) × (n < s.to)
+number_found version key n within is = go (same_keys key es == 0) refl
+  where
+    es : List Entry
+    es = terms_of version
+
+    from : ℕ
+    from = smaller_keys key es
+
+    to : ℕ
+    to = smaller_keys key es + same_keys key es
+
+    between : (from ≤ n) × (n < to)
+    between = key_between key es n (entry [] []) (terms_sorted version) within is
+
+    go : (none : Bool) → (same_keys key es == 0) ≡ none → (s : Span) × (cond none None (Some (span from to)) ≡ Some s) × (s.from ≤ n) × (n < s.to)
+    go true e = absurd (omega (arith, between.0, between.1, eqb-true (same_keys key es) 0 e))
+    go false e = (span from to, refl, between.0, between.1)

@@ -1,5 +1,6 @@
 pub mod RunCode
 pub mod ChosenTerms
+pub mod MarkedTerms
 pub mod Merges
 pub mod Passes
 pub mod RunShapes

@@ -7,6 +7,7 @@ ghost use Rattle.index_versions.specs.Versions.{term_at, terms_of};
 ghost use Rattle.plan_runs.specs.steps.ChosenTerms as spec;
 ghost use Rattle.plan_runs.specs.steps.OpenedItems.{word_test};
 
+use crate::stem_terms::{asked_stem, terms_of_stem};
 use ft_base::{Items, Memory};
 use index_versions::Version;
 use match_options::PlaceRow;
@@ -23,12 +24,23 @@ pub(crate) struct Opening<'a> {
     pub(crate) lists: &'a Lists,
 }
 
-/// The numbers of the terms whose words pass, ascending. Where the words that pass have one key, only its terms are looked at.
+/// The numbers of the terms whose words pass, ascending. Where the words that pass have one key, or one stem, only the terms of such
+/// keys are looked at.
 pub(crate) fn terms_for(opening: &Opening<'_>, test: &ItemTest) -> Result<Items<usize>, Memory>
     ensures { IfOk result (λ numbers. numbers ≡ spec.terms_for (word_test opening.now.looks opening.now.lists.now.stems test.now) opening.now.version.now) }
 {
     match asked_key(test) {
         Some(key) => terms_of_key(opening, test, key),
+        None => terms_by_stem(opening, test),
+    }
+}
+
+/// The numbers of the terms whose words pass. Where these have one stem, only the terms of keys with it are looked at.
+fn terms_by_stem(opening: &Opening<'_>, test: &ItemTest) -> Result<Items<usize>, Memory>
+    ensures { IfOk result (λ numbers. numbers ≡ spec.terms_for (word_test opening.now.looks opening.now.lists.now.stems test.now) opening.now.version.now) }
+{
+    match asked_stem(opening.looks, test) {
+        Some(stem) => terms_of_stem(opening, test, stem),
         None => passing(opening, test, 0, opening.version.term_count()),
     }
 }
@@ -65,7 +77,7 @@ fn passing(
 }
 
 /// Puts the number to the end, where the word of the term of that number passes.
-fn push_passing(
+pub(crate) fn push_passing(
     opening: &Opening<'_>,
     test: &ItemTest,
     row: &mut PlaceRow,

@@ -38,6 +38,7 @@ mod run_node;
 mod run_placed;
 mod run_ways;
 mod skipping;
+mod stem_terms;
 mod units;
 mod ways_holding;
 mod words_holding;
