@@ -1,5 +1,6 @@
 """A conversation with the program over a pipe, in which the time of each reply is taken when its last byte is there."""
 
+import contextlib
 import fcntl
 import os
 import subprocess
@@ -7,6 +8,10 @@ import threading
 import time
 
 PIPE_BYTES = 1 << 20
+
+
+class TooSlow(Exception):
+    """The program took longer than it might, and was ended."""
 
 
 class Conversation:
@@ -39,6 +44,23 @@ class Conversation:
         first = self._line().decode("utf-8")
         more = int(first[2:]) if first.startswith("= ") and first[2:].isdigit() else 0
         return [first] + [self._line().decode("utf-8") for _ in range(more)]
+
+    @contextlib.contextmanager
+    def within(self, seconds):
+        """Ends the program where what is asked inside takes longer than so many seconds, which then raises `TooSlow`."""
+        late = threading.Event()
+        timer = threading.Timer(seconds, lambda: (late.set(), self.child.kill()))
+        timer.start()
+        try:
+            yield
+        except (EOFError, BrokenPipeError):
+            if not late.is_set():
+                raise
+        finally:
+            timer.cancel()
+            timer.join()
+        if late.is_set():
+            raise TooSlow
 
     def timed_all(self, commands):
         """The first lines of the replies to commands that are sent without waiting, and the seconds from the first byte to the last reply."""

@@ -15,7 +15,7 @@ from ftq_client import Element, QueryFault, Refusal
 
 from .collection import Collection
 from .locating import Located
-from .mistakes import FAULTS, advice_for
+from .mistakes import FAULTS, Fault, advice_for
 from .showing import Asked, Piece, shortened
 
 FORMATS = ("text", "json", "csv", "paths")
@@ -23,7 +23,7 @@ FORMATS = ("text", "json", "csv", "paths")
 
 def asked_of(path: str, collection: Collection) -> Asked:
     """The words that a path asks for, under the collection's stems."""
-    return Asked(path, collection.stems.stem if collection.stems else None)
+    return Asked(collection.sent(path), collection.stems.stem if collection.stems else None)
 
 
 def shown_text(located: Located, asked: Asked, whole: bool) -> str:
@@ -47,25 +47,53 @@ def _row(located: Located, asked: Asked, whole: bool) -> dict[str, Any]:
     }
 
 
-def write_json(collection: Collection, path: str, count: int, shown: Iterable[Element], whole: bool, told: list[str]) -> None:
-    """One object: the question, how many elements there are, those that are shown, and the hints."""
-    asked = asked_of(path, collection)
-    rows = [_row(collection.locator.locate(it), asked, whole) for it in shown]
-    json.dump({"query": path, "count": count, "results": rows, "hints": told}, sys.stdout, ensure_ascii=False, indent=1)
-    sys.stdout.write("\n")
+class Output:
+    """The answers to questions on standard output. Where there are many, each is told apart: as text by a line with its question, in CSV by
+    a column, in JSON by an array."""
 
+    def __init__(self, collection: Collection, form: str, count: bool, whole: bool, many: bool) -> None:
+        self.collection = collection
+        self.form = "count" if count else form
+        self.whole = whole
+        self.many = many
+        self._rows: csv.DictWriter[str] | None = None
+        self._objects: list[dict[str, Any]] = []
 
-def write_csv(collection: Collection, path: str, shown: Iterable[Element], whole: bool) -> None:
-    """A line of names, then one for each element."""
-    asked = asked_of(path, collection)
-    writer = csv.DictWriter(sys.stdout, ["document", "file", "line", "path", "text"], lineterminator="\n")
-    writer.writeheader()
-    writer.writerows(_row(collection.locator.locate(it), asked, whole) for it in shown)
+    def write(self, path: str, count: int, shown: list[Element], told: list[str]) -> None:
+        """Writes an answer: how many elements a question has found, those that are shown, and the hints."""
+        if self.many and self.form in ("text", "paths"):
+            print(f"==> {path} <==")
+        if self.form == "count":
+            print(f"{count} {path}" if self.many else count)
+        elif self.form == "json":
+            self._objects.append({"query": path, "count": count, "results": self._found(path, shown), "hints": told})
+        elif self.form == "csv":
+            self._csv(path, shown)
+        elif self.form == "paths":
+            sys.stdout.writelines(f"{it.line}\n" for it in shown)
+        else:
+            sys.stdout.flush()
+            write_text(Console(highlight=False), self.collection, path, shown, self.whole)
 
+    def end(self) -> None:
+        """Writes what stands behind all answers."""
+        if self.form == "json":
+            written: list[Any] = [self._objects] if self.many else self._objects
+            for it in written:
+                json.dump(it, sys.stdout, ensure_ascii=False, indent=1)
+                sys.stdout.write("\n")
 
-def write_paths(shown: Iterable[Element]) -> None:
-    """The program's own line for each element."""
-    sys.stdout.writelines(f"{it.line}\n" for it in shown)
+    def _found(self, path: str, shown: list[Element]) -> list[dict[str, Any]]:
+        asked = asked_of(path, self.collection)
+        return [_row(self.collection.locator.locate(it), asked, self.whole) for it in shown]
+
+    def _csv(self, path: str, shown: list[Element]) -> None:
+        """A line of names, then one for each element."""
+        if self._rows is None:
+            names = ["document", "file", "line", "path", "text"]
+            self._rows = csv.DictWriter(sys.stdout, ["query", *names] if self.many else names, lineterminator="\n")
+            self._rows.writeheader()
+        self._rows.writerows({"query": path, **it} if self.many else it for it in self._found(path, shown))
 
 
 def write_text(console: Console, collection: Collection, path: str, shown: Iterable[Element], whole: bool) -> None:
@@ -99,14 +127,15 @@ def say_hints(console: Console, told: Iterable[str]) -> None:
         say(console, Text(f"hint: {it}", "yellow"))
 
 
-def say_refusal(console: Console, path: str, refusal: Refusal, prefix: str = "") -> None:
-    """Writes what a refusal says. A fault of a path shows the path, a caret under its place, and what to write instead."""
+def say_refusal(console: Console, path: str, refusal: Refusal, fault_of: Callable[[str], Fault | None], prefix: str = "") -> None:
+    """Writes what a refusal says. A fault of a path shows the path, a caret under its place, and what to write instead: a path in which the
+    program finds no fault, as `fault_of` tells."""
     if isinstance(refusal, QueryFault):
         column = refusal.column(path)
         say(console, Text(f"{prefix}{refusal.kind}: {FAULTS.get(refusal.kind, refusal.reply)}", "red"))
         say(console, f"    {path}")
         say(console, Text("    " + " " * cell_len(path[:column]) + "^", "red"))
-        advice = advice_for(path, refusal.kind, column)
+        advice = advice_for(path, (refusal.kind, column), fault_of)
         if advice:
             say(console, Text(f"    {advice.why}" + ("; write:" if advice.write else ""), "yellow"))
             if advice.write:
@@ -118,8 +147,8 @@ def say_refusal(console: Console, path: str, refusal: Refusal, prefix: str = "")
 _WORDS: dict[int, Callable[[Refusal], str]] = {
     1: lambda it: "this is no command of the language",
     2: lambda it: "a name has 1 to 64 letters, digits, periods, low lines and hyphens",
-    3: lambda it: f"there is a document {it.name}: drop it first, or take another name",
-    4: lambda it: f"there is no document {it.name}",
+    3: lambda it: f"there is one called {it.name}: drop it first (a mark by unmark), or take another name",
+    4: lambda it: f"no document and no mark is called {it.name}",
     8: lambda it: f"there is no document {it.name}; files lists those that there are",
     9: lambda it: f"there is no list {it.name}: load it with stop {it.name} or thesaurus {it.name}, or by --stop",
 }

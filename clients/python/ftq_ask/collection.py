@@ -2,69 +2,108 @@
 
 from __future__ import annotations
 
-from dataclasses import dataclass
+from dataclasses import dataclass, replace
 from pathlib import Path
 from typing import Any, Callable, Iterator
 
-from ftq_client import BadLine, ClientError, DocumentFault, Element, Full, Reply, SessionFull
+from ftq_client import BadLine, ClientError, DocumentFault, Element, Full, QueryFault, Refusal, Reply, SessionFull
 
-from .lists import Stems, stop_words
+from .choosing import PART, Choice
+from .lists import Stems, stop_words, usual_stem
 from .locating import Locator, Source
+from .mistakes import Fault
 from .naming import Names
-from .paths import is_said
-from .reading import Reading, Untaken, Vocabulary, files_of, names_of, read_file
+from .paths import DOCUMENTS, is_said, path_in, with_apostrophes
+from .reading import Reading, Rules, Vocabulary, check_limits, names_of, read_file, read_tree, without_empty_lines
 from .shares import Shares, divided
+from .spellings import Spellings
+from .trees import Untaken
+
+NOWHERE = 'doc("/")'
+"""The beginning of a path into a document that can't be there, since no document has that name."""
+
+EDITS = ("insert", "replace", "delete")
+"""The first words of the commands that change documents."""
 
 
 @dataclass(frozen=True)
 class Planned:
-    """A file that is to be loaded: its path as it is shown, its path, its document's name and its share."""
+    """A file that is to be loaded: its path as it is shown, its path, its document's name, its share, and whether it was named itself."""
 
     shown: Path
     path: Path
     name: str
     share: int
+    named: bool
 
 
 class Collection:
     """Files in an engine, with all that is known of them beside it."""
 
-    def __init__(self, engine: Any, stems: Stems | None = None) -> None:
+    def __init__(self, engine: Any, stems: Stems | None = None, choice: Choice | None = None, rules: Rules = Rules()) -> None:
         self.engine = engine
+        self.choice = choice or Choice([])
+        self.as_typed = False
+        """Whether questions are asked as they are typed."""
+        self.told_of_apostrophes = False
+        """Whether it was said that they aren't."""
+        self.rules = rules
         self.stems = stems
         self.has_stems = False
         self.sources: dict[str, Source] = {}
         self.vocabulary = Vocabulary()
         self.untaken: list[Untaken] = []
         self.bytes = 0
-        self.locator = Locator(self.sources)
+        self.locator = Locator(self.sources, rules)
+        self.spellings = Spellings(self._texts, stems.stem_of if stems else usual_stem())
         self._names = Names()
         self._reading: dict[str, Reading] = {}
+        self._parts: set[Path] = set()
 
     def plan(self, arguments: list[Path]) -> list[Planned]:
         """The files that the arguments name, each with a name and a share; what gives none is noted as not taken."""
-        found = []
-        for shown, path in files_of(arguments):
+        found, named = [], set(arguments)
+        for shown, path in self.choice.files_of(arguments):
             if isinstance(path, Untaken):
                 self.untaken.append(path)
             else:
                 found.append((shown, path))
         sizes = [path.stat().st_size if path.exists() else 0 for _, path in found]
         shares = divided(sizes, self.engine.count if isinstance(self.engine, Shares) else 1)
-        return [Planned(shown, path, self._names.name_for(shown), share) for (shown, path), share in zip(found, shares)]
+        return [Planned(shown, path, self._names.name_for(shown), share, path in named) for (shown, path), share in zip(found, shares)]
 
     def load(self, planned: list[Planned], step: Callable[[Path], None]) -> None:
         """Reads and loads files; `step` is told of each. What isn't taken is noted with the reason, and the rest goes on."""
         if isinstance(self.engine, Shares):
             self.engine.load_all(self._read_all(planned, step), self._done)
-            return
-        for _, name, content in self._read_all(planned, step):
-            fault = None
-            try:
-                self.engine.load(name, content)
-            except (DocumentFault, Full, SessionFull) as error:
-                fault = error
-            self._done(name, fault)
+        else:
+            for _, name, content in self._read_all(planned, step):
+                fault = None
+                try:
+                    self.engine.load(name, content)
+                except (DocumentFault, Full, SessionFull) as error:
+                    fault = error
+                self._done(name, fault)
+        self._leave_parts(planned)
+
+    def _leave_parts(self, planned: list[Planned]) -> None:
+        """Takes out the files of folders that stand in others as wholes, and so are read with them: those that were loaded, and those that can't
+        be taken by themselves. A file that was named itself stays."""
+        for it in planned if self._parts else []:
+            if it.named or it.path.resolve() not in self._parts:
+                continue
+            self.untaken = [other for other in self.untaken if other.path != it.path]
+            if it.name in self.sources:
+                self.engine.drop(it.name)
+                self._forget(it.name)
+            self.choice.pass_over(it.path, PART)
+
+    def _forget(self, name: str) -> None:
+        """A document is no longer there."""
+        source = self.sources.pop(name, None)
+        if source:
+            self.vocabulary.remove(source.vocabulary)
+            self.bytes -= source.size
 
     def send_stems(self) -> None:
         """Gives the stems to the program, less those lines that it doesn't take for a word and its stem."""
@@ -84,27 +123,93 @@ class Collection:
         self.engine.stop(language, stop_words(language))
 
     def query(self, path: str) -> list[Element]:
-        """The elements that a path selects. The stems of the words it asks for are sent before, where they are new."""
-        if self.stems and is_said(path, "using", "stemming") and self.stems.add_asked(path):
+        """The elements that a path selects."""
+        return self.found(f"query {path}", path)
+
+    def found(self, line: str, path: str) -> list[Element]:
+        """The elements that a command with this path at its end finds, be it of now or of a mark."""
+        return [Element.read(it) for it in self._lines(line.removesuffix(path), path)]
+
+    def printed(self, path: str) -> list[str]:
+        """The elements that a path selects, as XML."""
+        lines = self._lines("print ", path)
+        return [without_empty_lines(it) for it in lines] if self.rules.blocks else lines
+
+    def sent(self, path: str) -> str:
+        """A path as the program is asked for it: an apostrophe that is typed is looked for as it is printed too."""
+        return path if self.as_typed else with_apostrophes(path)
+
+    def _lines(self, front: str, path: str) -> list[str]:
+        """The lines of the reply to a command. The stems of the words that its path asks for are sent before, where they are new. A path that
+        is only faulty as it is sent is asked for as it is typed."""
+        sent = self.sent(path)
+        if self.stems and is_said(path, "using", "stemming") and self.stems.add_asked(sent):
             self.send_stems()
-        return self.engine.query(path)
+        if sent != path:
+            try:
+                return list(self.engine.command(front + sent).lines)
+            except QueryFault:
+                pass
+        return list(self.engine.command(front + path).lines)
+
+    def fault_of(self, path: str) -> Fault | None:
+        """The fault that the program finds in a path, if there is one. It is asked of a document that can't be there, so that nothing is
+        looked for."""
+        front = DOCUMENTS.match(path)
+        if front is None:
+            return self._fault(f"query {path}", path)
+        fault = self._fault(f"query {NOWHERE}{path[front.end() :]}", f"{NOWHERE}{path[front.end() :]}")
+        return fault and (fault[0], max(0, fault[1] - len(NOWHERE) + front.end()))
+
+    def fault_of_selection(self, selection: str) -> Fault | None:
+        """The fault that the program finds in a selection, if there is one."""
+        return self._fault(f"explain {selection}", selection)
+
+    def _fault(self, line: str, path: str) -> Fault | None:
+        try:
+            self.engine.command(line)
+        except QueryFault as fault:
+            return fault.kind, fault.column(path)
+        except Refusal as refusal:
+            return None if refusal.number in (8, 9) else (refusal.kind, 0)
+        except ValueError:
+            return "syntax", 0
+        return None
 
     def command(self, line: str, block: bytes | None) -> Reply:
-        """The reply to any command. What is known of the documents is kept up with what it loads and drops."""
-        reply = self.engine.command(line, block)
+        """The reply to any command. What is known of the documents is kept up with what it loads, drops and edits."""
         kind, *names = line.split()
+        edited = self._documents_of(path_in(line)) if kind in EDITS else set()
+        reply = self.engine.command(line, block)
+        for name in edited & self.sources.keys():
+            self.sources[name] = replace(self.sources[name], edited=True)
         if kind == "load" and block is not None:
             self.vocabulary.add(names_of(block))
         elif kind == "drop":
-            self.sources.pop(names[0], None)
+            self._forget(names[0])
         elif kind == "stems":
             self.has_stems = True
         return reply
 
+    def _texts(self) -> Iterator[str]:
+        """The texts of the files that were loaded, as they are now."""
+        for source in list(self.sources.values()):
+            try:
+                yield from (str(it) for it in read_tree(source.path, self.rules).root.itertext())
+            except Untaken:
+                continue
+
+    def _documents_of(self, path: str) -> set[str]:
+        """The documents that have elements which a path selects."""
+        try:
+            return {it.document for it in self.query(path)}
+        except Refusal:
+            return set()
+
     def _read_all(self, planned: list[Planned], step: Callable[[Path], None]) -> Iterator[tuple[int, str, bytes]]:
         for it in planned:
             try:
-                reading = read_file(it.path)
+                reading = read_file(it.path, self.rules, checked=False)
             except Untaken as untaken:
                 self.untaken.append(untaken)
                 step(it.shown)
@@ -119,13 +224,23 @@ class Collection:
         if fault is not None:
             if not isinstance(fault, ClientError):
                 raise fault
-            self.untaken.append(Untaken(reading.path, None, _reason(fault)))
+            self.untaken.append(self._untaken(reading, fault))
             return
-        self.sources[name] = Source(reading.path, reading.digest)
+        self.sources[name] = Source(reading.path, reading.digest, reading.vocabulary, len(reading.content))
+        self._parts |= reading.parts
         self.vocabulary.add(reading.vocabulary)
         self.bytes += len(reading.content)
         if self.stems:
             self.stems.add(reading.root.itertext())
+
+    def _untaken(self, reading: Reading, fault: Exception) -> Untaken:
+        """Why the program didn't take a document, with the line where that shows, if it does."""
+        try:
+            if isinstance(fault, DocumentFault):
+                check_limits(reading.path, reading.root, self.rules)
+        except Untaken as untaken:
+            return untaken
+        return Untaken(reading.path, None, _reason(fault))
 
 
 def _reason(fault: Exception) -> str:

@@ -3,10 +3,11 @@
 from __future__ import annotations
 
 import difflib
+import html
 import re
 from typing import Iterator
 
-from .paths import Named, asked_strings, is_said, names_in, symbols
+from .paths import Named, asked_strings, is_said, names_in, quoted, symbols
 from .reading import Vocabulary
 from .words import words_of
 
@@ -27,9 +28,11 @@ _AXES = {
 }
 
 
-def hints(path: str, found: int, vocabulary: Vocabulary, has_stems: bool) -> list[str]:
-    """What is likely meant otherwise in a path that was answered with so many elements."""
-    return [*_of_names(path, vocabulary), *_of_strings(path), *_of_stems(path, has_stems), *_of_nothing(path, found, vocabulary)]
+def hints(path: str, found: int, vocabulary: Vocabulary, has_stems: bool, lacks_words: bool = False) -> list[str]:
+    """What is likely meant otherwise in a path that was answered with so many elements; `lacks_words` tells that no document has one of its
+    words, so that asking for them elsewhere in the element finds nothing either."""
+    of_nothing = [] if found else _of_nothing(path, vocabulary, lacks_words)
+    return [*_of_names(path, vocabulary), *_of_strings(path), *_of_stems(path, has_stems), *of_nothing]
 
 
 def _of_names(path: str, vocabulary: Vocabulary) -> Iterator[str]:
@@ -57,13 +60,25 @@ def _instead(named: Named, known: dict[str, int]) -> str:
 def _of_strings(path: str) -> Iterator[str]:
     patterns = is_said(path, "using", "wildcards")
     for text in asked_strings(path):
-        if not patterns and re.search(r"\w\.[*+?{]|^\.[*+?{]|\w\*|\*\w", text):
+        if not patterns and looks_like_pattern(text):
             dotted = re.sub(r"(?<!\.)\*", ".*", text)
             yield f'"{text}" is read as plain words; a pattern wants: "{dotted}" using wildcards'
         if patterns and re.search(r"(?<!\.)\*", text):
             yield f'a star stands for itself in a pattern; any characters are .*: "{re.sub(r"(?<![.])[*]", ".*", text)}"'
         if not any(words_of(text)) and not patterns:
-            yield f'"{text}" has no word, and a string without a word finds nothing'
+            yield f"{quoted(text)} has no word, and a string without a word finds nothing"
+        if unescaped(text) != text:
+            yield f"a string is no XML, and has no references to characters; write {quoted(unescaped(text))} for {quoted(text)}"
+
+
+def looks_like_pattern(text: str) -> bool:
+    """Whether a string is likely meant as a pattern."""
+    return bool(re.search(r"\w\.[*+?{]|^\.[*+?{]|\w\*|\*\w", text))
+
+
+def unescaped(text: str) -> str:
+    """A text with characters in the place of the references that XML and HTML know."""
+    return re.sub(r"&(?:#[0-9]+|#[xX][0-9A-Fa-f]+|\w+);", lambda told: html.unescape(told[0]), text)
 
 
 def _of_stems(path: str, has_stems: bool) -> Iterator[str]:
@@ -73,17 +88,32 @@ def _of_stems(path: str, has_stems: bool) -> Iterator[str]:
         yield "using language changes nothing; --stem LANGUAGE and --stop LANGUAGE bring a language's lists"
 
 
-def _of_nothing(path: str, found: int, vocabulary: Vocabulary) -> Iterator[str]:
-    """Where nothing was found: a first step that no root has, a phrase of several words, an element's end or a comparison of marks."""
-    if found:
-        return
+def _of_nothing(path: str, vocabulary: Vocabulary, lacks_words: bool) -> Iterator[str]:
+    """Where nothing was found: a first step that no root has, and a phrase of several words."""
     row = symbols(path)
     first = next((number for number, it in enumerate(row) if it.text in ("/", "//")), None)
     if first is not None and first + 1 < len(row) and row[first].text == "/":
         name = row[first + 1].text
         if name in vocabulary.elements and name not in vocabulary.roots:
             yield f"no document's root is {name}; //{name} finds it at any depth"
+    if is_said(path, "all", "words") or is_said(path, "any", "word"):
+        return
     for text in asked_strings(path):
-        if len(list(words_of(text))) > 1 and not is_said(path, "all", "words") and not is_said(path, "any", "word"):
-            yield f'the words of "{text}" are asked for beside each other; "{text}" all words asks for them anywhere'
-            return
+        if len(list(words_of(text))) > 1 and unescaped(text) == text:
+            told = _of_phrase(text)
+            if told or not lacks_words:
+                yield told or f"the words of {quoted(text)} are asked for beside each other; {quoted(text)} all words asks for them anywhere"
+                return
+
+
+_SIGNS = {"ftor": r"\s*\|+\s*|\s+(?:OR|Or)\s+", "ftand": r"\s*&&\s*|\s+(?:AND|And|\+)\s+", "ftand ftnot": r"\s+(?:AND\s+)?NOT\s+"}
+"""What other languages write in strings, by the word that stands between strings here."""
+
+
+def _of_phrase(text: str) -> str:
+    """What may be meant by a string of several words that isn't found, where it has what parts strings in other languages; or else nothing."""
+    for word, signs in _SIGNS.items():
+        parts = re.split(signs, text)
+        if len(parts) > 1 and all(any(words_of(it)) for it in parts):
+            return f"{quoted(text)} is one phrase, with all its words beside each other; write (" + f" {word} ".join(map(quoted, parts)) + ")"
+    return ""

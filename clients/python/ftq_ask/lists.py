@@ -4,7 +4,7 @@ from __future__ import annotations
 
 import re
 from pathlib import Path
-from typing import Iterable
+from typing import Callable, Iterable
 
 from .paths import asked_strings
 from .words import WORD, key, words_of
@@ -47,10 +47,24 @@ class Stems:
         """The stem of a word's key."""
         return self._stems.get(plain, plain)
 
+    def stem_of(self, plain: str) -> str:
+        """The stem of any word's key, be it one of the collection or not."""
+        return self._stems.get(plain) or key(self._stemmer.stemWord(plain))
+
     def lines(self) -> bytes:
         """The dictionary for the program: a line for each word that isn't its own stem."""
         rows = (f"{word} {stem}" for word, stem in sorted(self._stems.items()) if word != stem and _is_word(word) and _is_word(stem))
         return "\n".join(rows).encode("utf-8")
+
+
+def usual_stem() -> Callable[[str], str] | None:
+    """Stems for hints where none were asked for: those of English, where PyStemmer is installed."""
+    try:
+        import Stemmer
+    except ImportError:
+        return None
+    stemmer = Stemmer.Stemmer("english")
+    return lambda plain: str(stemmer.stemWord(plain))
 
 
 def _is_word(text: str) -> bool:

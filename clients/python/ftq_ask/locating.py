@@ -10,15 +10,19 @@ from lxml import etree
 
 from ftq_client import Element
 
-from .reading import Untaken, lines_of, read_tree, written_attributes, written_name
+from .reading import Rules, Vocabulary, lines_of, read_tree
+from .trees import Tree, Untaken, written_attributes, written_name
 
 
 @dataclass(frozen=True)
 class Source:
-    """Where a document came from, and the digest that its file had."""
+    """Where a document came from, the digest that its file had, its names and its bytes for the program, and whether it was edited since."""
 
     path: Path
     digest: bytes
+    vocabulary: Vocabulary
+    size: int
+    edited: bool = False
 
 
 @dataclass(frozen=True)
@@ -53,9 +57,11 @@ class Located:
 class _Document:
     """A document's tree, in which children are found by name and number in one look."""
 
-    def __init__(self, root: etree._Element, path: Path) -> None:
-        self.root = root
-        self.lines = lines_of(root, path)
+    def __init__(self, tree: Tree, path: Path) -> None:
+        self.root = tree.root
+        self.path = path
+        self.lines = {} if tree.origins else lines_of(tree.root, path)
+        self._origins = tree.origins
         self._children: dict[etree._Element, dict[str, list[etree._Element]]] = {}
 
     def find(self, element: Element) -> etree._Element | None:
@@ -71,6 +77,15 @@ class _Document:
             here = children[step.number - 1]
         return here
 
+    def place(self, element: etree._Element) -> tuple[Path, int | None]:
+        """The file in which an element stands, be it an included one, and its line there."""
+        if not self._origins:
+            return self.path, self.lines.get(element)
+        here: etree._Element | None = element
+        while here is not None and here not in self._origins:
+            here = here.getparent()
+        return self.path if here is None else self._origins[here], element.sourceline
+
     def _by_name(self, parent: etree._Element) -> dict[str, list[etree._Element]]:
         if parent not in self._children:
             found: dict[str, list[etree._Element]] = {}
@@ -85,8 +100,9 @@ class Locator:
 
     KEPT = 4
 
-    def __init__(self, sources: dict[str, Source]) -> None:
+    def __init__(self, sources: dict[str, Source], rules: Rules) -> None:
         self._sources = sources
+        self._rules = rules
         self._kept: OrderedDict[str, _Document | str] = OrderedDict()
 
     def locate(self, element: Element) -> Located:
@@ -94,13 +110,16 @@ class Locator:
         source = self._sources.get(element.document)
         if source is None:
             return Located(element, note="this document wasn't read from a file")
+        if source.edited:
+            return Located(element, source.path, note="the document was edited since it was read")
         document = self._document(element.document, source)
         if isinstance(document, str):
             return Located(element, source.path, note=document)
         found = document.find(element)
         if found is None:
-            return Located(element, source.path, note="the document was edited since it was read")
-        return Located(element, source.path, document.lines.get(found), tuple(found.itertext()), tuple(written_attributes(found)))
+            return Located(element, source.path, note="the file has no such element")
+        path, line = document.place(found)
+        return Located(element, path, line, tuple(found.itertext()), tuple(written_attributes(found)))
 
     def _document(self, name: str, source: Source) -> "_Document | str":
         if name not in self._kept:
@@ -110,10 +129,9 @@ class Locator:
         self._kept.move_to_end(name)
         return self._kept[name]
 
-    @staticmethod
-    def _read(source: Source) -> "_Document | str":
+    def _read(self, source: Source) -> "_Document | str":
         try:
-            root, digest = read_tree(source.path)
+            tree = read_tree(source.path, self._rules)
         except Untaken as untaken:
             return f"the file can't be read any more: {untaken.reason}"
-        return _Document(root, source.path) if digest == source.digest else "the file has changed since it was read"
+        return _Document(tree, source.path) if tree.digest == source.digest else "the file has changed since it was read"

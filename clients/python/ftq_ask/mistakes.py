@@ -4,7 +4,7 @@ from __future__ import annotations
 
 import re
 from dataclasses import dataclass
-from typing import Callable
+from typing import Callable, Iterator
 
 from .paths import missing_end
 
@@ -77,9 +77,15 @@ MISTAKES: list[Mistake] = [
     ),
     _mistake(
         "a question is one path: ask two",
-        rf"\s*[|,]\s*(?:collection\s*\(\s*\)|doc\s*\(\s*{_STRING}\s*\)).*$",
+        rf"\s*[|,]\s*(?:collection\s*\(\s*\)|doc\s*\(\s*{_STRING}\s*\)|//?\s*[\w:*]).*$",
         "",
         "collection()//p | collection()//title",
+    ),
+    _mistake(
+        "there are no functions of texts; capitals, blanks and markup don't count where words are compared",
+        rf"\b(?:lower-case|upper-case|normalize-space|string|data|fn:\w+)\s*\(\s*(\.|{_NAME})\s*\)",
+        r"\1",
+        'collection()//p[lower-case(.) contains text "storm"]',
     ),
     _mistake("it is called contains text", r"\bftcontains\b", "contains text", 'collection()//p[. ftcontains "storm"]'),
     _mistake(
@@ -109,7 +115,13 @@ MISTAKES: list[Mistake] = [
     _mistake("any element is written *", r"\bnode\s*\(\s*\)", "*", "collection()//p/node()"),
     _mistake(
         "attributes are no steps; an element that has one is asked for in brackets",
-        rf"//?\s*@({_NAME})\s*$",
+        rf"//\s*@({_NAME})",
+        r"//*[@\1]",
+        "collection()//@id",
+    ),
+    _mistake(
+        "attributes are no steps; an element that has one is asked for in brackets",
+        rf"(?<=[\w\])*])/\s*@({_NAME})",
         r"[@\1]",
         "collection()//book/@id",
     ),
@@ -119,6 +131,7 @@ MISTAKES: list[Mistake] = [
         r"@\1 = \2",
         'collection()//book[@id contains text "b1"]',
     ),
+    _mistake("an attribute stands alone in its brackets", r"\./\s*@", "@", 'collection()//book[./@id = "b1"]'),
     _mistake("an attribute's value is a string", rf"@({_NAME})\s*=\s*([0-9]+)", r'@\1 = "\2"', "collection()//book[@id = 1]"),
     _mistake(
         "there is = alone; not( .. ) turns it",
@@ -181,6 +194,12 @@ MISTAKES: list[Mistake] = [
         r"(?<=[\"'})])(\s+)or(\s+)(?=[\"'{])",
         r"\1ftor\2",
         'collection()//p[. contains text "storm" or "ship"]',
+    ),
+    _mistake(
+        "the strings of one value are divided by commas",
+        rf"\{{\s*{_STRING}(?:[\s,;|]*{_STRING})+\s*\}}",
+        lambda told: "{" + ", ".join(re.findall(_STRING, told[0])) + "}",
+        'collection()//p[. contains text {"storm" "ship"} all]',
     ),
     _mistake(
         "between strings it is ftand, or a blank inside one string",
@@ -303,16 +322,47 @@ FAULTS = {
 """What each fault of a query says, in a few words."""
 
 
-def advice_for(path: str, kind: str, column: int) -> Advice | None:
-    """What to write instead of a path that is faulty at that column, where it is one of the usual mistakes."""
+Fault = tuple[str, int]
+"""A fault of a path: its kind, and the column at which it stands."""
+
+MOST_MISTAKES = 4
+"""How many mistakes of one path are repaired together."""
+
+MOST_READ = 50
+"""How many repaired paths the program is asked to read at most."""
+
+
+def advice_for(path: str, fault: Fault, fault_of: Callable[[str], Fault | None]) -> Advice | None:
+    """What to write instead of a path with that fault, where it has one of the usual mistakes, or several. `fault_of` is the program's word on
+    a path: none is shown that it doesn't read. Of the repairs those of the fewest mistakes are tried first."""
+    first: str | None = None
+    tried = {path}
+    row: list[tuple[str, Fault, list[str]]] = [(path, fault, [])]
+    for written, its_fault, whys in row:
+        for repair in _repairs(written, *its_fault):
+            first = first or repair.why
+            if repair.write is None:
+                return Advice(repair.why, None)
+            if repair.write in tried or len(tried) > MOST_READ:
+                continue
+            tried.add(repair.write)
+            both = [*whys, repair.why] if repair.why not in whys else whys
+            left = fault_of(repair.write)
+            if left is None:
+                return Advice("; ".join(both), repair.write)
+            if len(both) < MOST_MISTAKES:
+                row.append((repair.write, left, both))
+    return Advice(first, None) if first else None
+
+
+def _repairs(path: str, kind: str, column: int) -> Iterator[Advice]:
+    """What may be meant by a path with one fault: the usual mistakes that stand near it, or else those elsewhere, then what is open."""
     if kind != "syntax":
-        return None
+        return
     found = [(mistake, told) for mistake in MISTAKES for told in mistake.pattern.finditer(path)]
-    near = [it for it in found if it[1].start() - 1 <= column <= it[1].end() + 1] or found
-    if near:
-        mistake = near[0][0]
-        return Advice(mistake.why, mistake.write(path))
+    near = [it for it in found if it[1].start() - 1 <= column <= it[1].end() + 1]
+    for mistake, _ in near or found:
+        yield Advice(mistake.why, mistake.write(path))
     missing = missing_end(path)
     if missing:
-        return Advice(f"it isn't closed: {missing} is missing", path + missing)
-    return None
+        yield Advice(f"it isn't closed: {missing} is missing", path + missing)

@@ -20,13 +20,26 @@ USUAL = "apt-get install python3-lxml python3-prompt-toolkit python3-rich python
 
 
 def line_for(module: str) -> str:
-    """The line that installs what is missing: the usual packages, or the one that only a cluster needs."""
+    """The line that installs what is missing: the usual packages, or the one that only a cluster needs. An environment of its own doesn't
+    look at Debian's packages, and gets what the package itself names."""
     package = PACKAGES[module]
+    if sys.prefix != sys.base_prefix:
+        return f"pip install ftq-client[{'ask' if package in USUAL else 'cluster'}]"
     return USUAL if package in USUAL else f"apt-get install {package}"
 
 
+def ask() -> int:
+    """The command ftq-ask of the installed package."""
+    return run("ftq_ask.commands")
+
+
+def pack() -> int:
+    """The command ftq-pack of the installed package."""
+    return run("ftq_ask.packing")
+
+
 def run(module: str) -> int:
-    """The status of the `main` of one of this package's modules; 2 where something that it imports isn't installed."""
+    """The status of the `main` of one of this package's modules, for the words of the call; 2 where something that it imports isn't installed."""
     try:
         return int(importlib.import_module(module).main(sys.argv[1:]))
     except ModuleNotFoundError as error:

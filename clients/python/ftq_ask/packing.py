@@ -1,7 +1,7 @@
 """Packs XML files into a session for ftq, on standard output.
 
-Each file becomes a `load` command after a comment with its path; a folder gives all its files that end in .xml, in the order of
-their paths. Files are read as `ask` reads them: document types, CDATA sections, entities and encodings are no hindrance. What can't
+Each file becomes a `load` command after a comment with its path; a folder gives all its files that begin as XML documents do, in the
+order of their paths. Files are read as `ask` reads them: document types, CDATA sections, entities and encodings are no hindrance. What can't
 be taken is named on standard error with its line and the reason; the rest goes on, and the status is then 1.
 """
 
@@ -14,8 +14,10 @@ from typing import BinaryIO
 
 from ftq_client import command_bytes
 
+from .choosing import Choice, add_arguments, rules_of
 from .naming import Names
-from .reading import MOST_BYTES, Reading, Untaken, files_of, read_file
+from .reading import MOST_BYTES, Reading, read_file
+from .trees import Untaken
 
 MOST_DOCUMENTS = 4_096
 
@@ -55,19 +57,23 @@ def main(arguments: list[str]) -> int:
     parser = argparse.ArgumentParser(prog="pack", description=__doc__, formatter_class=argparse.RawDescriptionHelpFormatter)
     parser.add_argument("paths", nargs="+", type=Path, metavar="FILE|FOLDER")
     parser.add_argument("--query", action="append", default=[], metavar="PATH", help="adds a query after the documents; may be given again")
+    add_arguments(parser)
     options = parser.parse_args(arguments)
-    packing, status = Packing(sys.stdout.buffer), 0
-    for shown, path in files_of(options.paths):
+    packing, status, choice = Packing(sys.stdout.buffer), 0, Choice(options.glob)
+    for shown, path in choice.files_of(options.paths):
         try:
             if isinstance(path, Untaken):
                 raise path
-            packing.document(shown, read_file(path))
+            packing.document(shown, read_file(path, rules_of(options)))
         except Untaken as untaken:
             print(f"pack: {untaken}", file=sys.stderr)
             status = 1
     for query in options.query:
         packing.write(command_bytes(f"query {query}"))
     packing.out.flush()
+    passed = choice.said()
+    if passed:
+        print(f"pack: {passed}", file=sys.stderr)
     for fault in packing.faults():
         print(f"pack: {fault}", file=sys.stderr)
         status = 1

@@ -53,11 +53,28 @@ def missing_end(path: str) -> str:
     return quote + "".join(reversed(ends))
 
 
-def asked_strings(path: str) -> list[str]:
-    """The strings that a path looks for in texts: not those of attributes, of names, of stop words and of languages."""
-    found: list[str] = []
-    inside, stop_words = False, False
+def path_in(line: str) -> str:
+    """The path or the selection of a command, from whose first character the place of a fault is counted."""
+    words = re.findall(r"[^ \t]+", line)
+    before = 3 if words[:2] == ["query", "at"] else 2 if words[:1] == ["insert"] else 1
+    told = re.match(rf"[ \t]*(?:[^ \t]+[ \t]+){{{before}}}(.*)", line, re.DOTALL)
+    return told[1] if told else ""
+
+
+DOCUMENTS = re.compile(r"\s*(?:collection\s*\(\s*\)|doc\s*\(\s*(?:\"[^\"]*\"|'[^']*')\s*\))")
+"""What a path begins with."""
+
+
+def asked_strings(path: str, negated: bool = True) -> list[str]:
+    """The strings that a path looks for in texts: not those of attributes, of names, of stop words and of languages; without `negated` not those
+    directly behind ftnot either."""
     row = symbols(path)
+    return [row[it].value for it in _asked_places(row) if negated or row[it - 1].text != "ftnot"]
+
+
+def _asked_places(row: list[Symbol]) -> Iterator[int]:
+    """The places of those strings among the symbols of a path."""
+    inside, stop_words = False, False
     for number, symbol in enumerate(row):
         before = [it.text for it in row[max(0, number - 2) : number]]
         if before == ["contains", "text"]:
@@ -65,8 +82,29 @@ def asked_strings(path: str) -> list[str]:
         stop_words = (before[-2:] == ["words", "("] or stop_words) and symbol.text != ")"
         names_something = bool(before) and before[-1] in ("=", "at", "relationship", "language")
         if symbol.kind == "string" and inside and not stop_words and not names_something:
-            found.append(symbol.value)
-    return found
+            yield number
+
+
+def quoted(text: str) -> str:
+    """A text as a string of a path."""
+    return f"'{text}'" if '"' in text and "'" not in text else '"' + text.replace('"', '""') + '"'
+
+
+_TYPED_APOSTROPHE = re.compile(r"(?<=\w)'(?=\w)")
+
+
+def with_apostrophes(path: str) -> str:
+    """A path in which each string with a typed apostrophe between letters is a choice of it and of the same with the printed one. A string that
+    stands among others in braces, or whose words are asked for all together, stays as it is: there a choice would ask for something else."""
+    row = symbols(path)
+    parts, at = [], 0
+    for number in _asked_places(row):
+        symbol = row[number]
+        before, behind = row[number - 1].text, row[number + 1].text if number + 1 < len(row) else ""
+        if _TYPED_APOSTROPHE.search(symbol.value) and before not in ("{", ",") and behind not in ("all", "phrase"):
+            parts += [path[at : symbol.start], f"{{{symbol.text}, {quoted(_TYPED_APOSTROPHE.sub('’', symbol.value))}}}"]
+            at = symbol.start + len(symbol.text)
+    return "".join([*parts, path[at:]])
 
 
 @dataclass(frozen=True)

@@ -14,14 +14,14 @@ from prompt_toolkit.key_binding import KeyBindings, KeyPressEvent
 from rich.console import Console
 from rich.text import Text
 
-from ftq_client import ClientError, Element, ProgramEnded, Refusal, Said
+from ftq_client import ClientError, Element, ProgramEnded, Refusal, Said, TimedOut
 from ftq_client.blocks import BLOCK_WORDS
 
 from . import answers
 from .collection import Collection
 from .completing import ASKING, LANGUAGE, PathCompleter
-from .hints import hints
-from .paths import missing_end
+from .missing import all_hints
+from .paths import missing_end, path_in
 
 SHOWN = 10
 """How many elements are shown at a time."""
@@ -70,7 +70,8 @@ class Conversation:
     def do(self, typed: str) -> bool:
         """Does what was typed; False where it ends the conversation."""
         text = typed.strip()
-        word, _, rest = text.partition(" ")
+        word = first_word(text)
+        rest = text[len(word) :].strip()
         if not text:
             return True
         if text in ("quit", "exit", "q"):
@@ -80,37 +81,50 @@ class Conversation:
         elif word in BLOCK_WORDS:
             self._block(text)
         elif word == "print":
-            self._asked(_one_line(rest), as_xml=True)
-        elif word == "query" and first_word(rest) != "at":
-            self._asked(_one_line(rest), as_xml=False)
+            self._printed(_one_line(rest))
+        elif word == "query":
+            self._asked_of(_one_line(text))
         elif word in LANGUAGE:
             self._command(_one_line(text), None)
         else:
-            self._asked(_one_line(text), as_xml=False)
+            self._asked_of(f"query {_one_line(text)}")
         return True
 
-    def _asked(self, path: str, as_xml: bool) -> None:
+    def _asked_of(self, line: str) -> None:
+        """Answers `query PATH` and `query at MARK PATH`."""
+        path = path_in(line)
         try:
-            found = self.collection.query(path)
-            printed = self.collection.engine.print(path) if as_xml else []
+            found = self.collection.found(line, path)
         except Refusal as refusal:
-            answers.say_refusal(self.out, path, refusal)
+            answers.say_refusal(self.out, path, refusal, self.collection.fault_of)
             return
         answers.say(self.out, Text(answers.counted(len(found)), "bold"))
-        if as_xml:
-            for element, xml in zip(found, printed):
-                answers.say(self.out, Text(self.collection.locator.locate(element).place, "cyan"))
-                answers.say(self.out, f"    {xml}")
-        else:
-            self._path, self._rest = path, found
-            self._more()
-        answers.say_hints(self.out, hints(path, len(found), self.collection.vocabulary, self.collection.has_stems))
+        self._path, self._rest = path, found
+        self._more()
+        self._hints(path, len(found))
+
+    def _printed(self, path: str) -> None:
+        try:
+            found = self.collection.query(path)
+            printed = self.collection.printed(path)
+        except Refusal as refusal:
+            answers.say_refusal(self.out, path, refusal, self.collection.fault_of)
+            return
+        answers.say(self.out, Text(answers.counted(len(found)), "bold"))
+        for element, xml in zip(found, printed):
+            answers.say(self.out, Text(self.collection.locator.locate(element).place, "cyan"))
+            answers.say(self.out, f"    {xml}")
+        self._hints(path, len(found))
+
+    def _hints(self, path: str, found: int) -> None:
+        answers.say_hints(self.out, all_hints(path, found, self.collection))
 
     def _command(self, line: str, block: bytes | None) -> None:
         try:
             reply = self.collection.command(line, block)
         except Refusal as refusal:
-            answers.say_refusal(self.out, line.partition(" ")[2], refusal)
+            fault_of = self.collection.fault_of_selection if first_word(line) == "explain" else self.collection.fault_of
+            answers.say_refusal(self.out, path_in(line), refusal, fault_of)
             return
         except ValueError as error:
             answers.say(self.out, Text(str(error), "red"))
@@ -157,7 +171,7 @@ def converse(collection: Collection, errors: Console) -> int:
                 break
         except KeyboardInterrupt:
             answers.say(errors, "interrupted; the program is started again for the next question")
-        except ProgramEnded as ended:
+        except (ProgramEnded, TimedOut) as ended:
             answers.say(errors, f"{ended}; it is started again for the next question")
         except ClientError as error:
             answers.say(errors, str(error))

@@ -9,13 +9,19 @@ from __future__ import annotations
 import hashlib
 import html.entities
 import os
+import re
 from dataclasses import dataclass, field
+from functools import lru_cache
 from pathlib import Path
-from typing import Iterator
+from typing import Iterable, Iterator
+from urllib.parse import quote, unquote
 from xml.parsers import expat
 
 from lxml import etree
 
+from .catalogs import in_catalogs, path_of
+from .including import INCLUDE, included
+from .trees import Tree, Untaken, put_text, written_attributes, written_name
 from .words import MOST_WORDS, words_of
 
 MOST_LEVELS = 200
@@ -23,15 +29,10 @@ MOST_NODES = 1_000_000
 MOST_BYTES = 67_108_864
 _MOST_KEPT_LINES = 65_535
 
+BLANKS = " \t\r\n"
+"""What white space is to XML."""
 
-class Untaken(Exception):
-    """A file that can't be taken, with the line where that shows (None where it has none) and the reason."""
-
-    def __init__(self, path: Path, line: int | None, reason: str) -> None:
-        super().__init__(f"{path}:{line}: {reason}" if line else f"{path}: {reason}")
-        self.path = path
-        self.line = line
-        self.reason = reason
+_SPACE = "{http://www.w3.org/XML/1998/namespace}space"
 
 
 @dataclass
@@ -48,94 +49,180 @@ class Vocabulary:
             for name in theirs:
                 mine[name] = mine.get(name, 0) + 1
 
+    def remove(self, other: "Vocabulary") -> None:
+        """Counts another document's names no more."""
+        for mine, theirs in ((self.elements, other.elements), (self.attributes, other.attributes), (self.roots, other.roots)):
+            for name in theirs:
+                mine[name] -= 1
+                if not mine[name]:
+                    del mine[name]
+
+
+@dataclass(frozen=True)
+class Rules:
+    """What is read beside a file: its document type, what it includes, and what catalogs know of; and whether white space between elements
+    is left out: where the document type says that it means nothing (None), everywhere or nowhere. `blocks` are the names of elements that part
+    paragraphs beside those of which the program knows."""
+
+    doctypes: bool = True
+    includes: bool = True
+    catalogs: bool = True
+    drop_blanks: bool | None = None
+    blocks: frozenset[str] = frozenset()
+
 
 @dataclass(frozen=True)
 class Reading:
-    """A file that was read: its root, its bytes for the program, its names, and a digest by which a later look knows the file again."""
+    """A file that was read: its root, its bytes for the program, its names, a digest by which a later look knows the file again, and the files
+    that stand in it as wholes."""
 
     path: Path
     root: etree._Element
     content: bytes
     vocabulary: Vocabulary
     digest: bytes
+    parts: frozenset[Path]
 
 
-def files_of(arguments: list[Path]) -> Iterator[tuple[Path, Path | Untaken]]:
-    """The files that the arguments name, each as its path from its argument and its path; folders give those that end in .xml, in
-    the order of their paths, without links to files in the same folder, which are found by themselves. An argument that gives none
-    comes as what is to be said of it."""
-    for argument in arguments:
-        if not argument.is_dir():
-            yield Path(argument.name), argument
-            continue
-        inside = sorted(it for it in argument.rglob("*") if it.suffix.lower() == ".xml" and it.is_file() and not _leads_inside(it, argument))
-        if not inside:
-            yield argument, Untaken(argument, None, "no file in this folder ends in .xml")
-        for path in inside:
-            yield path.relative_to(argument), path
+def read_tree(path: Path, rules: Rules = Rules(), inside: tuple[Path, ...] = ()) -> Tree:
+    """The elements of a file, without comments, with all entities replaced and all inclusions done; `Untaken` where it isn't well-formed
+    XML or can't be read. `inside` are the files that are being read when this one is included."""
+    data = _read(path)
+    resolver = _Resolver(path, rules)
+    root = _parsed(path, data, resolver, rules)
+    digest = hashlib.blake2b(data, digest_size=16)
+    for beside in resolver.read:
+        now = beside.stat()
+        digest.update(f"{beside} {now.st_size} {now.st_mtime_ns}".encode("utf-8", errors="surrogateescape"))
+    origins: dict[etree._Element, Path] = {}
+    wholes = set(resolver.read)
+    read = lambda part, outer: read_tree(part, rules, outer)
+    includes = rules.includes and next(root.iter(INCLUDE), None) is not None
+    for part in included(path, root, read, (*inside, path.resolve())) if includes else ():
+        digest.update(part.digest)
+        origins.update(part.origins)
+        wholes |= part.wholes
+    if not inside:
+        _drop_blanks(root, rules)
+    return Tree(root, digest.digest(), origins, frozenset(wholes))
 
 
-def _leads_inside(path: Path, folder: Path) -> bool:
-    return path.is_symlink() and path.resolve().is_relative_to(folder.resolve())
-
-
-def written_name(element: etree._Element) -> str:
-    """An element's name as it is written in the file, with its prefix."""
-    name = element.tag.rpartition("}")[2]
-    return f"{element.prefix}:{name}" if element.prefix else name
-
-
-def written_attributes(element: etree._Element) -> Iterator[tuple[str, str]]:
-    """An element's attributes as the program sees them, with declarations of prefixes."""
-    above = element.getparent()
-    known = above.nsmap if above is not None else {}
-    for prefix, space in element.nsmap.items():
-        if known.get(prefix) != space:
-            yield (f"xmlns:{prefix}" if prefix else "xmlns"), space
-    prefixes = {space: prefix for prefix, space in element.nsmap.items() if prefix}
-    prefixes["http://www.w3.org/XML/1998/namespace"] = "xml"
-    for name, value in element.attrib.items():
-        space, _, local = name.rpartition("}")
-        yield (f"{prefixes[space[1:]]}:{local}" if space else name), value
-
-
-def read_tree(path: Path) -> tuple[etree._Element, bytes]:
-    """The root element of a file, without comments, with all entities replaced, and the digest of the file; `Untaken` where it
-    isn't well-formed XML or can't be read."""
+def _read(path: Path) -> bytes:
     try:
         data = path.read_bytes()
     except OSError as error:
         raise Untaken(path, None, error.strerror or "it can't be read") from None
     if not data.strip():
         raise Untaken(path, 1, "the file is empty" if not data else "the file holds nothing but white space")
-    resolver = _Resolver(path.parent)
-    parser = _parser(resolver, huge=b"<!ENTITY" not in data)
-    try:
-        root = etree.fromstring(data, parser, base_url=os.fspath(path))
-    except etree.XMLSyntaxError as error:
-        raise _untaken(path, parser, str(error)) from None
-    fault = _first_fault(parser)
-    if root is None or fault is not None:
+    return data
+
+
+def _parsed(path: Path, data: bytes, resolver: "_Resolver", rules: Rules) -> etree._Element:
+    """The root element of a file's bytes."""
+    root, parser = _recovered(path, data, _parser(resolver, huge=False, doctypes=rules.doctypes))
+    info = root.getroottree().docinfo if root is not None else None
+    if _first_fault(parser) is not None and info is not None and info.internalDTD is None and info.externalDTD is None:
+        # What declares no entities can't make little into much, and may be as large and deep as it is.
+        root, parser = _recovered(path, data, _parser(resolver, huge=True, doctypes=rules.doctypes))
+    if root is None or _first_fault(parser) is not None:
         raise _untaken(path, parser, "it isn't XML")
-    if resolver.elsewhere:
-        name = Path(resolver.elsewhere[0]).name
+    elsewhere = resolver.elsewhere_beside(root.getroottree().docinfo)
+    if elsewhere:
+        name = Path(elsewhere[0]).name
         line = 1 + data[: max(data.find(name.encode()), 0)].count(b"\n")
         raise Untaken(path, line, f"an entity brings in {name}, which isn't in the file's folder, and isn't read")
     _replace_entities(path, root, parser)
-    return root, hashlib.blake2b(data, digest_size=16).digest()
+    return root
 
 
-def read_file(path: Path) -> Reading:
-    """A file as the program takes it; `Untaken` where the file or one of the program's limits doesn't let it."""
-    root, digest = read_tree(path)
+def _drop_blanks(root: etree._Element, rules: Rules) -> None:
+    """Leaves out texts of white space alone between elements: in elements that by the document type hold elements alone, or in all."""
+    if rules.drop_blanks is False:
+        return
+    info = root.getroottree().docinfo
+    names = None if rules.drop_blanks else _holding_elements(info.internalDTD) | _holding_elements(info.externalDTD)
+    if names is not None and not names:
+        return
+    for element in root.iter(etree.Element):
+        if not len(element) or (names is not None and written_name(element) not in names) or _keeps_blanks(element):
+            continue
+        if element.text and not element.text.strip(BLANKS):
+            element.text = None
+        for child in element:
+            if child.tail and not child.tail.strip(BLANKS):
+                child.tail = None
+
+
+BLOCKS = frozenset(
+    "abstract address article aside blockquote body book caption chapter dd div dl dt figure footer h1 h2 h3 h4 h5 h6 head header li main nav note"
+    " ol p para part pre preface row section table td th title tr ul".split()
+)
+"""The names of the elements that part paragraphs for the program."""
+
+EMPTY_LINE = "\n\t \t\n"
+"""What parts paragraphs in a text, in a form that no text has by chance."""
+
+
+def _part_paragraphs(root: etree._Element, names: frozenset[str]) -> None:
+    """Puts an empty line at the front and at the end of each element of these names, which for the program parts paragraphs as the tags of some
+    elements do. No element, name or word is another for it."""
+    for element in root.iter(etree.Element):
+        if written_name(element) not in names:
+            continue
+        if len(element):
+            element[-1].tail = (element[-1].tail or "") + EMPTY_LINE
+        elif element.text:
+            element.text += EMPTY_LINE
+        element.text = EMPTY_LINE + (element.text or "")
+
+
+_PRINTED_EMPTY_LINE = EMPTY_LINE.replace("\n", "&#10;")
+_HOLLOW = re.compile(r"<([^\s<>/]+)((?:\s[^<>]*)?)></\1>")
+
+
+def without_empty_lines(printed: str) -> str:
+    """An element as the program prints it, without the empty lines that part paragraphs."""
+    return _HOLLOW.sub(r"<\1\2/>", printed.replace(_PRINTED_EMPTY_LINE, "")) if _PRINTED_EMPTY_LINE in printed else printed
+
+
+def _holding_elements(types: etree.DTD | None) -> set[str]:
+    """The names of the elements that a document type lets hold elements alone."""
+    declared = types.iterelements() if types is not None else ()
+    return {f"{it.prefix}:{it.name}" if it.prefix else it.name for it in declared if it.type == "element"}
+
+
+def _keeps_blanks(element: etree._Element) -> bool:
+    """Whether an element says, or the nearest one round it that says anything, that its white space is kept."""
+    here: etree._Element | None = element
+    while here is not None:
+        if _SPACE in here.attrib:
+            return bool(here.get(_SPACE) == "preserve")
+        here = here.getparent()
+    return False
+
+
+def _recovered(path: Path, data: bytes, parser: etree.XMLParser) -> tuple[etree._Element | None, etree.XMLParser]:
+    """What a parser makes of a file's bytes, whatever their faults, which stand in its log."""
+    try:
+        # By its whole path, since what a file names is found beside it: of a relative one the parser would put the folder before it twice.
+        return etree.fromstring(data, parser, base_url="file://" + quote(os.path.abspath(path), errors="surrogateescape")), parser
+    except etree.XMLSyntaxError as error:
+        raise _untaken(path, parser, str(error)) from None
+
+
+def read_file(path: Path, rules: Rules = Rules(), checked: bool = True) -> Reading:
+    """A file as the program takes it; `Untaken` where the file or one of the program's limits doesn't let it. Where it isn't `checked`, the
+    program is left to find what is beyond its limits."""
+    tree = read_tree(path, rules)
+    root = tree.root
+    if rules.blocks:
+        _part_paragraphs(root, rules.blocks)
     content = etree.tostring(root, encoding="UTF-8", xml_declaration=False, with_tail=False)
     if len(content) > MOST_BYTES - 128:
         raise Untaken(path, None, f"its {len(content):,} bytes are more than a session has")
-    vocabulary = _names(path, root)
-    # A word takes two bytes at least, with what parts it from the next, and so does a node.
-    if len(content) > 2 * MOST_NODES:
-        _check_counts(path, root)
-    return Reading(path, root, content, vocabulary, digest)
+    if checked:
+        check_limits(path, root, rules)
+    return Reading(path, root, content, _names(content), tree.digest, tree.parts)
 
 
 def lines_of(root: etree._Element, path: Path) -> dict[etree._Element, int]:
@@ -156,34 +243,63 @@ def lines_of(root: etree._Element, path: Path) -> dict[etree._Element, int]:
 
 def names_of(content: bytes) -> Vocabulary:
     """The names in a document that the program has taken."""
-    root = etree.fromstring(content, _parser(_Resolver(Path(os.devnull)), huge=True))
-    return _names(Path(os.devnull), root)
+    root = etree.fromstring(content, _parser(_Resolver(Path(os.devnull), Rules()), huge=True, doctypes=False))
+    return _names(etree.tostring(root, encoding="UTF-8", xml_declaration=False))
+
+
+@lru_cache(maxsize=64)
+def _real(folder: str) -> Path:
+    """A folder, named from the root, without links in its path."""
+    return Path(folder).resolve()
 
 
 class _Resolver(etree.Resolver):
-    """Lets external entities come from the folder of the file that names them, and from nowhere else."""
+    """Lets what a file names come from its folder, or from where the catalogs say that it is, and from nowhere else."""
 
-    def __init__(self, folder: Path) -> None:
+    def __init__(self, path: Path, rules: Rules) -> None:
         super().__init__()
-        self.folder = folder.resolve()
-        self.elsewhere: list[str] = []
-        """What was asked for and isn't in the folder."""
+        self._folders = [_real(os.path.abspath(path.parent))]
+        self._rules = rules
+        self._elsewhere: list[tuple[str, str | None]] = []
+        self.read: list[Path] = []
+        """The files that were brought in."""
 
     def resolve(self, system_url: str | None, public_id: str | None, context: object) -> object:
-        path = Path((system_url or "").removeprefix("file://"))
-        inside = (self.folder / path).resolve()
-        if inside.is_relative_to(self.folder) and inside.is_file():
-            return self.resolve_filename(os.fspath(inside), context)
-        self.elsewhere.append(system_url or public_id or "")
-        return self.resolve_string("", context)
+        path = self._file(system_url or "", public_id)
+        if path is None:
+            self._elsewhere.append((system_url or "", public_id))
+            return self.resolve_string("", context)
+        self.read.append(path)
+        return self.resolve_filename(os.fspath(path), context)
+
+    def elsewhere_beside(self, info: etree.DocInfo) -> list[str]:
+        """What was asked for and is elsewhere, without the document type: a file is read without it."""
+        own = (info.system_url or "").rpartition("/")[2]
+        return [
+            unquote(system) or public or "" for system, public in self._elsewhere if not (system.rpartition("/")[2] == own and public == info.public_id)
+        ]
+
+    def _file(self, system: str, public: str | None) -> Path | None:
+        beside = path_of(system)
+        if beside is not None and system:
+            inside = (self._folders[0] / beside).resolve()
+            if inside.is_file() and any(map(inside.is_relative_to, self._folders)):
+                return inside
+        if not self._rules.catalogs:
+            return None
+        known = in_catalogs(public, system)
+        if known:
+            self._folders.append(known.resolve().parent)
+        return known
 
 
-def _parser(resolver: _Resolver, huge: bool) -> etree.XMLParser:
+def _parser(resolver: _Resolver, huge: bool, doctypes: bool) -> etree.XMLParser:
     """A parser that reads on after faults, so that all of them are in its log and those of namespaces can be let pass."""
     parser = etree.XMLParser(
         recover=True,
         resolve_entities=True,
-        load_dtd=False,
+        load_dtd=doctypes,
+        attribute_defaults=doctypes,
         no_network=True,
         strip_cdata=True,
         remove_comments=True,
@@ -225,45 +341,55 @@ def _replace_entities(path: Path, root: etree._Element, parser: etree.XMLParser)
         if character is None:
             line = next((it.line for it in unread if f"'{entity.name}'" in it.message), None)
             raise Untaken(path, line, f"the entity {entity.name} is declared in another file, which isn't read")
-        _put_text(entity, character)
+        put_text(entity, character)
     if len(entities) < len(unread):
         raise Untaken(path, unread[0].line, f"{unread[0].message}: its declaration is in another file, which isn't read")
 
 
-def _put_text(node: etree._Element, text: str) -> None:
-    """Puts a text, and what follows the node, in the place of the node."""
-    before, above = node.getprevious(), node.getparent()
-    text += node.tail or ""
-    node.tail = None
-    above.remove(node)
-    if before is not None:
-        before.tail = (before.tail or "") + text
-    else:
-        above.text = (above.text or "") + text
+_TAG = re.compile(rb"<([^\s/>]+)([^>]*)>")
+_ATTRIBUTE = re.compile(rb'([^\s=]+)="[^"]*"')
 
 
-def _names(path: Path, root: etree._Element) -> Vocabulary:
-    """The names in a document, level by level; `Untaken` at the first element that stands too deep."""
-    found = Vocabulary(roots={written_name(root): 1})
+def _names(content: bytes) -> Vocabulary:
+    """The names in a document as lxml writes it: no tag holds a greater-than sign, and no text a less-than sign."""
+    tags = set(_TAG.findall(content))
+    first = _TAG.search(content)
+    attributes = {name for _, inside in tags for name in _ATTRIBUTE.findall(inside)}
+    return Vocabulary(_counted(name for name, _ in tags), _counted(attributes), _counted([first[1]] if first else []))
+
+
+def _counted(names: Iterable[bytes]) -> dict[str, int]:
+    """Each name once, as one of a document's."""
+    return {it.decode("utf-8"): 1 for it in names}
+
+
+def check_limits(path: Path, root: etree._Element, rules: Rules) -> None:
+    """`Untaken` where a document is beyond one of the program's limits, at the line where that shows: of levels, of nodes or of words."""
     level = [root]
     for _ in range(MOST_LEVELS):
-        for element in level:
-            found.elements[written_name(element)] = 1
-            if element.attrib or element.nsmap:
-                found.attributes.update((name, 1) for name, _ in written_attributes(element))
         level = [child for element in level for child in element]
-        if not level:
-            return found
-    raise Untaken(path, level[0].sourceline, f"an element stands inside {MOST_LEVELS} others, the most that are read")
+    if level:
+        raise Untaken(path, level[0].sourceline, f"an element stands inside {MOST_LEVELS} others, the most that are read")
+    _check_counts(path, root, rules)
 
 
-def _check_counts(path: Path, root: etree._Element) -> None:
+def _check_counts(path: Path, root: etree._Element, rules: Rules) -> None:
     """`Untaken` where there are too many nodes or words, at the line of the element where the first too many stands."""
-    nodes = words = 0
+    nodes = words = blanks = 0
     for element in root.iter(etree.Element):
-        nodes += 1 + sum(1 for it in (element.text, element.tail) if it)
-        words += sum(1 for text in (element.text, element.tail) if text for _ in words_of(text))
+        texts = [it for it in (element.text, element.tail) if it]
+        nodes += 1 + len(texts)
+        blanks += sum(1 for it in texts if not it.strip(BLANKS))
+        words += sum(1 for text in texts for _ in words_of(text))
         if nodes > MOST_NODES:
-            raise Untaken(path, lines_of(root, path)[element], f"more than {MOST_NODES:,} elements and texts: divide the file")
+            told = f"more than {MOST_NODES:,} elements and texts{_of_blanks(nodes, blanks, rules)}: divide the file"
+            raise Untaken(path, lines_of(root, path)[element], told)
         if words > MOST_WORDS:
             raise Untaken(path, lines_of(root, path)[element], f"more than {MOST_WORDS:,} words: divide the file")
+
+
+def _of_blanks(nodes: int, blanks: int, rules: Rules) -> str:
+    """What is to be said of white space where there are too many elements and texts."""
+    if not blanks or rules.drop_blanks:
+        return ""
+    return f", of which {round(100 * blanks / nodes)} % are white space between elements, which --drop-blanks leaves out; or else"

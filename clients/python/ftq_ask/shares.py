@@ -117,6 +117,10 @@ class Shares:
             raise ValueError(f"{kind or 'an empty line'} is not divided among several programs")
         return Done()
 
+    def give_up_after(self, seconds: float | None) -> None:
+        """Lets each share raise `TimedOut` where it takes longer to answer."""
+        self._all(lambda it: it.give_up_after(seconds))
+
     def close(self) -> int:
         """Ends all programs; the greatest of their statuses."""
         statuses = self._all(lambda it: it.close())

@@ -10,6 +10,7 @@
 A command that the program refuses raises a `Refusal`, a program that ends early `ProgramEnded`.
 """
 
+from .asynchronous import AsyncSession
 from .blocks import block_bytes, command_bytes
 from .faults import (
     BadCommand,
@@ -30,14 +31,19 @@ from .faults import (
     QueryFault,
     Refusal,
     RootTarget,
+    SessionClosed,
     SessionFull,
+    TimedOut,
     refusal_of,
 )
 from .program import find_program
 from .replies import Counts, Done, Element, Found, Reply, Said, Step
 from .session import Engine, Position, Session
 
+__version__ = "0.1.0"
+
 __all__ = [
+    "AsyncSession",
     "BadCommand",
     "BadLine",
     "BadName",
@@ -65,8 +71,10 @@ __all__ = [
     "RootTarget",
     "Said",
     "Session",
+    "SessionClosed",
     "SessionFull",
     "Step",
+    "TimedOut",
     "block_bytes",
     "command_bytes",
     "find_program",

@@ -2,8 +2,13 @@
 
 from __future__ import annotations
 
+from typing import Union
+
 BLOCK_WORDS = frozenset({"load", "insert", "replace", "stop", "stems", "thesaurus"})
 """The first words of the lines that a block follows."""
+
+Content = Union[bytes, str]
+"""What a block holds: bytes as they are, or a text, which is sent as UTF-8."""
 
 
 def block_bytes(content: bytes) -> bytes:
@@ -16,8 +21,8 @@ def block_bytes(content: bytes) -> bytes:
     return b"\n".join(quoted) + b"\n.\n"
 
 
-def command_bytes(line: str, block: bytes | None = None) -> bytes:
-    """One command as a session has it.
+def command_bytes(line: str, block: Content | None = None) -> bytes:
+    """One command as a session has it. A block that is neither bytes nor a text is a `TypeError`.
 
     A `ValueError` tells of a line that the program would not answer, or for whose block it would wait: one that holds a line
     feed, is empty or a comment, one whose first word wants a block that isn't given, and one with a block that it doesn't take.
@@ -33,4 +38,9 @@ def command_bytes(line: str, block: bytes | None = None) -> bytes:
     if first not in BLOCK_WORDS and block is not None:
         raise ValueError(f"{first} takes no block")
     head = line.removeprefix("\ufeff").encode("utf-8") + b"\n"
-    return head if block is None else head + block_bytes(block)
+    if block is None:
+        return head
+    content = block.encode("utf-8") if isinstance(block, str) else block
+    if not isinstance(content, (bytes, bytearray)):
+        raise TypeError(f"a block is bytes or a text, and no {type(block).__name__}")
+    return head + block_bytes(bytes(content))

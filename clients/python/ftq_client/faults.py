@@ -22,6 +22,10 @@ class ProgramMissing(ClientError):
     """There is no program to start."""
 
 
+class SessionClosed(ClientError):
+    """The session was closed: it takes no more commands."""
+
+
 class SessionFull(ClientError):
     """A command, or the documents and lists that have to be sent again before it, are longer than a session may be."""
 
@@ -40,6 +44,17 @@ class ProgramEnded(ClientError):
 
     def __reduce__(self) -> tuple[type["ProgramEnded"], tuple[int, str]]:
         return ProgramEnded, (self.status, self.line)
+
+
+class TimedOut(ClientError):
+    """No reply came within so many `seconds`. The program was ended; the next command starts another one with the same documents."""
+
+    def __init__(self, seconds: float) -> None:
+        super().__init__(f"no reply within {seconds:g} s")
+        self.seconds = seconds
+
+    def __reduce__(self) -> tuple[type["TimedOut"], tuple[float]]:
+        return TimedOut, (self.seconds,)
 
 
 class Refusal(ClientError):

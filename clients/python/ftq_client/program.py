@@ -18,18 +18,25 @@ TUNABLES = {"GLIBC_TUNABLES": "glibc.malloc.hugetlb=1"}
 saves a third of the time that it takes to ask thousands of documents."""
 
 
+VARIABLE = "FTQ"
+"""The environment's variable that names the program."""
+
+
 def find_program() -> Path:
-    """The program to start: what the variable FTQ_PROGRAM names, else the one that this repository built, else `ftq` on the path."""
-    named = os.environ.get("FTQ_PROGRAM")
+    """The program to start where none is given: what the variable FTQ names, else what was built in the checkout of the repository that
+    this package lies in, else `ftq` on the path."""
+    named = os.environ.get(VARIABLE)
     if named:
         return Path(named)
-    built = Path(__file__).resolve().parents[3] / "crates" / "ftq" / "out" / "ftq"
+    top = Path(__file__).resolve().parents[3]
+    built = top / "crates" / "ftq" / "out" / "ftq"
     if os.access(built, os.X_OK):
         return built
     found = shutil.which("ftq")
     if found:
         return Path(found)
-    raise ProgramMissing(f"there is no program at {built}: build it with ./ftq examples/hello.ftq, or name one by the variable FTQ_PROGRAM")
+    building = " (./ftq examples/hello.ftq builds it)" if (top / "crates.txt").exists() else ""
+    raise ProgramMissing(f"the program ftq isn't found{building}: name it by an argument or by the variable {VARIABLE}, or put it on the path")
 
 
 class Process:

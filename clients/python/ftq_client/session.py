@@ -2,17 +2,23 @@
 
 from __future__ import annotations
 
+import logging
+import threading
+from contextlib import contextmanager
 from pathlib import Path
 from types import TracebackType
-from typing import Literal, Protocol, TypeVar
+from typing import Iterator, Literal, Protocol, TypeVar, get_args
 
-from .blocks import command_bytes
-from .faults import ClientError, Refusal, SessionFull
+from .blocks import Content, command_bytes
+from .faults import ClientError, ProgramEnded, Refusal, SessionClosed, SessionFull, TimedOut
 from .history import History
 from .program import MOST_BYTES, Process, find_program
 from .replies import Counts, Done, Element, Found, Reply, Said
 
 Wanted = TypeVar("Wanted", Done, Found, Said)
+
+LOG = logging.getLogger("ftq_client")
+"""What is told of processes: each that is started, and each that has to be brought to the state of a session."""
 
 Position = Literal["first", "last", "before", "after"]
 
@@ -20,15 +26,15 @@ Position = Literal["first", "last", "before", "after"]
 class Engine(Protocol):
     """What answers: a `Session`, or several that divide the documents among them."""
 
-    def load(self, name: str, content: bytes) -> None: ...
+    def load(self, name: str, content: Content) -> None: ...
 
     def drop(self, name: str) -> None: ...
 
-    def stop(self, name: str, words: bytes) -> None: ...
+    def stop(self, name: str, words: Content) -> None: ...
 
-    def stems(self, lines: bytes) -> None: ...
+    def stems(self, lines: Content) -> None: ...
 
-    def thesaurus(self, name: str, lines: bytes) -> None: ...
+    def thesaurus(self, name: str, lines: Content) -> None: ...
 
     def query(self, path: str) -> list[Element]: ...
 
@@ -47,39 +53,44 @@ class Session:
     Where `limit` is less than 64 MiB the session moves on earlier.
     """
 
-    def __init__(self, program: str | Path | None = None, *, limit: int = MOST_BYTES) -> None:
+    def __init__(self, program: str | Path | None = None, *, limit: int = MOST_BYTES, timeout: float | None = None) -> None:
         """Starts the program: the one that is given, or what `find_program` finds."""
+        self.timeout = timeout
+        """The seconds within which each command has to be answered, or `TimedOut` is raised; None for as long as it takes. It may be set anew."""
         self.program = Path(program) if program else find_program()
         self.limit = limit
         self.processes = 0
         """How many processes this session has started."""
         self._history = History()
         self._interrupted = False
+        self._closed = False
         self._process: Process | None = self._start()
 
     def __enter__(self) -> "Session":
+        if self._closed:
+            raise SessionClosed("the session was closed: start another one")
         return self
 
     def __exit__(self, kind: type[BaseException] | None, value: BaseException | None, traceback: TracebackType | None) -> None:
         self.close()
 
-    def load(self, name: str, content: bytes) -> None:
-        """Reads `content` as a document and puts it last in the collection. Any bytes may be given."""
+    def load(self, name: str, content: Content) -> None:
+        """Reads `content` as a document and puts it last in the collection. Any bytes may be given, or a text."""
         self._said(self.command(f"load {name}", content), Done)
 
     def drop(self, name: str) -> None:
         """Takes the document out of the collection."""
         self._said(self.command(f"drop {name}"), Done)
 
-    def stop(self, name: str, words: bytes) -> None:
+    def stop(self, name: str, words: Content) -> None:
         """Reads `words`, one in a line, as a stop list, in the place of the one of that name."""
         self._said(self.command(f"stop {name}", words), Done)
 
-    def stems(self, lines: bytes) -> None:
+    def stems(self, lines: Content) -> None:
         """Reads `lines`, a word and its stem in each, as the dictionary of stems, in the place of the one before."""
         self._said(self.command("stems", lines), Done)
 
-    def thesaurus(self, name: str, lines: bytes) -> None:
+    def thesaurus(self, name: str, lines: Content) -> None:
         """Reads `lines`, each `RELATION | PHRASE | PHRASE`, as a thesaurus, in the place of the one of that name."""
         self._said(self.command(f"thesaurus {name}", lines), Done)
 
@@ -92,11 +103,13 @@ class Session:
         """The elements that the path selects as XML, each on one line, in the order of `query`."""
         return list(self._said(self.command(f"print {path}"), Found).lines)
 
-    def insert(self, position: Position, path: str, content: bytes) -> None:
+    def insert(self, position: Position, path: str, content: Content) -> None:
         """Reads `content` as nodes and puts them into the one element that the path selects, as its first or last children, or before or after it."""
+        if position not in get_args(Position):
+            raise ValueError(f"content goes {', '.join(get_args(Position)[:-1])} or {get_args(Position)[-1]}, not {position!r}")
         self._said(self.command(f"insert {position} {path}", content), Done)
 
-    def replace(self, path: str, content: bytes) -> None:
+    def replace(self, path: str, content: Content) -> None:
         """Reads `content` as nodes and puts them in the place of the one element that the path selects."""
         self._said(self.command(f"replace {path}", content), Done)
 
@@ -125,16 +138,18 @@ class Session:
         """A simpler form of the selection, which the same texts satisfy. No list is looked at."""
         return self._said(self.command(f"explain {selection}"), Said).text
 
-    def command(self, line: str, block: bytes | None = None) -> Reply:
+    def command(self, line: str, block: Content | None = None) -> Reply:
         """The reply to any command of the program's; its block's bytes are given as they are, and quoted here.
 
         Raises a `Refusal` where the program refuses it, `SessionFull` where it is too long to be sent, `ProgramEnded` where the
-        program ends, and a `ValueError` where the line is none that the program would answer.
+        program ends, `TimedOut` where it takes too long, `SessionClosed` behind `close`, and a `ValueError` where the line is none that the
+        program would answer.
         """
         command = command_bytes(line, block)
         process = self._ready(len(command))
         try:
-            reply = process.ask(command)
+            with self._in_time(process):
+                reply = process.ask(command)
         except Refusal:
             raise
         except BaseException:
@@ -144,6 +159,10 @@ class Session:
         if isinstance(reply, Done):
             self._history.add(line, command)
         return reply
+
+    def give_up_after(self, seconds: float | None) -> None:
+        """Sets `timeout`."""
+        self.timeout = seconds
 
     def interrupt(self) -> None:
         """Ends the process from another thread: a command that waits there raises `ProgramEnded`, the next one starts a new process."""
@@ -158,16 +177,21 @@ class Session:
         return self._process.pid if self._process else None
 
     def close(self) -> int:
-        """Ends the program; its exit status: 0, or 1 where it refused a command."""
+        """Ends the program and the session; the program's exit status: 0, or 1 where it refused a command."""
+        self._closed = True
         process, self._process = self._process, None
         return process.close() if process else 0
 
     def _start(self) -> Process:
         self.processes += 1
-        return Process(self.program)
+        process = Process(self.program)
+        LOG.debug("%s was started as process %d", self.program, process.pid)
+        return process
 
     def _ready(self, size: int) -> Process:
         """A process that takes a command of so many bytes, in the state of this session."""
+        if self._closed:
+            raise SessionClosed("the session was closed: start another one")
         if self._interrupted and self._process:
             self._process.close()
             self._process = None
@@ -180,9 +204,35 @@ class Session:
         if self._process:
             self._process.close()
         self._process = self._start()
+        LOG.info("process %d carries a session on: %d commands of %d bytes are sent again", self._process.pid, len(self._history.commands), again)
         for command in self._history.commands:
             self._process.ask(command)
         return self._process
+
+    @contextmanager
+    def _in_time(self, process: Process) -> Iterator[None]:
+        """Ends the process where what is asked inside takes longer than it may; an answer that came at the last moment counts."""
+        if self.timeout is None:
+            yield
+            return
+        late = threading.Event()
+
+        def end() -> None:
+            late.set()
+            process.end()
+
+        timer = threading.Timer(self.timeout, end)
+        timer.start()
+        try:
+            yield
+        except ProgramEnded:
+            if late.is_set():
+                raise TimedOut(self.timeout) from None
+            raise
+        finally:
+            timer.cancel()
+            timer.join()
+            self._interrupted = self._interrupted or late.is_set()
 
     @staticmethod
     def _said(reply: Reply, wanted: type[Wanted]) -> Wanted:

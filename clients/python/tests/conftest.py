@@ -34,7 +34,7 @@ FILES = {
 
 @pytest.fixture(scope="session")
 def program() -> Path:
-    """The program that was built, or what FTQ_PROGRAM names."""
+    """The program that was built, or what FTQ names."""
     try:
         return find_program()
     except ProgramMissing as missing:

@@ -7,10 +7,11 @@ import io
 import json
 import os
 import shutil
+import signal
 import subprocess
 import time
 from pathlib import Path
-from typing import Callable
+from typing import Any, Callable
 
 import pytest
 
@@ -54,10 +55,95 @@ def test_files_that_cant_be_taken_are_named_and_the_rest_goes_on(ask: Ask, folde
     assert 'doc("voyages")/book[1]/chapter[2]/p[1]' in ran.stdout
 
 
+def test_what_is_beyond_the_limits_is_named_with_its_line(ask: Ask, tmp_path: Path) -> None:
+    (tmp_path / "deep.xml").write_text("<a>\n" * 201 + "</a>" * 201)
+    (tmp_path / "nodes.xml").write_text("<a>\n" + "<b/>\n" * 500_001 + "</a>")
+    (tmp_path / "words.xml").write_text("<a>\n" + "<b>w w w w</b>\n" * 250_001 + "</a>")
+    ran = ask(tmp_path, "--query", "collection()/a", "--count")
+    assert ran.stdout == "0\n" and ran.stderr.splitlines()[:3] == [
+        f"ask: {tmp_path}/deep.xml:201: an element stands inside 200 others, the most that are read",
+        f"ask: {tmp_path}/nodes.xml:500001: more than 1,000,000 elements and texts, of which 50 % are white space between elements, "
+        "which --drop-blanks leaves out; or else: divide the file",
+        f"ask: {tmp_path}/words.xml:250002: more than 1,000,000 words: divide the file",
+    ]
+
+
 def test_an_element_without_text_shows_its_attributes(ask: Ask, tmp_path: Path) -> None:
     (tmp_path / "codes.xml").write_text('<codes>\n<code alpha="DE" name="Germany"/></codes>')
     ran = ask(tmp_path, "--query", 'collection()//code[@alpha = "DE"]')
     assert ran.stdout == f'{tmp_path}/codes.xml:2  doc("codes")/codes[1]/code[1]\n    @alpha="DE" @name="Germany"\n'
+
+
+def test_files_are_read_by_how_they_begin_and_others_are_counted(ask: Ask, tmp_path: Path) -> None:
+    files = {"a.page": "<page>storm</page>", "b.docbook": "<?xml version='1.0'?><book>storm</book>", "c.txt": "storm", "d.html": "<!doctype html>"}
+    for name, text in files.items():
+        (tmp_path / name).write_text(text)
+    ran = ask(tmp_path, "--query", 'collection()/*[. contains text "storm"]', "--format", "paths")
+    assert ran.stdout.splitlines() == ['doc("a.page")/page[1]', 'doc("b.docbook")/book[1]']
+    assert ran.stderr == "ask: 2 files passed over: 1 don't begin as XML documents do (.txt 1), 1 are HTML (.html 1)\n" and ran.returncode == 0
+    ran = ask(tmp_path, "--query", "collection()/*", "--format", "paths", "--glob", "*.page")
+    assert ran.stdout.splitlines() == ['doc("a.page")/page[1]']
+    assert ran.stderr == "ask: 3 files passed over: 3 aren't named by --glob (.docbook 1, .txt 1, .html 1)\n"
+
+
+def test_an_included_element_has_its_own_file_and_line(ask: Ask, tmp_path: Path) -> None:
+    (tmp_path / "parts").mkdir()
+    (tmp_path / "parts" / "one.xml").write_text("<chapter>\n\n<p>storm</p></chapter>")
+    (tmp_path / "book.xml").write_text(
+        "<book xmlns:xi='http://www.w3.org/2001/XInclude'><xi:include href='parts/one.xml'/>\n<p>storm</p></book>"
+    )
+    book = tmp_path / "book.xml"
+    assert ask(book, "--query", STORM).stdout.splitlines()[::2] == [
+        f'{tmp_path}/parts/one.xml:3  doc("book")/book[1]/chapter[1]/p[1]',
+        f'{book}:2  doc("book")/book[1]/p[1]',
+    ]
+    assert ask(book, "--query", STORM, "--count", "--no-xinclude").stdout == "1\n"
+    packed = subprocess.run([TOP / "tools" / "pack", "--no-xinclude", book], capture_output=True, text=True, timeout=60).stdout
+    assert "xi:include" in packed and "chapter" not in packed
+
+
+def test_blocks_part_paragraphs_and_nothing_else_changes(ask: Ask, tmp_path: Path) -> None:
+    path = tmp_path / "poem.xml"
+    path.write_text('<poem>\n<x:l>one <i>two</i> three</x:l><x:l>four</x:l>five<item n="1"/>six<b>seven</b> <item><b>eight</b></item>nine\n</poem>')
+    apart = 'collection()/poem[. contains text "{}" ftand "{}" different paragraph]'
+    words = "one two three four five six seven eight nine".split()
+    asked = [word for pair in zip(words, words[1:]) for word in ("--query", apart.format(*pair))]
+    found = [line.split()[0] for line in ask(path, *asked, "--count", "--blocks", "x:l,item").stdout.splitlines()]
+    assert found == ["0", "0", "1", "1", "1", "0", "1", "1"]
+    assert {line.split()[0] for line in ask(path, *asked, "--count").stdout.splitlines()} == {"0"}
+    elements = "collection()//*[. contains text \"five\" or . contains text \"eight\" or @n = \"1\"]"
+    typed = f"print collection()//*\n{elements}\nprint collection()/poem[. contains text 'one' ftand 'nine' entire content]\n"
+    plain, parted = ask(path, typed=typed), ask(path, "--blocks", "x:l", "--blocks", "item,p", typed=typed)
+    assert parted.stdout == plain.stdout and "five" in plain.stdout
+    ran = ask(path, "--blocks", "l", "--query", "collection()/poem[. contains text 'one' same sentence]")
+    assert "ask: --blocks names l, and no document has such an element" in ran.stderr
+    assert "hint: none of the elements here parts paragraphs" in ran.stderr
+    assert "parts paragraphs" not in ask(path, "--blocks", "x:l", "--query", "collection()/poem[. contains text 'one' same sentence]").stderr
+
+
+def test_files_that_stand_in_others_are_read_with_them_alone(ask: Ask, tmp_path: Path) -> None:
+    files = {
+        "a.xml": "<chapter><p>storm</p></chapter>",
+        "b.xml": "<!DOCTYPE book [<!ENTITY c SYSTEM 'c.ent'><!ENTITY name 'Ship'>]><book xmlns:i='http://www.w3.org/2001/XInclude'>"
+        "<i:include href='a.xml'/>&c;<i:include href='d.xml' xpointer='x'/></book>",
+        "c.ent": "<chapter><p>storm &name;</p></chapter>",
+        "d.xml": "<chapter><p id='x'>storm</p></chapter>",
+    }
+    for name, text in files.items():
+        (tmp_path / name).write_text(text)
+    ran = ask(tmp_path, "--query", STORM, "--format", "paths")
+    assert ran.stdout.splitlines() == [
+        'doc("b")/book[1]/chapter[1]/p[1]',
+        'doc("b")/book[1]/chapter[2]/p[1]',
+        'doc("b")/book[1]/p[1]',
+        'doc("d")/chapter[1]/p[1]',
+    ]
+    assert ran.stderr == "ask: 2 files passed over: 2 stand in other files, and are read with them (.xml 1, .ent 1)\n" and ran.returncode == 0
+    assert ask(tmp_path / "b.xml", tmp_path / "a.xml", "--query", STORM, "--count").stdout == "4\n"
+    assert ask(tmp_path, "--query", STORM, "--count", "--workers", 2).stdout == "4\n"
+    assert ask(tmp_path, "--query", STORM, "--count", "--no-xinclude").stdout == "3\n"
+    names = ask(tmp_path, typed="names\ndrop b\nnames\n").stdout.splitlines()
+    assert names[0] == "elements: chapter 2, p 2, book 1" and names[3] == "elements: chapter 1, p 1"
 
 
 def test_formats(ask: Ask, folder: Path) -> None:
@@ -81,6 +167,33 @@ def test_formats(ask: Ask, folder: Path) -> None:
     assert ask(*files, "--count", "--limit", 1).stdout == "4\n"
 
 
+def test_several_questions_are_answered_one_after_the_other(ask: Ask, folder: Path) -> None:
+    none, titles, faulty = 'collection()//p[. contains text "calm"]', "collection()/book/title", "collection()//p[["
+    asked = [word for path in (none, titles, faulty, STORM) for word in ("--query", path)]
+    ran = ask(folder / "voyages.xml", *asked, "--format", "paths", "--limit", 1)
+    lines = [f"==> {none} <==", f"==> {titles} <==", 'doc("voyages")/book[1]/title[1]', f"==> {STORM} <==", 'doc("voyages")/book[1]/chapter[1]/p[2]']
+    assert (ran.stdout.splitlines(), ran.returncode) == (lines, 2)
+    assert ran.stderr.count("syntax") == 1
+    good = [*asked[:4], *asked[6:]]
+    assert ask(folder / "voyages.xml", *good, "--count").stdout.splitlines() == [f"0 {none}", f"1 {titles}", f"2 {STORM}"]
+    assert ask(folder / "voyages.xml", *good).stdout.splitlines()[1:4] == [
+        f"==> {titles} <==",
+        f'{folder}/voyages.xml:3  doc("voyages")/book[1]/title[1]',
+        "    Sea Voyages",
+    ]
+    told = json.loads(ask(folder / "voyages.xml", *good, "--format", "json").stdout)
+    assert [(it["query"], it["count"], len(it["results"])) for it in told] == [(none, 0, 0), (titles, 1, 1), (STORM, 2, 2)]
+    rows = list(csv.DictReader(io.StringIO(ask(folder / "voyages.xml", *good, "--format", "csv").stdout)))
+    assert [(it["query"], it["line"]) for it in rows] == [(titles, "3"), (STORM, "6"), (STORM, "8")]
+    assert [ask(folder / "voyages.xml", *asked[:2], *more).returncode for more in ([], asked[2:4], asked[4:6])] == [1, 0, 2]
+
+
+@pytest.mark.parametrize("words", [["--count"], ["--format", "csv"], ["--limit", "3"], ["--offset", "1"], ["--whole"]], ids=lambda it: it[0])
+def test_what_says_how_an_answer_is_written_wants_a_question(ask: Ask, folder: Path, words: list[str]) -> None:
+    ran = ask(folder / "voyages.xml", *words, typed="collection()//p\n")
+    assert (ran.returncode, ran.stdout) == (2, "") and f"{words[0]} is for the answer to --query" in ran.stderr
+
+
 def test_a_fault_shows_a_caret_and_what_to_write(ask: Ask, folder: Path) -> None:
     ran = ask(folder / "voyages.xml", "--query", 'collection()//p[. contains text "storm" and "ship"]')
     lines = ran.stderr.splitlines()
@@ -89,6 +202,14 @@ def test_a_fault_shows_a_caret_and_what_to_write(ask: Ask, folder: Path) -> None
     assert lines[2].index("^") == lines[1].index('"ship"')
     assert lines[3].strip() == "between strings it is ftand; write:"
     assert lines[4].strip() == 'collection()//p[. contains text "storm" ftand "ship"]'
+
+
+def test_no_path_is_advised_that_the_program_doesnt_read(ask: Ask, folder: Path) -> None:
+    ran = ask(folder / "voyages.xml", "--query", "collection()//p[")
+    assert ran.stderr.splitlines()[3:] == ["    it isn't closed: ] is missing"]
+    shown = ask(folder / "voyages.xml", typed='explain "storm" and "ship"\nexplain storm\n').stdout.splitlines()
+    assert shown[3:5] == ["    between strings it is ftand; write:", '    "storm" ftand "ship"']
+    assert not any("collection()" in it for it in shown)
 
 
 def test_hints_stand_beside_an_answer(ask: Ask, folder: Path) -> None:
@@ -122,6 +243,37 @@ def test_several_programs_answer_as_one(ask: Ask, tmp_path: Path) -> None:
         one = ask(tmp_path, "--query", query, "--format", "paths")
         many = ask(tmp_path, "--query", query, "--format", "paths", "--workers", 4)
         assert (many.stdout, many.stderr, many.returncode) == (one.stdout, one.stderr, one.returncode)
+
+
+def test_a_question_that_takes_too_long_is_given_up(program: Path, folder: Path, capsys: pytest.CaptureFixture[str]) -> None:
+    from ftq_ask.collection import Collection
+    from ftq_ask.commands import answer_all, read_words
+    from ftq_client import Session
+    from rich.console import Console
+
+    class Stopping(Session):
+        def command(self, line: str, block: bytes | str | None = None) -> Any:
+            if "absent" in line and self.pid:
+                os.kill(self.pid, signal.SIGSTOP)
+            return super().command(line, block)
+
+    late = 'collection()//p[. contains text "absent"]'
+    with Stopping(program) as session:
+        collection = Collection(session)
+        collection.load(collection.plan([folder / "voyages.xml"]), lambda shown: None)
+        session.give_up_after(0.5)
+        options = read_words(["d.xml", "--query", STORM, "--query", late, "--query", STORM, "--count"])
+        assert answer_all(collection, options, Console(stderr=True, width=200)) == 2
+        said = capsys.readouterr()
+        assert said.out.splitlines() == [f"2 {STORM}", f"2 {STORM}"] and said.err == f"ask: no reply within 0.5 s: {late}\n"
+        assert session.processes == 2
+
+
+def test_the_time_for_an_answer_is_a_number_of_seconds(ask: Ask, folder: Path) -> None:
+    good = ask(folder / "voyages.xml", "--query", STORM, "--count", "--timeout", "60", "--workers", 2)
+    assert (good.stdout, good.returncode) == ("2\n", 0)
+    for word in ("0", "-1", "soon", "nan"):
+        assert ask(folder / "voyages.xml", "--timeout", word).returncode == 2
 
 
 def test_commands_from_a_pipe(ask: Ask, folder: Path) -> None:
@@ -159,6 +311,41 @@ def test_commands_from_a_pipe(ask: Ask, folder: Path) -> None:
     assert "collection()//p\n" in ran.stdout
     assert f"voyages  {folder}/voyages.xml" in ran.stdout
     assert "never" not in ran.stdout
+
+
+def test_a_mark_is_asked_at_the_prompt(ask: Ask, folder: Path) -> None:
+    typed = [
+        "mark before",
+        'delete collection()//p[. contains text "heavy"]',
+        'query at before collection()//p[. contains text "storm"]',
+        STORM,
+        "query at before collection()//",
+        "query at absent collection()//p",
+    ]
+    shown = ask(folder / "voyages.xml", folder / "garden.xml", typed="\n".join(typed) + "\n").stdout.splitlines()
+    assert shown[:3] == ["ok", "ok", "2 elements"]
+    assert shown[3::2][:2] == [f'{folder}/voyages.xml  doc("voyages")/book[1]/chapter[{number}]/p[{number % 2 + 1}]' for number in (1, 2)]
+    assert shown[4::2][:2] == ["    (the document was edited since it was read)"] * 2
+    assert shown[7] == "1 element" and shown[-1] == "no document and no mark is called absent"
+    assert f"{folder}/garden.xml:3" in ask(folder / "garden.xml", typed="mark m\nquery at m collection()//p\n").stdout
+
+
+FRONTS = ["", "query ", "query  at  m  ", "print ", "insert last ", "insert\tbefore ", "replace ", "delete "]
+
+
+@pytest.mark.parametrize("front", FRONTS, ids=lambda it: it.replace("\t", "-") or "bare")
+def test_a_caret_stands_under_the_fault(ask: Ask, folder: Path, front: str) -> None:
+    path = 'collection()//é[1] & "x"'
+    block = "<p/>\n.\n" if front.startswith(("insert", "replace")) else ""
+    shown = ask(folder / "garden.xml", typed=f"mark m\n{front}{path}\n{block}").stdout.splitlines()
+    caret = next(number for number, line in enumerate(shown) if line.strip() == "^")
+    assert shown[caret - 1] == f"    {path}"
+    assert shown[caret].index("^") == shown[caret - 1].index("&")
+
+
+def test_a_caret_stands_under_the_fault_of_a_selection(ask: Ask, folder: Path) -> None:
+    shown = ask(folder / "garden.xml", typed='explain  "a" ftand "b" ]\n').stdout.splitlines()
+    assert shown[1:3] == ['    "a" ftand "b" ]', " " * 18 + "^"]
 
 
 def test_a_file_that_changed_since_is_named(ask: Ask, tmp_path: Path, program: Path) -> None:

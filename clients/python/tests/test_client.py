@@ -2,6 +2,7 @@
 
 from __future__ import annotations
 
+import logging
 import os
 import pickle
 import signal
@@ -34,8 +35,10 @@ from ftq_client import (
     RootTarget,
     Said,
     Session,
+    SessionClosed,
     SessionFull,
     Step,
+    TimedOut,
     command_bytes,
     find_program,
     refusal_of,
@@ -71,6 +74,29 @@ def test_any_block_is_quoted(session: Session, text: str) -> None:
     wanted = text.replace("\r\n", "\n").replace("\n", "&#10;")
     assert session.print('doc("d")/a') == [f"<a>{wanted}</a>"]
     assert session.print('doc("e")/a') == [f"<a>&#10;{wanted}&#10;</a>"]
+
+
+def test_a_block_may_be_a_text(session: Session) -> None:
+    session.load("d", "<a><p>é</p>\n.</a>")
+    session.stop("common", "the\na")
+    session.stems("words word")
+    session.thesaurus("t", "is | é | è")
+    session.insert("last", "collection()/a", ".<q/>")
+    session.replace("collection()//p", "<p>x ß</p>")
+    assert session.print("collection()/a") == ["<a><p>x ß</p>&#10;..<q/></a>"]
+    assert len(session.query('collection()/a[. contains text "the SS" using stop words at "common"]')) == 1
+    for content in (5, Path("d.xml"), ["<a/>"], memoryview(b"<a/>")):
+        with pytest.raises(TypeError, match=f"a block is bytes or a text, and no {type(content).__name__}"):
+            session.load("e", content)  # type: ignore[arg-type]
+    assert len(session.query("collection()/a")) == 1
+
+
+def test_a_place_that_is_none_is_named(session: Session) -> None:
+    session.load("d", b"<a/>")
+    for position in ("middle", "First", "at", ""):
+        with pytest.raises(ValueError, match=f"content goes first, last, before or after, not {position!r}"):
+            session.insert(position, "collection()/a", b"<b/>")  # type: ignore[arg-type]
+    assert session.print("collection()/a") == ["<a/>"]
 
 
 def test_a_document_without_bytes_is_refused_at_its_front(session: Session) -> None:
@@ -265,6 +291,38 @@ def test_an_interrupt_leaves_a_session_that_goes_on(program: Path) -> None:
         assert [it.line for it in session.query("collection()/a")] == ['doc("d")/a[1]']
 
 
+def test_a_command_that_takes_too_long_is_stopped_and_the_session_goes_on(program: Path) -> None:
+    with Session(program, timeout=60) as session:
+        session.load("d", b"<d>a ship</d>")
+        session.stop("common", "the")
+        assert len(session.query("collection()/d")) == 1
+        assert session.pid
+        os.kill(session.pid, signal.SIGSTOP)
+        session.timeout = 0.2
+        with pytest.raises(TimedOut) as caught:
+            session.query("collection()/d")
+        assert caught.value.seconds == 0.2 and str(caught.value) == "no reply within 0.2 s"
+        assert pickle.loads(pickle.dumps(caught.value)).seconds == 0.2
+        session.timeout = None
+        assert len(session.query('collection()/d[. contains text "the ship" using stop words at "common"]')) == 1
+        assert session.processes == 2
+
+
+def test_processes_are_logged(program: Path, caplog: pytest.LogCaptureFixture) -> None:
+    caplog.set_level(logging.DEBUG, "ftq_client")
+    with Session(program) as session:
+        session.load("d", b"<a/>")
+        first = session.pid
+        session.interrupt()
+        session.query("collection()/a")
+        told = [(it.levelname, it.getMessage()) for it in caplog.records]
+        assert told == [
+            ("DEBUG", f"{program} was started as process {first}"),
+            ("DEBUG", f"{program} was started as process {session.pid}"),
+            ("INFO", f"process {session.pid} carries a session on: 1 commands of 14 bytes are sent again"),
+        ]
+
+
 def test_the_status_at_the_end(program: Path) -> None:
     session = Session(program)
     session.load("d", b"<a/>")
@@ -276,8 +334,18 @@ def test_the_status_at_the_end(program: Path) -> None:
     assert session.close() == 0
 
 
+def test_a_closed_session_says_so_and_stays_closed(program: Path) -> None:
+    with Session(program) as session:
+        session.load("d", b"<a/>")
+    for use in (lambda: session.query("collection()/a"), lambda: session.load("e", b"<a/>"), session.stats, session.__enter__):
+        with pytest.raises(SessionClosed):
+            use()
+    session.interrupt()
+    assert (session.pid, session.processes, session.close()) == (None, 1, 0)
+
+
 def test_a_program_that_isnt_there(monkeypatch: pytest.MonkeyPatch, tmp_path: Path) -> None:
-    monkeypatch.setenv("FTQ_PROGRAM", str(tmp_path / "absent"))
+    monkeypatch.setenv("FTQ", str(tmp_path / "absent"))
     assert find_program() == tmp_path / "absent"
     with pytest.raises(ProgramMissing):
         Session()

@@ -6,9 +6,11 @@ import pytest
 
 pytest.importorskip("lxml")
 
+from ftq_ask.collection import Collection  # noqa: E402
 from ftq_ask.hints import hints  # noqa: E402
-from ftq_ask.mistakes import FAULTS, MISTAKES, Mistake, advice_for  # noqa: E402
-from ftq_ask.paths import asked_strings, missing_end, names_in  # noqa: E402
+from ftq_ask.missing import all_hints  # noqa: E402
+from ftq_ask.mistakes import FAULTS, MISTAKES, Advice, Mistake, advice_for  # noqa: E402
+from ftq_ask.paths import asked_strings, missing_end, names_in, path_in, quoted, with_apostrophes  # noqa: E402
 from ftq_ask.reading import Vocabulary  # noqa: E402
 from ftq_client import BadCommand, NoSuchDocument, QueryFault, Session  # noqa: E402
 
@@ -20,18 +22,22 @@ def test_there_are_thirty_and_more() -> None:
     assert len({it.wrong for it in MISTAKES}) == len(MISTAKES)
 
 
-@pytest.mark.parametrize("mistake", MISTAKES, ids=lambda it: it.wrong[:60])
-def test_the_program_refuses_what_is_wrong_and_reads_what_is_written_instead(mistake: Mistake, session: Session) -> None:
+def advised(path: str, session: Session) -> Advice | None:
+    """What is advised for a path that the program refuses."""
     with pytest.raises((QueryFault, BadCommand)) as caught:
-        session.query(mistake.wrong)
+        session.query(path)
     fault = caught.value
     assert isinstance(fault, QueryFault) and fault.kind == "syntax", fault
-    advice = advice_for(mistake.wrong, fault.kind, fault.column(mistake.wrong))
+    return advice_for(path, (fault.kind, fault.column(path)), Collection(session).fault_of)
+
+
+@pytest.mark.parametrize("mistake", MISTAKES, ids=lambda it: it.wrong[:60])
+def test_the_program_refuses_what_is_wrong_and_reads_what_is_written_instead(mistake: Mistake, session: Session) -> None:
+    advice = advised(mistake.wrong, session)
     assert advice is not None and advice.why == mistake.why, advice
-    if advice.write is None:
-        return
+    assert (advice.write is None) == (mistake.put is None)
     try:
-        session.query(advice.write)
+        session.query(advice.write or "collection()/*")
     except NoSuchDocument:
         pass
 
@@ -42,14 +48,44 @@ def test_the_program_refuses_what_is_wrong_and_reads_what_is_written_instead(mis
         ('collection()//p[. contains text "storm', 'collection()//p[. contains text "storm"]'),
         ('collection()//p[. contains text ("storm"', 'collection()//p[. contains text ("storm")]'),
         ("collection()//p[@n", "collection()//p[@n]"),
+        ('collection()//p[text() = "storm"]', 'collection()//p[. contains text "storm"]'),
+        ('collection()//p[. contains text {"a" "b"} all]', 'collection()//p[. contains text {"a", "b"} all]'),
+        ('collection()//p[contains(@Name,"x")]', 'collection()//p[@Name = "x"]'),
+        ("//@type", "collection()//*[@type]"),
+        ("collection()//@type", "collection()//*[@type]"),
+        ("collection()//book/@type/p", "collection()//book[@type]/p"),
+        ('//p[contains(text(), "a") or @id=3]/text()', 'collection()//p[. contains text "a" or @id = "3"]'),
+        ('count(//p[. contains text "a" AND "b" OR "c"])', 'collection()//p[. contains text "a" ftand "b" ftor "c"]'),
+        ("collection()//p | //title", "collection()//p"),
     ],
 )
-def test_what_is_open_is_closed(path: str, write: str, session: Session) -> None:
-    with pytest.raises(QueryFault) as caught:
-        session.query(path)
-    advice = advice_for(path, caught.value.kind, caught.value.column(path))
+def test_several_mistakes_are_repaired_together(path: str, write: str, session: Session) -> None:
+    advice = advised(path, session)
     assert advice is not None and advice.write == write
-    session.query(write)
+    assert session.query(write) == []
+
+
+@pytest.mark.parametrize("path", ["collection()//p[", 'collection()//p[. contains text "a" &', 'collection()//p[@n < "1"]', "collection()//p[)]]"])
+def test_nothing_is_shown_that_the_program_doesnt_read(path: str, session: Session) -> None:
+    advice = advised(path, session)
+    assert advice is None or advice.write is None
+
+
+def test_reading_a_path_looks_for_nothing(session: Session) -> None:
+    session.load("d", b"<a/>")
+    fault_of = Collection(session).fault_of
+    for path, fault in [
+        ("collection()//p", None),
+        (' doc( "d" )//p[. contains text "x" using stop words at "absent"]', None),
+        (' doc( "é" )//é[x[]', ("syntax", 17)),
+        ("//p", ("syntax", 0)),
+        ("two\nlines", ("syntax", 0)),
+        ("collection()//p[1000001]", ("number", 16)),
+    ]:
+        assert fault_of(path) == fault, path
+    assert session.stats().plans == 0
+    assert Collection(session).fault_of_selection('"a" ftand') == ("syntax", 9)
+    assert Collection(session).fault_of_selection('"a" ftand "b"') is None
 
 
 def test_each_fault_of_the_program_has_words() -> None:
@@ -74,11 +110,28 @@ def test_each_fault_of_the_program_has_words() -> None:
         ('collection()//p[. contains text "rose" using language "de"]', 1, "changes nothing"),
         ('collection()//p[. contains text "big storm"]', 0, '"big storm" all words'),
         ('collection()//p[. contains text "--"]', 0, "has no word"),
+        ('collection()//p[. contains text "storm OR dark"]', 0, 'write ("storm" ftor "dark")'),
+        ('collection()//p[. contains text "storm|dark night | sea"]', 0, 'write ("storm" ftor "dark night" ftor "sea")'),
+        ('collection()//p[. contains text "storm AND dark"]', 0, 'write ("storm" ftand "dark")'),
+        ('collection()//p[. contains text "storm && dark"]', 0, 'write ("storm" ftand "dark")'),
+        ('collection()//p[. contains text "storm NOT dark"]', 0, 'write ("storm" ftand ftnot "dark")'),
+        ('collection()//p[. contains text "R&amp;D"]', 0, 'write "R&D" for "R&amp;D"'),
+        ("collection()//p[. contains text 'a &quot;big&#34; sea']", 1, """write 'a "big" sea' for "a &quot;big&#34; sea\""""),
     ],
 )
 def test_hints(path: str, found: int, said: str) -> None:
     told = hints(path, found, KNOWN, has_stems=False)
     assert any(said in it for it in told), told
+    assert sum("beside each other" in it for it in told) <= 1
+
+
+def test_what_is_hinted_to_write_is_read(session: Session) -> None:
+    fault_of = Collection(session).fault_of
+    for text in ("storm OR dark", "storm|dark", "R&amp;D and more", "storm NOT \"dark", "a 'b' && \"c"):
+        path = f"collection()//p[. contains text {quoted(text)}]"
+        (told,) = hints(path, 0, KNOWN, has_stems=False)
+        written = told.partition("write ")[2].partition(" for ")[0]
+        assert fault_of(path) is None and fault_of(path.replace(quoted(text), written)) is None, told
 
 
 @pytest.mark.parametrize(
@@ -89,6 +142,7 @@ def test_hints(path: str, found: int, said: str) -> None:
         'collection()//p[. contains text "sto.*" using wildcards ftand "3.14"]',
         'collection()//p[. contains text ("and" ftor "or") using stop words ("a.*")]',
         'doc("p")//title[. contains text "big storm" all words]',
+        'collection()//p[. contains text "this OR that" ftor "R&D" ftor "AT&T; and more" ftor "a | b" ftor "Q&not this"]',
     ],
 )
 def test_no_hint_where_none_is_due(path: str) -> None:
@@ -101,3 +155,58 @@ def test_what_is_told_of_a_path() -> None:
     assert [(it.kind, it.name) for it in names_in(path)] == [("element", "a"), ("attribute", "n"), ("element", "b"), ("element", "i"), ("element", "or")]
     assert missing_end('a[("b') == '")]'
     assert missing_end("a[b]") == ""
+    assert asked_strings('a[. contains text "b" ftand ftnot "c" ftor "d"]', negated=False) == ["b", "d"]
+
+
+@pytest.mark.parametrize(
+    ("line", "path"),
+    [
+        ("query  a/b", "a/b"),
+        ("query\tat m  a b", "a b"),
+        ("insert last  a", "a"),
+        ("print a ", "a "),
+        ("explain 'a'", "'a'"),
+        ("query at m", ""),
+        ("stats", ""),
+    ],
+)
+def test_the_path_of_a_command(line: str, path: str) -> None:
+    assert path_in(line) == path
+
+
+@pytest.mark.parametrize(
+    ("selection", "sent"),
+    [
+        ("\"England's\"", "{\"England's\", \"England’s\"}"),
+        ("'it''s' any word using stemming", "{'it''s', \"it’s\"} any word using stemming"),
+        ("\"dogs' don't\" occurs at least 2 times", "{\"dogs' don't\", \"dogs' don’t\"} occurs at least 2 times"),
+        ("ftnot \"it's\" ftand \"b\"", "ftnot {\"it's\", \"it’s\"} ftand \"b\""),
+        ("\"it's\" all words", None),
+        ("\"it's so\" phrase", None),
+        ("{\"it's\", \"isn't\"} all", None),
+        ("\"dogs'\" ftand \"'tis\" ftand \"it’s\"", None),
+        ("\"b\" using stop words (\"it's\")", None),
+        ("\"b\" using thesaurus at \"it's\"", None),
+    ],
+)
+def test_apostrophes_are_looked_for_as_they_are_printed_too(selection: str, sent: str | None, session: Session) -> None:
+    path = f"collection()//p[@n = \"it's\" or . contains text {selection}]"
+    assert with_apostrophes(path) == f"collection()//p[@n = \"it's\" or . contains text {sent or selection}]"
+    assert Collection(session).fault_of(with_apostrophes(path)) is None
+
+
+def test_both_apostrophes_are_found_and_it_is_said_once(session: Session) -> None:
+    session.load("d", "<d><p>England's</p><p>England’s</p><p>England</p></d>")
+    collection = Collection(session)
+    path = "collection()//p[. contains text \"england's\"]"
+    assert [it.steps[-1].number for it in collection.query(path)] == [1, 2]
+    assert collection.printed(path) == ["<p>England's</p>", "<p>England’s</p>"]
+    told = [all_hints(path, 2, collection) for _ in range(2)]
+    assert [len(it) for it in told] == [1, 0] and "--as-typed" in told[0][0]
+    many = "collection()//p[. contains text " + " ftand ".join(["\"England's\""] * 40) + "]"
+    assert [it.steps[-1].number for it in collection.query(many)] == [1]
+    with pytest.raises(QueryFault) as caught:
+        collection.query(path[:-1] + " ftand")
+    assert caught.value.place == len(path) + 5
+    collection.as_typed = True
+    assert [it.steps[-1].number for it in collection.query(path)] == [1]

@@ -10,6 +10,8 @@ mod list_contents;
 #[cfg(test)]
 mod patterns;
 #[cfg(test)]
+mod posting_lists;
+#[cfg(test)]
 mod prefixes;
 #[cfg(test)]
 mod printed_forms;

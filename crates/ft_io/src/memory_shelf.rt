@@ -4,7 +4,7 @@ ghost use Rattle.std.specs.FinMap as map;
 ghost use Rattle.ft_io.specs.Faults.{CountsFault};
 ghost use Rattle.ft_io.specs.Shelf.{known_bytes, bytes_of, Reads, reached_after};
 ghost use Rattle.ft_io.specs.StoredFile.{has_name, files_of};
-ghost use Rattle.ft_io.specs.MemoryShelf.{empty_shelf, fails_now, shelf_after};
+ghost use Rattle.ft_io.specs.MemoryShelf.{empty_shelf, fails_now, count_read, shelf_after};
 
 use crate::{Failed, Shelf};
 use ft_base::{Bytes, Line, Memory};
@@ -18,18 +18,20 @@ struct StoredFile {
     bytes: Bytes,
 }
 
-/// Files in memory. One read of a chosen number can be made to fail.
+/// Files in memory. One read of a chosen number can be made to fail, and reads can be made to give few bytes.
 #[derive(Drop)]
 pub struct MemoryShelf {
     alloc: Global,
     files: Vec<StoredFile>,
     calls: u64,
     failing: Option<u64>,
+    piece: usize,
     faults: u64,
     reached: u64,
 }
 
 impl Model for MemoryShelf {
+    ghost use Rattle.std.specs.Prelude.{◌≤◌};
     ghost use Rattle.ft_io.specs.MemoryShelf.{Stored, coded_stored};
 
     ghost Value = { Stored };
@@ -42,9 +44,12 @@ impl Model for MemoryShelf {
       files = files_of shelf.files.items;
       calls = shelf.calls;
       failing = shelf.failing;
+      piece = shelf.piece;
       faults = shelf.faults;
       reached = shelf.reached;
     } };
+
+    ghost invariant = { λ shelf. 1 ≤ shelf.piece };
 }
 
 // Where the file of that name stands.
@@ -78,16 +83,16 @@ fn put(alloc: Global, files: &mut Vec<StoredFile>, name: &str, bytes: &[u8]) -> 
     Ok(())
 }
 
-// Copies as many bytes as there are from that place on, and as fit, to the front.
-fn copy_prefix(bytes: &[u8], at: u64, into: &mut [u8]) -> usize
-    ensures count { result ≡ min (length into.old) (length bytes.now - at) }
+// Copies as many bytes as there are from that place on, and as fit, but no more than `most`, to the front.
+fn copy_prefix(bytes: &[u8], at: u64, most: usize, into: &mut [u8]) -> usize
+    ensures count { result ≡ min (min (length into.old) most) (length bytes.now - at) }
     ensures prefix { take result into.new ≡ take result (drop at bytes.now) }
 {
     let rest = match bytes.get(at as usize..) {
         Some(rest) => rest,
         None => return 0,
     };
-    let count = into.len().min(rest.len());
+    let count = into.len().min(most).min(rest.len());
     into[..count].copy_from_slice(&rest[..count]);
     count
 }
@@ -102,6 +107,7 @@ impl MemoryShelf {
             files: Vec::new(alloc),
             calls: 0,
             failing: None,
+            piece: usize::MAX,
             faults: 0,
             reached: 0,
         }
@@ -121,6 +127,14 @@ impl MemoryShelf {
     {
         self.failing = Some(call);
     }
+
+    /// From now on a read gives at most that many bytes.
+    pub fn set_piece(&mut self, most: usize)
+        requires { 1 ≤ most }
+        ensures { self.new ≡ record self.old { piece = most } }
+    {
+        self.piece = most;
+    }
 }
 
 impl Shelf for MemoryShelf {
@@ -136,7 +150,7 @@ impl Shelf for MemoryShelf {
         requires end { at + length into.old < 2 ^ 64 }
         requires countable { self.old.faults + 1 < 2 ^ 64 }
         ensures failed { is_err result ≡ fails_now self.old name.now }
-        ensures count { IfOk result (λ count. IfSome (bytes_of self.old.files name.now) (λ bytes. count ≡ min (length into.old) (length bytes - at))) }
+        ensures count { IfOk result (λ count. IfSome (bytes_of self.old.files name.now) (λ bytes. count ≡ count_read self.old bytes at (length into.old))) }
         ensures after { self.new ≡ shelf_after self.old at result }
         ensures content { IfOk result (λ count. IfSome (bytes_of self.old.files name.now) (λ bytes. Reads bytes at count into.new)) }
     {
@@ -144,7 +158,7 @@ impl Shelf for MemoryShelf {
         let fails = self.failing == Some(self.calls);
         match find_file(&self.files, name) {
             Some(file) if !fails => {
-                let count = copy_prefix(file.bytes.as_slice(), at, into);
+                let count = copy_prefix(file.bytes.as_slice(), at, self.piece, into);
                 if count > 0 {
                     self.reached = self.reached.max(at + count as u64);
                 }

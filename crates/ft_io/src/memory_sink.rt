@@ -1,6 +1,6 @@
 ghost use Rattle.std.specs.Prelude.{◌≡◌, ◌+◌, ◌^◌, ◌<◌, ◌≤◌, [], length, IfOk, min, IsErr, ◌↔◌};
 ghost use Rattle.ft_io.specs.Faults.{CountsFault};
-ghost use Rattle.ft_io.specs.MemorySink.{empty_sink, space_left, sink_after};
+ghost use Rattle.ft_io.specs.MemorySink.{empty_sink, space_left, count_taken, sink_after};
 ghost use Rattle.ft_io.specs.Sink.{written_after};
 
 use crate::{Failed, Sink};
@@ -8,12 +8,13 @@ use ft_base::Memory;
 use std::alloc::Global;
 use std::marker::Model;
 
-/// A sink in memory. It takes as many bytes as it was made for, and fails then.
+/// A sink in memory. It takes as many bytes as it was made for, and fails then. It can be made to take few at once.
 #[derive(Drop)]
 pub struct MemorySink {
     bytes: Vec<u8>,
     room: usize,
     total: u64,
+    piece: usize,
     faults: u64,
 }
 
@@ -23,9 +24,9 @@ impl Model for MemorySink {
 
     ghost Value = { Held };
 
-    ghost view = { λ sink. record { bytes = sink.bytes.items; room = sink.room; total = sink.total; faults = sink.faults } };
+    ghost view = { λ sink. record { bytes = sink.bytes.items; room = sink.room; total = sink.total; piece = sink.piece; faults = sink.faults } };
 
-    ghost invariant = { λ sink. (vec_len sink.bytes ≤ sink.room) × (sink.room ≤ vec_capacity sink.bytes) };
+    ghost invariant = { λ sink. (vec_len sink.bytes ≤ sink.room) × (sink.room ≤ vec_capacity sink.bytes) × (1 ≤ sink.piece) };
 }
 
 impl MemorySink {
@@ -38,6 +39,7 @@ impl MemorySink {
             bytes,
             room,
             total: u64::MAX,
+            piece: usize::MAX,
             faults: 0,
         })
     }
@@ -47,6 +49,14 @@ impl MemorySink {
         ensures { self.new ≡ record self.old { total = bytes } }
     {
         self.total = bytes;
+    }
+
+    /// From now on a write takes at most that many bytes.
+    pub fn set_piece(&mut self, most: usize)
+        requires { 1 ≤ most }
+        ensures { self.new ≡ record self.old { piece = most } }
+    {
+        self.piece = most;
     }
 
     /// The bytes so far.
@@ -76,7 +86,8 @@ impl Sink for MemorySink {
     fn write(&mut self, from: &[u8]) -> Result<usize, Failed>
         requires some { 0 < length from.now }
         requires countable { self.old.faults + 1 < 2 ^ 64 }
-        ensures count { IfOk result (λ count. count ≡ min (length from.now) (space_left self.old)) }
+        ensures progress { IfOk result (λ count. 1 ≤ count) }
+        ensures count { IfOk result (λ count. count ≡ count_taken self.old (length from.now)) }
         ensures failed { IsErr result ↔ (space_left self.old ≡ 0) }
         ensures after { self.new ≡ sink_after self.old from.now result }
     {
@@ -85,7 +96,7 @@ impl Sink for MemorySink {
             self.faults += 1;
             return Err(Failed);
         }
-        let count = from.len().min(space);
+        let count = from.len().min(space).min(self.piece);
         self.bytes.extend_from_slice(&from[..count]).unwrap();
         Ok(count)
     }

@@ -9,7 +9,7 @@ use Rattle.ft_base.specs.declared.hit.Hit.{Hit}
 use Rattle.all_matches.specs.MildNot.{stands_out}
 use Rattle.all_matches.specs.Ways.{Way, apart, way_includes, standing_out}
 use Rattle.ft_operators.specs.declared.course.Course.{Course}
-use Rattle.ft_operators.specs.Course.{ways_on}
+use Rattle.ft_operators.specs.Course.{ways_on, without_bounds}
 use Rattle.ft_operators.specs.declared.standing_out.Tried.{Tried}
 use Rattle.ft_operators.specs.Standing.{Frame, Standing, frame, two_aims, at_prefix, one_on, includes_now}
 use Rattle.ft_operators.specs.steps.Apart.{with_includes, none_tried, tried_ways, admitted, IsTried, MayTry, Trying, Sifting}
@@ -102,7 +102,7 @@ module _ (course : Course) (left left_now right now : Standing) (room mid_room n
       → Moved (one_on (apart_of course left right)) now room new_room start end second_answer
   unfolding with_rest
   apart_next m n = record {
-    stand = n.stand ∙ ap (λ s. apart_sifted course s right) m.stand ∙ ap (with_rest (apart_of course left right)) (one_out left.rest (ways_on course right.operator));
+    stand = n.stand ∙ ap (λ s. apart_sifted course s right) m.stand ∙ ap (with_rest (apart_of course left right)) (one_out left.rest (ways_on (without_bounds course) right.operator));
     there = n.there;
     kept_room = omega (arith, m.kept_room, n.kept_room);
     grown = omega (arith, m.grown, n.grown);
@@ -120,24 +120,24 @@ made left right rest = record {
 module _ (course : Course) (left right left_now right_now : Standing) (room now_room start end : ℕ) (answer : Bool) (l : Sifting course left right left_now right_now room now_room start end answer) where
   pub sifting_may : (first_room : ℕ) → (apart_of course left right).shape.room ≤ first_room → first_room ≤ room → answer ≡ true → MayGoOn (apart_of course left_now right_now) now_room
   sifting_may first_room fits grew there = record {
-    there = apart_there left_now.rest (ways_on course right_now.operator) ∙ sym l.there_now ∙ there;
+    there = apart_there left_now.rest (ways_on (without_bounds course) right_now.operator) ∙ sym l.there_now ∙ there;
     fits =
         let a = ap (λ f. f.shape.room) l.same_left in
         let b = ap (λ f. f.shape.room) l.same_right in
         omega (arith, fits, grew, a, b, l.kept_room);
   }
 
-  module _ (left_tried right_tried : Standing) (tried_room tried_end : ℕ) (verdict : Bool) (e : IsTried course left_now right_now left_tried right_tried now_room tried_room end tried_end verdict) where
-    known : verdict ≡ admitted (ways_on course right.operator) (includes_now left_now.rest)
-    known = e.tried ∙ ap (λ f. admitted (ways_on course f.operator) (includes_now left_now.rest)) l.same_right
+  module _ (left_tried right_tried : Standing) (tried_room tried_end : ℕ) (verdict : Bool) (e : IsTried (without_bounds course) left_now right_now left_tried right_tried now_room tried_room end tried_end verdict) where
+    known : verdict ≡ admitted (ways_on (without_bounds course) right.operator) (includes_now left_now.rest)
+    known = e.tried ∙ ap (λ f. admitted (ways_on (without_bounds course) f.operator) (includes_now left_now.rest)) l.same_right
 
     pub apart_settled : answer ≡ true → verdict ≡ true → Moved (apart_sifted course left right) (apart_of course left_tried right_tried) room tried_room start tried_end true
     unfolding made rest_there
     apart_settled there admits = record {
-      stand = (λ i. made (frame (e.same_left i)) (e.same_right i) (apart_left (e.same_left i).rest (ways_on course (e.same_right i).operator)))
-          ∙ (λ i. made (l.same_left i) (l.same_right i) (apart_left left_now.rest (ways_on course (l.same_right i).operator)))
-          ∙ ap (made (frame left) (frame right)) (here_admitted left_now.rest (ways_on course right.operator) (sym l.there_now ∙ there) (sym known ∙ admits) ∙ l.passed);
-      there = sym there ∙ l.there_now ∙ ap rest_there (sym e.same_left) ∙ sym (apart_there left_tried.rest (ways_on course right_tried.operator));
+      stand = (λ i. made (frame (e.same_left i)) (e.same_right i) (apart_left (e.same_left i).rest (ways_on (without_bounds course) (e.same_right i).operator)))
+          ∙ (λ i. made (l.same_left i) (l.same_right i) (apart_left left_now.rest (ways_on (without_bounds course) (l.same_right i).operator)))
+          ∙ ap (made (frame left) (frame right)) (here_admitted left_now.rest (ways_on (without_bounds course) right.operator) (sym l.there_now ∙ there) (sym known ∙ admits) ∙ l.passed);
+      there = sym there ∙ l.there_now ∙ ap rest_there (sym e.same_left) ∙ sym (apart_there left_tried.rest (ways_on (without_bounds course) right_tried.operator));
       kept_room = omega (arith, l.kept_room, e.kept_room);
       grown = omega (arith, l.grown, e.grown);
     }
@@ -157,7 +157,7 @@ module _ (course : Course) (left right left_now right_now : Standing) (room now_
       pub sifting_on : verdict ≡ false → Sifting course left right next right_tried room next_room start next_end next_answer
       sifting_on bars =
           let same = m.stand ∙ ap one_on e.same_left in record {
-            passed = ap (λ s. standing_out s.rest (ways_on course right.operator)) same ∙ here_passed left_now.rest (ways_on course right.operator) (sym known ∙ bars) ∙ l.passed;
+            passed = ap (λ s. standing_out s.rest (ways_on (without_bounds course) right.operator)) same ∙ here_passed left_now.rest (ways_on (without_bounds course) right.operator) (sym known ∙ bars) ∙ l.passed;
             same_left = ap frame same ∙ l.same_left;
             same_right = e.same_right ∙ l.same_right;
             there_now = m.there;
@@ -173,9 +173,9 @@ module _ (course : Course) (left right left_now right_now : Standing) (room now_
   pub apart_end : answer ≡ false → Moved (apart_sifted course left right) (apart_of course left_now right_now) room now_room start end false
   unfolding made
   apart_end none = record {
-    stand = (λ i. made (l.same_left i) (l.same_right i) (apart_left left_now.rest (ways_on course (l.same_right i).operator)))
-        ∙ ap (made (frame left) (frame right)) (none_out left_now.rest (ways_on course right.operator) (sym l.there_now ∙ none) ∙ l.passed);
-    there = sym none ∙ l.there_now ∙ sym (apart_there left_now.rest (ways_on course right_now.operator));
+    stand = (λ i. made (l.same_left i) (l.same_right i) (apart_left left_now.rest (ways_on (without_bounds course) (l.same_right i).operator)))
+        ∙ ap (made (frame left) (frame right)) (none_out left_now.rest (ways_on (without_bounds course) right.operator) (sym l.there_now ∙ none) ∙ l.passed);
+    there = sym none ∙ l.there_now ∙ sym (apart_there left_now.rest (ways_on (without_bounds course) right_now.operator));
     kept_room = l.kept_room;
     grown = l.grown;
   }
@@ -192,10 +192,10 @@ tried_end left tried [] none = refl
 tried_end left tried (way ∷ rest) none = cc
 
 module _ (course : Course) (left right left_now right_now : Standing) (room now_room start end : ℕ) (so_far : Tried) (answer : Bool) (l : Trying course left right left_now right_now room now_room start end so_far answer) where
-  pub trying_may : (first_room : ℕ) → MayGoOn (apart_of course left right) first_room → first_room ≤ room → answer ≡ true → MayTry left_now right_now now_room
+  pub trying_may : (outer : Course) (first_room : ℕ) → MayGoOn (apart_of outer left right) first_room → first_room ≤ room → answer ≡ true → MayTry left_now right_now now_room
   unfolding rest_there
-  trying_may first_room may grew there = record {
-    left_there = ap rest_there l.same_left ∙ sym (apart_there left.rest (ways_on course right.operator)) ∙ may.there;
+  trying_may outer first_room may grew there = record {
+    left_there = ap rest_there l.same_left ∙ sym (apart_there left.rest (ways_on (without_bounds outer) right.operator)) ∙ may.there;
     right_there = sym l.there_now ∙ there;
     fits =
         let a = ap (λ s. s.shape.room) l.same_left in

@@ -5,8 +5,10 @@ use Rattle.ft_base.specs.Lists.{is_not_empty}
 use Rattle.ft_base.specs.declared.hit.Hit.{Hit}
 use Rattle.all_matches.specs.Chain.{Link, kept_by}
 use Rattle.all_matches.specs.Filters.{keeps}
+use Rattle.ft_operators.specs.declared.bounds.Bounds.{Bounds}
 use Rattle.ft_operators.specs.declared.chain.Chain.{Chain}
 use Rattle.ft_operators.specs.declared.chain.ChainLink.{ChainLink}
+use Rattle.ft_operators.specs.KeptBounds.{chain_bounds, kept_bounds}
 use Rattle.ft_operators.specs.Chains.{links_from, links_of, spare_filters, spare_hits, first_includes, IsKept}
 
 pub links_pushed : (links : List ChainLink) (hits more : List Hit) (link : ChainLink) → link.start ≡ length hits
@@ -40,33 +42,49 @@ hits_popped links rest hits link is =
     ap (λ ls. length (take link.start hits) + length (first_includes (links_from hits ls))) (ap reverse is ∙ reverse-append rest (link ∷ []))
     ∙ omega (arith, length-take link.start hits, length-drop link.start hits)
 
--- the last filter keeps a hit, and each of those before it does
-pub kept_last : (links : List ChainLink) (hits : List Hit) (hit : Hit) (number : ℕ) (link : ChainLink) → number < length links → link ≡ get_or links number link
-    → kept_by (links_from hits (reverse (take (number + 1) links))) hit
-    ≡ (keeps link.kind (drop (min link.start (length hits)) hits) link.window hit && kept_by (links_from (take (min link.start (length hits)) hits) (reverse (take number links))) hit)
+-- the last filter, and those before it
+links_last : (links : List ChainLink) (hits : List Hit) (number : ℕ) (link : ChainLink) → number < length links → link ≡ get_or links number link
+    → links_from hits (reverse (take (number + 1) links))
+    ≡ record { kind = link.kind; includes = drop (min link.start (length hits)) hits; choice = link.window } ∷ links_from (take (min link.start (length hits)) hits) (reverse (take number links))
 unfolding links_from
-kept_last links hits hit number link below is =
-    ap (λ ls. kept_by (links_from hits (reverse ls)) hit) (take_more links number link below ∙ ap (λ x. take number links ++ x ∷ []) (sym is))
-    ∙ ap (λ ls. kept_by (links_from hits ls) hit) (reverse-append (take number links) (link ∷ []))
-    ∙ (λ i. keeps link.kind (sym (drop_min link.start hits) i) link.window hit && kept_by (links_from (sym (take_min link.start hits) i) (reverse (take number links))) hit)
+links_last links hits number link below is =
+    ap (λ ls. links_from hits (reverse ls)) (take_more links number link below ∙ ap (λ x. take number links ++ x ∷ []) (sym is))
+    ∙ ap (links_from hits) (reverse-append (take number links) (link ∷ []))
+    ∙ (λ i. record { kind = link.kind; includes = sym (drop_min link.start hits) i; choice = link.window } ∷ links_from (sym (take_min link.start hits) i) (reverse (take number links)))
 
--- the part of the last filter was cut off, and it was asked
-module _ (links : List ChainLink) (hits outer own : List Hit) (hit : Hit) (number mid : ℕ) (link : ChainLink) (some : 0 < number) (below : number ≤ length links) (is : link ≡ get_or links (number - 1) link)
+-- the part of the last filter was cut off
+module _ (links : List ChainLink) (hits outer own : List Hit) (number mid : ℕ) (link : ChainLink) (some : 0 < number) (below : number ≤ length links) (is : link ≡ get_or links (number - 1) link)
     (at : mid ≡ min link.start (length hits)) (prefix : outer ≡ take mid hits) (back : own ≡ drop mid hits) where
-  kept_step : kept_by (links_from hits (reverse (take number links))) hit ≡ (keeps link.kind own link.window hit && kept_by (links_from outer (reverse (take (number - 1) links))) hit)
-  kept_step =
+  links_step : links_from hits (reverse (take number links)) ≡ record { kind = link.kind; includes = own; choice = link.window } ∷ links_from outer (reverse (take (number - 1) links))
+  links_step =
       let one : number ≡ (number - 1) + 1 = omega (arith, some) in
       let own_is = ap (λ n. drop n hits) (sym at) ∙ sym back in
       let outer_is = ap (λ n. take n hits) (sym at) ∙ sym prefix in
-      ap (λ n. kept_by (links_from hits (reverse (take n links))) hit) one
-      ∙ kept_last links hits hit (number - 1) link (omega (arith, some, below)) is
-      ∙ (λ i. keeps link.kind (own_is i) link.window hit && kept_by (links_from (outer_is i) (reverse (take (number - 1) links))) hit)
+      ap (λ n. links_from hits (reverse (take n links))) one
+      ∙ links_last links hits (number - 1) link (omega (arith, some, below)) is
+      ∙ (λ i. record { kind = link.kind; includes = own_is i; choice = link.window } ∷ links_from (outer_is i) (reverse (take (number - 1) links)))
+
+  -- its bounds were taken
+  pub bounds_step : (bounds new : Bounds) → new ≡ kept_bounds link.kind own link.window bounds
+      → chain_bounds (links_from outer (reverse (take (number - 1) links))) new ≡ chain_bounds (links_from hits (reverse (take number links))) bounds
+  bounds_step bounds new told = ap (chain_bounds (links_from outer (reverse (take (number - 1) links)))) told ∙ sym (ap (λ ls. chain_bounds ls bounds) links_step)
+
+-- and it was asked
+module _ (links : List ChainLink) (hits outer own : List Hit) (hit : Hit) (number mid : ℕ) (link : ChainLink) (some : 0 < number) (below : number ≤ length links) (is : link ≡ get_or links (number - 1) link)
+    (at : mid ≡ min link.start (length hits)) (prefix : outer ≡ take mid hits) (back : own ≡ drop mid hits) where
+  kept_step : kept_by (links_from hits (reverse (take number links))) hit ≡ (keeps link.kind own link.window hit && kept_by (links_from outer (reverse (take (number - 1) links))) hit)
+  kept_step = ap (λ ls. kept_by ls hit) (links_step links hits outer own number mid link some below is at prefix back)
 
   pub kept_no : keeps link.kind own link.window hit ≡ false → false ≡ kept_by (links_from hits (reverse (take number links))) hit
   kept_no fails = ap (λ b. b && kept_by (links_from outer (reverse (take (number - 1) links))) hit) (sym fails) ∙ sym kept_step
 
   pub kept_yes : keeps link.kind own link.window hit ≡ true → kept_by (links_from outer (reverse (take (number - 1) links))) hit ≡ kept_by (links_from hits (reverse (take number links))) hit
   kept_yes holds = ap (λ b. b && kept_by (links_from outer (reverse (take (number - 1) links))) hit) (sym holds) ∙ sym kept_step
+
+pub bounds_all : (hits : List Hit) (links : List ChainLink) (bounds : Bounds) → chain_bounds (links_from hits (reverse (take 0 links))) bounds ≡ bounds
+unfolding links_from
+bounds_all hits [] bounds = refl
+bounds_all hits (link ∷ rest) bounds = refl
 
 pub kept_all : (hits : List Hit) (hit : Hit) (links : List ChainLink) → true ≡ kept_by (links_from hits (reverse (take 0 links))) hit
 unfolding links_from

@@ -1,5 +1,5 @@
 -- Looking for a way that passes a test, and whether the present way is clean, kind by kind.
-use Rattle.std.proofs.Common.{◌≡◌, refl, ap, sym, ◌∙◌, subst, ℕ, ◌<◌, ◌≤◌, List, [], ◌∷◌, ◌++◌, Bool, true, false, not, ◌&&◌, ◌||◌, cond, drop, length, get_or, arith}
+use Rattle.std.proofs.Common.{◌≡◌, refl, ap, sym, ◌∙◌, subst, ℕ, ◌<◌, ◌≤◌, List, [], ◌∷◌, ◌++◌, Bool, true, false, not, ◌||◌, cond, drop, length, get_or, arith}
 use Rattle.std.specs.Prelude.{map, flat_map, Option, None, ⊤}
 use Rattle.std.specs.List.{list_any, list_all}
 use Rattle.std.proofs.lemmas.Bool.{and_parts}
@@ -7,6 +7,7 @@ use Rattle.std.proofs.Math.Seq.{drop-cons}
 use Rattle.ft_base.specs.Lists.{is_not_empty}
 use Rattle.ft_base.specs.declared.filter.Filter.{Filter}
 use Rattle.ft_base.specs.declared.hit.Hit.{Hit}
+use Rattle.ft_base.specs.declared.span.Span.{Span}
 use Rattle.all_matches.specs.declared.window.Window.{Window}
 use Rattle.all_matches.specs.Chain.{Link, kept_by}
 use Rattle.all_matches.specs.Filters.{passes, choices}
@@ -16,7 +17,9 @@ use Rattle.all_matches.proofs.ListTests.{list_any-map}
 use Rattle.all_matches.proofs.PlainOperators.{plain-positive}
 use Rattle.ft_operators.specs.declared.course.Course.{Course}
 use Rattle.ft_operators.specs.declared.course.Windows.{Windows}
-use Rattle.ft_operators.specs.Course.{asked_for, firsts, filtered_on, ways_on}
+use Rattle.ft_operators.specs.Course.{asked_for, firsts, filtered_on, ways_on, without_bounds}
+use Rattle.ft_operators.specs.Bounds.{everywhere}
+use Rattle.ft_operators.specs.KeptBounds.{chain_bounds}
 use Rattle.ft_operators.specs.declared.chain.Chain.{Chain}
 use Rattle.ft_operators.specs.Chains.{all_kept, passes_now, clean_now, links_of, spare_filters, spare_hits, IsKept}
 use Rattle.ft_operators.specs.Phrases.{PhraseState}
@@ -26,6 +29,7 @@ use Rattle.ft_operators.specs.steps.Forms.{phrase_of, apart_of, apart_left, nega
 use Rattle.ft_operators.specs.steps.Walking.{Gathered, IsHeld, Moved, MayGoOn}
 use Rattle.ft_operators.proofs.ChainLemmas.{kept_refl, kept_trans}
 use Rattle.ft_operators.proofs.CourseLemmas.{kept_told}
+use Rattle.ft_operators.proofs.KeptLemmas.{kept_lies}
 use Rattle.ft_operators.proofs.SieveLemmas.{fewer, lead_below, sieve_operand_there}
 
 -- ---- looking for a way
@@ -142,7 +146,7 @@ asked_apart course left right left_now before after room new_room start end answ
   same = ap (λ s. apart_of course s right) a.same;
   clean = λ plain.
       a.clean (plain-positive left.operator (and_parts (without_negation left.operator) (without_negation right.operator) plain).0)
-      ∙ apart_clean (kept_by (links_of before)) left.rest (ways_on course right.operator);
+      ∙ apart_clean (kept_by (links_of before)) left.rest (ways_on (without_bounds course) right.operator);
   kept = a.kept;
   kept_room = a.kept_room;
   grown = a.grown;
@@ -157,17 +161,21 @@ negation_by course there f = record {
   rest = cond there (turned_about (matches_of course.item f.operator) ∷ []) [];
 }
 
+-- the course of what is asked under a chain
+abbrev pub excludes_course : Span → List Link → Course
+excludes_course item links = firsts item (chain_bounds links everywhere)
+
 -- some Match has all its hits kept exactly where some way has
-pub some_kept : (course : Course) (operator : Operator) (kept : Hit → Bool) → without_negation operator ≡ true
-    → list_any (all_kept kept) (ways_on course operator) ≡ list_any (λ m. list_all kept m.includes) (matches_of course.item operator)
-some_kept course operator kept bare =
-    kept_told course operator kept
-    ∙ sym (list_any-map (λ m. list_all kept m.includes) bare_match (ways_of course.item operator))
-    ∙ ap (list_any (λ m. list_all kept m.includes)) (sym (bare_matches course.item operator bare))
+pub some_kept : (item : Span) (operator : Operator) (links : List Link) → without_negation operator ≡ true
+    → list_any (all_kept (kept_by links)) (ways_on (excludes_course item links) operator) ≡ list_any (λ m. list_all (kept_by links) m.includes) (matches_of item operator)
+some_kept item operator links bare =
+    kept_told item (chain_bounds links everywhere) operator (kept_by links) (kept_lies links)
+    ∙ sym (list_any-map (λ m. list_all (kept_by links) m.includes) bare_match (ways_of item operator))
+    ∙ ap (list_any (λ m. list_all (kept_by links) m.includes)) (sym (bare_matches item operator bare))
 
 -- the walk that was gone through may be on another course
 pub asked_negated : (course : Course) (there : Bool) (operand now begun ended : Standing) (chain : Chain) (room new_room start end : ℕ) (answer : Bool) → is_not_empty ((negation_of course there operand).rest) ≡ true
-    → frame begun ≡ frame operand → frame ended ≡ frame now → Searched (firsts course.item) ⊤ (all_kept (kept_by (links_of chain))) begun ended room new_room start end answer
+    → frame begun ≡ frame operand → frame ended ≡ frame now → Searched (excludes_course course.item (links_of chain)) ⊤ (all_kept (kept_by (links_of chain))) begun ended room new_room start end answer
     → Asked (negation_of course there operand) (negation_of course there now) chain chain room new_room start end (not answer)
 unfolding negation_by
 asked_negated course true operand now begun ended chain room new_room start end answer way first last s = record {
@@ -175,8 +183,8 @@ asked_negated course true operand now begun ended chain room new_room start end 
   clean = λ bare.
       ap not
       (s.found tt
-      ∙ ap (λ f. list_any (all_kept (kept_by (links_of chain))) (ways_on (firsts course.item) f.operator)) first
-      ∙ some_kept (firsts course.item) operand.operator (kept_by (links_of chain)) bare);
+      ∙ ap (λ f. list_any (all_kept (kept_by (links_of chain))) (ways_on (excludes_course course.item (links_of chain)) f.operator)) first
+      ∙ some_kept course.item operand.operator (links_of chain) bare);
   kept = kept_refl chain;
   kept_room = s.kept_room;
   grown = s.grown;

@@ -1,6 +1,7 @@
 -- Some way passes a test exactly where one of those does through which a walk goes.
 use Rattle.std.proofs.Common.{◌≡◌, refl, ap, sym, ◌∙◌, subst, ℕ, suc, ◌+◌, ◌-◌, ◌≤◌, List, [], ◌∷◌, ◌++◌, Bool, true, false, not, ◌&&◌, ◌||◌, cond, map}
 use Rattle.std.specs.Prelude.{flat_map, filter, Option, Some, None, ⊤}
+use Rattle.ft_base.proofs.Truth.{fails_below}
 use Rattle.std.specs.List.{list_any, list_all}
 use Rattle.std.proofs.lemmas.Bool.{and_parts}
 use Rattle.std.proofs.lemmas.List.Folds.{list_any-append}
@@ -17,23 +18,37 @@ use Rattle.all_matches.specs.MildNot.{stands_out}
 use Rattle.all_matches.specs.Positions.{start_in, end_in}
 use Rattle.all_matches.specs.Window.{windows_round, lies_in_window}
 use Rattle.all_matches.specs.Ways.{Operator, phrase, either, together, apart, negated, through_filter}
-use Rattle.all_matches.specs.Ways.{Way, two_ways, by_filter, way_includes, standing_out, filtered_ways, ways_of, clean_under}
+use Rattle.all_matches.specs.Ways.{Way, one_hit, two_ways, by_filter, way_includes, standing_out, filtered_ways, ways_of, clean_under}
 use Rattle.all_matches.proofs.ListTests.{list_any-alike, list_any-map, list_any-flat_map}
 use Rattle.ft_operators.specs.declared.course.Course.{Course}
 use Rattle.ft_operators.specs.declared.course.Windows.{Windows}
 use Rattle.ft_operators.specs.declared.course.Windows.TheVariants.{Each, Telling, First}
 use Rattle.ft_operators.specs.Chains.{all_kept}
-use Rattle.ft_operators.specs.Course.{asked_for, filtered_on, ways_on, every, tellings}
+use Rattle.ft_operators.specs.Bounds.{agrees, are_within, bounds_inside, everywhere, lies_in, reach_inside}
+use Rattle.ft_operators.specs.Course.{asked_for, course_beside, course_inside, filtered_on, ways_on, without_bounds, every, tellings, firsts}
+use Rattle.ft_operators.specs.declared.bounds.Bounds.{Bounds}
+use Rattle.ft_operators.specs.declared.reach.Reach.{Reach}
 use Rattle.ft_operators.specs.steps.Apart.{admitted}
+use Rattle.ft_operators.proofs.BoundLemmas.{all_lie, all_more, all_pass, filter_within, sides_within}
 use Rattle.ft_operators.proofs.TellingLemmas.{any_more, first_decides, tell_windows, nth_window, first_window_gap, lies_in_later, clean_less}
 
 -- ---- every way
 
+-- nothing is narrowed where each window is gone through
+still : (item : Span) (hits : List Hit) → course_beside (every item) hits ≡ every item
+still item [] = refl
+still item (hit ∷ hits) = still item hits
+
 pub ways_every : (item : Span) (operator : Operator) → ways_on (every item) operator ≡ ways_of item operator
 unfolding ways_on ways_of
-ways_every item (phrase found) = refl
+ways_every item (phrase found) = ap (map one_hit) (all_there found)
+  where
+    all_there : (hits : List Hit) → filter (lies_in everywhere) hits ≡ hits
+    all_there [] = refl
+    all_there (hit ∷ hits) = (λ i. cond (all_lie hit i) (hit ∷ filter (lies_in everywhere) hits) (filter (lies_in everywhere) hits)) ∙ ap (λ rest. hit ∷ rest) (all_there hits)
 ways_every item (either left right) = λ i. ways_every item left i ++ ways_every item right i
-ways_every item (together left right) = λ i. flat_map (λ a. map (two_ways a) (ways_every item right i)) (ways_every item left i)
+ways_every item (together left right) =
+    λ i. flat_map (λ a. map (two_ways a) ((ap (λ course. ways_on course right) (still item (way_includes a)) ∙ ways_every item right) i)) (ways_every item left i)
 ways_every item (apart left right) = λ i. standing_out (ways_every item left i) (ways_every item right i)
 ways_every item (negated operand) = refl
 ways_every item (through_filter operand kind) = ap (flat_map (filtered_ways kind item)) (ways_every item operand)
@@ -169,50 +184,112 @@ any_filtered kind course test ways =
     by_test way true cs = list_any-map test (by_filter way kind) cs
     by_test way false cs = refl
 
-pub ways_tell : (course : Course) (operator : Operator) (test : Way → Bool) → Respects (Asks course.windows) test
+-- ---- ways that a course leaves out
+
+-- whether a course leaves ways out
+abbrev pub Narrows : Windows → Type 0
+Narrows Each = ⊥
+Narrows Telling = ⊤
+Narrows First = ⊤
+
+-- a test that only ways pass whose includes lie in the bounds and agree
+abbrev pub Bounded : Course → (Way → Bool) → Type 0
+Bounded course test = (way : Way) → test way ≡ true → are_within course.bounds course.reach (way_includes way) ≡ true
+
+pub bounded_nowhere : (course : Course) (test : Way → Bool) → Bounded (without_bounds course) test
+bounded_nowhere course test way h =
+    let hits = way_includes way in
+    λ i. all_pass (lies_in everywhere) all_lie hits i && all_pass (λ hit. list_all (λ other. true) hits) (λ hit. all_pass (λ other. true) (λ other. refl) hits) hits i
+
+hits_within : (course : Course) (test : Way → Bool) → Bounded course test → (found : List Hit) → list_any test (map one_hit (filter (lies_in course.bounds) found)) ≡ list_any test (map one_hit found)
+hits_within course test bounded [] = refl
+hits_within course test bounded (hit ∷ rest) = by_test (lies_in course.bounds hit) refl (hits_within course test bounded rest)
+  where
+    inside : test (one_hit hit) ≡ true → lies_in course.bounds hit ≡ true
+    inside h =
+        (and_parts (lies_in course.bounds hit) true (and_parts (lies_in course.bounds hit && true) ((agrees course.reach hit hit && true) && true) (bounded (one_hit hit) h)).0).0
+
+    by_test : (b : Bool) → lies_in course.bounds hit ≡ b → list_any test (map one_hit (filter (lies_in course.bounds) rest)) ≡ list_any test (map one_hit rest)
+        → list_any test (map one_hit (cond b (hit ∷ filter (lies_in course.bounds) rest) (filter (lies_in course.bounds) rest))) ≡ (test (one_hit hit) || list_any test (map one_hit rest))
+    by_test true is same = ap (λ b. test (one_hit hit) || b) same
+    by_test false is same = same ∙ sym (ap (λ b. b || list_any test (map one_hit rest)) (fails_below (test (one_hit hit)) (lies_in course.bounds hit) inside is))
+
+-- what each element that passes gives, some element gives
+any_gives : {X : Type 0} (p : X → Bool) (c : Bool) → ((x : X) → p x ≡ true → c ≡ true) → (xs : List X) → list_any p xs ≡ true → c ≡ true
+any_gives p c each [] h = cc
+any_gives p c each (x ∷ xs) h = by_test (p x) (each x) (any_gives p c each xs) h
+  where
+    by_test : (b : Bool) → (b ≡ true → c ≡ true) → (list_any p xs ≡ true → c ≡ true) → (b || list_any p xs) ≡ true → c ≡ true
+    by_test true here later e = here refl
+    by_test false here later e = later e
+
+inside_within : (windows : Windows) → Narrows windows → (kind : Filter) (item : Span) (bounds : Bounds) (reach : Reach) (hits : List Hit) → passes kind hits item ≡ true
+    → are_within bounds reach (after kind hits) ≡ true → are_within (bounds_inside windows kind bounds) (reach_inside windows kind reach) hits ≡ true
+inside_within Each narrows kind item bounds reach hits p h = absurd narrows
+inside_within Telling narrows kind item bounds reach hits p h = filter_within kind item bounds reach hits p h
+inside_within First narrows kind item bounds reach hits p h = filter_within kind item bounds reach hits p h
+
+pub ways_tell : (operator : Operator) (course : Course) (test : Way → Bool) → Narrows course.windows → Respects (Asks course.windows) test → Bounded course test
     → list_any test (ways_on course operator) ≡ list_any test (ways_of course.item operator)
 unfolding ways_on ways_of
-ways_tell course (phrase found) test respects = refl
-ways_tell course (either left right) test respects =
+ways_tell (phrase found) course test narrows respects bounded = hits_within course test bounded found
+ways_tell (either left right) course test narrows respects bounded =
     list_any-append test (ways_on course left) (ways_on course right)
-    ∙ (λ i. ways_tell course left test respects i || ways_tell course right test respects i)
+    ∙ (λ i. ways_tell left course test narrows respects bounded i || ways_tell right course test narrows respects bounded i)
     ∙ sym (list_any-append test (ways_of course.item left) (ways_of course.item right))
-ways_tell course (together left right) test respects =
+ways_tell (together left right) course test narrows respects bounded =
     let asked = Asks course.windows in
     let rights = ways_of course.item right in
-    any_pairs test (ways_on course right) (ways_on course left)
-    ∙ list_any-alike (λ a. list_any (λ b. test (two_ways a b)) (ways_on course right)) (λ a. list_any (λ b. test (two_ways a b)) rights) (ways_on course left)
-    (λ a. ways_tell course right (λ b. test (two_ways a b)) (λ better way s h. respects (two_ways a better) (two_ways a way) (serves_right asked better way a s) h))
-    ∙ ways_tell course left (λ a. list_any (λ b. test (two_ways a b)) rights)
+    let beside = λ (a : Way). course_beside course (way_includes a) in
+    let sides = λ (a b : Way) (h : test (two_ways a b) ≡ true).
+    sides_within course.bounds course.reach (way_includes a) (way_includes b) (bounded (two_ways a b) h) in
+    list_any-flat_map test (λ a. map (two_ways a) (ways_on (beside a) right)) (ways_on course left)
+    ∙ list_any-alike (λ a. list_any test (map (two_ways a) (ways_on (beside a) right))) (λ a. list_any (λ b. test (two_ways a b)) rights) (ways_on course left)
+    (λ a.
+    list_any-map test (two_ways a) (ways_on (beside a) right)
+    ∙ ways_tell right (beside a) (λ b. test (two_ways a b)) narrows (λ better way s h. respects (two_ways a better) (two_ways a way) (serves_right asked better way a s) h)
+    (λ b h. (sides a b h).1))
+    ∙ ways_tell left course (λ a. list_any (λ b. test (two_ways a b)) rights) narrows
     (λ better way s h. any_more (λ b. test (two_ways way b)) (λ b. test (two_ways better b)) (λ b e. respects (two_ways better b) (two_ways way b) (serves_left asked better way b s) e) rights h)
+    (λ a h. any_gives (λ b. test (two_ways a b)) (are_within course.bounds course.reach (way_includes a)) (λ b e. (sides a b e).0) rights h)
     ∙ sym (any_pairs test rights (ways_of course.item left))
-ways_tell course (apart left right) test respects =
+ways_tell (apart left right) course test narrows respects bounded =
     let asked = Asks course.windows in
     let rights = ways_of course.item right in
-    any_apart test (ways_on course left) (ways_on course right)
-    ∙ list_any-alike (λ a. admitted (ways_on course right) (way_includes a) && test a) (λ a. admitted rights (way_includes a) && test a) (ways_on course left)
+    let all = without_bounds course in
+    any_apart test (ways_on course left) (ways_on all right)
+    ∙ list_any-alike (λ a. admitted (ways_on all right) (way_includes a) && test a) (λ a. admitted rights (way_includes a) && test a) (ways_on course left)
     (λ a i.
-    (not (ways_tell course right (λ way. is_not_empty (way_includes way)) (of_includes asked is_not_empty) i)
-    || (all_by_any (λ b. stands_out (way_includes a) (way_includes b)) (ways_on course right)
-    ∙ ap not (ways_tell course right (λ b. not (stands_out (way_includes a) (way_includes b))) (of_includes asked (λ hits. not (stands_out (way_includes a) hits))))
+    (not (ways_tell right all (λ way. is_not_empty (way_includes way)) narrows (of_includes asked is_not_empty) (bounded_nowhere course (λ way. is_not_empty (way_includes way))) i)
+    || (all_by_any (λ b. stands_out (way_includes a) (way_includes b)) (ways_on all right)
+    ∙ ap not
+    (ways_tell right all (λ b. not (stands_out (way_includes a) (way_includes b))) narrows (of_includes asked (λ hits. not (stands_out (way_includes a) hits)))
+    (bounded_nowhere course (λ b. not (stands_out (way_includes a) (way_includes b)))))
     ∙ sym (all_by_any (λ b. stands_out (way_includes a) (way_includes b)) rights)) i)
     && test a)
-    ∙ ways_tell course left (λ a. admitted rights (way_includes a) && test a)
+    ∙ ways_tell left course (λ a. admitted rights (way_includes a) && test a) narrows
     (λ better way s h.
     let parts = and_parts (admitted rights (way_includes way)) (test way) h in
     λ i. (ap (admitted rights) s.same ∙ parts.0) i && respects better way s parts.1 i)
+    (λ a h. bounded a (and_parts (admitted rights (way_includes a)) (test a) h).1)
     ∙ sym (any_apart test (ways_of course.item left) rights)
-ways_tell course (negated operand) test respects = refl
-ways_tell course (through_filter operand kind) test respects =
-    any_filtered kind course test (ways_on course operand)
+ways_tell (negated operand) course test narrows respects bounded = refl
+ways_tell (through_filter operand kind) course test narrows respects bounded =
+    let inside = course_inside kind course in
+    any_filtered kind course test (ways_on inside operand)
     ∙ list_any-alike (λ way. passes kind (way_includes way) course.item && list_any (λ c. test (by_filter way kind c)) (asked_for course.windows (choices kind (way_includes way)))) (chosen course.item)
-    (ways_on course operand) (λ way. ap (λ b. passes kind (way_includes way) course.item && b) (choices_tell course.windows test respects way kind (way_includes way)))
-    ∙ ways_tell course operand (chosen course.item)
+    (ways_on inside operand) (λ way. ap (λ b. passes kind (way_includes way) course.item && b) (choices_tell course.windows test respects way kind (way_includes way)))
+    ∙ ways_tell operand inside (chosen course.item) narrows
     (λ better way s h.
     let parts = and_parts (passes kind (way_includes way) course.item) (list_any (λ c. test (by_filter way kind c)) (choices kind (way_includes way))) h in
     λ i. (ap (λ hits. passes kind hits course.item) s.same ∙ parts.0) i && (ap (λ hits. list_any (λ c. test (by_filter better kind c)) (choices kind hits)) s.same
     ∙ any_more (λ c. test (by_filter way kind c)) (λ c. test (by_filter better kind c))
     (λ c e. respects (by_filter better kind c) (by_filter way kind c) (serves_filtered (Asks course.windows) better way kind c s) e) (choices kind (way_includes way)) parts.1) i)
+    (λ way h.
+    let parts = and_parts (passes kind (way_includes way) course.item) (list_any (λ c. test (by_filter way kind c)) (choices kind (way_includes way))) h in
+    inside_within course.windows narrows kind course.item course.bounds course.reach (way_includes way) parts.0
+    (any_gives (λ c. test (by_filter way kind c)) (are_within course.bounds course.reach (after kind (way_includes way))) (λ c e. bounded (by_filter way kind c) e)
+    (choices kind (way_includes way)) parts.1))
     ∙ sym (any_filtered kind (every course.item) test (ways_of course.item operand))
   where
     chosen : Span → Way → Bool
@@ -221,7 +298,14 @@ ways_tell course (through_filter operand kind) test respects =
 -- ---- what a walk asks
 
 pub clean_told : (item : Span) (operator : Operator) (kept : Hit → Bool) → list_any (clean_under kept) (ways_on (tellings item) operator) ≡ list_any (clean_under kept) (ways_of item operator)
-clean_told item operator kept = ways_tell (tellings item) operator (clean_under kept) (λ better way s h. s.clean tt kept h)
+clean_told item operator kept =
+    ways_tell operator (tellings item) (clean_under kept) tt (λ better way s h. s.clean tt kept h) (bounded_nowhere (tellings item) (clean_under kept))
 
-pub kept_told : (course : Course) (operator : Operator) (kept : Hit → Bool) → list_any (all_kept kept) (ways_on course operator) ≡ list_any (all_kept kept) (ways_of course.item operator)
-kept_told course operator kept = ways_tell course operator (all_kept kept) (of_includes (Asks course.windows) (list_all kept))
+-- those that are kept lie in bounds
+pub kept_told : (item : Span) (bounds : Bounds) (operator : Operator) (kept : Hit → Bool) → ((hit : Hit) → kept hit ≡ true → lies_in bounds hit ≡ true)
+    → list_any (all_kept kept) (ways_on (firsts item bounds) operator) ≡ list_any (all_kept kept) (ways_of item operator)
+kept_told item bounds operator kept lie =
+    ways_tell operator (firsts item bounds) (all_kept kept) tt (of_includes ⊥ (list_all kept))
+    (λ way h.
+    let hits = way_includes way in
+    λ i. all_more kept (lies_in bounds) lie hits h i && all_pass (λ hit. list_all (λ other. true) hits) (λ hit. all_pass (λ other. true) (λ other. refl) hits) hits i)

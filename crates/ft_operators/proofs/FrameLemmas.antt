@@ -10,7 +10,8 @@ use Rattle.ft_operators.specs.declared.node.Pair.{Pair}
 use Rattle.ft_operators.specs.declared.node.Negation.{Negation}
 use Rattle.ft_operators.specs.declared.node.Sieve.{Sieve}
 use Rattle.ft_operators.specs.Phrases.{PhraseState, aimed_at}
-use Rattle.ft_operators.specs.Standing.{Aims, Frame, frame, aimed}
+use Rattle.ft_operators.specs.Course.{course_inside, without_bounds}
+use Rattle.ft_operators.specs.Standing.{Aims, Frame, course_now, frame, aimed}
 use Rattle.ft_operators.specs.steps.Forms.{phrase_of, phrase_shape, choice_frame, both_frame, apart_frame, negated_frame, filtered_frame, choice_shape, both_shape, apart_shape, negated_shape, filtered_shape}
 use Rattle.ft_operators.specs.steps.Nodes.{standing, frame_of, fork_frame, both_pair_frame, apart_pair_frame, negation_frame, sieve_frame, shape_of}
 use Rattle.ft_operators.specs.steps.Walking.{AreAimed, IsAimed}
@@ -20,10 +21,10 @@ module _ {P : Type 0} (state : P → PhraseState) where
   unfolding standing frame_of
   frame_same course (Phrase found) = refl
   frame_same course (Choice' p left right second) = λ i. choice_frame (frame_same course left i) (frame_same course right i)
-  frame_same course (Both' p left right) = λ i. both_frame (frame_same course left i) (frame_same course right i)
-  frame_same course (MildNot' p left right) = λ i. apart_frame (frame_same course left i) (frame_same course right i)
+  frame_same course (Both' p left right) = λ i. both_frame (frame_same course left i) (frame_same (course_now course (standing state course left).rest) right i)
+  frame_same course (MildNot' p left right) = λ i. apart_frame (frame_same course left i) (frame_same (without_bounds course) right i)
   frame_same course (Negated' p operand there) = λ i. negated_frame (frame_same course operand i)
-  frame_same course (Filtered' p operand kind lead) = λ i. filtered_frame kind (frame_same course operand i)
+  frame_same course (Filtered' p operand kind lead) = λ i. filtered_frame kind (frame_same (course_inside kind course) operand i)
 
   pub frames_same : (course other : Course) (node : Node P) → frame (standing state course node) ≡ frame (standing state other node)
   frames_same course other node = frame_same course node ∙ sym (frame_same other node)
@@ -105,6 +106,24 @@ module _ {P : Type 0} (state : P → PhraseState) where
 
   pub framed_Filtered : (node : Node P) (sieve : Box (Sieve P) Global) (lent : Sieve P) → node ≡ N.Filtered sieve → lent ≡ sieve.value → frame_of state node ≡ sieve_frame state lent
   framed_Filtered node sieve lent is same = ap (frame_of state) is ∙ frame_Filtered sieve ∙ ap (sieve_frame state) (sym same)
+
+module _ {P : Type 0} where
+  -- the shape of a node, told of what it lends of its inside
+  pub shaped_Choice : (node : Node P) (fork : Box (Fork P) Global) (lent : Fork P) → node ≡ N.Choice fork → lent ≡ fork.value → shape_of node ≡ choice_shape (shape_of lent.left) (shape_of lent.right)
+  unfolding shape_of
+  shaped_Choice node fork lent is same = ap shape_of is ∙ ap (λ (f : Fork P). choice_shape (shape_of f.left) (shape_of f.right)) (sym same)
+
+  pub shaped_Both : (node : Node P) (pair : Box (Pair P) Global) (lent : Pair P) → node ≡ N.Both pair → lent ≡ pair.value → shape_of node ≡ both_shape (shape_of lent.left) (shape_of lent.right)
+  unfolding shape_of
+  shaped_Both node pair lent is same = ap shape_of is ∙ ap (λ (p : Pair P). both_shape (shape_of p.left) (shape_of p.right)) (sym same)
+
+  pub shaped_MildNot : (node : Node P) (pair : Box (Pair P) Global) (lent : Pair P) → node ≡ N.MildNot pair → lent ≡ pair.value → shape_of node ≡ apart_shape (shape_of lent.left) (shape_of lent.right)
+  unfolding shape_of
+  shaped_MildNot node pair lent is same = ap shape_of is ∙ ap (λ (p : Pair P). apart_shape (shape_of p.left) (shape_of p.right)) (sym same)
+
+  pub shaped_Filtered : (node : Node P) (sieve : Box (Sieve P) Global) (lent : Sieve P) → node ≡ N.Filtered sieve → lent ≡ sieve.value → shape_of node ≡ filtered_shape (shape_of lent.operand)
+  unfolding shape_of
+  shaped_Filtered node sieve lent is same = ap shape_of is ∙ ap (λ (s : Sieve P). filtered_shape (shape_of s.operand)) (sym same)
 
 -- ---- aiming
 

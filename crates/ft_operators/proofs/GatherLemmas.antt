@@ -11,12 +11,12 @@ use Rattle.all_matches.specs.Filters.{after}
 use Rattle.all_matches.specs.Join.{join}
 use Rattle.all_matches.specs.Ways.{Way, way_includes}
 use Rattle.ft_operators.specs.declared.course.Course.{Course}
-use Rattle.ft_operators.specs.Course.{filtered_on, ways_on}
+use Rattle.ft_operators.specs.Course.{filtered_on, ways_on, without_bounds}
 use Rattle.ft_operators.specs.Standing.{Standing, includes_now}
-use Rattle.ft_operators.specs.steps.Forms.{choice_of, first_left, both_of, pairs_left, apart_of, negation_of, sieve_of, sieve_left, chosen_left, choices_at}
+use Rattle.ft_operators.specs.steps.Forms.{choice_of, first_left, both_of, apart_of, negation_of, sieve_of, sieve_left, chosen_left, choices_at}
 use Rattle.ft_operators.specs.steps.Walking.{Gathered, IsHeld, Replaced}
 use Rattle.ft_operators.proofs.ApartLemmas.{apart_there, apart_includes}
-use Rattle.ft_operators.proofs.BothLemmas.{pairs_sides}
+use Rattle.ft_operators.proofs.BothLemmas.{pair_includes, pairs_sides}
 use Rattle.ft_operators.proofs.SieveLemmas.{sieve_operand_there}
 
 first_includes : (xs ys : List Way) → is_not_empty (first_left xs ys) ≡ true → (is_not_empty xs ≡ true) × (includes_now (first_left xs ys) ≡ includes_now xs)
@@ -40,16 +40,11 @@ gathered_right course left right room new_room old new g = record {
   hits = λ there fits. g.hits there (omega (arith, fits));
 }
 
-pair_includes : (xs ys all : List Way) → is_not_empty (pairs_left xs ys all) ≡ true → includes_now (pairs_left xs ys all) ≡ includes_now xs ++ includes_now ys
-pair_includes [] ys all there = cc
-pair_includes (x ∷ xs) [] all there = cc
-pair_includes (x ∷ xs) (y ∷ ys) all there = refl
-
 pub gathered_both : (course : Course) (left right : Standing) (room mid_room new_room : ℕ) (old mid new : List Hit)
     → Gathered left room mid_room old mid → Gathered right mid_room new_room mid new → Gathered (both_of course left right) room new_room old new
 gathered_both course left right room mid_room new_room old mid new l r =
-    let sides = pairs_sides left.rest right.rest (ways_on course right.operator) in
-    let includes = pair_includes left.rest right.rest (ways_on course right.operator) in
+    let sides = pairs_sides course right.operator left.rest right.rest in
+    let includes = pair_includes course right.operator left.rest right.rest in
     record {
       from = omega (arith, l.from, r.from);
       kept_room = omega (arith, l.kept_room, r.kept_room);
@@ -70,8 +65,8 @@ gathered_both course left right room mid_room new_room old mid new l r =
 
 pub gathered_apart : (course : Course) (left right : Standing) (room new_room : ℕ) (old new : List Hit) → Gathered left room new_room old new → Gathered (apart_of course left right) room new_room old new
 gathered_apart course left right room new_room old new g =
-    let inner = apart_there left.rest (ways_on course right.operator) in
-    let includes = apart_includes left.rest (ways_on course right.operator) in
+    let inner = apart_there left.rest (ways_on (without_bounds course) right.operator) in
+    let includes = apart_includes left.rest (ways_on (without_bounds course) right.operator) in
     record {
       from = g.from;
       kept_room = g.kept_room;

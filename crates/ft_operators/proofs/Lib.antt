@@ -9,9 +9,12 @@ pub mod WalkLemmas
 pub mod FrameLemmas
 pub mod ApartLemmas
 pub mod TupleLemmas
+pub mod SeenLemmas
 pub mod FreeLemmas
 pub mod ChainLemmas
 pub mod CleanLemmas
 pub mod AnswerLemmas
 pub mod TellingLemmas
+pub mod BoundLemmas
+pub mod KeptLemmas
 pub mod CourseLemmas

@@ -8,7 +8,7 @@ use Rattle.all_matches.specs.declared.window.Window.{Window}
 use Rattle.all_matches.specs.Filters.{passes, choices}
 use Rattle.all_matches.specs.Ways.{Way, by_filter, way_includes}
 use Rattle.ft_operators.specs.declared.course.Course.{Course}
-use Rattle.ft_operators.specs.Course.{asked_for, filtered_on, ways_on}
+use Rattle.ft_operators.specs.Course.{asked_for, course_inside, filtered_on, ways_on}
 use Rattle.ft_operators.specs.Standing.{Standing, at_prefix, one_on}
 use Rattle.ft_operators.specs.steps.Forms.{sieve_of, sieve_left, chosen_left, choices_at, count_now, sifted}
 
@@ -110,7 +110,7 @@ none_there kind course lead [] h = refl
 none_there kind course lead (way ∷ more) h = cc
 
 module _ (course : Course) (kind : Filter) (operand : Standing) where
-  pub sieve_prefix : (lead : ℕ) → sifted course kind (at_prefix course operand) ≡ at_prefix course (sieve_of course kind lead operand)
+  pub sieve_prefix : (lead : ℕ) → sifted course kind (at_prefix (course_inside kind course) operand) ≡ at_prefix course (sieve_of course kind lead operand)
   unfolding ways_on
   sieve_prefix lead = refl
 

@@ -3,12 +3,11 @@ use Rattle.std.proofs.Common.{◌≡◌, refl, ap, sym, ◌∙◌, subst, ℕ, �
 use Rattle.ft_base.specs.Lists.{is_not_empty}
 use Rattle.ft_base.specs.declared.filter.Filter.{Filter}
 use Rattle.ft_operators.specs.declared.course.Course.{Course}
-use Rattle.ft_operators.specs.Course.{ways_on}
+use Rattle.ft_operators.specs.Course.{course_inside, ways_on}
 use Rattle.ft_operators.specs.Standing.{Standing, at_prefix, one_on}
-use Rattle.ft_operators.specs.steps.Forms.{choice_of, both_of, negation_of, sieve_of, sifted, count_now}
+use Rattle.ft_operators.specs.steps.Forms.{choice_of, negation_of, sieve_of, sifted, count_now}
 use Rattle.ft_operators.specs.steps.Walking.{Moved, MayGoOn, Settling}
 use Rattle.ft_operators.proofs.ChoiceLemmas.{choice_prefix_left, choice_prefix_right, left_there}
-use Rattle.ft_operators.proofs.BothLemmas.{both_prefix, both_prefix_none, both_on_left, pairs_there, pairs_none, pairs_sides}
 use Rattle.ft_operators.proofs.SieveLemmas.{sieve_prefix, sieve_settled, sieve_skip, sieve_end, sieve_on, sieve_over, sieve_there_first, sieve_there_next, sieve_none, fewer}
 
 rest_there : Standing → Bool
@@ -41,39 +40,6 @@ module _ (course : Course) (second : Bool) (left left_now right right_now : Stan
     grown = omega (arith, m.grown, n.grown);
   }
 
-  pub both_first : Moved (at_prefix course left) left_now room mid_room start mid answer → answer ≡ true
-      → Moved (at_prefix course right) right_now mid_room new_room mid end second_answer
-      → Moved (at_prefix course (both_of course left right)) (both_of course left_now right_now) room new_room start end second_answer
-  both_first m there n = record {
-    stand = (λ i. both_of course (m.stand i) (n.stand i)) ∙ both_prefix course left right;
-    there = n.there ∙ sym (pairs_there left_now.rest right_now.rest (ways_on course right_now.operator) (sym m.there ∙ there));
-    kept_room = omega (arith, m.kept_room, n.kept_room);
-    grown = omega (arith, m.grown, n.grown);
-  }
-
-  pub both_first_none : Moved (at_prefix course left) left_now room mid_room start mid answer → answer ≡ false
-      → Moved (at_prefix course (both_of course left right)) (both_of course left_now right) room mid_room start mid answer
-  both_first_none m none = record {
-    stand = ap (λ s. both_of course s right) m.stand ∙ both_prefix_none course left right (arrived (at_prefix course left) left_now room mid_room start mid answer m ∙ none);
-    there = none ∙ sym (pairs_none left_now.rest right.rest (ways_on course right.operator) (sym m.there ∙ none));
-    kept_room = m.kept_room;
-    grown = m.grown;
-  }
-
-module _ (course : Course) (left left_now right right_now right_first : Standing) (room mid_room next_room new_room start mid next end : ℕ) (answer second_answer third_answer : Bool) where
-  pub both_next_left : MayGoOn (both_of course left right) room → Moved (one_on right) right_now room mid_room start mid answer → answer ≡ false
-      → Moved (one_on left) left_now mid_room next_room mid next second_answer → second_answer ≡ true
-      → Moved (at_prefix course right_now) right_first next_room new_room next end third_answer
-      → Moved (one_on (both_of course left right)) (both_of course left_now right_first) room new_room start end third_answer
-  both_next_left may m over n there f =
-      let sides = pairs_sides left.rest right.rest (ways_on course right.operator) may.there in record {
-        stand = (λ i. both_of course (n.stand i) ((f.stand ∙ ap (at_prefix course) m.stand) i))
-            ∙ both_on_left course left right sides.0 sides.1 (arrived (one_on right) right_now room mid_room start mid answer m ∙ over);
-        there = f.there ∙ sym (pairs_there left_now.rest right_first.rest (ways_on course right_first.operator) (sym n.there ∙ there));
-        kept_room = omega (arith, m.kept_room, n.kept_room, f.kept_room);
-        grown = omega (arith, m.grown, n.grown, f.grown);
-      }
-
 pub negation_first : (course : Course) (there : Bool) (operand : Standing) (room start : ℕ)
     → Moved (at_prefix course (negation_of course there operand)) (negation_of course true operand) room room start start true
 unfolding ways_on
@@ -85,7 +51,7 @@ negation_next course true operand room start = record { stand = refl; there = re
 negation_next course false operand room start = record { stand = refl; there = refl; kept_room = omega arith; grown = omega arith }
 
 module _ (course : Course) (kind : Filter) (lead : ℕ) (operand operand_now now : Standing) (room mid_room new_room start mid end : ℕ) (answer second_answer : Bool) where
-  pub sieve_first : Moved (at_prefix course operand) operand_now room mid_room start mid answer → Moved (sifted course kind operand_now) now mid_room new_room mid end second_answer
+  pub sieve_first : Moved (at_prefix (course_inside kind course) operand) operand_now room mid_room start mid answer → Moved (sifted course kind operand_now) now mid_room new_room mid end second_answer
       → Moved (at_prefix course (sieve_of course kind lead operand)) now room new_room start end second_answer
   sieve_first m n = record {
     stand = n.stand ∙ ap (sifted course kind) m.stand ∙ sieve_prefix course kind operand lead;

@@ -1,11 +1,15 @@
--- The ways of an operator that a walk goes through: in each way of the operand of a window filter those windows that it asks for.
-use Rattle.std.specs.Prelude.{ℕ, zero, suc, ◌+◌, ◌-◌, if◌then◌else◌, ℤ, pos, negsuc, List, [], ◌∷◌, ◌++◌, map, flat_map, take, drop, Option, Some, None}
+-- The ways of an operator that a walk goes through: in each way of the operand of a window filter those windows that it asks for,
+-- and of the hits of a phrase those that lie where those that were chosen before, and the filters round all of them, let them.
+use Rattle.std.specs.Prelude.{ℕ, zero, suc, ◌+◌, ◌-◌, if◌then◌else◌, ℤ, pos, negsuc, List, [], ◌∷◌, ◌++◌, map, filter, flat_map, take, drop, Option, Some, None}
+use Rattle.ft_base.specs.declared.hit.Hit.{Hit}
 use Rattle.ft_base.specs.declared.filter.Filter.{Filter}
 use Rattle.ft_base.specs.declared.span.Span.{Span}
 use Rattle.all_matches.specs.declared.window.Window.{Window}
 use Rattle.all_matches.specs.Filters.{passes, choices}
 use Rattle.all_matches.specs.Ways.{Operator, phrase, either, together, apart, negated, through_filter, matches_of}
 use Rattle.all_matches.specs.Ways.{Way, one_hit, two_ways, turned_about, by_filter, way_includes, standing_out}
+use Rattle.ft_operators.specs.Bounds.{lies_in, everywhere, no_reach, round_hits, reach_inside, bounds_inside}
+use Rattle.ft_operators.specs.declared.bounds.Bounds.{Bounds}
 use Rattle.ft_operators.specs.declared.course.Course.{Course}
 use Rattle.ft_operators.specs.declared.course.Windows.{Windows}
 use Rattle.ft_operators.specs.declared.course.Windows.TheVariants.{Each, Telling, First}
@@ -33,24 +37,51 @@ abbrev pub filtered_on : Filter → Course → Way → List Way
 filtered_on kind course way =
     if passes kind (way_includes way) course.item then map (by_filter way kind) (asked_for course.windows (choices kind (way_includes way))) else []
 
+-- the course of the operand of a filter
+abbrev pub course_inside : Filter → Course → Course
+course_inside kind course = record {
+  item = course.item;
+  windows = course.windows;
+  bounds = bounds_inside course.windows kind course.bounds;
+  reach = reach_inside course.windows kind course.reach;
+}
+
+-- the course of the right side of an And, where these hits were chosen on the left side
+abbrev pub course_beside : Course → List Hit → Course
+course_beside course hits = record {
+  item = course.item;
+  windows = course.windows;
+  bounds = round_hits course.reach course.bounds hits;
+  reach = course.reach;
+}
+
+-- the course of the right side of a mild not, of which each way counts
+abbrev pub without_bounds : Course → Course
+without_bounds course = record { item = course.item; windows = course.windows; bounds = everywhere; reach = no_reach }
+
 -- the ways of an operator
 unfoldable pub ways_on : Course → Operator → List Way
-ways_on course (phrase found) = map one_hit found
+ways_on course (phrase found) = map one_hit (filter (lies_in course.bounds) found)
 ways_on course (either left right) = ways_on course left ++ ways_on course right
-ways_on course (together left right) = flat_map (λ a. map (two_ways a) (ways_on course right)) (ways_on course left)
-ways_on course (apart left right) = standing_out (ways_on course left) (ways_on course right)
+ways_on course (together left right) = flat_map (λ a. map (two_ways a) (ways_on (course_beside course (way_includes a)) right)) (ways_on course left)
+ways_on course (apart left right) = standing_out (ways_on course left) (ways_on (without_bounds course) right)
 ways_on course (negated operand) = turned_about (matches_of course.item operand) ∷ []
-ways_on course (through_filter operand kind) = flat_map (filtered_on kind course) (ways_on course operand)
+ways_on course (through_filter operand kind) = flat_map (filtered_on kind course) (ways_on (course_inside kind course) operand)
+
+-- a way of the left side of an And with each way of the right one
+abbrev pub pairs_with : Course → Operator → Way → List Way
+pairs_with course right a = map (two_ways a) (ways_on (course_beside course (way_includes a)) right)
 
 -- the courses of an item
 abbrev pub every : Span → Course
-every item = record { item = item; windows = Each }
+every item = record { item = item; windows = Each; bounds = everywhere; reach = no_reach }
 
 abbrev pub tellings : Span → Course
-tellings item = record { item = item; windows = Telling }
+tellings item = record { item = item; windows = Telling; bounds = everywhere; reach = no_reach }
 
-abbrev pub firsts : Span → Course
-firsts item = record { item = item; windows = First }
+-- that of a negated selection, whose includes lie in bounds
+abbrev pub firsts : Span → Bounds → Course
+firsts item bounds = record { item = item; windows = First; bounds = bounds; reach = no_reach }
 
 -- the number, among all windows of a size round a hit that ends there, of that one among those that are asked for
 abbrev pub number_among : Windows → ℕ → ℕ → ℕ → ℕ

@@ -8,9 +8,14 @@ use Rattle.ft_base.specs.declared.unit.TextUnit.TheVariants.{Words}
 use Rattle.all_matches.specs.declared.window.Window.{Window}
 use Rattle.all_matches.specs.Chain.{Link}
 use Rattle.all_matches.specs.Hits.{match_of_hit}
-use Rattle.all_matches.specs.Ways.{phrase, Way, one_hit, two_ways, turned_about, by_filter}
+use Rattle.all_matches.specs.Ways.{Operator, phrase, together, Way, one_hit, two_ways, turned_about, by_filter}
 use Rattle.all_matches.specs.Window.{window_at}
+use Rattle.ft_operators.specs.declared.bounds.Bounds.{Bounds}
+use Rattle.ft_operators.specs.declared.bounds.UnitBounds.{UnitBounds}
 use Rattle.ft_operators.specs.declared.chain.ChainLink.{ChainLink}
+use Rattle.ft_operators.specs.declared.course.Course.{Course}
+use Rattle.ft_operators.specs.Bounds.{everywhere}
+use Rattle.ft_operators.specs.Course.{course_inside, tellings, ways_on}
 use Rattle.ft_operators.specs.Standing.{phrase_aims}
 use Rattle.ft_operators.specs.Walk.{Walk, before_first, walk_at}
 
@@ -64,3 +69,34 @@ put kind window start = record { kind = kind; window = window; start = start }
 
 abbrev pub link : Filter → Option Window → List Hit → Link
 link kind window includes = record { kind = kind; includes = includes; choice = window }
+
+-- bounds in one unit, from one number on up to another
+abbrev pub between : ℕ → ℕ → UnitBounds
+between from to = record { from = from; to = Some to }
+
+-- bounds of words alone
+abbrev pub words_between : ℕ → ℕ → Bounds
+words_between from to = record everywhere { words = between from to }
+
+-- the hit of the first phrase from one word to another
+abbrev pub from_to : ℕ → ℕ → Hit
+from_to first last = record (at 1) { from = first; to = last }
+
+-- the hits of the phrase of that number at two words
+abbrev pub hit_of : ℕ → ℕ → Hit
+hit_of number place = record (at place) { query = number }
+
+abbrev pub two_hits : ℕ → ℕ → ℕ → Operator
+two_hits number first second = phrase (hit_of number first ∷ hit_of number second ∷ [])
+
+-- the course inside a filter
+abbrev pub inside : Filter → Course
+inside kind = course_inside kind (tellings (span 1 9))
+
+-- the ways of an And of two hits each on that course
+abbrev pub pairs_on : Course → List Way
+pairs_on course = ways_on course (together (two_hits 1 1 5) (two_hits 2 2 4))
+
+-- a hit of each
+abbrev pub pair : ℕ → ℕ → Way
+pair first second = two_ways (one_hit (hit_of 1 first)) (one_hit (hit_of 2 second))

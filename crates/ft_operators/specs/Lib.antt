@@ -1,3 +1,5 @@
+pub mod Bounds
+pub mod KeptBounds
 pub mod Phrases
 pub mod Standing
 pub mod Course

@@ -4,7 +4,7 @@ use Rattle.ft_base.specs.declared.hit.Hit.{Hit}
 use Rattle.ft_base.specs.declared.span.Span.{Span}
 use Rattle.all_matches.specs.Ways.{Operator, phrase, Way, way_includes}
 use Rattle.ft_operators.specs.declared.course.Course.{Course}
-use Rattle.ft_operators.specs.Course.{ways_on}
+use Rattle.ft_operators.specs.Course.{course_beside, ways_on}
 use Rattle.ft_operators.specs.Phrases.{PhraseAims}
 
 -- at which spans of which documents an operator may be aimed, and the operator that it is there
@@ -65,3 +65,7 @@ one_on s = record { aims = s.aims; shape = s.shape; operator = s.operator; rest 
 abbrev pub includes_now : List Way → List Hit
 includes_now [] = []
 includes_now (way ∷ rest) = way_includes way
+
+-- the course of the right side of an And, at the first of the ways of the left side
+abbrev pub course_now : Course → List Way → Course
+course_now course ways = course_beside course (includes_now ways)

@@ -1,5 +1,6 @@
 pub mod Forms
 pub mod Nodes
 pub mod Walking
+pub mod Pairs
 pub mod Apart
 pub mod Cleaning

@@ -3,6 +3,8 @@
 ghost use Rattle.std.specs.Prelude.{◌≡◌, ◌≤◌, ◌+◌, ◌++◌, length, vec_capacity};
 ghost use Rattle.all_matches.specs.Filters.{keeps};
 
+use crate::bounds::Bounds;
+use crate::kept_bounds::kept_bounds;
 use all_matches::Window;
 use ft_base::{Filter, Hit, Memory};
 use std::alloc::Global;
@@ -32,6 +34,8 @@ impl Chain {
     ghost use Rattle.std.specs.Prelude.{◌≡◌, ◌≤◌, ◌<◌, ◌+◌, ◌∷◌, [], drop, length, true, IfOk};
     ghost use Rattle.ft_base.specs.Lists.{is_not_empty};
     ghost use Rattle.all_matches.specs.Chain.{kept_by};
+    ghost use Rattle.ft_operators.specs.Bounds.{everywhere};
+    ghost use Rattle.ft_operators.specs.KeptBounds.{chain_bounds};
     ghost use Rattle.ft_operators.specs.Chains.{first_includes, links_of, spare_filters, spare_hits, IsOpen};
 
     /// A chain without filters, with room for so many filters and includes.
@@ -89,6 +93,23 @@ impl Chain {
             hits = outer;
         }
         true
+    }
+
+    /// The bounds in which each hit lies that each filter keeps.
+    pub(crate) fn bounds(&self) -> Bounds
+        ensures { result ≡ chain_bounds (links_of self.now) everywhere }
+    {
+        let mut bounds = Bounds::everywhere();
+        let mut number = self.links.len();
+        let mut hits = self.hits.as_slice();
+        while number > 0 {
+            number -= 1;
+            let link = &self.links[number];
+            let (outer, own) = hits.split_at(link.start.min(hits.len()));
+            bounds = kept_bounds(&link.kind, own, link.window, bounds);
+            hits = outer;
+        }
+        bounds
     }
 }
 

@@ -13,8 +13,9 @@ ghost use Rattle.ft_operators.specs.steps.Nodes.{standing, apart_standing, fork_
 use crate::PhraseHits;
 use crate::chain::Chain;
 use crate::choosing::chosen_window;
-use crate::course::{Course, Windows};
+use crate::course::{Course, Windows, course_inside, firsts};
 use crate::gathering::{gather, hold};
+use crate::narrowing::course_now;
 use crate::node::{Fork, Negation, Node, Pair, Sieve};
 use crate::walking::{first, go_on};
 use ft_base::{Filter, Hit, Steps};
@@ -130,8 +131,11 @@ fn pair_is_clean<P: PhraseHits, L: Ledger>(
     ensures { Asked (pair_standing P.state course pair.old) (pair_standing P.state course pair.new) chain.old chain.new
         (vec_capacity held.old) (vec_capacity held.new) steps.old steps.new result }
 {
-    is_clean(&mut pair.left, course, chain, held, steps)
-        && is_clean(&mut pair.right, course, chain, held, steps)
+    if !is_clean(&mut pair.left, course, chain, held, steps) {
+        return false;
+    }
+    let beside = course_now(course, &pair.left, held);
+    is_clean(&mut pair.right, beside, chain, held, steps)
 }
 
 #[cycle(clean)]
@@ -161,10 +165,7 @@ fn negation_is_clean<P: PhraseHits, L: Ledger>(
     ensures { Asked (negation_standing P.state course negation.old) (negation_standing P.state course negation.new) chain.old chain.new
         (vec_capacity held.old) (vec_capacity held.new) steps.old steps.new result }
 {
-    let firsts = Course {
-        item: course.item,
-        windows: Windows::First,
-    };
+    let firsts = firsts(course.item, chain.bounds());
     !some_is_kept(&mut negation.operand, firsts, chain, held, steps)
 }
 
@@ -184,7 +185,8 @@ fn sieve_is_clean<P: PhraseHits, L: Ledger>(
     held.clear();
     gather(&sieve.operand, held);
     push_filter(chain, &sieve.kind, course.windows, sieve.lead, held);
-    let clean = is_clean(&mut sieve.operand, course, chain, held, steps);
+    let inside = course_inside(course, &sieve.kind);
+    let clean = is_clean(&mut sieve.operand, inside, chain, held, steps);
     chain.pop();
     clean
 }

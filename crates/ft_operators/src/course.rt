@@ -1,10 +1,22 @@
-use ft_base::Span;
+//! Through which ways of a node a walk goes, and where it seeks hits.
 
-/// Through which ways of a node a walk goes: those in this item, with those windows.
+ghost use Rattle.std.specs.Prelude.{◌≡◌};
+ghost use Rattle.ft_operators.specs.Bounds.{everywhere, no_reach};
+ghost use Rattle.ft_operators.specs.Course.{course_inside, every, firsts, tellings, without_bounds};
+
+use crate::bounds::Bounds;
+use crate::narrowing::{bounds_inside, reach_inside};
+use crate::reach::{Reach, no_reach};
+use ft_base::{Filter, Span};
+
+/// Through which ways of a node a walk goes: those in this item, with those windows, whose includes lie in the bounds, but for
+/// those that the filters round the node don't let through.
 #[derive(Clone, Copy)]
 pub(crate) struct Course {
     pub(crate) item: Span,
     pub(crate) windows: Windows,
+    pub(crate) bounds: Bounds,
+    pub(crate) reach: Reach,
 }
 
 /// Which windows of a window filter a walk goes through, in each way of the filter's operand.
@@ -17,4 +29,60 @@ pub(crate) enum Windows {
     Telling,
     /// The first one. The includes after the filter are the same through each.
     First,
+}
+
+/// The course of a whole node, through each window.
+pub(crate) fn every(item: Span) -> Course
+    ensures { result ≡ every item }
+{
+    unbounded(item, Windows::Each)
+}
+
+/// The course of a whole node, through the windows that tell whether a way is clean.
+pub(crate) fn tellings(item: Span) -> Course
+    ensures { result ≡ tellings item }
+{
+    unbounded(item, Windows::Telling)
+}
+
+/// The course of a whole node, through the first window of each filter, whose includes lie in the bounds.
+pub(crate) fn firsts(item: Span, bounds: Bounds) -> Course
+    ensures { result ≡ firsts item bounds }
+{
+    Course {
+        item,
+        windows: Windows::First,
+        bounds,
+        reach: no_reach(),
+    }
+}
+
+/// The course without bounds and filters round it.
+pub(crate) fn without_bounds(course: Course) -> Course
+    ensures { result ≡ without_bounds course }
+{
+    unbounded(course.item, course.windows)
+}
+
+fn unbounded(item: Span, windows: Windows) -> Course
+    ensures { result ≡ record { item = item; windows = windows; bounds = everywhere; reach = no_reach } }
+{
+    Course {
+        item,
+        windows,
+        bounds: Bounds::everywhere(),
+        reach: no_reach(),
+    }
+}
+
+/// The course of the operand of a filter.
+pub(crate) fn course_inside(course: Course, kind: &Filter) -> Course
+    ensures { result ≡ course_inside kind.now course }
+{
+    Course {
+        item: course.item,
+        windows: course.windows,
+        bounds: bounds_inside(course.windows, kind, course.bounds),
+        reach: reach_inside(course.windows, kind, course.reach),
+    }
 }

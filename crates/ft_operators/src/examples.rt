@@ -1,13 +1,18 @@
-//! Spans told in their own numbers, the includes and windows of ways, and chains of filters, by computation.
+//! Spans told in their own numbers, the includes and windows of ways, chains of filters, and where hits are sought, by
+//! computation.
 
 ghost use Rattle.std.specs.Prelude.{◌≡◌, ◌∷◌, [], length, negsuc, pos, true, false, Some, None};
 ghost use Rattle.ft_base.specs.declared.filter.Filter.TheVariants as F;
-ghost use Rattle.ft_base.specs.declared.unit.TextUnit.TheVariants.{Words};
+ghost use Rattle.ft_base.specs.declared.range.Range.TheVariants.{Exactly};
+ghost use Rattle.ft_base.specs.declared.unit.TextUnit.TheVariants.{Paragraphs, Sentences, Words};
 ghost use Rattle.all_matches.specs.Filters.{choices};
 ghost use Rattle.all_matches.specs.Ways.{apart, either, negated, one_hit, phrase, through_filter, together, two_ways};
 ghost use Rattle.ft_operators.specs.Chains.{all_kept, clean_now, first_includes, links_from, outer_window, passes_now, way_window, window_now};
+ghost use Rattle.ft_operators.specs.Bounds.{everywhere, filter_bounds, filter_reach, lies_in, no_reach, order_reach, reach_inside, round_hit, round_hits, window_reach};
 ghost use Rattle.ft_operators.specs.Examples.{a, a_and_b, at, is_after, link, moved, not_a, ordered, put, round_from, span, two_from, unmoved, within};
-ghost use Rattle.ft_operators.specs.Course.{asked_for, number_among, telling};
+ghost use Rattle.ft_operators.specs.Examples.{between, from_to, hit_of, inside, pair, pairs_on, words_between};
+ghost use Rattle.ft_operators.specs.Course.{asked_for, every, number_among, telling};
+ghost use Rattle.ft_operators.specs.KeptBounds.{chain_bounds, kept_bounds};
 ghost use Rattle.ft_operators.specs.declared.course.Windows.TheVariants.{Each, First, Telling};
 ghost use Rattle.ft_operators.specs.Walk.{at_next_way, own_span};
 
@@ -88,4 +93,70 @@ pub fn windows_asked_for()
     ensures first_of_none { asked_for First [] ≡ [] }
     ensures number_of_the_first { number_among Telling 5 3 0 ≡ 0 }
     ensures number_of_the_second { number_among Telling 5 3 1 ≡ 2 }
+{}
+
+/// A hit lies in bounds that it begins and ends in; a hit of a later phrase begins late enough.
+pub fn hits_in_bounds()
+    ensures at_the_first { lies_in (words_between 3 8) (at 3) ≡ true }
+    ensures before_the_first { lies_in (words_between 3 8) (at 2) ≡ false }
+    ensures at_the_last { lies_in (words_between 3 8) (at 7) ≡ true }
+    ensures behind_the_last { lies_in (words_between 3 8) (at 8) ≡ false }
+    ensures begins_inside { lies_in (words_between 3 8) (from_to 6 8) ≡ false }
+    ensures ends_inside { lies_in (words_between 3 8) (from_to 2 4) ≡ false }
+    ensures in_another_sentence { lies_in (record everywhere { sentences = between 2 3 }) (at 5) ≡ false }
+    ensures in_another_paragraph { lies_in (record everywhere { paragraphs = between 2 3 }) (at 5) ≡ false }
+    ensures of_a_later_phrase { lies_in (record everywhere { order = record { query = 1; from = 5 } }) (hit_of 2 4) ≡ false }
+    ensures of_a_later_phrase_there { lies_in (record everywhere { order = record { query = 1; from = 5 } }) (hit_of 2 5) ≡ true }
+    ensures of_that_phrase { lies_in (record everywhere { order = record { query = 1; from = 5 } }) (hit_of 1 4) ≡ true }
+{}
+
+/// Beside a hit there is room for as many words as a window has that begins or ends with it.
+pub fn bounds_beside_hits()
+    ensures of_three_words { round_hit (window_reach 3 Words) everywhere (at 5) ≡ words_between 3 8 }
+    ensures at_the_start { round_hit (window_reach 3 Words) everywhere (at 1) ≡ words_between 0 4 }
+    ensures beside_a_long_one { round_hit (window_reach 3 Words) everywhere (from_to 5 6) ≡ words_between 4 8 }
+    ensures beside_two { round_hits (window_reach 4 Words) everywhere (at 4 ∷ at 6 ∷ []) ≡ words_between 3 8 }
+    ensures beside_none { round_hits (window_reach 4 Words) everywhere [] ≡ everywhere }
+    ensures no_wider { round_hit (window_reach 3 Words) (words_between 4 7) (at 5) ≡ words_between 4 7 }
+    ensures in_its_sentence { round_hit (window_reach 1 Sentences) everywhere (at 5) ≡ record everywhere { sentences = between 1 2 } }
+    ensures in_its_paragraph { round_hit (window_reach 1 Paragraphs) everywhere (at 5) ≡ record everywhere { paragraphs = between 1 2 } }
+    ensures in_order { round_hits order_reach everywhere (hit_of 2 7 ∷ hit_of 3 4 ∷ []) ≡ record everywhere { order = record { query = 3; from = 7 } } }
+    ensures nothing_said { round_hit no_reach everywhere (at 5) ≡ everywhere }
+{}
+
+/// A window says what it needs, whatever stands round it; a scope and an order say it besides what stands round them.
+pub fn filters_on_every_two()
+    ensures window { filter_reach (F.Window 4 Words) order_reach ≡ window_reach 4 Words }
+    ensures distance { filter_reach (F.Distance (Exactly 3) Words) order_reach ≡ no_reach }
+    ensures scope { filter_reach F.SameSentence (window_reach 4 Words) ≡ record (window_reach 4 Words) { sentences = Some 1 } }
+    ensures scope_in_a_window { filter_reach F.SameParagraph (window_reach 5 Paragraphs) ≡ window_reach 1 Paragraphs }
+    ensures order { filter_reach F.Ordered (window_reach 4 Words) ≡ record (window_reach 4 Words) { ordered = true } }
+    ensures start { filter_reach F.AtStart (window_reach 4 Words) ≡ window_reach 4 Words }
+    ensures joined { filter_bounds (F.Window 4 Words) (record (words_between 3 8) { order = record { query = 1; from = 5 } }) ≡ words_between 3 8 }
+    ensures not_joined { filter_bounds F.SameSentence (record (words_between 3 8) { order = record { query = 1; from = 5 } })
+        ≡ record (words_between 3 8) { order = record { query = 1; from = 5 } } }
+    ensures where_each_window_counts { reach_inside Each (F.Window 4 Words) no_reach ≡ no_reach }
+    ensures where_it_does_not { reach_inside Telling (F.Window 4 Words) no_reach ≡ window_reach 4 Words }
+{}
+
+/// Inside a window those ways are gone through whose hits have room in one; inside `ordered`, those in order.
+pub fn ways_in_bounds()
+    ensures in_a_window { pairs_on (inside (F.Window 2 Words)) ≡ pair 1 2 ∷ pair 5 4 ∷ [] }
+    ensures in_order { pairs_on (inside F.Ordered) ≡ pair 1 2 ∷ pair 1 4 ∷ [] }
+    ensures anywhere { pairs_on (inside F.AtStart) ≡ pair 1 2 ∷ pair 1 4 ∷ pair 5 2 ∷ pair 5 4 ∷ [] }
+    ensures each { pairs_on (every (span 1 9)) ≡ pair 1 2 ∷ pair 1 4 ∷ pair 5 2 ∷ pair 5 4 ∷ [] }
+{}
+
+/// Excludes that are kept lie in the chosen window, in the sentence or paragraph of the includes, and behind them in order.
+pub fn bounds_of_excludes()
+    ensures of_a_window { kept_bounds (F.Window 3 Words) (at 5 ∷ []) (round_from 3 (pos 4)) everywhere ≡ words_between 4 7 }
+    ensures before_the_text { kept_bounds (F.Window 3 Words) (at 1 ∷ []) (round_from 3 (negsuc 0)) everywhere ≡ words_between 0 2 }
+    ensures no_wider { kept_bounds (F.Window 3 Words) (at 5 ∷ []) (round_from 3 (pos 4)) (words_between 5 9) ≡ words_between 5 7 }
+    ensures of_a_sentence { kept_bounds F.SameSentence (at 5 ∷ at 6 ∷ []) None everywhere ≡ record everywhere { sentences = between 1 2 } }
+    ensures of_a_paragraph { kept_bounds F.SameParagraph (at 5 ∷ []) None everywhere ≡ record everywhere { paragraphs = between 1 2 } }
+    ensures without_includes { kept_bounds F.SameSentence [] None everywhere ≡ everywhere }
+    ensures in_order { kept_bounds F.Ordered (at 5 ∷ []) None everywhere ≡ record everywhere { order = record { query = 5; from = 5 } } }
+    ensures of_a_distance { kept_bounds (F.Distance (Exactly 3) Words) (at 5 ∷ []) None (words_between 4 7) ≡ words_between 4 7 }
+    ensures of_two_filters { chain_bounds (link F.SameSentence None (at 5 ∷ []) ∷ link (F.Window 3 Words) (round_from 3 (pos 4)) (at 5 ∷ []) ∷ []) everywhere
+        ≡ record (words_between 4 7) { sentences = between 1 2 } }
 {}

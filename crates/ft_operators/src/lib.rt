@@ -6,9 +6,13 @@
 //! of the present way are put into memory that was taken when the tree was made (`gathering`), and a filter is asked of
 //! them (`choosing`). What a node has left says what its operands have left, so that no fact about their places is kept
 //! beside it (`specs/steps/Forms.antt`).
+//!
+//! Where it is only asked whether some way is clean, a walk seeks each further hit where those that were chosen before, and
+//! the filters round all of them, let it lie (`bounds`, `narrowing`): ways that it leaves out go through no filter.
 #![tactic(auto)]
 
 mod aiming;
+mod bounds;
 mod building;
 mod chain;
 mod chain_room;
@@ -18,16 +22,20 @@ mod course;
 pub mod examples;
 mod gathering;
 mod joining;
+mod kept_bounds;
+mod narrowing;
 mod node;
 mod own_span;
 mod phrase_hits;
 mod probing;
+mod reach;
 mod standing_out;
 #[cfg(test)]
 mod tests;
 mod tuples;
 mod walking;
 
+pub use bounds::{Bounds, OrderBound, UnitBounds};
 pub use chain::Chain;
 pub use phrase_hits::PhraseHits;
 pub use probing::probe;

@@ -1,6 +1,7 @@
 ghost use Rattle.std.specs.Prelude.{◌≡◌, ◌≤◌, true};
-ghost use Rattle.ft_operators.specs.Phrases.{PhraseState, first_hit, at_first, one_further, aimed_at};
+ghost use Rattle.ft_operators.specs.Phrases.{PhraseState, first_hit, at_first, at_first_in, one_further, aimed_at};
 
+use crate::Bounds;
 use ft_base::{DocId, Hit, Span, Steps};
 use std::sync::ledger::Ledger;
 
@@ -19,6 +20,11 @@ pub trait PhraseHits {
     /// Goes to the first hit.
     fn first<L: Ledger>(&mut self, steps: &mut Steps<L>)
         ensures moved { state self.new ≡ at_first (state self.old) }
+        ensures grown { steps.old ≤ steps.new };
+
+    /// Goes to the first hit that lies in the bounds, and leaves the others out of what is left.
+    fn first_in<L: Ledger>(&mut self, bounds: &Bounds, steps: &mut Steps<L>)
+        ensures moved { state self.new ≡ at_first_in bounds.now (state self.old) }
         ensures grown { steps.old ≤ steps.new };
 
     /// Goes one hit on. At the end it stays there.

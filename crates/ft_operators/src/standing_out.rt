@@ -24,9 +24,9 @@ pub(crate) struct Tried {
 
 /// What the present way of the right side makes of those before it.
 pub(crate) fn with_way<P: PhraseHits>(tried: Tried, pair: &Pair<P>, held: &mut Vec<Hit>) -> Tried
-    ensures tried { (course : Course) → MayTry (standing P.state course pair.now.left) (standing P.state course pair.now.right) (vec_capacity held.old)
+    ensures tried { (course other : Course) → MayTry (standing P.state course pair.now.left) (standing P.state other pair.now.right) (vec_capacity held.old)
         → result ≡ with_includes (includes_now ((standing P.state course pair.now.left).rest))
-        (includes_now ((standing P.state course pair.now.right).rest)) tried }
+        (includes_now ((standing P.state other pair.now.right).rest)) tried }
     ensures room { vec_capacity held.old ≤ vec_capacity held.new }
 {
     held.clear();

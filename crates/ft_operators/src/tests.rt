@@ -1,7 +1,7 @@
 // What no contract says: that the walk runs, over phrases of one hit each.
 ghost use Rattle.std.specs.Prelude.{◌≡◌, ◌<◌, ◌∷◌, [], if◌then◌else◌, true};
 
-use crate::{PhraseHits, Tuples};
+use crate::{Bounds, PhraseHits, Tuples};
 use ft_base::{DocId, Filter, Hit, Memory, Span, Steps, Unit};
 use std::alloc::Global;
 use std::marker::Brand;
@@ -27,6 +27,10 @@ impl PhraseHits for OneHit {
 
     fn first<L: Ledger>(&mut self, _steps: &mut Steps<L>) {
         self.passed = false;
+    }
+
+    fn first_in<L: Ledger>(&mut self, bounds: &Bounds, _steps: &mut Steps<L>) {
+        self.passed = !bounds.has(&self.hit);
     }
 
     fn next<L: Ledger>(&mut self, _steps: &mut Steps<L>) {

@@ -10,7 +10,7 @@ use crate::chain::Chain;
 use crate::chain_room::{ChainRoom, no_room, wider, with_filter};
 use crate::choosing::sieve_window;
 use crate::cleaning::{is_clean, some_is_clean};
-use crate::course::{Course, Windows};
+use crate::course::{every, tellings};
 use crate::gathering::hold;
 use crate::joining::joined_memory;
 use crate::node::Node;
@@ -165,10 +165,7 @@ impl<P: PhraseHits + Drop> Tuples<P> {
         ensures room { room_of self.new ≡ room_of self.old }
         ensures grown { steps.old ≤ steps.new }
     {
-        let every = Course {
-            item: self.item,
-            windows: Windows::Each,
-        };
+        let every = every(self.item);
         self.there = first(&mut self.node, every, &mut self.held, steps);
         hold(&self.node, self.there, &mut self.held);
         self.there
@@ -182,10 +179,7 @@ impl<P: PhraseHits + Drop> Tuples<P> {
         ensures room { room_of self.new ≡ room_of self.old }
         ensures grown { steps.old ≤ steps.new }
     {
-        let every = Course {
-            item: self.item,
-            windows: Windows::Each,
-        };
+        let every = every(self.item);
         self.there = go_on(&mut self.node, every, &mut self.held, steps);
         hold(&self.node, self.there, &mut self.held);
         self.there
@@ -234,10 +228,7 @@ impl<P: PhraseHits + Drop> Tuples<P> {
         ensures chain { IsKept chain.old chain.new }
         ensures grown { steps.old ≤ steps.new }
     {
-        let every = Course {
-            item: self.item,
-            windows: Windows::Each,
-        };
+        let every = every(self.item);
         let clean = is_clean(&mut self.node, every, chain, &mut self.held, steps);
         hold(&self.node, self.there, &mut self.held);
         clean
@@ -268,10 +259,7 @@ impl<P: PhraseHits + Drop> Tuples<P> {
         ensures grown { steps.old ≤ steps.new }
     {
         self.aim(doc, span, steps);
-        let tellings = Course {
-            item: self.item,
-            windows: Windows::Telling,
-        };
+        let tellings = tellings(self.item);
         some_is_clean(&mut self.node, tellings, chain, &mut self.held, steps)
     }
 }

@@ -5,13 +5,16 @@ ghost use Rattle.ft_operators.specs.declared.course.Course.{Course};
 ghost use Rattle.ft_operators.specs.Standing.{at_prefix, one_on};
 ghost use Rattle.ft_base.specs.Lists.{is_not_empty};
 ghost use Rattle.ft_operators.specs.steps.Apart.{IsTried};
-ghost use Rattle.ft_operators.specs.steps.Forms.{apart_sifted, phrase_of, sifted};
+ghost use Rattle.ft_operators.specs.Course.{course_inside, without_bounds};
+ghost use Rattle.ft_operators.specs.steps.Forms.{apart_sifted, paired, phrase_of, sifted};
 ghost use Rattle.ft_operators.specs.steps.Nodes.{standing, apart_standing, fork_standing, pair_standing, sieve_standing};
 ghost use Rattle.ft_operators.specs.steps.Walking.{Moved, MayGoOn};
 
 use crate::PhraseHits;
+use crate::bounds::Bounds;
 use crate::choosing::choice_count;
-use crate::course::Course;
+use crate::course::{Course, course_inside, without_bounds};
+use crate::narrowing::course_now;
 use crate::node::{Fork, Node, Pair, Sieve};
 use crate::standing_out::{Tried, admits, with_way};
 use ft_base::{Hit, Steps};
@@ -30,7 +33,7 @@ pub(crate) fn first<P: PhraseHits, L: Ledger>(
         (vec_capacity held.old) (vec_capacity held.new) steps.old steps.new result }
 {
     match node {
-        Node::Phrase(phrase) => first_of_phrase(phrase, steps),
+        Node::Phrase(phrase) => first_of_phrase(phrase, &course.bounds, steps),
         Node::Choice(fork) => first_of_fork(fork, course, held, steps),
         Node::Both(pair) => first_of_pair(pair, course, held, steps),
         Node::MildNot(pair) => first_apart(pair, course, held, steps),
@@ -67,11 +70,15 @@ pub(crate) fn go_on<P: PhraseHits, L: Ledger>(
     }
 }
 
-fn first_of_phrase<P: PhraseHits, L: Ledger>(phrase: &mut P, steps: &mut Steps<L>) -> bool
-    ensures { (course : Course) (room : ℕ)
+fn first_of_phrase<P: PhraseHits, L: Ledger>(
+    phrase: &mut P,
+    bounds: &Bounds,
+    steps: &mut Steps<L>,
+) -> bool
+    ensures { (course : Course) (room : ℕ) → course.bounds ≡ bounds.now
         → Moved (at_prefix course (phrase_of (P.state phrase.old))) (phrase_of (P.state phrase.new)) room room steps.old steps.new result }
 {
-    phrase.first(steps);
+    phrase.first_in(bounds, steps);
     phrase.here().is_some()
 }
 
@@ -133,7 +140,8 @@ fn first_of_pair<P: PhraseHits, L: Ledger>(
     ensures { Moved (at_prefix course (pair_standing P.state course pair.old)) (pair_standing P.state course pair.new)
         (vec_capacity held.old) (vec_capacity held.new) steps.old steps.new result }
 {
-    first(&mut pair.left, course, held, steps) && first(&mut pair.right, course, held, steps)
+    let there = first(&mut pair.left, course, held, steps);
+    settle_pair(pair, there, course, held, steps)
 }
 
 #[cycle(walk)]
@@ -147,10 +155,38 @@ fn next_of_pair<P: PhraseHits, L: Ledger>(
     ensures { Moved (one_on (pair_standing P.state course pair.old)) (pair_standing P.state course pair.new)
         (vec_capacity held.old) (vec_capacity held.new) steps.old steps.new result }
 {
-    if go_on(&mut pair.right, course, held, steps) {
+    let beside = course_now(course, &pair.left, held);
+    if go_on(&mut pair.right, beside, held, steps) {
         return true;
     }
-    go_on(&mut pair.left, course, held, steps) && first(&mut pair.right, course, held, steps)
+    let there = go_on(&mut pair.left, course, held, steps);
+    settle_pair(pair, there, course, held, steps)
+}
+
+/// Goes on to the first way of the left side, from the present one on, beside which the right side has a way, and to the first
+/// of these.
+#[cycle(walk)]
+fn settle_pair<P: PhraseHits, L: Ledger>(
+    pair: &mut Pair<P>,
+    there: bool,
+    course: Course,
+    held: &mut Vec<Hit>,
+    steps: &mut Steps<L>,
+) -> bool
+    requires there { there ≡ is_not_empty ((standing P.state course pair.old.left).rest) }
+    requires fits { (pair_standing P.state course pair.old).shape.room ≤ vec_capacity held.old }
+    ensures { Moved (paired course (standing P.state course pair.old.left) (standing P.state course pair.old.right)) (pair_standing P.state course pair.new)
+        (vec_capacity held.old) (vec_capacity held.new) steps.old steps.new result }
+{
+    let mut there = there;
+    while there {
+        let beside = course_now(course, &pair.left, held);
+        if first(&mut pair.right, beside, held, steps) {
+            return true;
+        }
+        there = go_on(&mut pair.left, course, held, steps);
+    }
+    false
 }
 
 /// Goes to the first way of the operand through which there is a way through the filter.
@@ -165,7 +201,8 @@ fn first_of_sieve<P: PhraseHits, L: Ledger>(
     ensures { Moved (at_prefix course (sieve_standing P.state course sieve.old)) (sieve_standing P.state course sieve.new)
         (vec_capacity held.old) (vec_capacity held.new) steps.old steps.new result }
 {
-    let there = first(&mut sieve.operand, course, held, steps);
+    let inside = course_inside(course, &sieve.kind);
+    let there = first(&mut sieve.operand, inside, held, steps);
     settle(sieve, there, course, held, steps)
 }
 
@@ -180,12 +217,13 @@ fn next_of_sieve<P: PhraseHits, L: Ledger>(
     ensures { Moved (one_on (sieve_standing P.state course sieve.old)) (sieve_standing P.state course sieve.new)
         (vec_capacity held.old) (vec_capacity held.new) steps.old steps.new result }
 {
-    let count = choice_count(&sieve.kind, &sieve.operand, course, held);
+    let inside = course_inside(course, &sieve.kind);
+    let count = choice_count(&sieve.kind, &sieve.operand, inside, held);
     if sieve.lead + 1 < count {
         sieve.lead += 1;
         return true;
     }
-    let there = go_on(&mut sieve.operand, course, held, steps);
+    let there = go_on(&mut sieve.operand, inside, held, steps);
     settle(sieve, there, course, held, steps)
 }
 
@@ -198,18 +236,19 @@ fn settle<P: PhraseHits, L: Ledger>(
     held: &mut Vec<Hit>,
     steps: &mut Steps<L>,
 ) -> bool
-    requires there { there ≡ is_not_empty ((standing P.state course sieve.old.operand).rest) }
-    requires fits { (standing P.state course sieve.old.operand).shape.room ≤ vec_capacity held.old }
-    ensures { Moved (sifted course sieve.old.kind (standing P.state course sieve.old.operand)) (sieve_standing P.state course sieve.new)
+    requires there { there ≡ is_not_empty ((standing P.state (course_inside sieve.old.kind course) sieve.old.operand).rest) }
+    requires fits { (standing P.state (course_inside sieve.old.kind course) sieve.old.operand).shape.room ≤ vec_capacity held.old }
+    ensures { Moved (sifted course sieve.old.kind (standing P.state (course_inside sieve.old.kind course) sieve.old.operand)) (sieve_standing P.state course sieve.new)
         (vec_capacity held.old) (vec_capacity held.new) steps.old steps.new result }
 {
     sieve.lead = 0;
     let mut there = there;
     while there {
-        if choice_count(&sieve.kind, &sieve.operand, course, held) > 0 {
+        let inside = course_inside(course, &sieve.kind);
+        if choice_count(&sieve.kind, &sieve.operand, inside, held) > 0 {
             return true;
         }
-        there = go_on(&mut sieve.operand, course, held, steps);
+        there = go_on(&mut sieve.operand, inside, held, steps);
     }
     false
 }
@@ -256,7 +295,7 @@ fn settle_apart<P: PhraseHits, L: Ledger>(
 ) -> bool
     requires there { there ≡ is_not_empty ((standing P.state course pair.old.left).rest) }
     requires fits { (apart_standing P.state course pair.old).shape.room ≤ vec_capacity held.old }
-    ensures { Moved (apart_sifted course (standing P.state course pair.old.left) (standing P.state course pair.old.right))
+    ensures { Moved (apart_sifted course (standing P.state course pair.old.left) (standing P.state (without_bounds course) pair.old.right))
         (apart_standing P.state course pair.new) (vec_capacity held.old) (vec_capacity held.new) steps.old steps.new result }
 {
     let mut there = there;
@@ -278,18 +317,19 @@ fn is_admitted<P: PhraseHits, L: Ledger>(
     steps: &mut Steps<L>,
 ) -> bool
     requires { MayGoOn (apart_standing P.state course pair.old) (vec_capacity held.old) }
-    ensures { IsTried course (standing P.state course pair.old.left) (standing P.state course pair.old.right)
-        (standing P.state course pair.new.left) (standing P.state course pair.new.right)
+    ensures { IsTried (without_bounds course) (standing P.state course pair.old.left) (standing P.state (without_bounds course) pair.old.right)
+        (standing P.state course pair.new.left) (standing P.state (without_bounds course) pair.new.right)
         (vec_capacity held.old) (vec_capacity held.new) steps.old steps.new result }
 {
     let mut tried = Tried {
         some: false,
         all: true,
     };
-    let mut there = first(&mut pair.right, course, held, steps);
+    let all = without_bounds(course);
+    let mut there = first(&mut pair.right, all, held, steps);
     while there {
         tried = with_way(tried, pair, held);
-        there = go_on(&mut pair.right, course, held, steps);
+        there = go_on(&mut pair.right, all, held, steps);
     }
     admits(tried)
 }

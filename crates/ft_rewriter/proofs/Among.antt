@@ -1,8 +1,8 @@
--- Whether a selection is equal to one of a list, and the operands that a selection gives to an Or and to an And.
-use Rattle.std.proofs.Common.{◌≡◌, refl, ap, sym, ◌∙◌, ℕ, ◌<◌, true, false, List, [], ◌∷◌, ◌++◌, map, length, get_or, rules}
+-- What becomes of a selection that is equal to one of others, and the operands that a selection gives to an Or and to an And.
+use Rattle.std.proofs.Common.{◌≡◌, refl, ap, sym, ◌∙◌, Bool, cond, List, [], ◌∷◌, ◌++◌, map, rules}
+use Rattle.std.specs.Prelude.{bytes_eq}
 use Rattle.std.specs.List.{list_any}
 use Rattle.std.proofs.lemmas.List.{map-append}
-use Rattle.std.proofs.lemmas.List.Folds.{list_any_at}
 use Rattle.all_matches.proofs.ListTests.{list_any-map}
 use Rattle.ft_base.specs.Selection.{Form}
 use Rattle.ft_syntax.specs.View.{form, layer}
@@ -10,23 +10,17 @@ use Rattle.ft_syntax.specs.declared.selection.Selection as selection
 use Rattle.ft_syntax.specs.declared.selection.Selection.{Selection, fold_out-Selection, map-Selection, out-Selection, roll-Selection, the_lemmas}
 use Rattle.ft_syntax.specs.declared.selection.Selection.TheOpen.{Selection-F}
 use Rattle.ft_syntax.specs.declared.selection.Selection.TheVariants.{rolls-Or, rolls-And}
-use Rattle.ft_rewriter.specs.Code.{same_form}
-use Rattle.ft_rewriter.specs.Rewriting.{operands_in}
+use Rattle.ft_rewriter.specs.Code.{form_numbers}
+use Rattle.ft_rewriter.specs.Rewriting.{operands_in, with_operand}
 use Rattle.ft_rewriter.specs.declared.connective.Connective.{Connective}
 use Rattle.ft_rewriter.specs.declared.connective.Connective.TheVariants.{Or, And}
 use Rattle.ft_rewriter.proofs.OperandTests.{listed-forms_of}
 use Rattle.ft_rewriter.proofs.Views.{form_or, form_and}
 
-module _ (part : Selection) where
-  pub among_at : (parts : List Selection) (at : ℕ) (other : Selection) → at < length parts → other ≡ get_or parts at other
-      → same_form (form part) (form other) ≡ true → list_any (same_form (form part)) (map form parts) ≡ true
-  among_at parts at other within is same =
-      list_any-map (same_form (form part)) form parts
-      ∙ list_any_at (λ x. same_form (form part) (form x)) parts at other within (ap (λ x. same_form (form part) (form x)) (sym is) ∙ same)
-
-  pub among_none : (parts : List Selection)
-      → list_any (λ other. same_form (form part) (form other)) parts ≡ false → list_any (same_form (form part)) (map form parts) ≡ false
-  among_none parts none = list_any-map (same_form (form part)) form parts ∙ none
+-- whether the numbers of a selection are among those of others says what becomes of it
+pub known_operand : (kept : List Form) (x : Form) (b : Bool) → list_any (bytes_eq (form_numbers x)) (map form_numbers kept) ≡ b
+    → with_operand kept x ≡ cond b kept (kept ++ x ∷ [])
+known_operand kept x b h = ap (λ own. cond own kept (kept ++ x ∷ [])) (sym (list_any-map (bytes_eq (form_numbers x)) form_numbers kept) ∙ h)
 
 -- operands put to others
 module _ (kept out : List Selection) where

@@ -1,16 +1,16 @@
 //! Operands joined by `ftor` or `ftand`.
 #![tactic(auto, using(crate::proofs::Views::views))]
 
-ghost use Rattle.std.specs.Prelude.{◌≡◌, ◌++◌, IfOk, OnOk, flat_map, map};
+ghost use Rattle.std.specs.Prelude.{◌≡◌, ◌++◌, IfOk, OnOk, bytes_eq, flat_map, map};
 ghost use Rattle.std.specs.List.{list_any};
-ghost use Rattle.ft_rewriter.specs.Code.{same_form};
+ghost use Rattle.ft_rewriter.specs.Code.{form_numbers};
 ghost use Rattle.ft_rewriter.specs.Rewriting as spec;
 ghost use Rattle.ft_rewriter.specs.Rewriting.{operands_in, with_operand};
 ghost use Rattle.ft_rewriter.specs.declared.connective.Connective.TheVariants as C;
 ghost use Rattle.ft_syntax.specs.View.{form, forms_of};
 
 use crate::connective::Connective;
-use crate::equal::are_equal;
+use crate::equal::numbers_of;
 use ft_base::{Items, Memory};
 use ft_syntax::{Selection, Selections};
 use std::alloc::Global;
@@ -61,26 +61,37 @@ fn all_operands(
     Ok(operands)
 }
 
-fn is_among(alloc: Global, kept: &Selections, part: &Selection) -> Result<bool, Memory>
-    ensures { IfOk result (λ is_among. is_among ≡ list_any (same_form (form part.now)) (map form kept.now)) }
+/// Whether some selection has these numbers.
+fn is_among(codes: &Items<Items<u32>>, code: &[u32]) -> bool
+    ensures { result ≡ list_any (bytes_eq code.now) codes.now }
 {
-    for other in kept.as_slice() {
-        if are_equal(alloc, part, other)? {
-            return Ok(true);
+    for other in codes.as_slice() {
+        if code == other.as_slice() {
+            return true;
         }
     }
-    Ok(false)
+    false
 }
 
-/// Puts an operand to the others, unless it equals one of them.
-fn put_operand(alloc: Global, kept: &mut Selections, part: Selection) -> Result<(), Memory>
-    ensures { OnOk result (map form kept.new ≡ with_operand (map form kept.old) (form part)) }
+/// Puts an operand to the others, unless it equals one of them. The numbers of each stand beside it.
+fn put_operand(
+    alloc: Global,
+    kept: &mut Selections,
+    codes: &mut Items<Items<u32>>,
+    part: Selection,
+) -> Result<(), Memory>
+    requires { codes.old ≡ map form_numbers (map form kept.old) }
+    ensures kept { OnOk result (map form kept.new ≡ with_operand (map form kept.old) (form part)) }
+    ensures codes { OnOk result (codes.new ≡ map form_numbers (map form kept.new)) }
 {
-    match is_among(alloc, kept, &part) {
-        Ok(false) => kept.push(part),
-        Ok(true) => {
-            std::mem::drop(part);
-            Ok(())
+    match numbers_of(alloc, &part) {
+        Ok(code) => {
+            if is_among(codes, code.as_slice()) {
+                std::mem::drop(part);
+                return Ok(());
+            }
+            kept.push(part)?;
+            codes.push(code)
         }
         Err(fault) => {
             std::mem::drop(part);
@@ -89,13 +100,15 @@ fn put_operand(alloc: Global, kept: &mut Selections, part: Selection) -> Result<
     }
 }
 
-/// The operands, each once. Each is compared with those before it: a selection has few, since it has at most 64 phrases.
+/// The operands, each once. Each is compared with those before it: a selection has few, since it has at most 64 phrases, and the numbers by which
+/// they are compared are made once.
 fn without_repeats(alloc: Global, operands: Selections) -> Result<Selections, Memory>
     ensures { IfOk result (λ kept. map form kept ≡ spec.without_repeats (map form operands)) }
 {
     let mut kept = Items::new(alloc);
+    let mut codes = Items::new(alloc);
     for operand in operands.into_vec() {
-        put_operand(alloc, &mut kept, operand)?;
+        put_operand(alloc, &mut kept, &mut codes, operand)?;
     }
     Ok(kept)
 }

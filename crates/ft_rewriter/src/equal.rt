@@ -2,7 +2,7 @@
 #![tactic(auto, using(crate::proofs::Views::views), unfolding(crate::specs::Code::form_code))]
 
 ghost use Rattle.std.specs.Prelude.{◌≡◌, ◌++◌, IfOk, OnOk, map};
-ghost use Rattle.ft_rewriter.specs.Code.{form_code, form_numbers, forms_code, numbers, same_form};
+ghost use Rattle.ft_rewriter.specs.Code.{form_code, form_numbers, forms_code, numbers};
 ghost use Rattle.ft_syntax.specs.View.{form, forms_of};
 
 use crate::numbers::{put_empty, put_filter, put_node};
@@ -79,13 +79,4 @@ pub fn numbers_of(alloc: Global, selection: &Selection) -> Result<Items<u32>, Me
     let mut out = Items::new(alloc);
     put_selection(&mut out, selection)?;
     Ok(out)
-}
-
-/// Whether two selections are equal as they are written.
-pub(crate) fn are_equal(alloc: Global, left: &Selection, right: &Selection) -> Result<bool, Memory>
-    ensures { IfOk result (λ are_equal. are_equal ≡ same_form (form left.now) (form right.now)) }
-{
-    let left = numbers_of(alloc, left)?;
-    let right = numbers_of(alloc, right)?;
-    Ok(left.as_slice() == right.as_slice())
 }

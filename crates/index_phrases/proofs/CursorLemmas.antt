@@ -12,20 +12,25 @@ use Rattle.place_merges.specs.Spots.{from_found, some_at, spot, spots_left}
 use Rattle.place_merges.specs.declared.spot.Spot.{Spot}
 use Rattle.place_merges.specs.steps.Spotting.{IsInside}
 use Rattle.place_merges.proofs.SpotLemmas.{from_place}
+use Rattle.index_phrases.specs.Parts.{hits_in_part}
 use Rattle.index_phrases.specs.Phrases.{hits_in_span, phrase_hits, numbered_hit, wanted_at}
 use Rattle.index_phrases.specs.steps.Aiming.{AreThere, HasDocument, IsTarget, own_wanted, sources_of}
 use Rattle.index_phrases.specs.declared.target.Target.{Target}
 use Rattle.index_phrases.specs.declared.word_terms.WordTerms.{WordTerms}
 use Rattle.index_phrases.specs.declared.word_terms.WordTerms.TheVariants as Terms
 
-pub all_left : (version : List Numbered) (number : ℕ) (terms : List (List WordTerms)) (target : Target) → IsTarget version target
-    → (words : List (List Wanted)) → words ≡ map (map (wanted_at version target.doc.0 target.span)) terms
-    → map (numbered_hit number target.breaks.breaks.now target.span) (spots_left target.span.to words (spot target.span.from 0)) ≡ phrase_hits version number terms target.doc.0 target.span
-all_left version number terms target known words aimed =
-    ap (λ spots. map (numbered_hit number target.breaks.breaks.now target.span) (filter (some_at target.span.to words) spots)) (sym (from_place target.span.to target.span.from))
-    ∙ (λ i. hits_in_span number (known.breaks i) target.span (aimed i))
+-- in a part of the span
+pub part_left : (number : ℕ) (target : Target) (part : Span) (words : List (List Wanted)) (variants : List (List Wanted)) → words ≡ variants
+    → map (numbered_hit number target.breaks.breaks.now target.span) (spots_left part.to words (spot part.from 0)) ≡ hits_in_part number target.breaks.breaks.now target.span part variants
+part_left number target part words variants aimed =
+    ap (λ spots. map (numbered_hit number target.breaks.breaks.now target.span) (filter (some_at part.to words) spots)) (sym (from_place part.to part.from))
+    ∙ (λ i. hits_in_part number target.breaks.breaks.now target.span part (aimed i))
 
--- a target is what is known of it
+-- in all of it
+pub whole_part : (version : List Numbered) (number : ℕ) (terms : List (List WordTerms)) (target : Target) → IsTarget version target
+    → hits_in_part number target.breaks.breaks.now target.span target.span (map (map (wanted_at version target.doc.0 target.span)) terms) ≡ phrase_hits version number terms target.doc.0 target.span
+whole_part version number terms target known = λ i. hits_in_span number (known.breaks i) target.span (map (map (wanted_at version target.doc.0 target.span)) terms)
+
 pub is_known : (version : List Numbered) (target : Target) → IsTarget version target → ForSome (Some target) (IsTarget version)
 is_known version target known other is = let one : target ≡ other = cc in subst (IsTarget version) one known
 

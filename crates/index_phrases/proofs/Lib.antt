@@ -5,3 +5,5 @@ pub mod PhraseLaw
 pub mod PartLemmas
 pub mod AimLemmas
 pub mod CursorLemmas
+pub mod EdgeLemmas
+pub mod PartHits

@@ -1,10 +1,12 @@
 -- A phrase over a version, and a place in the list of its hits.
 use Rattle.std.specs.Prelude.{ℕ, List, [], map, Option, Some, None}
 use Rattle.ft_base.specs.declared.hit.Hit.{Hit}
+use Rattle.ft_base.specs.declared.span.Span.{Span}
 use Rattle.ft_operators.specs.Phrases.{PhraseAims, PhraseState}
 use Rattle.index_meaning.specs.Documents.{Numbered, has_document}
 use Rattle.place_merges.specs.Sources.{wanted_words}
-use Rattle.index_phrases.specs.Phrases.{phrase_hits}
+use Rattle.index_phrases.specs.Parts.{hits_in_part}
+use Rattle.index_phrases.specs.Phrases.{phrase_hits, wanted_at}
 use Rattle.index_phrases.specs.steps.Aiming.{variant_words}
 use Rattle.index_phrases.specs.steps.Left.{rest_of}
 use Rattle.index_phrases.specs.declared.phrase_cursor.PhraseCursor.{PhraseCursor}
@@ -32,4 +34,16 @@ state_of cursor = record {
   aims = phrase_aims cursor.version.now cursor.number (phrase_terms cursor);
   hits = hits_where cursor.version.now cursor.number (phrase_terms cursor) cursor.target;
   rest = rest_of cursor.number (wanted_words (λ c. c) cursor.variants.items) cursor.found;
+}
+
+-- a phrase aimed at the span of the target, of whose hits those in a part of the span are left
+abbrev pub part_hits : PhraseCursor → Target → Span → List Hit
+part_hits cursor target part =
+    hits_in_part cursor.number target.breaks.breaks.now target.span part (map (map (wanted_at cursor.version.now target.doc.0 part)) (phrase_terms cursor))
+
+abbrev pub in_part : PhraseCursor → Target → Span → PhraseState
+in_part cursor target part = record {
+  aims = (state_of cursor).aims;
+  hits = phrase_hits cursor.version.now cursor.number (phrase_terms cursor) target.doc.0 target.span;
+  rest = part_hits cursor target part;
 }

@@ -1,4 +1,5 @@
 pub mod Phrases
+pub mod Parts
 pub mod Tokens
 pub mod Cursors
 pub mod Examples

@@ -1,3 +1,4 @@
 pub mod Aiming
 pub mod Left
 pub mod Numbers
+pub mod Parting

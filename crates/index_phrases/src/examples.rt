@@ -8,7 +8,12 @@ ghost use Rattle.place_merges.specs.Places.{any_word, one_of};
 ghost use Rattle.place_merges.specs.Spots.{spot};
 ghost use Rattle.index_phrases.specs.Cursors.{hits_where, phrase_aims};
 ghost use Rattle.index_phrases.specs.Phrases.{hits_in_span, is_wanted, last_place, own_number, phrase_hits, numbered_hit, wanted_at, words_at};
+ghost use Rattle.index_phrases.specs.Parts.{hits_in_part, may_begin, may_end};
 ghost use Rattle.index_phrases.specs.Tokens.{interval_of, span_tokens, stands_on};
+ghost use Rattle.index_phrases.specs.steps.Parting.{is_past};
+ghost use Rattle.index_phrases.specs.declared.part.Edge.TheVariants.{Begin, End};
+ghost use Rattle.ft_operators.specs.Bounds.{everywhere};
+ghost use Rattle.ft_operators.specs.Examples.{between, words_between};
 ghost use Rattle.index_phrases.specs.Examples.{document, hit, is_word, token};
 ghost use Rattle.index_phrases.specs.declared.word_terms.WordTerms.TheVariants.{Any, Of};
 
@@ -78,4 +83,28 @@ pub fn items_on_tokens()
     ensures more_items { stands_on is_word (codes "a" ∷ codes "b" ∷ []) (token (codes "a") 1 1 ∷ []) ≡ false }
     ensures none { stands_on is_word [] [] ≡ true }
     ensures interval { interval_of (spot 3 2) ≡ record { from = 3; to = 4 } }
+{}
+
+/// A hit begins and ends in bounds by the numbers that the span gives to its places.
+pub fn edges_of_bounds()
+    ensures begins { may_begin (words_between 2 3) 1 breaks (span 4 7) 5 ≡ true }
+    ensures too_early { may_begin (words_between 2 3) 1 breaks (span 4 7) 4 ≡ false }
+    ensures ends { may_end (words_between 2 3) breaks (span 4 7) 5 ≡ true }
+    ensures too_late { may_end (words_between 2 3) breaks (span 4 7) 6 ≡ false }
+    ensures sentence_before { may_begin (record everywhere { sentences = between 2 3 }) 1 breaks (span 4 7) 4 ≡ false }
+    ensures sentence { may_begin (record everywhere { sentences = between 2 3 }) 1 breaks (span 4 7) 5 ≡ true }
+    ensures paragraph { may_end (record everywhere { paragraphs = between 1 2 }) breaks (span 4 7) 4 ≡ true }
+    ensures paragraph_behind { may_end (record everywhere { paragraphs = between 1 2 }) breaks (span 4 7) 5 ≡ false }
+    ensures later_phrase { may_begin (record everywhere { order = record { query = 1; from = 2 } }) 2 breaks (span 4 7) 4 ≡ false }
+    ensures that_phrase { may_begin (record everywhere { order = record { query = 1; from = 2 } }) 1 breaks (span 4 7) 4 ≡ true }
+    ensures past_the_begin { is_past Begin (words_between 2 3) 1 breaks (span 4 7) 5 ≡ true }
+    ensures past_the_end { is_past End (words_between 2 3) 1 breaks (span 4 7) 6 ≡ true }
+    ensures not_past_the_end { is_past End (words_between 2 3) 1 breaks (span 4 7) 5 ≡ false }
+{}
+
+/// The hits in a part of a span are told in the numbers of the span.
+pub fn hits_in_parts()
+    ensures one_word { hits_in_part 2 breaks (span 4 7) (span 5 6) ((any_word ∷ []) ∷ []) ≡ hit 2 2 2 2 2 2 2 ∷ [] }
+    ensures past_its_end { hits_in_part 2 breaks (span 4 7) (span 5 6) ((any_word ∷ any_word ∷ []) ∷ []) ≡ [] }
+    ensures all { hits_in_part 2 breaks (span 5 6) (span 5 6) ((any_word ∷ []) ∷ []) ≡ hit 2 1 1 1 1 1 1 ∷ [] }
 {}

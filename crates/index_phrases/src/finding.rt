@@ -18,31 +18,32 @@ use index_versions::TermCursor;
 use place_merges::{Spot, Variant, next_spot};
 use std::sync::ledger::Ledger;
 
-/// The first spot after that one at which a variant stands, with the hit of the phrase of that number on it. The numbers of
-/// the span's first word are given, where they are known from a hit before it.
+/// The first spot after that one, and before `to`, at which a variant stands, with the hit of the phrase of that number on it.
+/// The numbers of the span's first word are given, where they are known from a hit before it.
 pub(crate) fn found_after<'v, L: Ledger>(
     variants: &mut Vec<Variant<TermCursor<'v>>>,
     number: u32,
     target: &Target<'v>,
     known: Option<UnitNumbers>,
+    to: u32,
     after: Spot,
     steps: &mut Steps<L>,
 ) -> Option<Found<'v>>
     requires place { target.now.span.from ≤ after.place }
     requires known { ForSome known (λ first. first ≡ numbers_at target.now.breaks.breaks.now target.now.span.from) }
     ensures left { map (numbered_hit number target.now.breaks.breaks.now target.now.span)
-        (spots_left target.now.span.to (wanted_words (λ cursor. cursor) variants.old.items) after)
+        (spots_left to (wanted_words (λ cursor. cursor) variants.old.items) after)
         ≡ rest_of number (wanted_words (λ cursor. cursor) variants.new.items) result }
     ensures lists { all_lists (λ cursor. cursor) variants.new.items ≡ all_lists (λ cursor. cursor) variants.old.items }
     ensures grown { steps.old ≤ steps.new }
 {
-    match next_spot(variants, after, target.span.to, steps) {
-        Some(spot) => Some(found_on(number, target, target.span.to, known, spot)),
+    match next_spot(variants, after, to, steps) {
+        Some(spot) => Some(found_on(number, target, to, known, spot)),
         None => None,
     }
 }
 
-/// What is found on a spot of the span, which ends at `to`.
+/// What is found on a spot of the span, which ends before `to`.
 fn found_on<'v>(
     number: u32,
     target: &Target<'v>,
@@ -53,6 +54,7 @@ fn found_on<'v>(
     requires inside { IsInside target.now.span.from to spot }
     requires known { ForSome known (λ first. first ≡ numbers_at target.now.breaks.breaks.now target.now.span.from) }
     ensures target { result.target ≡ target.now }
+    ensures to { result.to ≡ to }
     ensures spot { result.spot ≡ spot }
     ensures hit { result.hit ≡ numbered_hit number target.now.breaks.breaks.now target.now.span spot }
 {
@@ -63,6 +65,7 @@ fn found_on<'v>(
     let hit = tell(number, target, to, first, spot);
     Found {
         target: *target,
+        to,
         first,
         spot,
         hit,

@@ -3,7 +3,8 @@
 //!
 //! A phrase is aimed at a span of a document (`aiming`), and then each spot of the span at which one of its variants stands is
 //! a hit (`finding`), told in the span's own numbers (`telling`). What it has there is what the phrase has among the
-//! tokens of the span (`laws`).
+//! tokens of the span (`laws`). Where bounds are given, only the part of the span is looked at in which hits can lie in them
+//! (`part`).
 #![tactic(auto)]
 
 mod aiming;
@@ -11,6 +12,7 @@ pub mod examples;
 mod finding;
 mod found;
 pub mod laws;
+mod part;
 mod phrase_cursor;
 mod target;
 mod telling;

@@ -8,10 +8,11 @@ ghost use Rattle.index_phrases.specs.steps.Aiming.{AreThere, IsTarget, sizes_of,
 use crate::aiming::aim_variants;
 use crate::finding::found_after;
 use crate::found::Found;
+use crate::part::part_of;
 use crate::target::Target;
 use crate::word_terms::WordTerms;
 use ft_base::{DocId, Hit, Span, Steps};
-use ft_operators::PhraseHits;
+use ft_operators::{Bounds, PhraseHits};
 use index_versions::{TermCursor, Version};
 use place_merges::{Spot, Variant};
 use std::sync::ledger::Ledger;
@@ -37,8 +38,7 @@ pub struct PhraseCursor<'v> {
 impl<'v> PhraseCursor<'v> {
     ghost use Rattle.std.specs.Prelude.{◌≡◌, ◌≤◌, map};
     ghost use Rattle.std.specs.List.{All};
-    ghost use Rattle.ft_operators.specs.Phrases.{aimed_at};
-    ghost use Rattle.index_phrases.specs.Cursors.{new_state, state_of};
+    ghost use Rattle.index_phrases.specs.Cursors.{in_part, new_state, state_of};
     ghost use Rattle.index_phrases.specs.steps.Aiming.{AreThere, IsTarget, sizes_of, variant_words, wanted_size};
 
     /// The phrase of that number in its selection, which was aimed nowhere yet. The terms say what the words of each variant may
@@ -63,18 +63,31 @@ impl<'v> PhraseCursor<'v> {
         }
     }
 
-    /// Aims the cursors, and goes to the first hit.
-    fn go_to<L: Ledger>(&mut self, target: &Target<'v>, steps: &mut Steps<L>)
-        requires { IsTarget self.old.version.now target.now }
-        ensures moved { state_of self.new ≡ aimed_at target.now.doc.0 target.now.span (state_of self.old) }
+    /// Aims the cursors at a part of the span, and goes to the first hit there.
+    fn go_to<L: Ledger>(&mut self, target: &Target<'v>, part: Span, steps: &mut Steps<L>)
+        requires known { IsTarget self.old.version.now target.now }
+        requires inside { target.now.span.from ≤ part.from }
+        ensures moved { state_of self.new ≡ in_part self.old target.now part }
         ensures grown { steps.old ≤ steps.new }
     {
-        aim_variants(target, &mut self.terms, &mut self.variants, steps);
+        let aimed = Target {
+            span: part,
+            ..*target
+        };
+        aim_variants(&aimed, &mut self.terms, &mut self.variants, steps);
         let prefix = Spot {
-            place: target.span.from,
+            place: part.from,
             words: 0,
         };
-        self.found = found_after(&mut self.variants, self.number, target, None, prefix, steps);
+        self.found = found_after(
+            &mut self.variants,
+            self.number,
+            target,
+            None,
+            part.to,
+            prefix,
+            steps,
+        );
         self.target = Some(*target);
     }
 }
@@ -93,7 +106,17 @@ impl<'v> PhraseHits for PhraseCursor<'v> {
 
     fn first<L: Ledger>(&mut self, steps: &mut Steps<L>) {
         match self.target {
-            Some(target) => self.go_to(&target, steps),
+            Some(target) => self.go_to(&target, target.span, steps),
+            None => self.found = None,
+        }
+    }
+
+    fn first_in<L: Ledger>(&mut self, bounds: &Bounds, steps: &mut Steps<L>) {
+        match self.target {
+            Some(target) => {
+                let part = part_of(bounds, self.number, &target);
+                self.go_to(&target, part, steps);
+            }
             None => self.found = None,
         }
     }
@@ -106,6 +129,7 @@ impl<'v> PhraseHits for PhraseCursor<'v> {
                     self.number,
                     &found.target,
                     Some(found.first),
+                    found.to,
                     found.spot,
                     steps,
                 );
@@ -117,6 +141,6 @@ impl<'v> PhraseHits for PhraseCursor<'v> {
     fn aim<L: Ledger>(&mut self, doc: DocId, span: Span, steps: &mut Steps<L>) {
         let version = self.version;
         let breaks = version.breaks(doc);
-        self.go_to(&Target { doc, span, breaks }, steps);
+        self.go_to(&Target { doc, span, breaks }, span, steps);
     }
 }

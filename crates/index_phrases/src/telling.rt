@@ -38,7 +38,7 @@ pub(crate) fn tell(number: u32, target: &Target<'_>, to: u32, first: UnitNumbers
 }
 
 /// The numbers of the word at a position, where the span's first word is in its first sentence and paragraph.
-fn numbers_in_span(target: &Target<'_>, first: UnitNumbers, position: u32) -> UnitNumbers
+pub(crate) fn numbers_in_span(target: &Target<'_>, first: UnitNumbers, position: u32) -> UnitNumbers
     requires position { position < 2 ^ 32 - 1 }
     requires first { first ≡ numbers_at target.now.breaks.breaks.now target.now.span.from }
     ensures { result ≡ own_numbers target.now.breaks.breaks.now target.now.span.from position }

@@ -9,3 +9,13 @@ pub mod AimLemmas
 pub mod UnitLemmas
 pub mod DistanceLemmas
 pub mod ApartLemmas
+pub mod PassageLemmas
+pub mod ListLoops
+pub mod PassingLemmas
+pub mod StartLemmas
+pub mod AlikeLemmas
+pub mod HullLemmas
+pub mod ToldLemmas
+pub mod BeforeLemmas
+pub mod NextLemmas
+pub mod NearPassLemmas

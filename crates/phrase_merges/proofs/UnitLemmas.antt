@@ -4,26 +4,24 @@ use Rattle.std.specs.Prelude.{nat_le, nat_lt}
 use Rattle.std.specs.List.{list_all}
 use Rattle.std.proofs.lemmas.Bool.{and_from, and_parts, eqb-true, eq-eqb, le-leb, leb-true, lt-ltb, ltb-true}
 use Rattle.all_matches.specs.Boolean.{satisfied}
-use Rattle.all_matches.specs.Filters.{all_in_one, passes}
+use Rattle.all_matches.specs.Filters.{all_in_one}
 use Rattle.all_matches.specs.Join.{greatest, least}
 use Rattle.all_matches.specs.Positions.{end_in, share_one, start_in}
 use Rattle.all_matches.specs.Ways.{matches_of}
-use Rattle.ft_base.specs.declared.filter.Filter.{Filter}
 use Rattle.ft_base.specs.declared.filter.Filter.TheVariants as F
 use Rattle.ft_base.specs.declared.hit.Hit.{Hit}
 use Rattle.ft_base.specs.declared.span.Span.{Span}
 use Rattle.ft_base.specs.declared.unit.TextUnit.{TextUnit}
-use Rattle.ft_base.specs.declared.unit.TextUnit.TheVariants.{Paragraphs, Sentences}
 use Rattle.ft_base.proofs.Truth.{same_tests}
 use Rattle.window_merges.specs.Choices.{are_in_order, some_choice}
 use Rattle.window_merges.specs.Words.{are_numbered, filtered_words}
 use Rattle.window_merges.proofs.ChoiceLemmas.{least_first}
-use Rattle.window_merges.proofs.ChoiceTests.{any_on, choice_map, choice_on}
-use Rattle.window_merges.proofs.FilterLemmas.{filtered_choices, ordered_choices}
-use Rattle.phrase_merges.specs.Choices.{are_within, begin_in_order, ends_after}
+use Rattle.window_merges.proofs.ChoiceTests.{choice_map}
+use Rattle.window_merges.proofs.FilterLemmas.{ordered_choices}
+use Rattle.phrase_merges.specs.Choices.{begin_in_order, ends_after}
 use Rattle.phrase_merges.proofs.AheadLemmas.{latest}
 use Rattle.phrase_merges.proofs.ChoiceLemmas.{all_both, all_with}
-use Rattle.phrase_merges.proofs.WithinLemmas.{all_from_least, begins_from, found_within, greatest_is, within_is}
+use Rattle.phrase_merges.proofs.WithinLemmas.{all_from_least, are_within, begins_from, found_within, greatest_is, within_is}
 
 latest_to : (number : Hit → ℕ) (far : ℕ) (hits : List Hit) → list_all (λ hit. nat_le (number hit) far) hits ≡ true → latest number hits ≤ far
 latest_to number far [] h = omega arith
@@ -74,7 +72,7 @@ module _ (unit : TextUnit) where
       and_from (eqb (start_in unit other) place) (eqb (end_in unit other) place)
       (eq-eqb (start_in unit other) place (omega (arith, from, to, order))) (eq-eqb (end_in unit other) place (omega (arith, from, to, order)))
 
-  one_window : (hit : Hit) (hits : List Hit) → list_all (ends_after unit) (hit ∷ hits) ≡ true → all_in_one unit (hit ∷ hits) ≡ are_within 1 unit (hit ∷ hits)
+  pub one_window : (hit : Hit) (hits : List Hit) → list_all (ends_after unit) (hit ∷ hits) ≡ true → all_in_one unit (hit ∷ hits) ≡ are_within 1 unit (hit ∷ hits)
   one_window hit hits well = same_tests (all_in_one unit chosen) (are_within 1 unit chosen) to back
     where
       chosen : List Hit
@@ -110,28 +108,6 @@ module _ (unit : TextUnit) where
           let there : list_all (at_place place) chosen ≡ true =
           all_both (ends_after unit) (λ other. begins_from unit place other && nat_le (end_in unit other) place) (at_place place) chosen (λ other e k. placed place other e k) well both in
           all_with (at_place place) (λ a. list_all (share_one unit a) chosen) chosen (λ a e. all_with (at_place place) (share_one unit a) chosen (λ b k. at_one place a b e k) there) there
-
-  one_unit : (kind : Filter) (item : Span) (hits : List Hit) (phrases : List (List Hit)) → ((includes : List Hit) → passes kind includes item ≡ all_in_one unit includes)
-      → list_all (list_all (ends_after unit)) (hits ∷ phrases) ≡ true
-      → satisfied (matches_of item (filtered_words kind (hits ∷ phrases))) ≡ some_choice (are_within 1 unit) (hits ∷ phrases)
-  one_unit kind item hits phrases is well =
-      let parts = and_parts (list_all (ends_after unit) hits) (list_all (list_all (ends_after unit)) phrases) well in
-      filtered_choices kind item hits phrases
-      ∙ any_on (ends_after unit) (λ hit. some_choice (λ chosen. passes kind (hit ∷ chosen) item) phrases) (λ hit. some_choice (λ chosen. are_within 1 unit (hit ∷ chosen)) phrases) hits parts.0
-      (λ hit one. choice_on (ends_after unit) (λ chosen. passes kind (hit ∷ chosen) item) (λ chosen. are_within 1 unit (hit ∷ chosen)) phrases parts.1
-      (λ chosen all. is (hit ∷ chosen) ∙ one_window hit chosen (and_from (ends_after unit hit) (list_all (ends_after unit) chosen) one all)))
-
-pub same_sentence : (item : Span) (hits : List Hit) (phrases : List (List Hit)) → list_all (list_all (ends_after Sentences)) (hits ∷ phrases) ≡ true
-    → satisfied (matches_of item (filtered_words F.SameSentence (hits ∷ phrases))) ≡ some_choice (are_within 1 Sentences) (hits ∷ phrases)
-same_sentence item hits phrases well = one_unit Sentences F.SameSentence item hits phrases (λ includes. refl) well
-
-pub same_paragraph : (item : Span) (hits : List Hit) (phrases : List (List Hit)) → list_all (list_all (ends_after Paragraphs)) (hits ∷ phrases) ≡ true
-    → satisfied (matches_of item (filtered_words F.SameParagraph (hits ∷ phrases))) ≡ some_choice (are_within 1 Paragraphs) (hits ∷ phrases)
-same_paragraph item hits phrases well = one_unit Paragraphs F.SameParagraph item hits phrases (λ includes. refl) well
-
-pub in_window : (size : ℕ) (unit : TextUnit) (item : Span) (hits : List Hit) (phrases : List (List Hit))
-    → satisfied (matches_of item (filtered_words (F.Window size unit) (hits ∷ phrases))) ≡ some_choice (are_within size unit) (hits ∷ phrases)
-in_window size unit item hits phrases = filtered_choices (F.Window size unit) item hits phrases
 
 pub ordered : (number : ℕ) (item : Span) (hits : List Hit) (phrases : List (List Hit)) → are_numbered number (hits ∷ phrases) ≡ true
     → satisfied (matches_of item (filtered_words F.Ordered (hits ∷ phrases))) ≡ some_choice begin_in_order (hits ∷ phrases)

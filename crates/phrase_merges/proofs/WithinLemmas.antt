@@ -1,16 +1,20 @@
--- Windows: what is left of them after the farthest of the places up to which the phrases reach.
-use Rattle.std.proofs.Common.{◌≡◌, refl, sym, ◌∙◌, ℕ, ◌+◌, ◌-◌, ◌<◌, ◌≤◌, min, max, Bool, true, ◌&&◌, List, [], ◌∷◌, map, length, arith}
+-- Windows: which hits one window has room for.
+use Rattle.std.proofs.Common.{◌≡◌, refl, ◌∙◌, ℕ, ◌+◌, ◌<◌, ◌≤◌, min, max, Bool, true, ◌&&◌, List, [], ◌∷◌, map, length, arith}
 use Rattle.std.specs.Prelude.{nat_le, nat_lt}
 use Rattle.std.specs.List.{list_all}
 use Rattle.std.proofs.lemmas.Bool.{and_from, and_parts, le-leb, leb-true, lt-ltb, ltb-true}
-use Rattle.all_matches.specs.Join.{greatest, least}
+use Rattle.all_matches.specs.Join.{greatest, join, least}
 use Rattle.all_matches.specs.Positions.{start_in, end_in}
+use Rattle.all_matches.specs.Window.{fits_window}
 use Rattle.ft_base.specs.declared.hit.Hit.{Hit}
 use Rattle.ft_base.specs.declared.unit.TextUnit.{TextUnit}
 use Rattle.ft_base.specs.declared.unit.TextUnit.TheVariants.{Paragraphs, Sentences, Words}
 use Rattle.window_merges.proofs.ChoiceLemmas.{least_first}
-use Rattle.phrase_merges.specs.Choices.{are_within}
 use Rattle.phrase_merges.proofs.AheadLemmas.{latest}
+
+-- whether a window of this size can hold all hits
+abbrev pub are_within : ℕ → TextUnit → List Hit → Bool
+are_within size unit hits = fits_window size unit (join hits)
 
 -- ---- one choice
 
@@ -58,18 +62,3 @@ found_within size unit low far (hit ∷ hits) near good short =
     within_is size unit hit hits
     ∙ lt-ltb (greatest (end_in unit hit) (map (λ other. end_in unit other) hits)) (least (start_in unit hit) (map (λ other. start_in unit other) hits) + size)
     (omega (arith, near, from, last, to))
-
--- hits in one window that reach as far begin near that place
-pub begins_near : (size : ℕ) (unit : TextUnit) (far : ℕ) (chosen : List Hit) → nat_le far (latest (λ hit. end_in unit hit) chosen) ≡ true → are_within size unit chosen ≡ true
-    → list_all (begins_from unit (far + 1 - size)) chosen ≡ true
-begins_near size unit far [] reaches within = refl
-begins_near size unit far (hit ∷ hits) reaches within =
-    let low = far + 1 - size in
-    let to = leb-true far (latest (λ other. end_in unit other) (hit ∷ hits)) reaches in
-    let last = greatest_is (λ other. end_in unit other) (end_in unit hit) hits in
-    let fits = ltb-true (greatest (end_in unit hit) (map (λ other. end_in unit other) hits)) (least (start_in unit hit) (map (λ other. start_in unit other) hits) + size)
-    (sym (within_is size unit hit hits) ∙ within) in
-    let from : low ≤ least (start_in unit hit) (map (λ other. start_in unit other) hits) = omega (arith, to, last, fits) in
-    let own = least_first (start_in unit hit) (map (λ other. start_in unit other) hits) in
-    and_from (begins_from unit low hit) (list_all (begins_from unit low) hits) (le-leb low (start_in unit hit) (omega (arith, from, own)))
-    (all_from_least (λ other. start_in unit other) low (start_in unit hit) hits from)

@@ -1,17 +1,12 @@
 -- What is asked of hits that are chosen, one of each phrase.
-use Rattle.std.specs.Prelude.{ℕ, suc, ◌+◌, Bool, false, ◌&&◌, ◌||◌, nat_le, List, [], ◌∷◌, map, Option, Some, None}
+use Rattle.std.specs.Prelude.{ℕ, suc, ◌+◌, Bool, false, ◌&&◌, ◌||◌, nat_le, nat_lt, List, [], ◌∷◌, map, Option, Some, None}
 use Rattle.ft_base.specs.declared.hit.Hit.{Hit}
 use Rattle.ft_base.specs.declared.range.Range.{Range}
 use Rattle.ft_base.specs.declared.range.Range.TheVariants.{AtLeast, AtMost, Exactly, FromTo}
 use Rattle.ft_base.specs.declared.unit.TextUnit.{TextUnit}
-use Rattle.all_matches.specs.Join.{greatest, join, least}
+use Rattle.all_matches.specs.Join.{greatest, least}
 use Rattle.all_matches.specs.Positions.{start_in, end_in}
-use Rattle.all_matches.specs.Window.{fits_window}
 use Rattle.window_merges.specs.Choices.{are_in_order}
-
--- whether a window of this size can hold all hits
-abbrev pub are_within : ℕ → TextUnit → List Hit → Bool
-are_within size unit hits = fits_window size unit (join hits)
 
 -- whether no hit begins more than so many words, sentences or paragraphs after the end of another: in `a x b` there is one between
 -- "a" and "b"
@@ -47,3 +42,7 @@ begin_in_order hits = are_in_order (map (λ hit. hit.from) hits)
 -- whether a hit ends no earlier than it begins
 abbrev pub ends_after : TextUnit → Hit → Bool
 ends_after unit hit = nat_le (start_in unit hit) (end_in unit hit)
+
+-- whether of two hits the one that begins no later begins in no later sentence or paragraph
+abbrev pub begin_alike : TextUnit → Hit → Hit → Bool
+begin_alike unit a b = (nat_lt b.from a.from || nat_le (start_in unit a) (start_in unit b)) && (nat_lt a.from b.from || nat_le (start_in unit b) (start_in unit a))

@@ -1,7 +1,8 @@
 -- Small lists of hits, for the examples.
-use Rattle.std.specs.Prelude.{ℕ, true}
+use Rattle.std.specs.Prelude.{ℕ, ◌+◌, ◌/◌, false, true}
 use Rattle.ft_base.specs.declared.hit.Hit.{Hit}
 use Rattle.ft_base.specs.declared.span.Span.{Span}
+use Rattle.phrase_merges.specs.Near.{Units}
 
 -- the hit of a phrase of that number from one word to another, in a text of one sentence
 abbrev pub hit : ℕ → ℕ → ℕ → Hit
@@ -14,3 +15,11 @@ in_sentences query first last = record (hit query first last) { sent_from = firs
 -- a text of nine words
 abbrev pub item : Span
 item = record { from = 1; to = 10 }
+
+-- one that doesn't cover each of its words
+abbrev pub spread : Hit → Hit
+spread one = record one { whole = false }
+
+-- sentences of three words each, in one paragraph
+abbrev pub by_threes : Units
+by_threes = record { sentence = λ place. (place + 2) / 3; paragraph = λ place. 1 }

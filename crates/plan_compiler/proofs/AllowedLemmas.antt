@@ -10,6 +10,7 @@ use Rattle.ft_syntax.specs.declared.selection.Selection as S
 use Rattle.ft_syntax.proofs.Views.{form-Or, form-And, form-MildNot}
 use Rattle.all_matches.specs.Allowed.{each_is_allowed, is_allowed, may_be_filtered}
 use Rattle.all_matches.proofs.AllowedForms.{allowed_filtered, allowed_mild_not}
+use Rattle.plan_compiler.specs.CompiledOperators.{is_positional}
 use Rattle.plan_compiler.proofs.ServedLemmas.{form-Not, form-Filtered, form-With}
 
 module _ (selection : Selection) where
@@ -39,6 +40,12 @@ module _ (selection : Selection) where
   allowed-Filtered operand kind e h =
       let is = ap form e ∙ form-Filtered operand kind in
       subst (λ (f : Form). may_be_filtered f ≡ true) (sym is) (allowed_filtered (form operand.value) kind (ap is_allowed (sym is) ∙ h))
+
+  pub positional-MildNot : (left right : Box Selection Global) → selection ≡ S.MildNot left right → is_positional (form selection) ≡ true
+  positional-MildNot left right e = ap is_positional (ap form e ∙ form-MildNot left right)
+
+  pub positional-Filtered : (operand : Box Selection Global) (kind : Filter) → selection ≡ S.Filtered operand kind → is_positional (form selection) ≡ true
+  positional-Filtered operand kind e = ap is_positional (ap form e ∙ form-Filtered operand kind)
 
 pub allowed_at : (parts : List Selection) (i : ℕ) (part : Selection) → each_is_allowed (forms_of (map form parts)) ≡ true → i < length parts → part ≡ get_or parts i part → is_allowed (form part) ≡ true
 unfolding is_allowed

@@ -1,6 +1,9 @@
 -- Selections are compiled by their parts.
-use Rattle.std.proofs.Common.{◌≡◌, ◌<◌, ◌+◌, ◌++◌, refl, sym, ap, ◌∙◌, ℕ, List, [], ◌∷◌, map, take, get_or, length, true, arith, Box, Global}
-use Rattle.std.specs.List.{sum_by}
+use Rattle.std.proofs.Common.{◌≡◌, ◌<◌, ◌+◌, ◌++◌, refl, sym, ap, ◌∙◌, ℕ, Bool, ◌&&◌, List, [], ◌∷◌, map, take, get_or, length, true, arith, Box, Global}
+use Rattle.std.specs.List.{list_all, sum_by}
+use Rattle.std.proofs.lemmas.Bool.{and_from, and_parts}
+use Rattle.std.proofs.lemmas.List.{take_more}
+use Rattle.std.proofs.lemmas.List.Folds.{list_all-append}
 use Rattle.std.proofs.lemmas.List.Sums.{sum_by-cons, sum_by_more, sum_by_push}
 use Rattle.ft_base.specs.Selection.{Form, words, or_of, and_of, not_of, with_options}
 use Rattle.ft_base.specs.declared.options.Options.{Options}
@@ -11,6 +14,8 @@ use Rattle.ft_syntax.specs.declared.selection.Selection as S
 use Rattle.ft_syntax.proofs.Views.{form-Or, form-And}
 use Rattle.all_matches.specs.Meaning.{inside, sat_under}
 use Rattle.index_meaning.specs.Entries.{Entry}
+use Rattle.plan_compiler.specs.CheapPlans.{is_cheap_node}
+use Rattle.plan_compiler.specs.CheapSelections.{is_cheap_under}
 use Rattle.plan_compiler.specs.CompiledSelection.{CompileAll, Compiles, compiled_price}
 use Rattle.plan_compiler.specs.CompiledWords.{IsCompiled}
 use Rattle.plan_compiler.specs.Lexicon.{lexicon}
@@ -25,7 +30,8 @@ use Rattle.plan_compiler.specs.declared.node.Node.{Node}
 use Rattle.plan_compiler.specs.declared.node.Node as N
 use Rattle.plan_compiler.specs.declared.words_plan.WordsPlan.{WordsPlan}
 use Rattle.plan_compiler.proofs.ServedLemmas.{form-Not, form-With}
-use Rattle.plan_compiler.proofs.NodeViews.{truth-Words, cost-Words, cost-Or, cost-And, cost-Not}
+use Rattle.plan_compiler.proofs.CheapNodes.{and_cheap, are_cheap, not_cheap, or_cheap, with_cheap}
+use Rattle.plan_compiler.proofs.NodeViews.{cheap-And, cheap-Not, cheap-Or, cheap-Words, truth-Words, cost-Words, cost-Or, cost-And, cost-Not}
 use Rattle.plan_compiler.proofs.PriceMeaning.{words_priced}
 use Rattle.plan_compiler.proofs.SelectionMeaning.{and_selection, not_selection, or_selection, say_more, with_selection, words_mean}
 
@@ -70,6 +76,7 @@ module _ (looks : Looks) (lists : NamedLists) (options : Options) where
         let plain = words_priced looks lists terms text (inside value.options options) plan value compiled served in
         let whole = words_price terms text value in
         omega (arith, cost, plain, whole);
+    cheap = λ h. cheap-Words plan;
   }
 
   module _ (selection : Selection) where
@@ -81,6 +88,7 @@ module _ (looks : Looks) (lists : NamedLists) (options : Options) where
           let whole = ap (price_of terms text) (ap form e ∙ form-Or parts) ∙ or_price terms text parts in
           let most = all.price terms text in
           omega (arith, cost, whole, most);
+      cheap = λ h. cheap-Or nodes ∙ all.cheap (sym (are_cheap (lexicon lists) options parts) ∙ or_cheap (lexicon lists) options (forms_of (map form parts)) (sym (ap (is_cheap_under (lexicon lists) options) (ap form e ∙ form-Or parts)) ∙ h));
     }
 
     pub and_compiles : (parts : List Selection) → selection ≡ S.And parts → (nodes : List Node) → CompileAll looks lists options nodes parts → Compiles looks lists options (N.And nodes) (form selection)
@@ -91,6 +99,7 @@ module _ (looks : Looks) (lists : NamedLists) (options : Options) where
           let whole = ap (price_of terms text) (ap form e ∙ form-And parts) ∙ and_price terms text parts in
           let most = all.price terms text in
           omega (arith, cost, whole, most);
+      cheap = λ h. cheap-And nodes ∙ all.cheap (sym (are_cheap (lexicon lists) options parts) ∙ and_cheap (lexicon lists) options (forms_of (map form parts)) (sym (ap (is_cheap_under (lexicon lists) options) (ap form e ∙ form-And parts)) ∙ h));
     }
 
     pub not_compiles : (operand : Box Selection Global) → selection ≡ S.Not operand → (node : Box Node Global) → Compiles looks lists options node.value (form operand.value)
@@ -102,6 +111,7 @@ module _ (looks : Looks) (lists : NamedLists) (options : Options) where
           let whole = ap (price_of terms text) (ap form e ∙ form-Not operand) ∙ not_price terms text (form operand.value) in
           let most = part.price terms text in
           omega (arith, cost, whole, most);
+      cheap = λ h. cheap-Not node ∙ part.cheap (not_cheap (lexicon lists) options (form operand.value) (sym (ap (is_cheap_under (lexicon lists) options) (ap form e ∙ form-Not operand)) ∙ h));
     }
 
     pub with_compiles : (operand : Box Selection Global) (inner : Options) → selection ≡ S.With operand inner → (node : Node) → Compiles looks lists (inside inner options) node (form operand.value)
@@ -112,20 +122,28 @@ module _ (looks : Looks) (lists : NamedLists) (options : Options) where
           let whole = ap (price_of terms text) (ap form e ∙ form-With operand inner) ∙ with_price terms text (form operand.value) inner in
           let most = part.price terms text in
           omega (arith, whole, most);
+      cheap = λ h. part.cheap (with_cheap (lexicon lists) options (form operand.value) inner (sym (ap (is_cheap_under (lexicon lists) options) (ap form e ∙ form-With operand inner)) ∙ h));
     }
 
   -- one operand more
   pub compile_more : (nodes new : List Node) (parts : List Selection) (i : ℕ) (node : Node) (part : Selection) → i < length parts → part ≡ get_or parts i part → new ≡ nodes ++ node ∷ []
       → Compiles looks lists options node (form part) → CompileAll looks lists options nodes (take i parts) → CompileAll looks lists options new (take (i + 1) parts)
-  compile_more nodes new parts i node part h is pushed one all = record {
+  compile_more nodes new parts i node part below is pushed one all = record {
     says = λ tokens.
-        say_more (λ n. truth n (looked_text looks lists.stems tokens)) (λ p. sat_under (lexicon lists) options (form p) tokens) nodes new parts i node part h is pushed (one.says tokens) (all.says tokens);
+        say_more (λ n. truth n (looked_text looks lists.stems tokens)) (λ p. sat_under (lexicon lists) options (form p) tokens) nodes new parts i node part below is pushed (one.says tokens) (all.says tokens);
     price = λ terms text.
         let cost = node_cost (compiled_price looks lists.stems terms text) in
         let sum = ap (sum_by cost) pushed ∙ sum_by_push cost nodes node in
-        let more = sum_by_more (λ (p : Selection). price_of terms text (form p)) parts i part h in
+        let more = sum_by_more (λ (p : Selection). price_of terms text (form p)) parts i part below in
         let own = ap (λ (p : Selection). price_of terms text (form p)) is in
         let before = all.price terms text in
         let then = one.price terms text in
         omega (arith, sum, more, own, before, then);
+    cheap = λ h.
+        let each : Selection → Bool = λ p. is_cheap_under (lexicon lists) options (form p) in
+        let taken : take (i + 1) parts ≡ take i parts ++ part ∷ [] = take_more parts i part below ∙ ap (λ p. take i parts ++ p ∷ []) (sym is) in
+        let sides = and_parts (list_all each (take i parts)) (list_all each (part ∷ [])) (sym (list_all-append each (take i parts) (part ∷ [])) ∙ ap (list_all each) (sym taken) ∙ h) in
+        ap (list_all is_cheap_node) pushed
+        ∙ list_all-append is_cheap_node nodes (node ∷ [])
+        ∙ and_from (list_all is_cheap_node nodes) (list_all is_cheap_node (node ∷ [])) (all.cheap sides.0) (λ j. one.cheap (and_parts (each part) true sides.1).0 j && true);
   }

@@ -14,6 +14,11 @@ mod CompiledLemmas
 mod RewrittenPrices
 mod OperatorViews
 mod JoinLemmas
+mod CheapPhrases
+mod CheapNodes
+mod CheapRewriting
+mod WordRows
 mod PhraseOperators
 mod OperatorLemmas
+mod UnitingLemmas
 mod WaysLaw

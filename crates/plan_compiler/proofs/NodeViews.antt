@@ -1,7 +1,9 @@
 -- What each kind of compiled selection says, and what its tests cost.
-use Rattle.std.proofs.Common.{◌≡◌, refl, ap, ◌∙◌, ℕ, sum, List, [], ◌∷◌, map, Box, Global, rules, not, ◌&&◌, ◌||◌}
+use Rattle.std.proofs.Common.{◌≡◌, refl, ap, ◌∙◌, ℕ, true, sum, List, [], ◌∷◌, map, Box, Global, rules, not, ◌&&◌, ◌||◌}
 use Rattle.std.specs.List.{list_any, list_all, sum_by}
+use Rattle.std.proofs.lemmas.List.Folds.{list_all-map}
 use Rattle.std.proofs.lemmas.List.Sums.{sum-map}
+use Rattle.plan_compiler.specs.CheapPlans.{is_cheap_node, is_cheap_operator}
 use Rattle.plan_compiler.specs.NodeCosts.{node_cost, operator_cost, words_cost}
 use Rattle.plan_compiler.specs.NodeMeaning.{layer, truth}
 use Rattle.plan_compiler.specs.Operators.{LookedText, operator_at, satisfied_over}
@@ -75,3 +77,31 @@ module _ (cost : ItemTest → ℕ) where
   pub cost-Ways : (plan : WaysPlan) → node_cost cost (Ways plan) ≡ operator_cost cost plan.operator
   unfolding node_cost
   cost-Ways plan = search (rules, the_lemmas)
+
+-- ---- whether they are cheap
+
+pub cheap-Words : (plan : WordsPlan) → is_cheap_node (Words plan) ≡ true
+unfolding is_cheap_node
+cheap-Words plan = search (rules, the_lemmas)
+
+cheap-parts : (parts : List Node) → is_cheap_node (Or parts) ≡ list_all (λ part. part) (map is_cheap_node parts)
+unfolding is_cheap_node
+cheap-parts parts = search (rules, the_lemmas)
+
+cheap-all_parts : (parts : List Node) → is_cheap_node (And parts) ≡ list_all (λ part. part) (map is_cheap_node parts)
+unfolding is_cheap_node
+cheap-all_parts parts = search (rules, the_lemmas)
+
+pub cheap-Or : (parts : List Node) → is_cheap_node (Or parts) ≡ list_all is_cheap_node parts
+cheap-Or parts = cheap-parts parts ∙ list_all-map (λ part. part) is_cheap_node parts
+
+pub cheap-And : (parts : List Node) → is_cheap_node (And parts) ≡ list_all is_cheap_node parts
+cheap-And parts = cheap-all_parts parts ∙ list_all-map (λ part. part) is_cheap_node parts
+
+pub cheap-Not : (part : Box Node Global) → is_cheap_node (Not part) ≡ is_cheap_node part.value
+unfolding is_cheap_node
+cheap-Not part = search (rules, the_lemmas)
+
+pub cheap-Ways : (plan : WaysPlan) → is_cheap_node (Ways plan) ≡ is_cheap_operator plan.operator
+unfolding is_cheap_node
+cheap-Ways plan = search (rules, the_lemmas)

@@ -1,8 +1,11 @@
 -- What the kinds of compiled operators are over a text, and what their tests cost.
-use Rattle.std.proofs.Common.{◌≡◌, refl, ap, ℕ, ◌+◌, false, List, [], ◌∷◌, map, filter, length, Box, Global}
+use Rattle.std.proofs.Common.{◌≡◌, refl, ap, ℕ, ◌+◌, false, ◌&&◌, List, [], ◌∷◌, map, filter, length, Some, None, Box, Global}
+use Rattle.std.specs.Prelude.{is_some}
 use Rattle.std.specs.List.{sum_by}
 use Rattle.all_matches.specs.Hits.{Interval, hit_on, intervals}
 use Rattle.all_matches.specs.Ways.{phrase, either, together, apart, negated, through_filter}
+use Rattle.plan_compiler.specs.CheapPlans.{is_cheap_operator, last_word, number_after, word_number}
+use Rattle.plan_compiler.specs.CheapSelections.{is_cheap_filter}
 use Rattle.plan_compiler.specs.NodeCosts.{operator_cost}
 use Rattle.plan_compiler.specs.Operators.{LookedText, hits_by_tests, operator_at}
 use Rattle.plan_compiler.specs.declared.item_matching.ItemTest.{ItemTest}
@@ -71,3 +74,19 @@ module _ (cost : ItemTest → ℕ) where
   pub cost_Filtered : (plan : Box FilteredPlan Global) → operator_cost cost (O.Filtered plan) ≡ operator_cost cost plan.value.operand
   unfolding operator_cost
   cost_Filtered plan = refl
+
+-- ---- which words they join
+
+pub last_Choice : (sides : Box OperatorSides Global) → last_word (O.Choice sides) ≡ None
+unfolding last_word
+last_Choice sides = refl
+
+pub last_Both : (sides : Box OperatorSides Global) → last_word (O.Both sides) ≡ number_after (last_word sides.value.left) (word_number sides.value.right)
+unfolding last_word
+last_Both sides = refl
+
+pub word_none : (number : ℕ) → word_number (O.Phrase (record { number = number; variants = [] })) ≡ Some number
+word_none number = refl
+
+pub cheap_Filtered : (plan : Box FilteredPlan Global) → is_cheap_operator (O.Filtered plan) ≡ (is_cheap_filter plan.value.kind && is_some (last_word plan.value.operand))
+cheap_Filtered plan = refl

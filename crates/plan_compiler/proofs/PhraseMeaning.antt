@@ -127,6 +127,33 @@ module _ (h : List Item → ℕ) (none : h [] ≡ 0) where
       by_test true e = joined_none mode strings e ∙ sym (cond-true _ _ _ e)
       by_test false e = joined_some mode strings e ∙ sym (cond-false _ _ _ e)
 
+-- ---- phrases as they are read
+
+module _ (lists : NamedLists) (options : Options) where
+  -- a stop word stands for any word
+  pub same_item : (reading : Reading) → Reads reading lists options → (item : Item) → read_item reading item ≡ without_stop_word (lexicon lists) options item
+  same_item reading reads any_word = refl
+  same_item reading reads (word w) = ap (λ b. if b then any_word else word w) (ap (λ stops. is_stop_key stops (key_of w)) reads.stops ∙ stops_mean lists options.stop_words (key_of w))
+  same_item reading reads (pattern p) = refl
+
+  -- each phrase that thesauri reach is read once
+  pub read_phrases : (reading : Reading) → Reads reading lists options → (first : Item) (rest : List Item)
+      → phrases_for reading (first ∷ rest) ≡ (first ∷ rest) ∷ map (map word) (in_order (reached_keys (lexicon lists) options.thesaurus (first ∷ rest)))
+  read_phrases reading reads first rest =
+      λ i. (first ∷ rest) ∷ map (map word) (in_order (reached_keys (lexicon (reads.named i)) (reads.thesaurus i) (first ∷ rest)))
+
+  -- a phrase that is reached more than once stands no oftener
+  pub once_alike : (phrase : List Item) (keys : List (List (List ℕ))) (test : List Item → Bool)
+      → list_any test (map (map (without_stop_word (lexicon lists) options)) (phrase ∷ map (map word) (in_order keys))) ≡ list_any test (map (map (without_stop_word (lexicon lists) options)) (phrase ∷ map (map word) keys))
+  once_alike phrase keys test =
+      ap (λ some. test (map (without_stop_word (lexicon lists) options) phrase) || some)
+      (some_reached (in_order keys) ∙ any_in_order (λ reached. test (map (without_stop_word (lexicon lists) options) (map word reached))) keys ∙ sym (some_reached keys))
+    where
+      some_reached : (all : List (List (List ℕ))) → list_any test (map (map (without_stop_word (lexicon lists) options)) (map (map word) all)) ≡ list_any (λ reached. test (map (without_stop_word (lexicon lists) options) (map word reached))) all
+      some_reached all =
+          list_any-map test (map (without_stop_word (lexicon lists) options)) (map (map word) all)
+          ∙ list_any-map (λ items. test (map (without_stop_word (lexicon lists) options) items)) (map word) all
+
 -- ---- the words of a text, and how often the words of a query occur among them
 
 module _ (looks : Looks) (lists : NamedLists) (options : Options) (reading : Reading) (reads : Reads reading lists options) (served : are_served looks options ≡ true) where
@@ -135,11 +162,6 @@ module _ (looks : Looks) (lists : NamedLists) (options : Options) (reading : Rea
 
   abbrev bare : Item → Item
   bare = without_stop_word (lexicon lists) options
-
-  same_item : (item : Item) → read_item reading item ≡ bare item
-  same_item any_word = refl
-  same_item (word w) = ap (λ b. if b then any_word else word w) (ap (λ stops. is_stop_key stops (key_of w)) reads.stops ∙ stops_mean lists options.stop_words (key_of w))
-  same_item (pattern p) = refl
 
   -- a word by its stem
   stem_passes : (stems asked : Bool) (query w : List ℕ) → (stems || not asked) ≡ true → asked ≡ true → (stem : List ℕ) → stem ≡ stem_in lists.stems (key_of query)
@@ -165,7 +187,7 @@ module _ (looks : Looks) (lists : NamedLists) (options : Options) (reading : Rea
       ∙ by_forms looks.all_forms (choice_of options) (pattern p) token.word parts.0
 
   pub word_passes : (item : Item) (token : Token) → item_test reading item (word_as looks lists.stems token.word) ≡ passes_item (lexicon lists) options (bare item) token
-  word_passes item token = ap (λ x. bare_test reading x (word_as looks lists.stems token.word)) (same_item item) ∙ bare_passes (bare item) token
+  word_passes item token = ap (λ x. bare_test reading x (word_as looks lists.stems token.word)) (same_item lists options reading reads item) ∙ bare_passes (bare item) token
 
   abbrev text : List Token → List TextWord
   text tokens = words_of_tokens looks lists.stems tokens
@@ -193,31 +215,18 @@ module _ (looks : Looks) (lists : NamedLists) (options : Options) (reading : Rea
   no_hit : (tokens : List Token) → hit_count (lexicon lists) options tokens [] ≡ 0
   no_hit tokens = none_found (intervals (length tokens))
 
-  -- a phrase that is reached more than once stands no oftener
-  pub once_alike : (phrase : List Item) (keys : List (List (List ℕ))) (test : List Item → Bool)
-      → list_any test (map (map bare) (phrase ∷ map (map word) (in_order keys))) ≡ list_any test (map (map bare) (phrase ∷ map (map word) keys))
-  once_alike phrase keys test =
-      ap (λ some. test (map bare phrase) || some)
-      (some_reached (in_order keys) ∙ any_in_order (λ reached. test (map bare (map word reached))) keys ∙ sym (some_reached keys))
-    where
-      some_reached : (all : List (List (List ℕ))) → list_any test (map (map bare) (map (map word) all)) ≡ list_any (λ reached. test (map bare (map word reached))) all
-      some_reached all =
-          list_any-map test (map bare) (map (map word) all)
-          ∙ list_any-map (λ items. test (map bare items)) (map word) all
-
   phrase_hits : (phrase : List Item) (tokens : List Token) → tests_count (grouped_tests reading phrase) (text tokens) ≡ hit_count (lexicon lists) options tokens phrase
   phrase_hits [] tokens = sym (no_hit tokens)
   phrase_hits (item ∷ phrase) tokens =
       let keys = reached_keys (lexicon lists) options.thesaurus (item ∷ phrase) in
       let once = (item ∷ phrase) ∷ map (map word) (in_order keys) in
       let all = (item ∷ phrase) ∷ map (map word) keys in
-      let same : phrases_for reading (item ∷ phrase) ≡ once =
-      λ i. (item ∷ phrase) ∷ map (map word) (in_order (reached_keys (lexicon (reads.named i)) (reads.thesaurus i) (item ∷ phrase))) in
+      let same : phrases_for reading (item ∷ phrase) ≡ once = read_phrases lists options reading reads item phrase in
       ap (λ ps. tests_count (map (λ group. group.1) (by_length (map (map (item_test reading)) ps))) (text tokens)) same
       ∙ ap (λ groups. tests_count (map (λ group. group.1) groups) (text tokens)) (by_length-map (item_test reading) once)
       ∙ ap sum (groups_stand (by_length once) tokens)
       ∙ ap (λ groups. sum (map (λ group. places (passes_item (lexicon lists) options) group.1 tokens) groups)) (sym (by_length-map bare once))
-      ∙ places_alike (lexicon lists) options (map (map bare) once) (map (map bare) all) (once_alike (item ∷ phrase) keys) tokens
+      ∙ places_alike (lexicon lists) options (map (map bare) once) (map (map bare) all) (once_alike lists options (item ∷ phrase) keys) tokens
       ∙ sym (hits_by_places (lexicon lists) options (item ∷ phrase) tokens)
 
   phrases_hits : (phrases : List (List Item)) (tokens : List Token)

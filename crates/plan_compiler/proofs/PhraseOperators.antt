@@ -1,9 +1,11 @@
 -- The hits of a compiled phrase are those of the phrase as it is read, and its tests have together at most its price.
-use Rattle.std.proofs.Common.{◌≡◌, refl, sym, ap, ◌∙◌, ℕ, ◌+◌, ◌==◌, Bool, true, false, ◌&&◌, ◌||◌, List, [], ◌∷◌, ◌++◌, map, length, arith}
+use Rattle.std.proofs.Common.{◌≡◌, refl, sym, ap, subst, ◌∙◌, ℕ, ◌+◌, ◌==◌, Bool, true, false, not, cond, ◌&&◌, ◌||◌, Some, None, List, [], ◌∷◌, ◌++◌, map, length, arith}
 use Rattle.std.proofs.Math.Dec.{eqb-suc-suc, eqb-suc-zero, eqb-zero-suc}
+use Rattle.std.proofs.lemmas.Bool.{and_parts}
 use Rattle.std.proofs.lemmas.List.{length-map, map-append}
+use Rattle.std.proofs.lemmas.List.Folds.{list_all-append}
 use Rattle.std.proofs.lemmas.List.Sums.{sum_by_push}
-use Rattle.std.specs.Prelude.{flat_map, filter, if◌then◌else◌}
+use Rattle.std.specs.Prelude.{flat_map, filter, if◌then◌else◌, is_some}
 use Rattle.std.specs.List.{list_all, list_any, sum_by}
 use Rattle.ft_base.specs.Lists.{is_empty}
 use Rattle.ft_base.specs.declared.options.Options.{Options}
@@ -21,9 +23,11 @@ use Rattle.all_matches.specs.Ways.{Operator, phrase}
 use Rattle.match_options.specs.Items.{item, items_of}
 use Rattle.match_options.specs.declared.item.QueryItem.{QueryItem}
 use Rattle.thesaurus_file.specs.Phrases.{in_order}
+use Rattle.plan_compiler.specs.CheapPlans.{word_number}
+use Rattle.plan_compiler.specs.CheapSelections.{is_one_item, is_single_value}
 use Rattle.plan_compiler.specs.CompiledOperators.{PhraseCompilesTo, PhrasesCompileTo, ValueCompilesTo}
 use Rattle.plan_compiler.specs.CompiledSelection.{compiled_price}
-use Rattle.plan_compiler.specs.ItemTests.{passes}
+use Rattle.plan_compiler.specs.ItemTests.{asks_nothing, passes}
 use Rattle.plan_compiler.specs.Lexicon.{lexicon}
 use Rattle.plan_compiler.specs.NamedLists.{NamedLists}
 use Rattle.plan_compiler.specs.NodeCosts.{operator_cost}
@@ -32,17 +36,20 @@ use Rattle.plan_compiler.specs.Price.{phrase_price}
 use Rattle.plan_compiler.specs.ReadingMeaning.{Reads}
 use Rattle.plan_compiler.specs.Served.{are_served}
 use Rattle.plan_compiler.specs.TextWords.{word_as, words_of_tokens}
-use Rattle.plan_compiler.specs.WordsMeaning.{item_test, phrases_for}
+use Rattle.plan_compiler.specs.WordsMeaning.{item_test, phrases_for, reads_any}
 use Rattle.plan_compiler.specs.declared.item_matching.ItemTest.{ItemTest}
 use Rattle.plan_compiler.specs.declared.joining.Join.{Join}
 use Rattle.plan_compiler.specs.declared.looks.Looks.{Looks}
 use Rattle.plan_compiler.specs.declared.operator_plan.OperatorPlan.{OperatorPlan}
 use Rattle.plan_compiler.specs.declared.operator_plan.OperatorPlan as O
 use Rattle.plan_compiler.specs.declared.reading.Reading.{Reading}
+use Rattle.plan_compiler.specs.steps.Joins.{AreWordsFrom}
 use Rattle.plan_compiler.specs.declared.text_word.TextWord.{TextWord}
 use Rattle.plan_compiler.proofs.OperatorViews.{at_Phrase, cost_Phrase}
-use Rattle.plan_compiler.proofs.PhraseMeaning.{asked, begins_tests, flat_empty, flat_some, once_alike, phrase_begins}
+use Rattle.plan_compiler.proofs.CheapPhrases.{one_word_parts, phrase_single}
+use Rattle.plan_compiler.proofs.PhraseMeaning.{asked, begins_tests, flat_empty, flat_some, once_alike, phrase_begins, read_phrases}
 use Rattle.plan_compiler.proofs.PriceMeaning.{variants_cost}
+use Rattle.plan_compiler.proofs.WordRows.{Alone, length_after, row_alone, row_push}
 
 -- ---- tests in the place of items, one for each word
 
@@ -89,11 +96,9 @@ module _ (looks : Looks) (lists : NamedLists) (options : Options) (reading : Rea
       ≡ list_any (λ variant. stands_as (lexicon lists) options variant tokens) (variants (lexicon lists) options items)
   phrases_stand [] tokens = refl
   phrases_stand (item ∷ items) tokens =
-      let same : phrases_for reading (item ∷ items) ≡ (item ∷ items) ∷ map (map word) (in_order (reached_keys (lexicon lists) options.thesaurus (item ∷ items))) =
-      λ i. (item ∷ items) ∷ map (map word) (in_order (reached_keys (lexicon (reads.named i)) (reads.thesaurus i) (item ∷ items))) in
       some_stands (phrases_for reading (item ∷ items)) tokens
-      ∙ ap (λ ps. list_any (λ v. stands_as (lexicon lists) options v tokens) (map (map bare) ps)) same
-      ∙ once_alike looks lists options reading reads served (item ∷ items) (reached_keys (lexicon lists) options.thesaurus (item ∷ items)) (λ v. stands_as (lexicon lists) options v tokens)
+      ∙ ap (λ ps. list_any (λ v. stands_as (lexicon lists) options v tokens) (map (map bare) ps)) (read_phrases lists options reading reads item items)
+      ∙ once_alike lists options (item ∷ items) (reached_keys (lexicon lists) options.thesaurus (item ∷ items)) (λ v. stands_as (lexicon lists) options v tokens)
 
   pub phrase_same : (tests : List (List ItemTest)) (items : List Item) → map (map passes) tests ≡ map (map (item_test reading)) (phrases_for reading items)
       → (number : ℕ) (tokens : List Token) → hits_by_tests (looked_text looks lists.stems tokens) number tests ≡ hits (lexicon lists) options number items tokens
@@ -119,10 +124,6 @@ phrases_more lists options tokens first (one ∷ phrases) items =
     (phrases_more lists options tokens (first + 1) phrases items
     ∙ ap (λ n. phrase_operators (lexicon lists) options tokens (first + 1) phrases ++ phrase (hits (lexicon lists) options n items tokens) ∷ []) at)
 
-length_after : {X : Type 0} (xs : List X) (x : X) → length (xs ++ x ∷ []) ≡ length xs + 1
-length_after [] x = refl
-length_after (y ∷ xs) x = let more = length_after xs x in omega (arith, more)
-
 pub phrases_compiled_more : (reading : Reading) (first middle next : ℕ) (before after : List OperatorPlan) (plan : OperatorPlan) (phrases : List (List Item)) (items : List Item) → after ≡ before ++ plan ∷ []
     → PhrasesCompileTo reading first middle before phrases → PhraseCompilesTo reading middle next plan items → PhrasesCompileTo reading first next after (phrases ++ items ∷ [])
 phrases_compiled_more reading first middle next before after plan phrases items pushed all one = record {
@@ -142,6 +143,11 @@ phrases_compiled_more reading first middle next before after plan phrases items 
       let made = ap (sum_by cost) pushed ∙ sum_by_push cost before plan in
       let whole = sum_by_push (phrase_price (lexicon lists) options terms text) phrases items in
       omega (arith, made, whole, all.price lists options reads looks terms text served, one.price lists options reads looks terms text served);
+  words = λ lists options reads h.
+      let each : List Item → Bool = λ own. list_all is_one_item (variants (lexicon lists) options own) in
+      let parts = and_parts (list_all each phrases) (list_all each (items ∷ [])) (sym (list_all-append each phrases (items ∷ [])) ∙ h) in
+      subst (AreWordsFrom first next) (sym pushed)
+      (row_push first middle next before plan (all.words lists options reads parts.0) (one.word lists options reads (and_parts (each items) true parts.1).0) one.numbered);
 }
 
 -- ---- values
@@ -179,21 +185,32 @@ module _ (lists : NamedLists) (options : Options) (reading : Reading) (reads : R
     value_numbered : next ≡ first + length (phrases_by value.mode (strings_of (lexicon lists) options value))
     value_numbered = all.numbered ∙ ap (λ strings. first + length (phrases_by value.mode strings)) strings_same
 
+    -- a single word is one phrase
+    value_alone : is_single_value (lexicon lists) options value ≡ true → Alone first plans × (next ≡ first + 1)
+    value_alone h =
+        let strings = strings_of (lexicon lists) options value in
+        let each : List Item → Bool = λ own. list_all is_one_item (variants (lexicon lists) options own) in
+        let one = one_word_parts (lexicon lists) options (phrases_by value.mode strings) (and_parts (not (is_some value.times)) _ h).1 in
+        let past : next ≡ first + 1 = value_numbered ∙ ap (λ n. first + n) one.0 in
+        (row_alone first next plans (all.words lists options reads (ap (λ (own : List (List Item)). list_all each (phrases_by value.mode own)) strings_same ∙ one.1)) past, past)
+
     pub empty_value : (plan : OperatorPlan) → list_all is_empty (phrases_by value.mode read_strings) ≡ true → ((text : LookedText) → operator_at text plan ≡ phrase [])
-        → ((cost : ItemTest → ℕ) → operator_cost cost plan ≡ 0) → ValueCompilesTo lists options first next plan value
-    empty_value plan empty none nothing = record {
+        → ((cost : ItemTest → ℕ) → operator_cost cost plan ≡ 0) → word_number plan ≡ Some first → ValueCompilesTo lists options first next plan value
+    empty_value plan empty none nothing number = record {
       same = λ looks tokens served.
           let is : list_all is_empty (strings_of (lexicon lists) options value) ≡ true = ap (λ strings. list_all is_empty strings) (sym strings_same) ∙ sym (none_empty value.mode read_strings) ∙ empty in
           none (looked_text looks lists.stems tokens)
           ∙ sym (ap (λ (b : Bool). if b then phrase [] else operator_by value.mode (phrase_operators (lexicon lists) options tokens first (phrases_by value.mode (strings_of (lexicon lists) options value)))) is);
       numbered = value_numbered;
       price = λ looks terms text served. omega (arith, nothing (compiled_price looks lists.stems terms text));
+      word = λ h. (number, (value_alone h).1);
     }
 
     pub joined_value : (join : Join) (plan : OperatorPlan) → list_all is_empty (phrases_by value.mode read_strings) ≡ false
         → ((operands : List Operator) → joined_of join operands ≡ operator_by value.mode operands) → ((text : LookedText) → operator_at text plan ≡ joined_of join (map (operator_at text) plans))
-        → ((cost : ItemTest → ℕ) → operator_cost cost plan ≡ sum_by (operator_cost cost) plans) → ValueCompilesTo lists options first next plan value
-    joined_value join plan some by joined sum = record {
+        → ((cost : ItemTest → ℕ) → operator_cost cost plan ≡ sum_by (operator_cost cost) plans) → ((one : OperatorPlan) → plans ≡ one ∷ [] → plan ≡ one)
+        → ValueCompilesTo lists options first next plan value
+    joined_value join plan some by joined sum only = record {
       same = λ looks tokens served.
           let text = looked_text looks lists.stems tokens in
           let is : list_all is_empty (strings_of (lexicon lists) options value) ≡ false = ap (λ strings. list_all is_empty strings) (sym strings_same) ∙ sym (none_empty value.mode read_strings) ∙ some in
@@ -206,13 +223,18 @@ module _ (lists : NamedLists) (options : Options) (reading : Reading) (reads : R
           let most = all.price lists options reads looks terms text served in
           let whole = ap (λ strings. sum_by (phrase_price (lexicon lists) options terms text) (phrases_by value.mode strings)) strings_same in
           omega (arith, sum (compiled_price looks lists.stems terms text), most, whole);
+      word = λ h.
+          let own = value_alone h in
+          let alone = own.0 in
+          (ap word_number (only alone.one alone.is) ∙ alone.word, own.1);
     }
 
 -- ---- a phrase
 
 pub phrase_to : (reading : Reading) (number next : ℕ) (tests : List (List ItemTest)) (items : List Item) → map (map passes) tests ≡ map (map (item_test reading)) (phrases_for reading items)
+    → map (map asks_nothing) tests ≡ map (map (reads_any reading)) (phrases_for reading items)
     → next ≡ number + 1 → PhraseCompilesTo reading number next (O.Phrase (record { number = number; variants = tests })) items
-phrase_to reading number next tests items is following = record {
+phrase_to reading number next tests items is asks following = record {
   same = λ lists options reads looks tokens served.
       at_Phrase (looked_text looks lists.stems tokens) (record { number = number; variants = tests })
       ∙ ap phrase (phrase_same looks lists options reading reads served tests items is number tokens);
@@ -221,6 +243,7 @@ phrase_to reading number next tests items is following = record {
       let own = cost_Phrase (compiled_price looks lists.stems terms text) (record { number = number; variants = tests }) in
       let most = variants_cost looks lists terms text options reading reads served tests items is in
       omega (arith, own, most);
+  word = λ lists options reads h. ap (λ b. cond b (Some number) None) (phrase_single lists options reading reads tests items asks h);
 }
 
 -- a phrase has as many items as were read

@@ -29,7 +29,7 @@ use Rattle.plan_compiler.specs.declared.phrase_plan.PhrasePlan.{PhrasePlan}
 use Rattle.plan_compiler.specs.declared.reading.Reading.{Reading}
 use Rattle.plan_compiler.specs.declared.text_word.TextWord.{TextWord}
 use Rattle.plan_compiler.specs.declared.words_plan.WordsPlan.{WordsPlan}
-use Rattle.plan_compiler.proofs.PhraseMeaning.{word_passes}
+use Rattle.plan_compiler.proofs.PhraseMeaning.{read_phrases, word_passes}
 use Rattle.plan_compiler.proofs.SumLemmas.{sum_over, sum_over_le}
 use Rattle.thesaurus_file.specs.Phrases.{Phrase, in_order, phrase_cmp}
 
@@ -147,8 +147,7 @@ module _ (looks : Looks) (lists : NamedLists) (terms : List Entry) (text : List 
     once_priced (item ∷ phrase) =
         let keys = reached_keys (lexicon lists) options.thesaurus (item ∷ phrase) in
         let once = (item ∷ phrase) ∷ map (map word) (in_order keys) in
-        let same : phrases_for reading (item ∷ phrase) ≡ once =
-        λ i. (item ∷ phrase) ∷ map (map word) (in_order (reached_keys (lexicon (reads.named i)) (reads.thesaurus i) (item ∷ phrase))) in
+        let same : phrases_for reading (item ∷ phrase) ≡ once = read_phrases lists options reading reads item phrase in
         let known : sum_by (sum_by asked_price) (map (map (item_test reading)) (phrases_for reading (item ∷ phrase))) ≡ sum_by (sum_by priced) (map (map bare) once) =
         ap (λ phrases. sum_by (sum_by asked_price) (map (map (item_test reading)) phrases)) same ∙ variants_priced once in
         let whole : phrase_price (lexicon lists) options terms text (item ∷ phrase)

@@ -14,6 +14,7 @@ use Rattle.ft_rewriter.proofs.SimplifiedTests.{sat-rewritten}
 use Rattle.all_matches.specs.Meaning.{inside}
 use Rattle.all_matches.specs.Variants.{Lexicon}
 use Rattle.index_meaning.specs.Entries.{Entry}
+use Rattle.plan_compiler.proofs.CheapRewriting.{cheap_rewritten}
 use Rattle.plan_compiler.specs.CompiledSelection.{Compiles}
 use Rattle.plan_compiler.specs.Lexicon.{lexicon}
 use Rattle.plan_compiler.specs.NamedLists.{NamedLists}
@@ -197,4 +198,5 @@ compiles_given looks lists node form compiled = record {
       let own = compiled.price terms text in
       let less = price_rewritten (lexicon lists) terms text form in
       omega (arith, own, less);
+  cheap = λ h. compiled.cheap (cheap_rewritten (lexicon lists) form h);
 }

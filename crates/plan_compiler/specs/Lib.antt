@@ -8,6 +8,8 @@ pub mod ChosenOptions
 pub mod ReadingMeaning
 pub mod TextWords
 pub mod ItemTests
+pub mod CheapSelections
+pub mod CheapPlans
 pub mod GroupedTests
 pub mod WordsMeaning
 pub mod Operators

@@ -11,6 +11,7 @@ use Rattle.match_options.specs.TokenTest.{has_case}
 use Rattle.match_options.specs.WordTests.{item_passes}
 use Rattle.thesaurus_file.specs.Phrases.{in_order}
 use Rattle.word_lists.specs.Stems.{Stem, stem_in}
+use Rattle.plan_compiler.specs.CheapSelections.{is_any}
 use Rattle.plan_compiler.specs.ItemTests.{passes}
 use Rattle.plan_compiler.specs.Lexicon.{lexicon}
 use Rattle.plan_compiler.specs.Stops.{is_stop_key, term_of}
@@ -45,6 +46,10 @@ abbrev pub read_item : Reading → Item → Item
 read_item reading any_word = any_word
 read_item reading (word w) = if is_stop_key (map term_of reading.stops.items) (key_of w) then any_word else word w
 read_item reading (pattern p) = pattern p
+
+-- whether it is read as any word
+abbrev pub reads_any : Reading → Item → Bool
+reads_any reading item = is_any (read_item reading item)
 
 -- a word with the stem of a word of a query
 abbrev pub stem_test : List Stem → Case → List ℕ → TextWord → Bool

@@ -5,7 +5,7 @@ ghost use Rattle.ft_base.specs.Selection.{words};
 ghost use Rattle.ft_syntax.specs.View.{form};
 ghost use Rattle.all_matches.specs.Allowed.{may_be_filtered};
 ghost use Rattle.plan_compiler.specs.ChosenOptions.{options_of};
-ghost use Rattle.plan_compiler.specs.CompiledOperators.{CompilesTo, EachCompilesTo};
+ghost use Rattle.plan_compiler.specs.CompiledOperators.{CompilesTo, EachCompilesTo, is_positional};
 ghost use Rattle.plan_compiler.specs.CompiledSelection.{Compiles};
 ghost use Rattle.plan_compiler.specs.Served.{are_served, is_served};
 
@@ -16,6 +16,7 @@ use crate::lists::Lists;
 use crate::looks::Looks;
 use crate::node::Node;
 use crate::operator_plan::{OperatorPlan, WaysPlan};
+use crate::uniting::unite_choices;
 use ft_base::{Items, Memory, Words};
 use ft_syntax::{Selection, Selections};
 use std::alloc::Global;
@@ -29,6 +30,7 @@ pub(crate) fn compile_ways(
     chosen: &Chosen<'_>,
     selection: &Selection,
 ) -> Result<Node, Memory>
+    requires positional { is_positional (form selection.now) ≡ true }
     requires allowed { may_be_filtered (form selection.now) ≡ true }
     requires options { IsTrue (are_served looks (options_of chosen.now)) }
     requires selection { IsTrue (is_served looks (form selection.now)) }
@@ -36,6 +38,7 @@ pub(crate) fn compile_ways(
 {
     let mut next = 1;
     let operator = compile_operator(alloc, lists, chosen, selection, &mut next)?;
+    let operator = unite_choices(alloc, operator)?;
     Ok(Node::Ways(WaysPlan { operator }))
 }
 

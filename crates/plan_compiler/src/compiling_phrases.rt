@@ -8,7 +8,7 @@ ghost use Rattle.all_matches.specs.Ways.{Operator};
 ghost use Rattle.match_options.specs.Items.{item};
 ghost use Rattle.plan_compiler.specs.ChosenOptions.{options_of};
 ghost use Rattle.plan_compiler.specs.CompiledOperators.{PhraseCompilesTo, PhrasesCompileTo, ValueCompilesTo};
-ghost use Rattle.plan_compiler.specs.ItemTests.{passes};
+ghost use Rattle.plan_compiler.specs.ItemTests.{asks_nothing, passes};
 ghost use Rattle.plan_compiler.specs.Operators.{joined_of};
 ghost use Rattle.plan_compiler.specs.WordsMeaning as spec;
 
@@ -36,12 +36,13 @@ pub(crate) fn value_operator(
 ) -> Result<OperatorPlan, Memory>
     ensures { IfOk result (λ plan. ValueCompilesTo lists.now (options_of chosen.now) next.old next.new plan words.now) }
 {
+    let number = *next;
     let reading = reading_of(alloc, lists, chosen)?;
     let phrases = phrases_by(alloc, reading.wildcards, words.mode, &words.values)?;
     let operands = phrase_operators(alloc, &reading, phrases.as_slice(), next)?;
     if all_empty(phrases.as_slice()) {
         drop(operands);
-        return Ok(no_hit(alloc));
+        return Ok(no_hit(alloc, number));
     }
     let plan = join_operands(alloc, join_of(words.mode), operands)?;
     Ok(plan)
@@ -114,8 +115,10 @@ fn variant_tests(
     reading: &Reading<'_>,
     phrase: &[QueryItem],
 ) -> Result<Items<Items<ItemTest>>, Memory>
-    ensures { IfOk result (λ variants. map (map passes) variants
+    ensures passes { IfOk result (λ variants. map (map passes) variants
         ≡ map (map (spec.item_test reading.now)) (spec.phrases_for reading.now (map item phrase.now))) }
+    ensures asks { IfOk result (λ variants. map (map asks_nothing) variants
+        ≡ map (map (spec.reads_any reading.now)) (spec.phrases_for reading.now (map item phrase.now))) }
 {
     let phrases = phrases_for(alloc, reading, phrase)?;
     tests_of_phrases(alloc, reading, phrases.as_slice())
@@ -126,7 +129,8 @@ fn tests_of_phrases(
     reading: &Reading<'_>,
     phrases: &[Items<QueryItem>],
 ) -> Result<Items<Items<ItemTest>>, Memory>
-    ensures { IfOk result (λ variants. map (map passes) variants ≡ map (map (spec.item_test reading.now)) (map (map item) phrases.now)) }
+    ensures passes { IfOk result (λ variants. map (map passes) variants ≡ map (map (spec.item_test reading.now)) (map (map item) phrases.now)) }
+    ensures asks { IfOk result (λ variants. map (map asks_nothing) variants ≡ map (map (spec.reads_any reading.now)) (map (map item) phrases.now)) }
 {
     let mut variants = Items::new(alloc);
     for phrase in phrases {

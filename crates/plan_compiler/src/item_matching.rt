@@ -17,6 +17,8 @@ use match_options::{FormChoice, Forms, PlaceRow, Wild, WordTest};
 /// What a word of a text has to be.
 #[derive(Drop)]
 pub enum ItemTest {
+    /// Any word.
+    Any,
     /// A word that passes by its forms.
     ByForms(WordTest),
     /// A word with the stem, in the case that is asked for.
@@ -30,6 +32,7 @@ impl ItemTest {
         ensures { IfOk result (λ passed. passed ≡ spec.passes self.now word.now) }
     {
         match self {
+            ItemTest::Any => Ok(true),
             ItemTest::ByForms(test) => test.passes_in(&word.forms, row),
             ItemTest::ByStem(stem, case) => Ok(has_stem(stem, *case, word)),
         }
@@ -49,6 +52,7 @@ impl ItemTest {
             → passed ≡ spec.passes self.now (word_as looks lists.now.stems word))) }
     {
         match self {
+            ItemTest::Any => Ok(None),
             ItemTest::ByForms(test) => covers_key(test, key, row),
             ItemTest::ByStem(stem, case) => Ok(stem_of_key(stem, *case, looks, lists, key)),
         }

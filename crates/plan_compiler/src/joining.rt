@@ -1,12 +1,16 @@
 //! Operands of compiled selections, joined.
 
-ghost use Rattle.std.specs.Prelude.{◌≡◌, ℕ, ◌+◌, [], map, option_map, IfOk, None};
+ghost use Rattle.std.specs.Prelude.{◌≡◌, ℕ, ◌+◌, ◌-◌, ◌<◌, ◌&&◌, [], ◌∷◌, map, option_map, is_some, IfOk, None, Some};
 ghost use Rattle.std.specs.List.{sum_by};
 ghost use Rattle.all_matches.specs.Ways.{apart, negated, phrase, through_filter};
+ghost use Rattle.plan_compiler.specs.CheapPlans.{is_cheap_operator, last_word, word_number};
+ghost use Rattle.plan_compiler.specs.CheapSelections.{is_cheap_filter};
 ghost use Rattle.plan_compiler.specs.NodeCosts.{operator_cost};
 ghost use Rattle.plan_compiler.specs.Operators.{LookedText, joined_of, operator_at};
 ghost use Rattle.plan_compiler.specs.declared.item_matching.ItemTest.{ItemTest};
-ghost use Rattle.plan_compiler.specs.steps.Joins.{cost_before, joined, joined_after, joined_from};
+ghost use Rattle.plan_compiler.specs.declared.joining.Join.TheVariants.{Both};
+ghost use Rattle.plan_compiler.specs.declared.operator_plan.OperatorPlan.{OperatorPlan};
+ghost use Rattle.plan_compiler.specs.steps.Joins.{AreWordsFrom, EndsBefore, cost_before, joined, joined_after, joined_from, joined_last, last_after};
 
 use crate::operator_plan::{FilteredPlan, NegatedPlan, OperatorPlan, OperatorSides, PhraseTests};
 use ft_base::{Filter, Items, Memory};
@@ -28,6 +32,9 @@ pub(crate) fn join_operands(
 ) -> Result<OperatorPlan, Memory>
     ensures same { IfOk result (λ plan. (text : LookedText) → operator_at text plan ≡ joined_of join (map (operator_at text) operands)) }
     ensures cost { IfOk result (λ plan. (cost : ItemTest → ℕ) → operator_cost cost plan ≡ sum_by (operator_cost cost) operands) }
+    ensures alone { IfOk result (λ plan. (one : OperatorPlan) → operands ≡ one ∷ [] → plan ≡ one) }
+    ensures words { IfOk result (λ plan. (first next : ℕ) → join ≡ Both → AreWordsFrom first next operands → first < next
+        → last_word plan ≡ Some (next - 1)) }
 {
     let joined = join_some(alloc, join, operands)?;
     match joined {
@@ -45,6 +52,8 @@ fn join_some(
     ensures same { IfOk result (λ plan. (text : LookedText)
         → option_map (operator_at text) plan ≡ joined_from join None (map (operator_at text) operands)) }
     ensures cost { IfOk result (λ plan. (cost : ItemTest → ℕ) → cost_before cost plan ≡ sum_by (operator_cost cost) operands) }
+    ensures alone { IfOk result (λ plan. (one : OperatorPlan) → operands ≡ one ∷ [] → plan ≡ Some one) }
+    ensures words { IfOk result (λ plan. (first next : ℕ) → join ≡ Both → AreWordsFrom first next operands → EndsBefore first next plan) }
 {
     let mut before = None;
     for next in operands.into_vec() {
@@ -63,6 +72,8 @@ fn plan_after(
     ensures same { IfOk result (λ plan. (text : LookedText)
         → operator_at text plan ≡ joined_after join (option_map (operator_at text) before) (operator_at text next)) }
     ensures cost { IfOk result (λ plan. (cost : ItemTest → ℕ) → operator_cost cost plan ≡ cost_before cost before + operator_cost cost next) }
+    ensures alone { IfOk result (λ plan. before ≡ None → plan ≡ next) }
+    ensures last { IfOk result (λ plan. last_word plan ≡ last_after join before next) }
 {
     match before {
         Some(left) => joined_plan(alloc, join, left, next),
@@ -78,6 +89,7 @@ fn joined_plan(
 ) -> Result<OperatorPlan, Memory>
     ensures same { IfOk result (λ plan. (text : LookedText) → operator_at text plan ≡ joined join (operator_at text left) (operator_at text right)) }
     ensures cost { IfOk result (λ plan. (cost : ItemTest → ℕ) → operator_cost cost plan ≡ operator_cost cost left + operator_cost cost right) }
+    ensures last { IfOk result (λ plan. last_word plan ≡ joined_last join (last_word left) (word_number right)) }
 {
     let sides = boxed_sides(alloc, left, right)?;
     match join {
@@ -92,18 +104,19 @@ fn without_operands(alloc: Global, join: Join) -> Result<OperatorPlan, Memory>
     ensures cost { IfOk result (λ plan. (cost : ItemTest → ℕ) → operator_cost cost plan ≡ 0) }
 {
     match join {
-        Join::Choice => Ok(no_hit(alloc)),
-        Join::Both => negated_plan(alloc, no_hit(alloc)),
+        Join::Choice => Ok(no_hit(alloc, 0)),
+        Join::Both => negated_plan(alloc, no_hit(alloc, 0)),
     }
 }
 
-/// A phrase that stands nowhere.
-pub(crate) fn no_hit(alloc: Global) -> OperatorPlan
+/// A phrase of that number that stands nowhere.
+pub(crate) fn no_hit(alloc: Global, number: u32) -> OperatorPlan
     ensures same { (text : LookedText) → operator_at text result ≡ phrase [] }
     ensures cost { (cost : ItemTest → ℕ) → operator_cost cost result ≡ 0 }
+    ensures word { word_number result ≡ Some number }
 {
     OperatorPlan::Phrase(PhraseTests {
-        number: 0,
+        number,
         variants: Items::new(alloc),
     })
 }
@@ -155,6 +168,7 @@ pub(crate) fn filtered_plan(
 ) -> Result<OperatorPlan, Memory>
     ensures same { IfOk result (λ plan. (text : LookedText) → operator_at text plan ≡ through_filter (operator_at text operand) kind) }
     ensures cost { IfOk result (λ plan. (cost : ItemTest → ℕ) → operator_cost cost plan ≡ operator_cost cost operand) }
+    ensures cheap { IfOk result (λ plan. is_cheap_operator plan ≡ (is_cheap_filter kind && is_some (last_word operand))) }
 {
     match Box::new(alloc, FilteredPlan { operand, kind }) {
         Ok(plan) => Ok(OperatorPlan::Filtered(plan)),

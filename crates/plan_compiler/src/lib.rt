@@ -25,6 +25,7 @@ mod reading;
 mod served;
 mod stops;
 mod text_word;
+mod uniting;
 mod variants;
 mod words_plan;
 

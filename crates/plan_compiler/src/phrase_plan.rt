@@ -4,7 +4,7 @@ ghost use Rattle.std.specs.Prelude.{◌≡◌, [], map, length, nat_eq, IfOk, On
 ghost use Rattle.std.specs.Map.{lookup};
 ghost use Rattle.all_matches.specs.Counting.{by_length, with_variant};
 ghost use Rattle.match_options.specs.Items.{item};
-ghost use Rattle.plan_compiler.specs.ItemTests.{passes};
+ghost use Rattle.plan_compiler.specs.ItemTests.{asks_nothing, passes};
 ghost use Rattle.plan_compiler.specs.GroupedTests.{group_tests, put_after};
 ghost use Rattle.plan_compiler.specs.WordsMeaning as spec;
 
@@ -127,7 +127,8 @@ pub(crate) fn phrase_tests(
     reading: &Reading<'_>,
     phrase: &[QueryItem],
 ) -> Result<Items<ItemTest>, Memory>
-    ensures { IfOk result (λ tests. map passes tests ≡ map (spec.item_test reading.now) (map item phrase.now)) }
+    ensures passes { IfOk result (λ tests. map passes tests ≡ map (spec.item_test reading.now) (map item phrase.now)) }
+    ensures asks { IfOk result (λ tests. map asks_nothing tests ≡ map (spec.reads_any reading.now) (map item phrase.now)) }
 {
     let mut tests = Items::new(alloc);
     for item in phrase {

@@ -1,11 +1,11 @@
 //! How the words of a selection are read under the options that hold for them.
 
-ghost use Rattle.std.specs.Prelude.{◌≡◌, map, IfOk};
+ghost use Rattle.std.specs.Prelude.{◌≡◌, false, map, IfOk};
 ghost use Rattle.match_options.specs.Items.{item};
 ghost use Rattle.all_matches.specs.Variants as the;
 ghost use Rattle.text_forms.specs.Forms.{key_of};
 ghost use Rattle.plan_compiler.specs.ChosenOptions.{options_of};
-ghost use Rattle.plan_compiler.specs.ItemTests.{passes};
+ghost use Rattle.plan_compiler.specs.ItemTests.{asks_nothing, passes};
 ghost use Rattle.plan_compiler.specs.ReadingMeaning.{Reads};
 ghost use Rattle.plan_compiler.specs.Stops as stop;
 ghost use Rattle.plan_compiler.specs.WordsMeaning as spec;
@@ -58,7 +58,8 @@ pub(crate) fn item_test(
     reading: &Reading<'_>,
     query: &QueryItem,
 ) -> Result<ItemTest, Memory>
-    ensures { IfOk result (λ test. passes test ≡ spec.item_test reading.now (item query.now)) }
+    ensures passes { IfOk result (λ test. passes test ≡ spec.item_test reading.now (item query.now)) }
+    ensures asks { IfOk result (λ test. asks_nothing test ≡ spec.reads_any reading.now (item query.now)) }
 {
     match query {
         QueryItem::Pattern(_pattern) => {
@@ -77,10 +78,11 @@ fn word_test(
     word: &Line,
 ) -> Result<ItemTest, Memory>
     requires { item query.now ≡ the.word word.now }
-    ensures { IfOk result (λ test. passes test ≡ spec.item_test reading.now (the.word word.now)) }
+    ensures passes { IfOk result (λ test. passes test ≡ spec.item_test reading.now (the.word word.now)) }
+    ensures asks { IfOk result (λ test. asks_nothing test ≡ spec.reads_any reading.now (the.word word.now)) }
 {
     if is_stop_word(alloc, reading, word)? {
-        return Ok(ItemTest::ByForms(WordTest::Any));
+        return Ok(ItemTest::Any);
     }
     if reading.stemming {
         return stem_test(alloc, reading, word);
@@ -91,7 +93,8 @@ fn word_test(
 
 #[tactic(auto, unfolding(crate::specs::ItemTests::passes))]
 fn stem_test(alloc: Global, reading: &Reading<'_>, word: &Line) -> Result<ItemTest, Memory>
-    ensures { IfOk result (λ test. passes test ≡ spec.stem_test reading.now.lists.now.stems reading.now.choice.case word.now) }
+    ensures passes { IfOk result (λ test. passes test ≡ spec.stem_test reading.now.lists.now.stems reading.now.choice.case word.now) }
+    ensures asks { IfOk result (λ test. asks_nothing test ≡ false) }
 {
     let key = key(alloc, word.as_str())?;
     let stem = Line::read(alloc, reading.lists.stem(key.as_str()))?;

@@ -10,7 +10,8 @@ use Rattle.all_matches.specs.Operators.{together_of}
 use Rattle.all_matches.specs.Ways.{Operator, phrase, together}
 use Rattle.plan_compiler.specs.declared.operator_plan.OperatorPlan.{OperatorPlan, Phrase, Choice', Both', MildNot', Negated', Filtered'}
 use Rattle.plan_compiler.specs.declared.operator_plan.PhraseTests.{PhraseTests}
-use Rattle.plan_kinds.specs.steps.JoinedPhrases.{alone, are_two, is_word, joined_of, joined_phrases, one_more, phrase_of}
+use Rattle.plan_compiler.specs.CheapPlans.{is_word}
+use Rattle.plan_kinds.specs.steps.JoinedPhrases.{alone, are_two, joined_of, joined_phrases, one_more, phrase_of}
 use Rattle.plan_kinds.specs.declared.joined.Joined.{Joined}
 
 -- whether the phrases have the numbers from one on

@@ -3,3 +3,4 @@ pub mod FilteredLaw
 pub mod PassLaw
 pub mod PlacedLaw
 pub mod OutsideLaw
+pub mod CheapLaw

@@ -10,7 +10,8 @@ use Rattle.spot_merges.specs.declared.outside.Outside.{Outside}
 use Rattle.spot_merges.specs.declared.outside.Outside.TheVariants.{Cover, Window}
 use Rattle.plan_compiler.specs.declared.operator_plan.OperatorPlan.{OperatorPlan, Phrase, Choice', Both', MildNot', Negated', Filtered'}
 use Rattle.plan_compiler.specs.declared.operator_plan.PhraseTests.{PhraseTests}
-use Rattle.plan_kinds.specs.steps.JoinedPhrases.{is_word, negated_phrase, phrase_of}
+use Rattle.plan_compiler.specs.CheapPlans.{is_word}
+use Rattle.plan_kinds.specs.steps.JoinedPhrases.{negated_phrase, phrase_of}
 use Rattle.plan_kinds.specs.steps.OutsidePhrases.{filter_outside, found_outside, outside_of, phrase_without, when_words, word_without}
 use Rattle.plan_kinds.specs.steps.PlacedPhrases.{both_of}
 use Rattle.plan_kinds.proofs.PlacedLaw.{both_found, phrase_is}

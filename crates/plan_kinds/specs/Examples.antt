@@ -2,7 +2,7 @@
 use Rattle.std.specs.Prelude.{ℕ, List, [], ◌∷◌, true, false}
 use Rattle.match_options.specs.declared.word_matching.WordTest.TheVariants as Test
 use Rattle.plan_compiler.specs.declared.item_matching.ItemTest.{ItemTest}
-use Rattle.plan_compiler.specs.declared.item_matching.ItemTest.TheVariants.{ByForms}
+use Rattle.plan_compiler.specs.declared.item_matching.ItemTest.TheVariants.{Any, ByForms}
 use Rattle.plan_compiler.specs.declared.operator_plan.PhraseTests.{PhraseTests}
 use Rattle.plan_kinds.specs.declared.joined.Joined.{Joined}
 
@@ -32,4 +32,4 @@ two_words number = asking number (ByForms Test.Never ∷ ByForms Test.Never ∷ 
 
 -- any word
 abbrev pub any_word : ℕ → PhraseTests
-any_word number = asking number (ByForms Test.Any ∷ [])
+any_word number = asking number (Any ∷ [])

@@ -2,6 +2,7 @@
 
 ghost use Rattle.std.specs.Prelude.{◌≡◌};
 ghost use Rattle.std.specs.Option.{option_copied};
+ghost use Rattle.plan_compiler.specs.ItemTests as tests;
 ghost use Rattle.plan_kinds.specs.steps.AskedKeys as spec;
 
 use match_options::WordTest;
@@ -12,6 +13,7 @@ pub fn asked_key(test: &ItemTest) -> Option<&str>
     ensures { option_copied result ≡ spec.asked_key test.now }
 {
     match test {
+        ItemTest::Any => None,
         ItemTest::ByForms(test) => key_of_forms(test),
         ItemTest::ByStem(_stem, _case) => None,
     }
@@ -30,19 +32,11 @@ fn key_of_forms(test: &WordTest) -> Option<&str>
 
 /// Whether each word passes, whatever it is.
 pub fn asks_nothing(test: &ItemTest) -> bool
-    ensures { result ≡ spec.asks_nothing test.now }
+    ensures { result ≡ tests.asks_nothing test.now }
 {
     match test {
-        ItemTest::ByForms(test) => forms_pass(test),
+        ItemTest::Any => true,
+        ItemTest::ByForms(_test) => false,
         ItemTest::ByStem(_stem, _case) => false,
-    }
-}
-
-fn forms_pass(test: &WordTest) -> bool
-    ensures { result ≡ spec.forms_pass test.now }
-{
-    match test {
-        WordTest::Any => true,
-        _ => false,
     }
 }

@@ -1,5 +1,5 @@
 //! Which plans are decided by which way, by computation.
-#![tactic(auto, unfolding(crate::specs::steps::JoinedPhrases::joined_of))]
+#![tactic(auto, unfolding(crate::specs::steps::JoinedPhrases::joined_of, crate::specs::steps::NearPlans::is_near))]
 
 ghost use Rattle.std.specs.Prelude.{◌≡◌, [], ◌∷◌, true, false, None, Some};
 ghost use Rattle.ft_base.specs.declared.filter.Filter.{Filter};
@@ -7,15 +7,17 @@ ghost use Rattle.ft_base.specs.declared.filter.Filter.TheVariants as F;
 ghost use Rattle.ft_base.specs.declared.range.Range.TheVariants.{AtMost, Exactly};
 ghost use Rattle.ft_base.specs.declared.unit.TextUnit.TheVariants.{Sentences, Words};
 ghost use Rattle.match_options.specs.declared.word_matching.WordTest.TheVariants as Test;
-ghost use Rattle.plan_compiler.specs.declared.item_matching.ItemTest.TheVariants.{ByForms};
+ghost use Rattle.plan_compiler.specs.declared.item_matching.ItemTest.TheVariants.{Any, ByForms};
 ghost use Rattle.plan_compiler.specs.declared.operator_plan.OperatorPlan.{OperatorPlan, Phrase, Choice', Both', MildNot', Negated', Filtered'};
 ghost use Rattle.plan_compiler.specs.declared.operator_plan.PhraseTests.{PhraseTests};
 ghost use Rattle.spot_merges.specs.declared.edge.Edge.TheVariants as E;
 ghost use Rattle.spot_merges.specs.declared.outside.Outside.TheVariants as O;
 ghost use Rattle.plan_kinds.specs.Examples.{a_word, any_word, numbered, some_phrases, some_words, two_words};
-ghost use Rattle.plan_kinds.specs.steps.JoinedPhrases.{is_single, joined_of};
+ghost use Rattle.plan_compiler.specs.CheapPlans.{is_single};
+ghost use Rattle.plan_kinds.specs.steps.JoinedPhrases.{joined_of};
 ghost use Rattle.plan_kinds.specs.steps.MergeKinds.{merge_kind, merge_of};
 ghost use Rattle.plan_kinds.specs.steps.PassKinds.{pass_kind, pass_of};
+ghost use Rattle.plan_kinds.specs.steps.NearPlans.{is_near};
 ghost use Rattle.plan_kinds.specs.steps.OutsidePhrases.{outside_of};
 ghost use Rattle.plan_kinds.specs.steps.PlacedPhrases.{edge_of};
 ghost use Rattle.plan_kinds.specs.declared.merge_kind.MergeKind.TheVariants as M;
@@ -28,7 +30,7 @@ pub fn joined_phrases()
     ensures of_one_number { (p : _) → joined_of (Both' p (Phrase (numbered 1)) (Phrase (numbered 1))) ≡ None }
     ensures a_choice { (p : _) (left right : OperatorPlan) → joined_of (Choice' p left right) ≡ None }
     ensures a_word { is_single (ByForms Test.Never ∷ []) ≡ true }
-    ensures any_word { is_single (ByForms Test.Any ∷ []) ≡ false }
+    ensures any_word { is_single (Any ∷ []) ≡ false }
     ensures two_words { is_single (ByForms Test.Never ∷ ByForms Test.Never ∷ []) ≡ false }
 {}
 
@@ -45,14 +47,29 @@ pub fn merges()
 
 /// Filters over phrases.
 pub fn passes()
-    ensures window { pass_kind (F.Window 9 Sentences) (some_phrases 1 3) ≡ Some (P.Within 9 Sentences) }
-    ensures sentence { pass_kind F.SameSentence (some_phrases 1 3) ≡ Some (P.Within 1 Sentences) }
+    ensures in_order { pass_kind F.Ordered (some_phrases 1 3) ≡ Some P.InOrder }
     ensures distance { pass_kind (F.Distance (AtMost 5) Words) (some_phrases 3 4) ≡ Some (P.Apart (AtMost 5) Words) }
     ensures another_distance { pass_kind (F.Distance (Exactly 5) Words) (some_words 3 4) ≡ Some (P.Apart (Exactly 5) Words) }
-    ensures distance_in_sentences { pass_kind (F.Distance (AtMost 5) Sentences) (some_phrases 3 4) ≡ None }
+    ensures distance_in_sentences { pass_kind (F.Distance (AtMost 5) Sentences) (some_phrases 3 4) ≡ Some (P.Apart (AtMost 5) Sentences) }
+    ensures distance_over_three { pass_kind (F.Distance (AtMost 5) Words) (some_phrases 3 5) ≡ None }
     ensures over_one { pass_kind (F.Distance (AtMost 5) Words) (some_phrases 3 3) ≡ None }
     ensures with_its_operand { (p : _) → pass_of (Filtered' p (Phrase (numbered 1)) F.Ordered) ≡ Some (P.InOrder, Phrase (numbered 1)) }
     ensures no_filter { (p : _) (left right : OperatorPlan) → pass_of (Both' p left right) ≡ None }
+{}
+
+/// Windows and scopes over phrases, at any depth, and nothing else.
+pub fn near()
+    ensures a_window { (p q : _) (left right : PhraseTests) → is_near (Filtered' p (Both' q (Phrase left) (Phrase right)) (F.Window 9 Words)) ≡ true }
+    ensures a_choice { (p q : _) (left right : PhraseTests) → is_near (Filtered' p (Choice' q (Phrase left) (Phrase right)) F.SameParagraph) ≡ true }
+    ensures nested { (p q r : _) (left right : PhraseTests)
+        → is_near (Filtered' p (Both' q (Filtered' r (Phrase left) (F.Window 2 Sentences)) (Phrase right)) F.SameSentence) ≡ true }
+    ensures in_order { (p : _) (found : PhraseTests) → is_near (Filtered' p (Phrase found) F.Ordered) ≡ false }
+    ensures order_inside { (p q : _) (found : PhraseTests) → is_near (Filtered' p (Filtered' q (Phrase found) F.Ordered) (F.Window 9 Words)) ≡ false }
+    ensures different { (p : _) (found : PhraseTests) → is_near (Filtered' p (Phrase found) F.DifferentSentence) ≡ false }
+    ensures a_distance { (p : _) (found : PhraseTests) → is_near (Filtered' p (Phrase found) (F.Distance (AtMost 9) Words)) ≡ false }
+    ensures negated { (p q r : _) (left right : PhraseTests)
+        → is_near (Filtered' p (Both' q (Phrase left) (Negated' r (Phrase right))) (F.Window 9 Words)) ≡ false }
+    ensures not_in { (p q : _) (left right : PhraseTests) → is_near (Filtered' p (MildNot' q (Phrase left) (Phrase right)) (F.Window 9 Words)) ≡ false }
 {}
 
 /// A filter at an edge of the text, over one phrase.

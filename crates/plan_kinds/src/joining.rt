@@ -2,7 +2,8 @@
 
 ghost use Rattle.std.specs.Prelude.{◌≡◌, ◌&&◌, not};
 ghost use Rattle.std.specs.List.{list_all};
-ghost use Rattle.plan_kinds.specs.steps.AskedKeys as keys;
+ghost use Rattle.plan_compiler.specs.CheapPlans as plans;
+ghost use Rattle.plan_compiler.specs.ItemTests as keys;
 ghost use Rattle.plan_kinds.specs.steps.JoinedPhrases as spec;
 
 use crate::asked_keys::asks_nothing;
@@ -73,13 +74,13 @@ pub(crate) fn are_two(joined: Joined) -> bool
 
 /// Whether each variant is one word, and not any word.
 pub(crate) fn is_word(phrase: &PhraseTests) -> bool
-    ensures { result ≡ spec.is_word phrase.now }
+    ensures { result ≡ plans.is_word phrase.now }
 {
     are_single(phrase.variants.as_slice())
 }
 
 fn are_single(variants: &[Items<ItemTest>]) -> bool
-    ensures { result ≡ list_all spec.is_single variants.now }
+    ensures { result ≡ list_all plans.is_single variants.now }
 {
     for tests in variants {
         if !is_single(tests.as_slice()) {
@@ -91,7 +92,7 @@ fn are_single(variants: &[Items<ItemTest>]) -> bool
 
 /// Whether a variant is one word, and not any word.
 fn is_single(tests: &[ItemTest]) -> bool
-    ensures { result ≡ spec.is_single tests.now }
+    ensures { result ≡ plans.is_single tests.now }
 {
     tests.len() == 1 && each_asks(tests)
 }

@@ -11,8 +11,8 @@ use crate::phrases::filtered_of;
 use ft_base::{Filter, Range, Unit};
 use plan_compiler::{FilteredPlan, OperatorPlan};
 
-/// How the phrases have to stand, and the operand that joins them, where one pass through their hits decides the selection: a window,
-/// `ordered`, `same sentence` or `same paragraph` over phrases that are joined by `ftand`, or a distance in words over two of them.
+/// How the phrases have to stand, and the operand that joins them, where one pass through their hits decides the selection: `ordered` over
+/// phrases that are joined by `ftand`, or a distance over two of them.
 pub fn pass_of(plan: &OperatorPlan) -> Option<(PassKind, &OperatorPlan)>
     ensures { option_map (λ pass. (pass.0, pass.1.now)) result ≡ spec.pass_of plan.now }
 {
@@ -40,10 +40,7 @@ fn pass_kind(filter: Filter, joined: Joined) -> Option<PassKind>
 {
     match filter {
         Filter::Ordered => Some(PassKind::InOrder),
-        Filter::Window(size, unit) => Some(PassKind::Within(size, unit)),
         Filter::Distance(range, unit) => apart_kind(range, unit, joined),
-        Filter::SameSentence => Some(PassKind::Within(1, Unit::Sentences)),
-        Filter::SameParagraph => Some(PassKind::Within(1, Unit::Paragraphs)),
         _ => None,
     }
 }
@@ -51,18 +48,8 @@ fn pass_kind(filter: Filter, joined: Joined) -> Option<PassKind>
 fn apart_kind(range: Range, unit: Unit, joined: Joined) -> Option<PassKind>
     ensures { result ≡ spec.apart_kind range unit joined }
 {
-    match unit {
-        Unit::Words => two_apart(range, joined),
-        Unit::Sentences => None,
-        Unit::Paragraphs => None,
-    }
-}
-
-fn two_apart(range: Range, joined: Joined) -> Option<PassKind>
-    ensures { result ≡ spec.two_apart range joined }
-{
     if are_two(joined) {
-        Some(PassKind::Apart(range, Unit::Words))
+        Some(PassKind::Apart(range, unit))
     } else {
         None
     }

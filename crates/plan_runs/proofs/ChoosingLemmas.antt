@@ -67,6 +67,7 @@ form_key The.Never key forms e h = absurd (none-some key e)
 
 pub asked : (looks : Looks) (stems : List Stem) (test : ItemTest) (key : List ℕ) → asked_key test ≡ Some key → (word : List ℕ) → word_test looks stems test word ≡ true → key_of word ≡ key
 unfolding passes
+asked looks stems Test.Any key e word h = absurd (none-some key e)
 asked looks stems (Test.ByForms test) key e word h = sym (looked_at_key looks.all_forms word) ∙ form_key test key (tests.forms_as looks.all_forms word) e h
 asked looks stems (Test.ByStem stem case) key e word h = absurd (none-some key e)
 

@@ -19,6 +19,8 @@ mod OpenedMerges
 mod RisingHits
 mod HitUnion
 mod OpenedHits
+mod NearViews
+mod OpenedNear
 mod OpenedPlaced
 mod KnownTexts
 mod RunLaw

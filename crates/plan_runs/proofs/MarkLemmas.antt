@@ -30,6 +30,7 @@ use Rattle.plan_runs.proofs.TermLaws.{number_found, term_keyed}
 pub stem_asked : (looks : Looks) (stems : List Stem) (test : ItemTest) (stem : List ℕ) → asked_stem looks test ≡ Some stem → (word : List ℕ) → word_test looks stems test word ≡ true
     → bytes_eq (stem_in stems (key_of word)) stem ≡ true
 unfolding passes
+stem_asked looks stems Test.Any stem e word h = absurd (none-some stem e)
 stem_asked looks stems (Test.ByForms test) stem e word h = absurd (none-some stem e)
 stem_asked looks stems (Test.ByStem asked case) stem e word h = go looks.stems refl
   where

@@ -16,10 +16,11 @@ use Rattle.place_merges.specs.Sources.{places_left}
 use Rattle.window_merges.specs.Rows.{all_places, places_in, word_lists, words_left, words_plain}
 use Rattle.word_lists.specs.Stems.{Stem}
 use Rattle.plan_compiler.specs.NodeCosts.{operator_cost}
-use Rattle.plan_kinds.specs.steps.AskedKeys.{asks_nothing}
+use Rattle.plan_compiler.specs.ItemTests.{asks_nothing}
 use Rattle.plan_runs.specs.steps.AskedPlaces.{aimed, asked_at, hits_at}
 use Rattle.plan_runs.specs.steps.ChosenTerms.{numbers_of}
-use Rattle.plan_kinds.specs.steps.JoinedPhrases.{is_single, is_word, joined_phrases}
+use Rattle.plan_compiler.specs.CheapPlans.{is_single, is_word}
+use Rattle.plan_kinds.specs.steps.JoinedPhrases.{joined_phrases}
 use Rattle.plan_runs.specs.steps.Merges.{phrase_terms, terms_places, test_terms}
 use Rattle.plan_runs.specs.steps.OpenedItems.{opened_item}
 use Rattle.plan_runs.specs.steps.RunCosts.{IsFair, moves_for}

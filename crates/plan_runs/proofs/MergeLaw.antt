@@ -27,10 +27,11 @@ use Rattle.window_merges.proofs.SingleSpots.{single_spots}
 use Rattle.window_merges.proofs.WantedLemmas.{wanted_places}
 use Rattle.word_lists.specs.Stems.{Stem}
 use Rattle.plan_compiler.specs.Operators.{LookedText, hits_by_tests, looked_text, operator_at}
-use Rattle.plan_kinds.specs.steps.AskedKeys.{asks_nothing}
+use Rattle.plan_compiler.specs.ItemTests.{asks_nothing}
 use Rattle.plan_runs.specs.steps.AskedSpans.{AskedSpan, IsAsked, tokens_in}
 use Rattle.plan_runs.specs.steps.ChosenTerms.{terms_for}
-use Rattle.plan_kinds.specs.steps.JoinedPhrases.{is_single, is_word, joined_of, joined_phrases}
+use Rattle.plan_compiler.specs.CheapPlans.{is_single, is_word}
+use Rattle.plan_kinds.specs.steps.JoinedPhrases.{joined_of, joined_phrases}
 use Rattle.plan_kinds.specs.steps.MergeKinds.{merge_kind}
 use Rattle.plan_kinds.specs.declared.joined.Joined.{Joined}
 use Rattle.plan_kinds.proofs.FilteredLaw.{words_law}

@@ -1,5 +1,5 @@
 -- Opened passes say of the spans of documents what the compiled selections say of their tokens.
-use Rattle.std.proofs.Common.{◌≡◌, refl, sym, ap, subst, ◌∙◌, ℕ, ◌+◌, ◌==◌, true, List, [], ◌∷◌, map, filter, length, Some, Box, Global, arith}
+use Rattle.std.proofs.Common.{◌≡◌, refl, sym, ap, subst, ◌∙◌, ℕ, ◌+◌, ◌==◌, true, true≢false, List, [], ◌∷◌, map, filter, length, Some, None, Box, Global, arith}
 use Rattle.std.specs.List.{list_all}
 use Rattle.std.proofs.lemmas.Bool.{and_from, and_parts}
 use Rattle.std.proofs.lemmas.List.{length-map}
@@ -14,7 +14,8 @@ use Rattle.ft_operators.specs.Walk.{own_span}
 use Rattle.index_meaning.specs.Documents.{Numbered, breaks_of, document_at, has_document}
 use Rattle.index_phrases.specs.Cursors.{state_of}
 use Rattle.index_phrases.specs.Phrases.{phrase_hits, wanted_at}
-use Rattle.phrase_merges.specs.Choices.{ends_after}
+use Rattle.phrase_merges.specs.Choices.{begin_alike, ends_after}
+use Rattle.phrase_merges.specs.Near.{is_told}
 use Rattle.phrase_merges.specs.Rows.{all_aims, all_may, hits_there, is_rising, rise_there}
 use Rattle.place_merges.specs.Spots.{some_at, spots_between}
 use Rattle.place_merges.specs.declared.spot.Spot.{Spot}
@@ -22,7 +23,9 @@ use Rattle.window_merges.specs.Choices.{some_choice}
 use Rattle.window_merges.specs.Words.{are_numbered}
 use Rattle.word_lists.specs.Stems.{Stem}
 use Rattle.plan_compiler.specs.Operators.{looked_text}
-use Rattle.plan_compiler.proofs.NodeViews.{truth-Ways}
+use Rattle.plan_kinds.specs.steps.MergeKinds.{merge_of}
+use Rattle.plan_kinds.proofs.CheapLaw.{unmerged}
+use Rattle.plan_compiler.proofs.NodeViews.{cheap-Ways, truth-Ways}
 use Rattle.plan_compiler.specs.declared.item_matching.ItemTest.{ItemTest}
 use Rattle.plan_compiler.specs.declared.looks.Looks.{Looks}
 use Rattle.plan_compiler.specs.declared.node.Node as N
@@ -50,7 +53,7 @@ use Rattle.plan_runs.specs.declared.run_node.RunNode as R
 use Rattle.plan_runs.proofs.HitUnion.{choice_alike, union_law}
 use Rattle.plan_runs.proofs.SkipLaw.{nothing_there}
 use Rattle.plan_runs.proofs.OpenedWays.{aims_law, own_text}
-use Rattle.plan_runs.proofs.RisingHits.{all_told, told_ends, variant_rises}
+use Rattle.plan_runs.proofs.RisingHits.{all_begin_alike, all_told, own_units, phrase_told, told_ends, units_rise, variant_rises}
 use Rattle.plan_runs.proofs.RunViews.{shape-Hits}
 
 module _ (looks : Looks) (stems : List Stem) (version : List Numbered) where
@@ -78,6 +81,23 @@ module _ (looks : Looks) (stems : List Stem) (version : List Numbered) where
         (all_told found.number (breaks_of (document_at doc version)) span (ends_after unit) (told_ends found.number (breaks_of (document_at doc version)) span unit) (spots_here found))
         (ending_hits unit phrases)
 
+    told_hits : (phrases : List PhraseTests) → list_all (list_all (is_told (own_units (breaks_of (document_at doc version)) span))) (map hits_here phrases) ≡ true
+    told_hits [] = refl
+    told_hits (found ∷ phrases) =
+        and_from (list_all (is_told (own_units (breaks_of (document_at doc version)) span)) (hits_here found))
+        (list_all (list_all (is_told (own_units (breaks_of (document_at doc version)) span))) (map hits_here phrases))
+        (phrase_told found.number (breaks_of (document_at doc version)) span (map (map (wanted_at version doc span)) (map (opened_variant looks stems version) found.variants)))
+        (told_hits phrases)
+
+    alike_hits : (unit : TextUnit) (phrases : List PhraseTests) (hits others : List Hit) → map hits_here phrases ≡ hits ∷ others ∷ []
+        → list_all (λ a. list_all (begin_alike unit a) others) hits ≡ true
+    alike_hits unit phrases hits others are =
+        let breaks = breaks_of (document_at doc version) in
+        let told = ap (list_all (list_all (is_told (own_units breaks span)))) (sym are) ∙ told_hits phrases in
+        let parts = and_parts (list_all (is_told (own_units breaks span)) hits) (list_all (list_all (is_told (own_units breaks span))) (others ∷ [])) told in
+        let other = and_parts (list_all (is_told (own_units breaks span)) others) true parts.1 in
+        all_begin_alike (own_units breaks span) (units_rise breaks span) unit hits others parts.0 other.0
+
     joined_hits : (phrases : List PhraseTests) → map (λ found. hits_there doc span (phrase_variants looks stems version found)) phrases ≡ map (hits_there doc span) (map (phrase_variants looks stems version) phrases)
     joined_hits [] = refl
     joined_hits (found ∷ phrases) = ap (λ rest. hits_there doc span (phrase_variants looks stems version found) ∷ rest) (joined_hits phrases)
@@ -94,7 +114,7 @@ module _ (looks : Looks) (stems : List Stem) (version : List Numbered) where
         ap (λ operator. satisfied (matches_of (own_span span) (through_filter operator own)))
         (are.same (λ plan. (opened_aims looks stems version plan).operators doc span) hits_here (λ found. refl) (λ p left right. refl))
         ∙ pass_law joined (own_span span) (hits_here are.first) (map hits_here are.rest) counted own kind kinds
-        (record { numbered = numbered_hits joined.first all are.numbered; ends = λ unit. ending_hits unit all })
+        (record { numbered = numbered_hits joined.first all are.numbered; ends = λ unit. ending_hits unit all; alike = λ unit. alike_hits unit all })
         ∙ choice_alike hits_here (λ found. hits_there doc span (phrase_variants looks stems version found))
         (λ found test. union_law looks stems version found.number doc span test found.variants) (hits_stand kind) all
         ∙ ap (some_choice (hits_stand kind)) (joined_hits all)
@@ -102,7 +122,7 @@ module _ (looks : Looks) (stems : List Stem) (version : List Numbered) where
 
   -- ---- where they may be aimed, and that they rise
 
-  may_each : (doc : ℕ) (span : Span) → has_document doc version ≡ true → (number : ℕ) (variants : List (List ItemTest))
+  pub may_each : (doc : ℕ) (span : Span) → has_document doc version ≡ true → (number : ℕ) (variants : List (List ItemTest))
       → list_all (λ (aims : PhraseAims). aims.may doc span) (map (variant_aims looks stems version number) variants) ≡ true
   may_each doc span h number [] = refl
   may_each doc span h number (tests ∷ variants) = and_from (has_document doc version) (list_all (λ (aims : PhraseAims). aims.may doc span) (map (variant_aims looks stems version number) variants)) h (may_each doc span h number variants)
@@ -113,7 +133,7 @@ module _ (looks : Looks) (stems : List Stem) (version : List Numbered) where
       and_from (list_all (λ (aims : PhraseAims). aims.may doc span) (phrase_variants looks stems version found)) (all_may doc span (map (phrase_variants looks stems version) phrases))
       (may_each doc span h found.number found.variants) (may_all doc span h phrases)
 
-  rise_each : (doc : ℕ) (span : Span) (number : ℕ) (variants : List (List ItemTest))
+  pub rise_each : (doc : ℕ) (span : Span) (number : ℕ) (variants : List (List ItemTest))
       → list_all (λ (aims : PhraseAims). is_rising (aims.hits doc span)) (map (variant_aims looks stems version number) variants) ≡ true
   rise_each doc span number [] = refl
   rise_each doc span number (tests ∷ variants) =
@@ -129,11 +149,11 @@ module _ (looks : Looks) (stems : List Stem) (version : List Numbered) where
 
   -- ---- opened
 
-  pub hits_opened : (run : Box RunHits Global) (plan : WaysPlan) (kind : PassKind) (operand : OperatorPlan) → pass_of plan.operator ≡ Some (kind, operand)
+  pub hits_opened : (run : Box RunHits Global) (plan : WaysPlan) (kind : PassKind) (operand : OperatorPlan) → merge_of plan.operator ≡ None → pass_of plan.operator ≡ Some (kind, operand)
       → run.value.kind ≡ kind → all_aims state_of run.value.phrases.items ≡ opened_phrases looks stems version operand
       → skip_of run.value.needs ≡ opened_skip looks stems version plan.operator → IsOpened looks stems version (shape (R.Hits run)) (N.Ways plan)
   unfolding run_truth IsSound run_cost opened_aims
-  hits_opened run plan kind operand is kinds phrases skipping =
+  hits_opened run plan kind operand none is kinds phrases skipping =
       let pass = filtered_kind pass_kind plan.operator kind operand is in
       let made : HitsShape = record { kind = kind; phrases = opened_phrases looks stems version operand; skips = opened_skip looks stems version plan.operator } in
       let own : shape (R.Hits run) ≡ by_hits made = shape-Hits run ∙ (λ i. by_hits (record { kind = kinds i; phrases = phrases i; skips = skipping i })) in
@@ -154,4 +174,5 @@ module _ (looks : Looks) (stems : List Stem) (version : List Numbered) where
             ∙ (λ i. satisfied (matches_of (own_text looks stems version asked there i) (aims_law looks stems version asked there plan.operator i)))
             ∙ sym (truth-Ways plan text);
         cost = λ word_cost test_cost fair most. omega arith;
+        cheap = λ h. absurd (true≢false (sym h ∙ cheap-Ways plan ∙ unmerged plan.operator none));
       })

@@ -2,7 +2,9 @@
 use Rattle.std.proofs.Common.{◌≡◌, refl, sym, ap, ◌∙◌, ℕ, ◌+◌, ◌<◌, ◌≤◌, suc, Bool, true, false, ◌&&◌, ◌||◌, not, cond, List, [], ◌∷◌, ◌++◌, map, sum, length, get_or, take, true≢false, arith, subst, Box, Global}
 use Rattle.std.specs.List.{All, list_all, list_any, range_with_len, sum_by}
 use Rattle.std.specs.declared.vec.Vec.{Vec}
-use Rattle.std.proofs.lemmas.List.{map_more, map_push}
+use Rattle.std.proofs.lemmas.Bool.{and_from, and_parts}
+use Rattle.std.proofs.lemmas.List.{map_more, map_push, take_more}
+use Rattle.std.proofs.lemmas.List.Folds.{list_all-append}
 use Rattle.std.proofs.lemmas.List.Elements.{All-filter, All-from_get_or, All-map, All-nil, All-push}
 use Rattle.std.proofs.lemmas.List.Sums.{sum_by_more, sum_by_push}
 use Rattle.std.proofs.lemmas.List.FromFn.{get_or-range_with_len, length-range_with_len}
@@ -12,17 +14,15 @@ use Rattle.all_matches.proofs.ListTests.{list_any-map}
 use Rattle.index_meaning.specs.Documents.{Numbered}
 use Rattle.index_versions.specs.Terms.{VersionTerm, version_term}
 use Rattle.index_versions.specs.Versions.{term_at, terms_of}
-use Rattle.match_options.specs.WordTests as tests
-use Rattle.match_options.specs.declared.word_forms.Forms.{Forms}
-use Rattle.match_options.specs.declared.word_matching.WordTest.{WordTest}
-use Rattle.match_options.specs.declared.word_matching.WordTest.TheVariants as The
 use Rattle.word_lists.specs.Stems.{Stem}
-use Rattle.plan_kinds.specs.steps.AskedKeys.{asks_nothing, forms_pass}
+use Rattle.plan_compiler.specs.ItemTests.{asks_nothing}
 use Rattle.plan_runs.specs.steps.ChosenTerms.{AreKnown, IsKnown, is_among, terms_for}
 use Rattle.plan_compiler.specs.ItemTests.{passes}
+use Rattle.plan_compiler.specs.CheapPlans.{is_cheap_node}
 use Rattle.plan_compiler.specs.NodeCosts.{node_cost}
 use Rattle.plan_compiler.specs.NodeCosts as node
 use Rattle.plan_compiler.specs.NodeMeaning.{truth}
+use Rattle.plan_runs.specs.steps.CheapShapes.{is_cheap_shape}
 use Rattle.plan_runs.specs.steps.RunCosts.{group_cost, phrase_cost, run_cost, words_cost}
 use Rattle.plan_compiler.specs.Operators.{looked_text}
 use Rattle.plan_runs.specs.steps.AskedSpans.{AskedSpan, tokens_in, words_in}
@@ -47,10 +47,10 @@ use Rattle.index_phrases.specs.declared.word_terms.WordTerms.TheVariants as Term
 use Rattle.plan_compiler.specs.declared.text_word.TextWord.{TextWord}
 use Rattle.plan_compiler.specs.declared.words_plan.WordsPlan.{WordsPlan}
 use Rattle.plan_runs.proofs.KnownTexts.{looked_words, text_known}
-use Rattle.plan_compiler.proofs.NodeViews.{truth-Words, truth-Or, truth-And, truth-Not, cost-Words, cost-Or, cost-And, cost-Not}
+use Rattle.plan_compiler.proofs.NodeViews.{truth-Words, truth-Or, truth-And, truth-Not, cheap-Or, cheap-And, cheap-Not, cost-Words, cost-Or, cost-And, cost-Not}
 use Rattle.plan_compiler.proofs.SumLemmas.{sum_over_le}
 use Rattle.plan_runs.proofs.TermLaws.{numbers_again}
-use Rattle.plan_runs.proofs.TreeLemmas.{costs_are}
+use Rattle.plan_runs.proofs.TreeLemmas.{cheap_are, costs_are}
 use Rattle.plan_runs.proofs.RunViews.{shape-Words, shape-Or, shape-And, shape-Not}
 
 -- ---- lists
@@ -89,16 +89,10 @@ module _ {A X Y W : Type 0} (p : X → Y → Bool) (q : A → W → Bool) (f : A
 
 -- ---- tests that each word passes
 
-any_form_passes : (test : WordTest) (forms : Forms) → forms_pass test ≡ true → tests.passes test forms ≡ true
-unfolding tests.passes
-any_form_passes The.Any forms h = refl
-any_form_passes (The.Same choice query) forms h = absurd (true≢false (sym h))
-any_form_passes (The.Covered choice wild) forms h = absurd (true≢false (sym h))
-any_form_passes The.Never forms h = absurd (true≢false (sym h))
-
 any_passes : (test : ItemTest) (w : TextWord) → asks_nothing test ≡ true → passes test w ≡ true
 unfolding passes
-any_passes (Test.ByForms test) w h = any_form_passes test w.forms h
+any_passes Test.Any w h = refl
+any_passes (Test.ByForms test) w h = absurd (true≢false (sym h))
 any_passes (Test.ByStem stem case) w h = absurd (true≢false (sym h))
 
 -- terms that pass a test are terms of the version
@@ -174,7 +168,7 @@ module _ (looks : Looks) (stems : List Stem) (version : List Numbered) where
   -- ---- the kinds of a tree
 
   pub words_opened : (run : RunWords) (plan : WordsPlan) (node : Node) → node ≡ N.Words plan → words_shape run ≡ opened_words looks stems version plan → IsOpened looks stems version (shape (R.Words run)) node
-  unfolding run_truth IsSound run_cost
+  unfolding run_truth IsSound run_cost is_cheap_shape
   words_opened run plan node is opened =
       let own : shape (R.Words run) ≡ words (opened_words looks stems version plan) = shape-Words run ∙ ap words opened in
       subst (λ (s : Shape). IsOpened looks stems version s node) (sym own) (record {
@@ -187,6 +181,7 @@ module _ (looks : Looks) (stems : List Stem) (version : List Numbered) where
             let cheap = words_cheap word_cost test_cost most plan in
             let whole = ap (node_cost test_cost) is ∙ cost-Words test_cost plan in
             omega (arith, cheap, whole);
+        cheap = λ h. refl;
       })
 
   are_sound : (runs : List Shape) → All (IsSound version) runs → AreSound version (shapes_of runs)
@@ -209,7 +204,7 @@ module _ (looks : Looks) (stems : List Stem) (version : List Numbered) where
   list_all-map p f (x ∷ xs) = ap (λ b. p (f x) && b) (list_all-map p f xs)
 
   pub or_opened : (runs : Vec RunNode Global) (parts : List Node) (node : Node) → node ≡ N.Or parts → AreOpened looks stems version (map shape runs.items) parts → IsOpened looks stems version (shape (R.Or runs)) node
-  unfolding run_truth IsSound run_cost
+  unfolding run_truth IsSound run_cost is_cheap_shape
   or_opened runs parts node is opened =
       subst (λ (s : Shape). IsOpened looks stems version s node) (sym (shape-Or runs)) (record {
         sound = are_sound (map shape runs.items) opened.sound;
@@ -223,10 +218,11 @@ module _ (looks : Looks) (stems : List Stem) (version : List Numbered) where
             let all = costs_are word_cost (map shape runs.items) in
             let whole = ap (node_cost test_cost) is ∙ cost-Or test_cost parts in
             omega (arith, cheap, all, whole);
+        cheap = λ h. cheap_are (map shape runs.items) ∙ opened.cheap (sym (ap is_cheap_node is ∙ cheap-Or parts) ∙ h);
       })
 
   pub and_opened : (runs : Vec RunNode Global) (parts : List Node) (node : Node) → node ≡ N.And parts → AreOpened looks stems version (map shape runs.items) parts → IsOpened looks stems version (shape (R.And runs)) node
-  unfolding run_truth IsSound run_cost
+  unfolding run_truth IsSound run_cost is_cheap_shape
   and_opened runs parts node is opened =
       subst (λ (s : Shape). IsOpened looks stems version s node) (sym (shape-And runs)) (record {
         sound = are_sound (map shape runs.items) opened.sound;
@@ -240,10 +236,11 @@ module _ (looks : Looks) (stems : List Stem) (version : List Numbered) where
             let all = costs_are word_cost (map shape runs.items) in
             let whole = ap (node_cost test_cost) is ∙ cost-And test_cost parts in
             omega (arith, cheap, all, whole);
+        cheap = λ h. cheap_are (map shape runs.items) ∙ opened.cheap (sym (ap is_cheap_node is ∙ cheap-And parts) ∙ h);
       })
 
   pub not_opened : (run : Box RunNode Global) (part : Box Node Global) (node : Node) → node ≡ N.Not part → IsOpened looks stems version (shape run.value) part.value → IsOpened looks stems version (shape (R.Not run)) node
-  unfolding run_truth IsSound run_cost
+  unfolding run_truth IsSound run_cost is_cheap_shape
   not_opened run part node is opened =
       subst (λ (s : Shape). IsOpened looks stems version s node) (sym (shape-Not run)) (record {
         sound = opened.sound;
@@ -254,6 +251,7 @@ module _ (looks : Looks) (stems : List Stem) (version : List Numbered) where
             let cheap = opened.cost word_cost test_cost fair most in
             let whole = ap (node_cost test_cost) is ∙ cost-Not test_cost part in
             omega (arith, cheap, whole);
+        cheap = λ h. opened.cheap (sym (ap is_cheap_node is ∙ cheap-Not part) ∙ h);
       })
 
   -- one part more
@@ -276,4 +274,12 @@ module _ (looks : Looks) (stems : List Stem) (version : List Numbered) where
             let first = all.cost word_cost test_cost fair most in
             let then = opened.cost word_cost test_cost fair most in
             omega (arith, sum, more, own, first, then);
+        cheap = λ all_cheap.
+            let taken : take (i + 1) nodes ≡ take i nodes ++ node ∷ [] = take_more nodes i node h ∙ ap (λ (n : Node). take i nodes ++ n ∷ []) (sym is) in
+            let sides = and_parts (list_all is_cheap_node (take i nodes)) (list_all is_cheap_node (node ∷ []))
+            (sym (list_all-append is_cheap_node (take i nodes) (node ∷ [])) ∙ ap (list_all is_cheap_node) (sym taken) ∙ all_cheap) in
+            ap (list_all is_cheap_shape) shapes
+            ∙ list_all-append is_cheap_shape (map shape before) (shape run ∷ [])
+            ∙ and_from (list_all is_cheap_shape (map shape before)) (list_all is_cheap_shape (shape run ∷ [])) (all.cheap sides.0)
+            (λ j. opened.cheap (and_parts (is_cheap_node node) true sides.1).0 j && true);
       }

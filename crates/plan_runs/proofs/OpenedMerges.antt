@@ -12,13 +12,15 @@ use Rattle.plan_compiler.specs.NodeCosts.{operator_cost}
 use Rattle.plan_compiler.specs.Operators.{looked_text, operator_at}
 use Rattle.plan_runs.specs.steps.AskedSpans.{tokens_in}
 use Rattle.plan_runs.specs.steps.ChosenTerms.{terms_for}
-use Rattle.plan_kinds.specs.steps.JoinedPhrases.{is_word, joined_phrases}
+use Rattle.plan_compiler.specs.CheapPlans.{is_word}
+use Rattle.plan_kinds.specs.steps.JoinedPhrases.{joined_phrases}
 use Rattle.plan_kinds.specs.steps.MergeKinds.{merge_kind, merge_of}
 use Rattle.plan_kinds.proofs.FilteredLaw.{filtered_kind, filtered_law, words_law}
 use Rattle.plan_kinds.proofs.JoinedLaw.{joined_law}
 use Rattle.plan_runs.specs.steps.Merges.{opened_merge, phrase_terms, test_terms}
 use Rattle.plan_runs.specs.steps.OpenedItems.{word_test}
 use Rattle.plan_runs.specs.steps.OpenedWords.{IsOpened}
+use Rattle.plan_runs.specs.steps.CheapShapes.{is_cheap_shape}
 use Rattle.plan_runs.specs.steps.RunCosts.{run_cost}
 use Rattle.plan_runs.specs.steps.RunShapes.{Shape, merge_shape, shape, by_merge}
 use Rattle.plan_runs.specs.steps.RunTruth.{IsSound, run_truth}
@@ -56,7 +58,7 @@ module _ (looks : Looks) (stems : List Stem) (version : List Numbered) where
 
   pub merge_opened : (run : RunMerge) (plan : WaysPlan) (kind : MergeKind) (operand : OperatorPlan) → merge_of plan.operator ≡ Some (kind, operand)
       → merge_shape run ≡ opened_merge looks stems version kind operand → IsOpened looks stems version (shape (R.Merge run)) (N.Ways plan)
-  unfolding run_truth IsSound run_cost operator_at operator_cost
+  unfolding run_truth IsSound run_cost operator_at operator_cost is_cheap_shape
   merge_opened run plan kind operand is opened =
       let merge = filtered_kind merge_kind plan.operator kind operand is in
       let made = words_law merge.filter merge.joined kind merge.kinds in
@@ -76,4 +78,5 @@ module _ (looks : Looks) (stems : List Stem) (version : List Numbered) where
             let filtered = filtered_law (operator_cost test_cost) (λ cost filter. cost) (λ p own filter. refl) plan.operator _ merge.is in
             let whole = cost-Ways test_cost plan in
             omega (arith, cheap, sum, filtered, whole);
+        cheap = λ h. refl;
       })

@@ -1,6 +1,6 @@
 -- Opened phrases that have to stand somewhere say of the spans of documents what the compiled selections say of their tokens.
-use Rattle.std.proofs.Common.{◌≡◌, refl, sym, ap, subst, ◌∙◌, ℕ, ◌+◌, ◌==◌, ◌≤◌, true, ◌&&◌, not, List, [], ◌∷◌, map, length, Some, arith}
-use Rattle.std.specs.List.{list_all, sum_by}
+use Rattle.std.proofs.Common.{◌≡◌, refl, sym, ap, subst, ◌∙◌, ℕ, ◌==◌, true, true≢false, ◌&&◌, not, List, [], ◌∷◌, map, length, Some, None, arith}
+use Rattle.std.specs.List.{list_all}
 use Rattle.std.proofs.lemmas.Bool.{and_parts}
 use Rattle.std.proofs.lemmas.List.{length-map}
 use Rattle.std.proofs.lemmas.Option.{none-some}
@@ -14,7 +14,6 @@ use Rattle.all_matches.specs.Ways.{Operator, matches_of, negated, through_filter
 use Rattle.ft_operators.specs.Walk.{own_span}
 use Rattle.index_meaning.specs.Documents.{Numbered, breaks_of, document_at}
 use Rattle.index_phrases.specs.Phrases.{numbered_hit, wanted_at}
-use Rattle.index_phrases.specs.declared.word_terms.WordTerms.{WordTerms}
 use Rattle.place_merges.specs.Places.{Wanted}
 use Rattle.place_merges.specs.declared.spot.Spot.{Spot}
 use Rattle.spot_merges.specs.Edges.{edge_filter, spots_of}
@@ -24,19 +23,21 @@ use Rattle.spot_merges.specs.declared.outside.Outside.TheVariants.{Cover, Window
 use Rattle.spot_merges.proofs.ClearLaws.{negated_first}
 use Rattle.spot_merges.proofs.ToldLaws.{told_apart, told_clear, told_edge}
 use Rattle.word_lists.specs.Stems.{Stem}
-use Rattle.plan_compiler.specs.NodeCosts.{operator_cost}
 use Rattle.plan_compiler.specs.Operators.{looked_text}
 use Rattle.plan_runs.specs.steps.AskedSpans.{AskedSpan, tokens_in}
 use Rattle.plan_runs.specs.steps.OpenedItems.{opened_item, opened_variant}
 use Rattle.plan_runs.specs.steps.OpenedOperators.{opened_aims, phrase_opened}
 use Rattle.plan_runs.specs.steps.OpenedWords.{IsOpened, opened_group}
-use Rattle.plan_kinds.specs.steps.AskedKeys.{asks_nothing}
-use Rattle.plan_kinds.specs.steps.JoinedPhrases.{is_single, is_word, phrase_of}
+use Rattle.plan_compiler.specs.ItemTests.{asks_nothing}
+use Rattle.plan_compiler.specs.CheapPlans.{is_single, is_word}
+use Rattle.plan_kinds.specs.steps.JoinedPhrases.{phrase_of}
 use Rattle.plan_kinds.specs.steps.OutsidePhrases.{outside_of}
 use Rattle.plan_kinds.specs.steps.PlacedPhrases.{edge_of, filter_edge}
+use Rattle.plan_kinds.specs.steps.MergeKinds.{merge_of}
+use Rattle.plan_kinds.proofs.CheapLaw.{unmerged}
 use Rattle.plan_kinds.proofs.OutsideLaw.{outside_law}
 use Rattle.plan_kinds.proofs.PlacedLaw.{both_found, filter_is, phrase_is}
-use Rattle.plan_runs.specs.steps.RunCosts.{placed_cost, run_cost}
+use Rattle.plan_runs.specs.steps.RunCosts.{run_cost}
 use Rattle.plan_runs.specs.steps.RunShapes.{PlacedShape, Shape, at_edge, by_spots, outside, placed_shape, shape}
 use Rattle.plan_runs.specs.steps.RunTruth.{ArePlaced, IsSound, placed_say, run_truth}
 use Rattle.plan_compiler.specs.declared.item_matching.ItemTest.{ItemTest}
@@ -47,19 +48,17 @@ use Rattle.plan_compiler.specs.declared.operator_plan.PhraseTests.{PhraseTests}
 use Rattle.plan_compiler.specs.declared.operator_plan.WaysPlan.{WaysPlan}
 use Rattle.plan_runs.specs.declared.run_node.RunNode as R
 use Rattle.plan_runs.specs.declared.run_placed.RunPlaced.{RunPlaced}
-use Rattle.plan_compiler.proofs.NodeViews.{cost-Ways, truth-Ways}
-use Rattle.plan_runs.proofs.OpenedLemmas.{group_cheap, group_fits, variants_there}
+use Rattle.plan_compiler.proofs.NodeViews.{cheap-Ways, truth-Ways}
+use Rattle.plan_runs.proofs.OpenedLemmas.{group_fits, variants_there}
 use Rattle.plan_runs.proofs.OpenedWays.{aims_law, own_text}
 use Rattle.plan_runs.proofs.RunViews.{shape-Placed}
 
 module _ (looks : Looks) (stems : List Stem) (version : List Numbered) where
-  -- the phrases say what the compiled selection says, and cost no more
+  -- the phrases say what the compiled selection says
   pub record IsPlaced (plan : OperatorPlan) (phrases : PlacedShape) : Type 0 where
     pub there : ArePlaced version phrases
     pub says : (asked : AskedSpan)
         → satisfied (matches_of (own_span asked.span) ((opened_aims looks stems version plan).operators asked.doc asked.span)) ≡ placed_say version phrases asked
-    pub cost : (word_cost : WordTerms → ℕ) (test_cost : ItemTest → ℕ) → ((test : ItemTest) → word_cost (opened_item looks stems version test) ≤ test_cost test)
-        → placed_cost word_cost phrases ≤ operator_cost test_cost plan
 
   -- what the words of a phrase want in a span
   abbrev wants : AskedSpan → PhraseTests → List (List Wanted)
@@ -75,13 +74,12 @@ module _ (looks : Looks) (stems : List Stem) (version : List Numbered) where
 
   filtered_placed : (p : _) (kind : Filter) (edge : Edge) (found : PhraseTests) → kind ≡ edge_filter edge
       → IsPlaced (Filtered' p (Phrase found) kind) (at_edge edge (map (opened_variant looks stems version) found.variants))
-  unfolding opened_aims operator_cost
+  unfolding opened_aims
   filtered_placed p kind edge found is = record {
     there = variants_there looks stems version found.variants;
     says = λ asked.
         ap (λ (own : Filter). satisfied (matches_of (own_span asked.span) (through_filter ((phrase_opened looks stems version found).operators asked.doc asked.span) own))) is
         ∙ at_edge_says edge found asked;
-    cost = λ word_cost test_cost most. omega arith;
   }
 
   pub edge_placed : (plan : OperatorPlan) (edge : Edge) (found : PhraseTests) → edge_of plan ≡ Some (edge, found)
@@ -105,22 +103,13 @@ module _ (looks : Looks) (stems : List Stem) (version : List Numbered) where
   abbrev both_opened : Outside → PhraseTests → PhraseTests → PlacedShape
   both_opened kind left right = outside kind (opened_group looks stems version left.variants) (opened_group looks stems version right.variants)
 
-  both_cheap : (kind : Outside) (left right : PhraseTests) (word_cost : WordTerms → ℕ) (test_cost : ItemTest → ℕ)
-      → ((test : ItemTest) → word_cost (opened_item looks stems version test) ≤ test_cost test)
-      → placed_cost word_cost (both_opened kind left right) ≤ sum_by (sum_by test_cost) left.variants + sum_by (sum_by test_cost) right.variants
-  both_cheap kind left right word_cost test_cost most =
-      let first = group_cheap looks stems version word_cost test_cost most left.variants in
-      let second = group_cheap looks stems version word_cost test_cost most right.variants in
-      omega (arith, first, second)
-
   uncovered_placed : (p : _) (left right : PhraseTests) → IsPlaced (MildNot' p (Phrase left) (Phrase right)) (both_opened Cover left right)
-  unfolding opened_aims operator_cost
+  unfolding opened_aims
   uncovered_placed p left right = record {
     there = (group_fits looks stems version left.variants, group_fits looks stems version right.variants);
     says = λ asked.
         told_apart asked.span (hit_on asked left) (hit_on asked right) (λ at. record { from = refl; to = refl; whole = refl }) (λ at. record { from = refl; to = refl; whole = refl })
         (wants asked left) (wants asked right);
-    cost = both_cheap Cover left right;
   }
 
   -- ---- a word in a window without another one
@@ -149,23 +138,21 @@ module _ (looks : Looks) (stems : List Stem) (version : List Numbered) where
 
   word_placed : (p : _) (q : _) (r : _) (size : ℕ) (word other : PhraseTests) → is_word word ≡ true → is_word other ≡ true
       → IsPlaced (Filtered' p (Both' q (Phrase word) (Negated' r (Phrase other))) (F.Window size Unit.Words)) (both_opened (Window size) word other)
-  unfolding opened_aims operator_cost
+  unfolding opened_aims
   word_placed p q r size word other one two = record {
     there = (group_fits looks stems version word.variants, group_fits looks stems version other.variants);
     says = clear_says size word other one two;
-    cost = both_cheap (Window size) word other;
   }
 
   last_word_placed : (p : _) (q : _) (r : _) (size : ℕ) (word other : PhraseTests) → is_word word ≡ true → is_word other ≡ true
       → IsPlaced (Filtered' p (Both' q (Negated' r (Phrase other)) (Phrase word)) (F.Window size Unit.Words)) (both_opened (Window size) word other)
-  unfolding opened_aims operator_cost matches_of
+  unfolding opened_aims matches_of
   last_word_placed p q r size word other one two = record {
     there = (group_fits looks stems version word.variants, group_fits looks stems version other.variants);
     says = λ asked.
         ap (λ ms. satisfied (ft_filtered (F.Window size Unit.Words) (own_span asked.span) ms))
         (negated_first (own_span asked.span) (map (hit_on asked word) (spots_of asked.span (wants asked word))) (map (hit_on asked other) (spots_of asked.span (wants asked other))))
         ∙ clear_says size word other one two asked;
-    cost = λ word_cost test_cost most. let cheap = both_cheap (Window size) word other word_cost test_cost most in omega (arith, cheap);
   }
 
   pub outside_placed : (plan : OperatorPlan) (kind : Outside) (left right : PhraseTests) → outside_of plan ≡ Some (kind, left, right) → IsPlaced plan (both_opened kind left right)
@@ -175,10 +162,10 @@ module _ (looks : Looks) (stems : List Stem) (version : List Numbered) where
 
   -- ---- opened
 
-  pub placed_opened : (run : RunPlaced) (plan : WaysPlan) (phrases : PlacedShape) → IsPlaced plan.operator phrases → placed_shape run ≡ phrases
+  pub placed_opened : (run : RunPlaced) (plan : WaysPlan) (phrases : PlacedShape) → merge_of plan.operator ≡ None → IsPlaced plan.operator phrases → placed_shape run ≡ phrases
       → IsOpened looks stems version (shape (R.Placed run)) (N.Ways plan)
   unfolding run_truth IsSound run_cost
-  placed_opened run plan phrases placed opened =
+  placed_opened run plan phrases none placed opened =
       let own : shape (R.Placed run) ≡ by_spots phrases = shape-Placed run ∙ ap by_spots opened in
       subst (λ (s : Shape). IsOpened looks stems version s (N.Ways plan)) (sym own) (record {
         sound = placed.there;
@@ -187,8 +174,6 @@ module _ (looks : Looks) (stems : List Stem) (version : List Numbered) where
             sym (placed.says asked)
             ∙ (λ i. satisfied (matches_of (own_text looks stems version asked there i) (aims_law looks stems version asked there plan.operator i)))
             ∙ sym (truth-Ways plan text);
-        cost = λ word_cost test_cost fair most.
-            let cheap = placed.cost word_cost test_cost most in
-            let whole = cost-Ways test_cost plan in
-            omega (arith, cheap, whole);
+        cost = λ word_cost test_cost fair most. omega arith;
+        cheap = λ h. absurd (true≢false (sym h ∙ cheap-Ways plan ∙ unmerged plan.operator none));
       })

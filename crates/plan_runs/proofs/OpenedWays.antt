@@ -1,5 +1,5 @@
 -- Opened selections with filters or `not in` are over the spans of documents what the compiled ones are over their tokens.
-use Rattle.std.proofs.Common.{◌≡◌, refl, sym, ap, subst, ◌∙◌, ℕ, suc, ◌-◌, ◌==◌, true, ◌&&◌, ◌||◌, List, [], ◌∷◌, map, filter, length, get_or, drop, take_all, le_refl, arith, Box, Global}
+use Rattle.std.proofs.Common.{◌≡◌, refl, sym, ap, subst, ◌∙◌, ℕ, suc, ◌-◌, ◌==◌, true, true≢false, ◌&&◌, ◌||◌, None, List, [], ◌∷◌, map, filter, length, get_or, drop, take_all, le_refl, arith, Box, Global}
 use Rattle.std.specs.List.{All, list_any}
 use Rattle.std.proofs.lemmas.List.{length-map}
 use Rattle.std.proofs.lemmas.List.Elements.{All-cons, All-drop, All-take}
@@ -18,10 +18,13 @@ use Rattle.index_phrases.specs.Tokens.{passes_terms, stands_on}
 use Rattle.index_phrases.proofs.PhraseLaw.{prefix_stands, hits_by_terms}
 use Rattle.index_phrases.proofs.SpanTokens.{tokens_long, words_of_span}
 use Rattle.word_lists.specs.Stems.{Stem}
+use Rattle.plan_compiler.specs.CheapPlans.{is_cheap_node}
 use Rattle.plan_compiler.specs.ItemTests.{passes}
 use Rattle.plan_compiler.specs.NodeMeaning.{truth}
 use Rattle.plan_compiler.specs.Operators.{LookedText, hits_by_tests, looked_text, operator_at, stand_on}
 use Rattle.plan_compiler.specs.TextWords.{word_as, words_of_tokens}
+use Rattle.plan_kinds.specs.steps.MergeKinds.{merge_of}
+use Rattle.plan_kinds.proofs.CheapLaw.{unmerged}
 use Rattle.plan_runs.specs.steps.AskedSpans.{AskedSpan, IsAsked, tokens_in}
 use Rattle.plan_runs.specs.steps.ChosenTerms.{AreKnown, IsKnown}
 use Rattle.plan_runs.specs.steps.Skips.{skip_of, opened_skip}
@@ -42,7 +45,7 @@ use Rattle.plan_runs.specs.declared.run_node.RunNode as R
 use Rattle.plan_runs.specs.declared.run_ways.RunWays.{RunWays}
 use Rattle.plan_runs.proofs.GroupLaw.{wanted_same}
 use Rattle.plan_runs.proofs.KnownTexts.{text_known}
-use Rattle.plan_compiler.proofs.NodeViews.{truth-Ways}
+use Rattle.plan_compiler.proofs.NodeViews.{cheap-Ways, truth-Ways}
 use Rattle.plan_runs.proofs.SkipLaw.{nothing_there}
 use Rattle.plan_runs.proofs.OpenedLemmas.{begins_same, item_says}
 use Rattle.plan_runs.proofs.RunViews.{shape-Ways}
@@ -128,10 +131,10 @@ module _ (looks : Looks) (stems : List Stem) (version : List Numbered) where
   may_law doc span there (Negated' p operand) = may_law doc span there operand
   may_law doc span there (Filtered' p operand kind) = may_law doc span there operand
 
-  pub ways_opened : (run : Box RunWays Global) (plan : WaysPlan) (node : Node) → node ≡ N.Ways plan → aims_of run.value.tuples ≡ opened_aims looks stems version plan.operator
+  pub ways_opened : (run : Box RunWays Global) (plan : WaysPlan) (node : Node) → node ≡ N.Ways plan → merge_of plan.operator ≡ None → aims_of run.value.tuples ≡ opened_aims looks stems version plan.operator
       → skip_of run.value.needs ≡ opened_skip looks stems version plan.operator → IsOpened looks stems version (shape (R.Ways run)) node
   unfolding run_truth IsSound run_cost
-  ways_opened run plan node is opened skipped =
+  ways_opened run plan node is none opened skipped =
       let made : WaysShape = record { aims = opened_aims looks stems version plan.operator; skips = opened_skip looks stems version plan.operator } in
       let own : shape (R.Ways run) ≡ by_ways made = shape-Ways run ∙ (λ i. by_ways (record { aims = opened i; skips = skipped i })) in
       let sound : AreAims version (opened_aims looks stems version plan.operator) = record {
@@ -148,4 +151,5 @@ module _ (looks : Looks) (stems : List Stem) (version : List Numbered) where
             (λ i. satisfied (matches_of (own_text asked there i) (aims_law asked there plan.operator i)))
             ∙ sym (ap (λ (n : Node). truth n whole) is ∙ truth-Ways plan whole);
         cost = λ word_cost test_cost fair most. omega arith;
+        cheap = λ h. absurd (true≢false (sym h ∙ ap is_cheap_node is ∙ cheap-Ways plan ∙ unmerged plan.operator none));
       })

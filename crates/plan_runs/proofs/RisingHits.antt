@@ -1,16 +1,19 @@
--- The hits of one variant of a phrase, all of which have as many words, neither begin nor end before an earlier one.
+-- The hits of one variant of a phrase, all of which have as many words, neither begin nor end before an earlier one, and are told in the
+-- sentences and paragraphs of one text.
 use Rattle.std.proofs.Common.{◌≡◌, refl, sym, ap, ◌∙◌, ℕ, zero, suc, ◌+◌, ◌-◌, ◌==◌, ◌≤◌, Bool, true, false, ◌&&◌, cond, List, [], ◌∷◌, ◌++◌, map, filter, flat_map, length, arith, inl, inr}
-use Rattle.std.specs.Prelude.{nat_le}
+use Rattle.std.specs.Prelude.{nat_le, nat_lt, ◌||◌}
 use Rattle.std.specs.List.{list_all, range_with_len}
-use Rattle.std.proofs.lemmas.Bool.{and_from, and_parts, cases_Bool, eqb-true, eq-eqb, le-leb, leb-true, or_cases}
+use Rattle.std.proofs.lemmas.Bool.{and_from, and_parts, cases_Bool, eqb-true, eq-eqb, le-leb, leb-true, ltb-false, ltb-true, or_cases}
 use Rattle.std.proofs.lemmas.List.Elements.{filter-append}
+use Rattle.std.proofs.lemmas.List.Folds.{list_all-append}
 use Rattle.ft_base.specs.declared.hit.Hit.{Hit}
 use Rattle.ft_base.specs.declared.places.Breaks.{Breaks}
 use Rattle.ft_base.specs.declared.span.Span.{Span}
 use Rattle.ft_base.specs.declared.unit.TextUnit.{TextUnit}
 use Rattle.ft_base.specs.declared.unit.TextUnit.TheVariants.{Paragraphs, Sentences, Words}
 use Rattle.index_phrases.specs.Phrases.{hits_in_span, last_place, own_number, numbered_hit}
-use Rattle.phrase_merges.specs.Choices.{ends_after}
+use Rattle.phrase_merges.specs.Choices.{begin_alike, ends_after}
+use Rattle.phrase_merges.specs.Near.{DoRise, Units, is_told}
 use Rattle.phrase_merges.specs.Rows.{goes_on, goes_on_in, is_rising}
 use Rattle.place_merges.specs.Places.{Wanted, stands_before}
 use Rattle.place_merges.specs.Spots.{some_at, spot, spots_at, spots_between}
@@ -19,6 +22,65 @@ use Rattle.plan_kinds.specs.steps.RisingUnits.{started_rises}
 
 own_rises : (starts : List ℕ) (from first second : ℕ) → first ≤ second → own_number starts from first ≤ own_number starts from second
 own_rises starts from first second h = let rises = started_rises starts first second h in omega (arith, rises)
+
+-- the sentences and paragraphs of the words of a span, in its own numbers
+abbrev pub own_units : Breaks → Span → Units
+own_units breaks span = record {
+  sentence = λ place. own_number breaks.sentences span.from (place + (span.from - 1));
+  paragraph = λ place. own_number breaks.paragraphs span.from (place + (span.from - 1));
+}
+
+pub units_rise : (breaks : Breaks) (span : Span) → DoRise (own_units breaks span)
+units_rise breaks span = record {
+  sentences = λ a b h. own_rises breaks.sentences span.from (a + (span.from - 1)) (b + (span.from - 1)) (omega (arith, h));
+  paragraphs = λ a b h. own_rises breaks.paragraphs span.from (a + (span.from - 1)) (b + (span.from - 1)) (omega (arith, h));
+}
+
+-- of two hits that are told in one text the one that begins no later begins in no later sentence or paragraph
+module _ (units : Units) (rise : DoRise units) where
+  by_rise : (number : ℕ → ℕ) → ((a b : ℕ) → a ≤ b → number a ≤ number b) → (a b x y : ℕ) → x ≡ number a → y ≡ number b
+      → ((nat_lt b a || nat_le x y) && (nat_lt a b || nat_le y x)) ≡ true
+  by_rise number up a b x y first second = by_order (nat_lt b a) (nat_lt a b) refl refl
+    where
+      by_order : (less more : Bool) → nat_lt b a ≡ less → nat_lt a b ≡ more → ((less || nat_le x y) && (more || nat_le y x)) ≡ true
+      by_order true true h k = refl
+      by_order true false h k = let lt = ltb-true b a h in let rises = up b a (omega (arith, lt)) in le-leb y x (omega (arith, rises, first, second))
+      by_order false true h k = let lt = ltb-true a b k in let rises = up a b (omega (arith, lt)) in ap (λ t. t && true) (le-leb x y (omega (arith, rises, first, second)))
+      by_order false false h k =
+          let no = ltb-false b a h in
+          let nor = ltb-false a b k in
+          let one = up a b (omega (arith, no)) in
+          let other = up b a (omega (arith, nor)) in
+          and_from (nat_le x y) (nat_le y x) (le-leb x y (omega (arith, one, first, second))) (le-leb y x (omega (arith, other, first, second)))
+
+  told_parts : (hit : Hit) → is_told units hit ≡ true → (hit.sent_from ≡ units.sentence hit.from) × (hit.para_from ≡ units.paragraph hit.from)
+  told_parts hit h =
+      let whole = and_parts (nat_le hit.from hit.to) (((hit.sent_from == units.sentence hit.from) && (hit.sent_to == units.sentence hit.to))
+      && ((hit.para_from == units.paragraph hit.from) && (hit.para_to == units.paragraph hit.to))) h in
+      let both = and_parts ((hit.sent_from == units.sentence hit.from) && (hit.sent_to == units.sentence hit.to))
+      ((hit.para_from == units.paragraph hit.from) && (hit.para_to == units.paragraph hit.to)) whole.1 in
+      let sentence = and_parts (hit.sent_from == units.sentence hit.from) (hit.sent_to == units.sentence hit.to) both.0 in
+      let paragraph = and_parts (hit.para_from == units.paragraph hit.from) (hit.para_to == units.paragraph hit.to) both.1 in
+      (eqb-true hit.sent_from (units.sentence hit.from) sentence.0, eqb-true hit.para_from (units.paragraph hit.from) paragraph.0)
+
+  two_begin_alike : (unit : TextUnit) (a b : Hit) → is_told units a ≡ true → is_told units b ≡ true → begin_alike unit a b ≡ true
+  two_begin_alike Words a b h k = by_rise (λ n. n) (λ x y le. le) a.from b.from a.from b.from refl refl
+  two_begin_alike Sentences a b h k = by_rise units.sentence rise.sentences a.from b.from a.sent_from b.sent_from (told_parts a h).0 (told_parts b k).0
+  two_begin_alike Paragraphs a b h k = by_rise units.paragraph rise.paragraphs a.from b.from a.para_from b.para_from (told_parts a h).1 (told_parts b k).1
+
+  each_begins_alike : (unit : TextUnit) (a : Hit) (others : List Hit) → is_told units a ≡ true → list_all (is_told units) others ≡ true → list_all (begin_alike unit a) others ≡ true
+  each_begins_alike unit a [] h k = refl
+  each_begins_alike unit a (b ∷ others) h k =
+      let parts = and_parts (is_told units b) (list_all (is_told units) others) k in
+      and_from (begin_alike unit a b) (list_all (begin_alike unit a) others) (two_begin_alike unit a b h parts.0) (each_begins_alike unit a others h parts.1)
+
+  pub all_begin_alike : (unit : TextUnit) (hits others : List Hit) → list_all (is_told units) hits ≡ true → list_all (is_told units) others ≡ true
+      → list_all (λ a. list_all (begin_alike unit a) others) hits ≡ true
+  all_begin_alike unit [] others h k = refl
+  all_begin_alike unit (a ∷ hits) others h k =
+      let parts = and_parts (is_told units a) (list_all (is_told units) hits) h in
+      and_from (list_all (begin_alike unit a) others) (list_all (λ own. list_all (begin_alike unit own) others) hits) (each_begins_alike unit a others parts.0 k)
+      (all_begin_alike unit hits others parts.1 k)
 
 module _ (number : ℕ) (breaks : Breaks) (span : Span) where
   abbrev hit_at : Spot → Hit
@@ -34,6 +96,22 @@ module _ (number : ℕ) (breaks : Breaks) (span : Span) where
   pub all_told : (test : Hit → Bool) → ((at : Spot) → test (hit_at at) ≡ true) → (spots : List Spot) → list_all test (map hit_at spots) ≡ true
   all_told test each [] = refl
   all_told test each (at ∷ spots) = and_from (test (hit_at at)) (list_all test (map hit_at spots)) (each at) (all_told test each spots)
+
+  told_one : (at : Spot) → span.from ≤ at.place → is_told (own_units breaks span) (hit_at at) ≡ true
+  told_one at from =
+      let first : at.place ≡ (at.place - (span.from - 1)) + (span.from - 1) = omega (arith, from) in
+      let last : last_place at ≡ (last_place at - (span.from - 1)) + (span.from - 1) = omega (arith, from) in
+      let own = own_units breaks span in
+      let hit = hit_at at in
+      and_from (nat_le hit.from hit.to) (((hit.sent_from == own.sentence hit.from) && (hit.sent_to == own.sentence hit.to))
+      && ((hit.para_from == own.paragraph hit.from) && (hit.para_to == own.paragraph hit.to))) (told_ends Words at)
+      (and_from ((hit.sent_from == own.sentence hit.from) && (hit.sent_to == own.sentence hit.to)) ((hit.para_from == own.paragraph hit.from) && (hit.para_to == own.paragraph hit.to))
+      (and_from (hit.sent_from == own.sentence hit.from) (hit.sent_to == own.sentence hit.to)
+      (eq-eqb hit.sent_from (own.sentence hit.from) (ap (own_number breaks.sentences span.from) first))
+      (eq-eqb hit.sent_to (own.sentence hit.to) (ap (own_number breaks.sentences span.from) last)))
+      (and_from (hit.para_from == own.paragraph hit.from) (hit.para_to == own.paragraph hit.to)
+      (eq-eqb hit.para_from (own.paragraph hit.from) (ap (own_number breaks.paragraphs span.from) first))
+      (eq-eqb hit.para_to (own.paragraph hit.to) (ap (own_number breaks.paragraphs span.from) last))))
 
   -- ---- two hits of as many words
 
@@ -89,6 +167,44 @@ module _ (number : ℕ) (breaks : Breaks) (span : Span) where
       let parts = parts_of words place at spots h in
       and_from (list_all (goes_on (hit_at at)) (map hit_at spots)) (is_rising (map hit_at spots)) (all_after words at.place at spots parts.0 (omega arith) parts.1.1)
       (rising_told words at.place spots parts.1.1)
+
+  -- spots from the first place of the span on
+  abbrev is_on : Spot → Bool
+  is_on at = nat_le span.from at.place
+
+  told_each : (spots : List Spot) → list_all is_on spots ≡ true → list_all (is_told (own_units breaks span)) (map hit_at spots) ≡ true
+  told_each [] h = refl
+  told_each (at ∷ spots) h =
+      let parts = and_parts (is_on at) (list_all is_on spots) h in
+      and_from (is_told (own_units breaks span) (hit_at at)) (list_all (is_told (own_units breaks span)) (map hit_at spots)) (told_one at (leb-true span.from at.place parts.0))
+      (told_each spots parts.1)
+
+  on_at : (place : ℕ) (counts : List ℕ) → span.from ≤ place → list_all is_on (map (spot place) counts) ≡ true
+  on_at place [] h = refl
+  on_at place (count ∷ counts) h = and_from (is_on (spot place count)) (list_all is_on (map (spot place) counts)) (le-leb span.from place h) (on_at place counts h)
+
+  on_between : (place count : ℕ) → span.from ≤ place → list_all is_on (flat_map (spots_at span.to) (range_with_len place count)) ≡ true
+  on_between place zero h = refl
+  on_between place (suc count) h =
+      list_all-append is_on (spots_at span.to place) (flat_map (spots_at span.to) (range_with_len (place + 1) count))
+      ∙ and_from (list_all is_on (spots_at span.to place)) (list_all is_on (flat_map (spots_at span.to) (range_with_len (place + 1) count)))
+      (on_at place (range_with_len 1 (span.to - place)) h) (on_between (place + 1) count (omega (arith, h)))
+
+  on_kept : (test : Spot → Bool) (spots : List Spot) → list_all is_on spots ≡ true → list_all is_on (filter test spots) ≡ true
+  on_kept test [] h = refl
+  on_kept test (at ∷ spots) h =
+      let parts = and_parts (is_on at) (list_all is_on spots) h in
+      by_test (test at) (and_from (is_on at) (list_all is_on (filter test spots)) parts.0 (on_kept test spots parts.1)) (on_kept test spots parts.1)
+    where
+      by_test : (b : Bool) → list_all is_on (at ∷ filter test spots) ≡ true → list_all is_on (filter test spots) ≡ true
+          → list_all is_on (cond b (at ∷ filter test spots) (filter test spots)) ≡ true
+      by_test true one other = one
+      by_test false one other = other
+
+  pub phrase_told : (variants : List (List Wanted)) → list_all (is_told (own_units breaks span)) (hits_in_span number breaks span variants) ≡ true
+  phrase_told variants =
+      told_each (filter (some_at span.to variants) (spots_between span.from span.to))
+      (on_kept (some_at span.to variants) (spots_between span.from span.to) (on_between span.from (span.to - span.from) (omega arith)))
 
   -- ---- the spots of a variant
 

@@ -1,8 +1,9 @@
 -- What a run says of a span is what the selection says of its tokens, within the selection's price.
-use Rattle.std.proofs.Common.{◌≡◌, ◌∙◌, ℕ, ◌+◌, ◌≤◌, List, arith}
+use Rattle.std.proofs.Common.{◌≡◌, ◌∙◌, true, ℕ, ◌+◌, ◌≤◌, List, arith}
 use Rattle.all_matches.specs.Meaning.{sat}
 use Rattle.index_meaning.specs.Documents.{Numbered}
 use Rattle.index_versions.specs.Versions.{terms_of}
+use Rattle.plan_compiler.specs.CheapSelections.{is_cheap}
 use Rattle.plan_compiler.specs.CompiledSelection.{compiled_price}
 use Rattle.plan_runs.specs.RunPrice.{price_at}
 use Rattle.plan_runs.specs.steps.AskedPlaces.{text_at}
@@ -11,6 +12,7 @@ use Rattle.plan_compiler.specs.Lexicon.{lexicon}
 use Rattle.plan_runs.specs.steps.OpenedWords.{IsOpened}
 use Rattle.plan_compiler.specs.PlanMeaning.{plan_form, plan_lists}
 use Rattle.plan_runs.specs.RunMeaning.{run_of}
+use Rattle.plan_runs.specs.steps.CheapShapes.{is_cheap_shape}
 use Rattle.plan_runs.specs.steps.RunCosts.{moves_for, run_cost}
 use Rattle.plan_runs.specs.steps.RunShapes.{Shape}
 use Rattle.plan_runs.specs.steps.RunTruth.{run_truth}
@@ -23,11 +25,12 @@ pub run_law : (version : List Numbered) (asked : AskedSpan) (plan : Plan) (run :
     → run_truth version run asked ≡ sat (lexicon (plan_lists plan)) (plan_form plan) (tokens_in version asked)
 run_law version asked plan run s opened = opened.says asked s ∙ plan.sound.says (tokens_in version asked)
 
--- its moves are within the price of the selection
-pub price_law : (plan : Plan) (run : Shape) (place : AskedPlace) (start end : ℕ) → end ≤ start + run_cost (moves_for place) run → IsOpened plan.looks plan.lists.stems place.version.now run plan.root
+-- the moves of a cheap one are within the price of the selection
+pub price_law : (plan : Plan) (run : Shape) (place : AskedPlace) (start end : ℕ) → is_cheap (lexicon (plan_lists plan)) (plan_form plan) ≡ true
+    → (is_cheap_shape run ≡ true → end ≤ start + run_cost (moves_for place) run) → IsOpened plan.looks plan.lists.stems place.version.now run plan.root
     → end ≤ start + price_at (run_of (plan_form plan) (plan_lists plan) place.version.now) place.doc.0 place.span
-price_law plan run place start end moves opened =
+price_law plan run place start end cheap moves opened =
     let terms = terms_of place.version.now in
     let least = opened.cost (moves_for place) (compiled_price plan.looks plan.lists.stems terms (text_at place)) (moves_fair place) (item_law place plan.looks plan.lists.stems) in
     let most = plan.sound.price terms (text_at place) in
-    omega (arith, moves, least, most)
+    omega (arith, moves (opened.cheap (plan.sound.cheap cheap)), least, most)

@@ -29,7 +29,7 @@ use Rattle.plan_kinds.specs.steps.MergeKinds.{stand_as}
 use Rattle.plan_runs.specs.steps.Merges.{MergeShape, merge_says, terms_places}
 use Rattle.plan_runs.specs.steps.RunSkips.{merge_skip, phrase_skip, placed_skip, skip, skips, terms_skip, words_skip}
 use Rattle.index_phrases.specs.steps.Aiming.{AreThere, variant_words}
-use Rattle.plan_runs.specs.steps.RunShapes.{GroupShape, WordsShape, Shape, Shapes, words, any_of, all_of, not_of, by_ways, by_hits, by_merge, none, more, group_shape, merge_shape, phrase_shape, placed_shape, shape, shapes_of, words_shape, by_spots, PlacedShape, at_edge, outside}
+use Rattle.plan_runs.specs.steps.RunShapes.{GroupShape, WordsShape, Shape, Shapes, words, any_of, all_of, not_of, by_ways, by_near, by_hits, by_merge, none, more, group_shape, merge_shape, phrase_shape, placed_shape, shape, shapes_of, words_shape, by_spots, PlacedShape, at_edge, outside}
 use Rattle.plan_runs.specs.steps.Skips.{IsWithin, ends_before, latest, skip_of, variant_skip, variants_skip, vectors_skip}
 use Rattle.plan_runs.specs.steps.RunTruth.{ArePlaced, AreSound, IsGroup, IsSound, IsWords, all_true, group_count, is_wanted, phrase_spots, phrase_total, placed_say, run_truth, some_true, words_say}
 use Rattle.plan_runs.specs.declared.run_node.RunGroup.{RunGroup}
@@ -39,6 +39,7 @@ use Rattle.plan_kinds.specs.declared.merge_kind.MergeKind.{MergeKind}
 use Rattle.plan_kinds.specs.declared.merge_kind.MergeKind.TheVariants.{Close, InOrder, InSentence, InParagraph}
 use Rattle.plan_runs.specs.declared.run_merge.RunMerge.{RunMerge}
 use Rattle.plan_runs.specs.declared.run_hits.RunHits.{RunHits}
+use Rattle.plan_runs.specs.declared.run_near.RunNear.{RunNear}
 use Rattle.plan_runs.specs.declared.run_placed.RunPlaced.{RunPlaced}
 use Rattle.plan_runs.specs.declared.run_ways.RunWays.{RunWays}
 use Rattle.plan_runs.specs.declared.run_node.RunNode.{RunNode}
@@ -50,7 +51,7 @@ use Rattle.spot_merges.specs.declared.outside.Outside.TheVariants.{Cover, Window
 use Rattle.spot_merges.specs.Edges.{is_at}
 use Rattle.plan_runs.proofs.SkipLaw.{no_phrase_spots}
 use Rattle.plan_runs.proofs.SkipLemmas.{are_missing, ends_all, ends_any, ends_latest, ends_soonest, ends_variants, is_missing, none_there, nothing_before}
-use Rattle.plan_runs.proofs.RunViews.{shape-Words, shape-Or, shape-And, shape-Not, shape-Ways, shape-Hits, shape-Merge, shape-Placed}
+use Rattle.plan_runs.proofs.RunViews.{shape-Words, shape-Or, shape-And, shape-Not, shape-Ways, shape-Near, shape-Hits, shape-Merge, shape-Placed}
 
 pub not_true : (b : Bool) → not b ≡ true → b ≡ false
 not_true true h = sym h
@@ -278,6 +279,7 @@ module _ (version : List Numbered) (doc : ℕ) (part span : Span) (within : IsWi
     skip_law (all_of parts) sound h = some_law parts sound (sym (ends_each_any parts) ∙ h)
     skip_law (not_of negated) sound h = absurd (true≢false (sym h ∙ nothing_before span.to))
     skip_law (by_ways run) sound h = ap satisfied (sound.skipped doc part span within h)
+    skip_law (by_near run) sound h = sound.skipped doc part span within h
     skip_law (by_hits run) sound h = sound.skipped doc part span within h
     skip_law (by_merge merge) sound h = no_merge merge h
     skip_law (by_spots run) sound h = no_placed run sound h
@@ -326,6 +328,10 @@ module _ (doc : ℕ) (part : Span) where
   pub skip-Ways : (run : Box RunWays Global) → skip doc part (shape (R.Ways run)) ≡ skip_of run.value.needs doc part
   unfolding skip
   skip-Ways run = ap (skip doc part) (shape-Ways run)
+
+  pub skip-Near : (run : Box RunNear Global) → skip doc part (shape (R.Near run)) ≡ skip_of run.value.needs doc part
+  unfolding skip
+  skip-Near run = ap (skip doc part) (shape-Near run)
 
   pub skip-Hits : (run : Box RunHits Global) → skip doc part (shape (R.Hits run)) ≡ skip_of run.value.needs doc part
   unfolding skip

@@ -1,13 +1,14 @@
 -- The shape of each kind of a run's tree, and what it says.
 use Rattle.std.proofs.Common.{◌≡◌, map, Box, Global, rules}
 use Rattle.std.specs.declared.vec.Vec.{Vec}
-use Rattle.plan_runs.specs.steps.RunShapes.{hits_shape, merge_shape, shape, shapes_of, words_shape, words, any_of, all_of, not_of, by_ways, by_hits, by_merge, ways_shape, by_spots, placed_shape}
+use Rattle.plan_runs.specs.steps.RunShapes.{hits_shape, merge_shape, near_shape, shape, shapes_of, words_shape, words, any_of, all_of, not_of, by_ways, by_near, by_hits, by_merge, ways_shape, by_spots, placed_shape}
 use Rattle.plan_runs.specs.declared.run_node.RunWords.{RunWords}
 use Rattle.plan_runs.specs.declared.run_hits.RunHits.{RunHits}
 use Rattle.plan_runs.specs.declared.run_merge.RunMerge.{RunMerge}
+use Rattle.plan_runs.specs.declared.run_near.RunNear.{RunNear}
 use Rattle.plan_runs.specs.declared.run_placed.RunPlaced.{RunPlaced}
 use Rattle.plan_runs.specs.declared.run_ways.RunWays.{RunWays}
-use Rattle.plan_runs.specs.declared.run_node.RunNode.{RunNode, Words, Or, And, Not, Ways, Hits, Merge, the_lemmas, Placed}
+use Rattle.plan_runs.specs.declared.run_node.RunNode.{RunNode, Words, Or, And, Not, Ways, Near, Hits, Merge, the_lemmas, Placed}
 
 pub shape-Words : (run : RunWords) → shape (Words run) ≡ words (words_shape run)
 unfolding shape
@@ -28,6 +29,10 @@ shape-Not part = search (rules, the_lemmas)
 pub shape-Ways : (run : Box RunWays Global) → shape (Ways run) ≡ by_ways (ways_shape run.value)
 unfolding shape
 shape-Ways run = search (rules, the_lemmas)
+
+pub shape-Near : (run : Box RunNear Global) → shape (Near run) ≡ by_near (near_shape run.value)
+unfolding shape
+shape-Near run = search (rules, the_lemmas)
 
 pub shape-Hits : (run : Box RunHits Global) → shape (Hits run) ≡ by_hits (hits_shape run.value)
 unfolding shape

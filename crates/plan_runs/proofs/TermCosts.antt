@@ -21,7 +21,7 @@ use Rattle.term_dict.proofs.OrderLemmas.{entry_total, equal_turned}
 use Rattle.text_forms.specs.Forms.{key_of}
 use Rattle.word_lists.specs.Stems.{Stem}
 use Rattle.plan_compiler.specs.CompiledSelection.{compiled_price}
-use Rattle.plan_kinds.specs.steps.AskedKeys.{asks_nothing}
+use Rattle.plan_compiler.specs.ItemTests.{asks_nothing}
 use Rattle.plan_runs.specs.steps.AskedPlaces.{hits_at, text_at}
 use Rattle.plan_runs.specs.steps.ChosenTerms.{terms_for}
 use Rattle.plan_runs.specs.steps.OpenedItems.{opened_item, word_test}

@@ -1,28 +1,32 @@
 -- What the kinds of a run's tree say, what they cost, and when they fit.
 use Rattle.std.proofs.Common.{◌≡◌, refl, sym, ap, subst, ◌∙◌, ℕ, ◌+◌, ◌<◌, ◌≤◌, true, false, not, ◌&&◌, ◌||◌, List, [], ◌∷◌, map, length, get_or, drop, take, suc, zero, arith, Box, Global}
 use Rattle.std.specs.declared.vec.Vec.{Vec}
-use Rattle.std.specs.List.{sum_by}
+use Rattle.std.specs.List.{list_all, sum_by}
+use Rattle.std.proofs.lemmas.Bool.{and_parts}
 use Rattle.std.proofs.lemmas.List.{drop_all, drop_more}
 use Rattle.std.proofs.lemmas.List.Sums.{sum_by-cons}
 use Rattle.index_meaning.specs.Documents.{Numbered}
-use Rattle.plan_runs.specs.steps.RunCosts.{run_cost, run_costs, words_cost, placed_cost}
-use Rattle.plan_runs.specs.steps.RunShapes.{hits_shape, Shape, Shapes, shape, shapes_of, words, any_of, all_of, not_of, by_ways, by_hits, by_merge, none, more, merge_shape, words_shape, ways_shape, by_spots, placed_shape}
+use Rattle.plan_runs.specs.steps.CheapShapes.{are_cheap_shapes, is_cheap_shape}
+use Rattle.plan_runs.specs.steps.RunCosts.{run_cost, run_costs, words_cost}
+use Rattle.plan_runs.specs.steps.RunShapes.{hits_shape, near_shape, Shape, Shapes, shape, shapes_of, words, any_of, all_of, not_of, by_ways, by_near, by_hits, by_merge, none, more, merge_shape, words_shape, ways_shape, by_spots, placed_shape}
 use Rattle.plan_runs.specs.steps.AskedSpans.{AskedSpan, words_in}
 use Rattle.plan_runs.specs.steps.Passes.{AreHits, hits_say}
 use Rattle.plan_runs.specs.steps.Merges.{IsMerge, merge_cost, merge_says}
+use Rattle.plan_runs.specs.steps.NearRuns.{AreNear}
 use Rattle.plan_runs.specs.steps.Skips.{skip_of}
 use Rattle.plan_runs.specs.steps.OpenedOperators.{AreAims, aims_of}
 use Rattle.plan_runs.specs.steps.RunTruth.{ArePlaced, AreSound, AreWays, IsSound, IsWords, aims_say, all_true, placed_say, run_truth, some_true, words_say}
 use Rattle.plan_runs.specs.declared.run_node.RunWords.{RunWords}
 use Rattle.plan_runs.specs.declared.run_hits.RunHits.{RunHits}
 use Rattle.plan_runs.specs.declared.run_merge.RunMerge.{RunMerge}
+use Rattle.plan_runs.specs.declared.run_near.RunNear.{RunNear}
 use Rattle.plan_runs.specs.declared.run_placed.RunPlaced.{RunPlaced}
 use Rattle.plan_runs.specs.declared.run_ways.RunWays.{RunWays}
 use Rattle.index_phrases.specs.declared.word_terms.WordTerms.{WordTerms}
 use Rattle.plan_runs.specs.declared.run_node.RunNode.{RunNode}
 use Rattle.plan_runs.specs.declared.run_node.RunNode as R
 use Rattle.plan_runs.proofs.SumLemmas.{so_far}
-use Rattle.plan_runs.proofs.RunViews.{shape-Words, shape-Or, shape-And, shape-Not, shape-Ways, shape-Hits, shape-Merge, shape-Placed}
+use Rattle.plan_runs.proofs.RunViews.{shape-Words, shape-Or, shape-And, shape-Not, shape-Ways, shape-Near, shape-Hits, shape-Merge, shape-Placed}
 
 module _ (version : List Numbered) (asked : AskedSpan) (node : RunNode) where
   -- ---- when they fit
@@ -48,6 +52,10 @@ module _ (version : List Numbered) (asked : AskedSpan) (node : RunNode) where
   sound-Ways run is h =
       let fits : AreWays version (ways_shape run.value) = subst (IsSound version) (ap shape is ∙ shape-Ways run) h in
       fits.aims
+
+  pub sound-Near : (run : Box RunNear Global) → node ≡ R.Near run → IsSound version (shape node) → AreNear version (near_shape run.value)
+  unfolding IsSound
+  sound-Near run is h = subst (IsSound version) (ap shape is ∙ shape-Near run) h
 
   pub sound-Hits : (run : Box RunHits Global) → node ≡ R.Hits run → IsSound version (shape node) → AreHits version (hits_shape run.value)
   unfolding IsSound
@@ -83,6 +91,10 @@ module _ (version : List Numbered) (asked : AskedSpan) (node : RunNode) where
   unfolding run_truth
   says-Ways run is = sym (ap (λ s. run_truth version s asked) (ap shape is ∙ shape-Ways run))
 
+  pub says-Near : (run : Box RunNear Global) → node ≡ R.Near run → aims_say (near_shape run.value).aims asked ≡ run_truth version (shape node) asked
+  unfolding run_truth
+  says-Near run is = sym (ap (λ s. run_truth version s asked) (ap shape is ∙ shape-Near run))
+
   pub says-Hits : (run : Box RunHits Global) → node ≡ R.Hits run → hits_say (hits_shape run.value) asked ≡ run_truth version (shape node) asked
   unfolding run_truth
   says-Hits run is = sym (ap (λ s. run_truth version s asked) (ap shape is ∙ shape-Hits run))
@@ -112,6 +124,9 @@ module _ (node : RunNode) where
 
   pub same-Ways : (old new : Box RunWays Global) → node ≡ R.Ways old → aims_of new.value.tuples ≡ aims_of old.value.tuples → skip_of new.value.needs ≡ skip_of old.value.needs → shape (R.Ways new) ≡ shape node
   same-Ways old new is aims needs = shape-Ways new ∙ (λ i. by_ways (record { aims = aims i; skips = needs i })) ∙ sym (ap shape is ∙ shape-Ways old)
+
+  pub same-Near : (old new : Box RunNear Global) → node ≡ R.Near old → near_shape new.value ≡ near_shape old.value → shape (R.Near new) ≡ shape node
+  same-Near old new is same = shape-Near new ∙ ap by_near same ∙ sym (ap shape is ∙ shape-Near old)
 
   pub same-Hits : (old new : Box RunHits Global) → node ≡ R.Hits old → hits_shape new.value ≡ hits_shape old.value → shape (R.Hits new) ≡ shape node
   same-Hits old new is same = shape-Hits new ∙ ap by_hits same ∙ sym (ap shape is ∙ shape-Hits old)
@@ -163,6 +178,7 @@ unfoldable mutual
   weight (all_of parts) = 1 + weights parts
   weight (not_of part) = 1 + weight part
   weight (by_ways run) = 1
+  weight (by_near run) = 1
   weight (by_hits run) = 1
   weight (by_merge merge) = 1
   weight (by_spots run) = 1
@@ -213,10 +229,6 @@ module _ (cost : WordTerms → ℕ) (node : RunNode) where
   unfolding run_cost
   cost-Merge run is = ap (run_cost cost) (ap shape is ∙ shape-Merge run)
 
-  pub cost-Placed : (run : RunPlaced) → node ≡ R.Placed run → run_cost cost (shape node) ≡ placed_cost cost (placed_shape run)
-  unfolding run_cost
-  cost-Placed run is = ap (run_cost cost) (ap shape is ∙ shape-Placed run)
-
 pub costs_are : (cost : WordTerms → ℕ) (shapes : List Shape) → run_costs cost (shapes_of shapes) ≡ sum_by (run_cost cost) shapes
 unfolding run_costs
 costs_are cost [] = refl
@@ -225,3 +237,45 @@ costs_are cost (first ∷ rest) = ap (λ n. run_cost cost first + n) (costs_are 
 -- the parts so far
 pub costs_so_far : (cost : WordTerms → ℕ) (shapes : List Shape) (i start end : ℕ) → end ≤ start + sum_by (run_cost cost) (take i shapes) → end ≤ start + run_costs cost (shapes_of shapes)
 costs_so_far cost shapes i start end h = omega (arith, so_far (run_cost cost) shapes i start end h, costs_are cost shapes)
+
+-- ---- which are cheap
+
+module _ (node : RunNode) where
+  pub cheap-Or : (parts : Vec RunNode Global) → node ≡ R.Or parts → are_cheap_shapes (shapes_of (map shape parts.items)) ≡ is_cheap_shape (shape node)
+  unfolding is_cheap_shape
+  cheap-Or parts is = sym (ap is_cheap_shape (ap shape is ∙ shape-Or parts))
+
+  pub cheap-And : (parts : Vec RunNode Global) → node ≡ R.And parts → are_cheap_shapes (shapes_of (map shape parts.items)) ≡ is_cheap_shape (shape node)
+  unfolding is_cheap_shape
+  cheap-And parts is = sym (ap is_cheap_shape (ap shape is ∙ shape-And parts))
+
+  pub cheap-Not : (part : Box RunNode Global) → node ≡ R.Not part → is_cheap_shape (shape part.value) ≡ is_cheap_shape (shape node)
+  unfolding is_cheap_shape
+  cheap-Not part is = sym (ap is_cheap_shape (ap shape is ∙ shape-Not part))
+
+  pub cheap-Ways : (run : Box RunWays Global) → node ≡ R.Ways run → is_cheap_shape (shape node) ≡ false
+  unfolding is_cheap_shape
+  cheap-Ways run is = ap is_cheap_shape (ap shape is ∙ shape-Ways run)
+
+  pub cheap-Near : (run : Box RunNear Global) → node ≡ R.Near run → is_cheap_shape (shape node) ≡ false
+  unfolding is_cheap_shape
+  cheap-Near run is = ap is_cheap_shape (ap shape is ∙ shape-Near run)
+
+  pub cheap-Hits : (run : Box RunHits Global) → node ≡ R.Hits run → is_cheap_shape (shape node) ≡ false
+  unfolding is_cheap_shape
+  cheap-Hits run is = ap is_cheap_shape (ap shape is ∙ shape-Hits run)
+
+  pub cheap-Placed : (run : RunPlaced) → node ≡ R.Placed run → is_cheap_shape (shape node) ≡ false
+  unfolding is_cheap_shape
+  cheap-Placed run is = ap is_cheap_shape (ap shape is ∙ shape-Placed run)
+
+pub cheap_are : (shapes : List Shape) → are_cheap_shapes (shapes_of shapes) ≡ list_all is_cheap_shape shapes
+unfolding are_cheap_shapes
+cheap_are [] = refl
+cheap_are (first ∷ rest) = ap (λ b. is_cheap_shape first && b) (cheap_are rest)
+
+pub each_cheap : (shapes : List Shape) → are_cheap_shapes (shapes_of shapes) ≡ true → (k : ℕ) (d : Shape) → k < length shapes → is_cheap_shape (get_or shapes k d) ≡ true
+unfolding are_cheap_shapes
+each_cheap [] h k d lt = absurd (omega arith)
+each_cheap (first ∷ rest) h zero d lt = (and_parts (is_cheap_shape first) (are_cheap_shapes (shapes_of rest)) h).0
+each_cheap (first ∷ rest) h (suc k) d lt = each_cheap rest (and_parts (is_cheap_shape first) (are_cheap_shapes (shapes_of rest)) h).1 k d (omega arith)

@@ -2,6 +2,7 @@ pub mod RunCode
 pub mod ChosenTerms
 pub mod MarkedTerms
 pub mod Merges
+pub mod NearRuns
 pub mod Passes
 pub mod RunShapes
 pub mod RunTruth
@@ -13,4 +14,5 @@ pub mod OpenedWords
 pub mod AskedSpans
 pub mod AskedPlaces
 pub mod RunCosts
+pub mod CheapShapes
 pub mod Telling

@@ -1,6 +1,7 @@
 //! Whether the words of a span satisfy an opened selection.
 
-ghost use Rattle.std.specs.Prelude.{◌≡◌, ◌≤◌, ◌+◌, map};
+ghost use Rattle.std.specs.Prelude.{◌≡◌, ◌≤◌, ◌+◌, map, true};
+ghost use Rattle.plan_runs.specs.steps.CheapShapes.{are_cheap_shapes, is_cheap_shape};
 ghost use Rattle.plan_runs.specs.steps.RunCosts.{moves_for, run_cost, run_costs};
 ghost use Rattle.plan_runs.specs.steps.RunShapes.{shape, shapes_of};
 ghost use Rattle.plan_runs.specs.steps.RunTruth.{AreSound, IsSound, all_true, run_truth, some_true};
@@ -9,6 +10,7 @@ ghost use Rattle.plan_runs.specs.steps.AskedPlaces.{asked_at};
 use crate::asked_place::AskedPlace;
 use crate::hits_holding::hits_hold;
 use crate::merge_holding::merge_holds;
+use crate::near_holding::near_holds;
 use crate::placed_holding::placed_holds;
 use crate::run_node::RunNode;
 use crate::ways_holding::ways_hold;
@@ -16,7 +18,8 @@ use crate::words_holding::words_hold;
 use ft_base::Steps;
 use std::sync::ledger::Ledger;
 
-/// Whether the words of the span satisfy the selection.
+/// Whether the words of the span satisfy the selection. Where it counts words and merges single words alone, the moves are no more than
+/// these cost.
 #[cycle(holding)]
 pub(crate) fn node_holds<'v, L: Ledger>(
     place: &AskedPlace<'v>,
@@ -26,7 +29,7 @@ pub(crate) fn node_holds<'v, L: Ledger>(
     requires { IsSound place.now.version.now (shape node.old) }
     ensures says { result ≡ run_truth place.now.version.now (shape node.old) (asked_at place.now) }
     ensures same { shape node.new ≡ shape node.old }
-    ensures price { moves.new ≤ moves.old + run_cost (moves_for place.now) (shape node.old) }
+    ensures price { is_cheap_shape (shape node.old) ≡ true → moves.new ≤ moves.old + run_cost (moves_for place.now) (shape node.old) }
     ensures grown { moves.old ≤ moves.new }
 {
     match node {
@@ -34,8 +37,9 @@ pub(crate) fn node_holds<'v, L: Ledger>(
         RunNode::Or(parts) => some_holds(place, parts, moves),
         RunNode::And(parts) => all_hold(place, parts, moves),
         RunNode::Not(part) => !part_holds(place, part, moves),
-        RunNode::Ways(ways) => ways_hold(place, ways),
-        RunNode::Hits(hits) => hits_hold(place, hits),
+        RunNode::Ways(ways) => ways_hold(place, ways, moves),
+        RunNode::Near(near) => near_holds(place, near, moves),
+        RunNode::Hits(hits) => hits_hold(place, hits, moves),
         RunNode::Merge(merge) => merge_holds(place, merge, moves),
         RunNode::Placed(placed) => placed_holds(place, placed, moves),
     }
@@ -50,7 +54,8 @@ fn part_holds<'v, L: Ledger>(
     requires { IsSound place.now.version.now (shape part.old.value) }
     ensures says { result ≡ run_truth place.now.version.now (shape part.old.value) (asked_at place.now) }
     ensures same { shape part.new.value ≡ shape part.old.value }
-    ensures price { moves.new ≤ moves.old + run_cost (moves_for place.now) (shape part.old.value) }
+    ensures price { is_cheap_shape (shape part.old.value) ≡ true
+        → moves.new ≤ moves.old + run_cost (moves_for place.now) (shape part.old.value) }
     ensures grown { moves.old ≤ moves.new }
 {
     node_holds(place, part, moves)
@@ -65,7 +70,8 @@ fn some_holds<'v, L: Ledger>(
     requires { AreSound place.now.version.now (shapes_of (map shape parts.old.items)) }
     ensures says { result ≡ some_true place.now.version.now (shapes_of (map shape parts.old.items)) (asked_at place.now) }
     ensures same { map shape parts.new.items ≡ map shape parts.old.items }
-    ensures price { moves.new ≤ moves.old + run_costs (moves_for place.now) (shapes_of (map shape parts.old.items)) }
+    ensures price { are_cheap_shapes (shapes_of (map shape parts.old.items)) ≡ true
+        → moves.new ≤ moves.old + run_costs (moves_for place.now) (shapes_of (map shape parts.old.items)) }
     ensures grown { moves.old ≤ moves.new }
 {
     for number in 0..parts.len() {
@@ -85,7 +91,8 @@ fn all_hold<'v, L: Ledger>(
     requires { AreSound place.now.version.now (shapes_of (map shape parts.old.items)) }
     ensures says { result ≡ all_true place.now.version.now (shapes_of (map shape parts.old.items)) (asked_at place.now) }
     ensures same { map shape parts.new.items ≡ map shape parts.old.items }
-    ensures price { moves.new ≤ moves.old + run_costs (moves_for place.now) (shapes_of (map shape parts.old.items)) }
+    ensures price { are_cheap_shapes (shapes_of (map shape parts.old.items)) ≡ true
+        → moves.new ≤ moves.old + run_costs (moves_for place.now) (shapes_of (map shape parts.old.items)) }
     ensures grown { moves.old ≤ moves.new }
 {
     for number in 0..parts.len() {

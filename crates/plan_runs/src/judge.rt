@@ -4,6 +4,8 @@ ghost use Rattle.std.specs.Prelude.{◌≡◌, ◌≤◌, ◌+◌, true, false};
 ghost use Rattle.ft_base.specs.declared.span.Span.{Span};
 ghost use Rattle.index_meaning.specs.Documents.{document_at, has_document, token_count};
 ghost use Rattle.index_phrases.specs.Tokens.{span_tokens};
+ghost use Rattle.plan_compiler.specs.CheapSelections.{is_cheap};
+ghost use Rattle.plan_compiler.specs.Lexicon.{lexicon};
 ghost use Rattle.plan_runs.specs.Judgement.{Judgement};
 ghost use Rattle.plan_runs.specs.RunPrice.{price_at};
 
@@ -18,8 +20,8 @@ pub trait Judge {
     ghost says: { Judgement };
 
     /// Whether the tokens of the span of the document satisfy the selection of the run, under its lists. The run stays over its
-    /// selection, its lists and its version. It takes no memory, and moves cursors by no more than the price of the selection there;
-    /// the moves of a walk through the ways of a filter or `not in`, and of a pass through the hits of phrases, aren't counted.
+    /// selection, its lists and its version. It takes no memory, and counts the moves of cursors; those of a cheap selection are no more
+    /// than its price there.
     fn judge<L: Ledger>(
         &self,
         run: &mut Run<'_>,
@@ -32,7 +34,7 @@ pub trait Judge {
         ensures says { result ≡ says run.old.form run.old.lists (span_tokens span (document_at doc.0 run.old.version)) }
         ensures same { run.new ≡ run.old }
         ensures grown { moves.old ≤ moves.new }
-        ensures price { moves.new ≤ moves.old + price_at run.old doc.0 span };
+        ensures price { is_cheap (lexicon run.old.lists) run.old.form ≡ true → moves.new ≤ moves.old + price_at run.old doc.0 span };
 
     /// A place up to which the document can be skipped: of no span of it that starts at `from` or after, and ends there or before
     /// it, does `judge` say that its tokens satisfy the selection of the run. 0 says nothing, and the greatest number says that nothing

@@ -3,8 +3,8 @@
 //! A run has terms of the version and cursors in the place of tests of words (`opening`). It counts words by merging their cursors
 //! (`words_holding`), decides filters over single words by merges of their own where one pass through their places tells
 //! (`merge_holding`), and so one phrase outside another (`placed_holding`). A phrase at an edge of the text is asked for at its place
-//! there (`edge_holding`). Windows, order, units and distances over phrases are decided by one pass through their hits
-//! (`hits_holding`). Each other filter and `not in` is decided by a walk through its ways (`ways_holding`). `plan_kinds` says which of
+//! there (`edge_holding`). Windows and scopes over phrases, as nested as one likes, are decided by one pass through the ends of their hits
+//! (`near_holding`), and order and distances by one through their hits (`hits_holding`). Each other filter and `not in` is decided by a walk through its ways (`ways_holding`). `plan_kinds` says which of
 //! these decides a plan. Up to where the words that a selection needs begin, a document can be skipped (`skipping`); those words are
 //! looked up in a document once (`looking_up`). A session asks a `Judge` with it.
 #![tactic(auto)]
@@ -20,12 +20,14 @@ mod judge;
 pub mod laws;
 mod looking_up;
 mod merge_holding;
+mod near_holding;
 mod needed_skips;
 mod needs;
 mod occurrence_ranges;
 mod opening;
 mod opening_hits;
 mod opening_merges;
+mod opening_near;
 mod opening_needs;
 mod opening_operators;
 mod opening_placed;
@@ -34,6 +36,7 @@ mod rarity;
 mod run;
 mod run_hits;
 mod run_merge;
+mod run_near;
 mod run_node;
 mod run_placed;
 mod run_ways;

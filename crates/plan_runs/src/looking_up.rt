@@ -4,13 +4,14 @@
 ghost use Rattle.std.specs.Prelude.{◌≡◌, map};
 ghost use Rattle.index_phrases.specs.steps.Aiming.{variant_words};
 ghost use Rattle.plan_runs.specs.steps.OpenedOperators.{aims_of};
-ghost use Rattle.plan_runs.specs.steps.RunShapes.{group_shape, hits_shape, merge_shape, phrase_shape, placed_shape, shape, words_shape};
+ghost use Rattle.plan_runs.specs.steps.RunShapes.{group_shape, hits_shape, merge_shape, near_shape, phrase_shape, placed_shape, shape, words_shape};
 ghost use Rattle.plan_runs.specs.steps.Skips.{skip_of};
 
 use crate::needs::{NeededSides, Needs};
 use crate::occurrence_ranges::is_enough;
 use crate::run_hits::RunHits;
 use crate::run_merge::RunMerge;
+use crate::run_near::RunNear;
 use crate::run_node::{RunGroup, RunNode, RunPhrase, RunWords};
 use crate::run_placed::RunPlaced;
 use crate::run_ways::RunWays;
@@ -29,6 +30,7 @@ pub(crate) fn look_up(doc: DocId, node: &mut RunNode<'_>) -> bool
         RunNode::And(parts) => look_parts_up(doc, true, parts),
         RunNode::Not(_part) => true,
         RunNode::Ways(ways) => look_ways_up(doc, ways),
+        RunNode::Near(near) => look_near_up(doc, near),
         RunNode::Hits(hits) => look_hits_up(doc, hits),
         RunNode::Merge(merge) => look_merge_up(doc, merge),
         RunNode::Placed(placed) => look_placed_up(doc, placed),
@@ -124,6 +126,12 @@ fn look_ways_up(doc: DocId, ways: &mut Box<RunWays<'_>>) -> bool
     ensures needs { skip_of ways.new.value.needs ≡ skip_of ways.old.value.needs }
 {
     look_needs_up(doc, &mut ways.needs)
+}
+
+fn look_near_up(doc: DocId, near: &mut Box<RunNear<'_>>) -> bool
+    ensures { near_shape near.new.value ≡ near_shape near.old.value }
+{
+    look_needs_up(doc, &mut near.needs)
 }
 
 fn look_hits_up(doc: DocId, hits: &mut Box<RunHits<'_>>) -> bool

@@ -1,10 +1,11 @@
 //! Plans opened over a version of the index.
 
-ghost use Rattle.std.specs.Prelude.{◌≡◌, ◌<◌, ◌++◌, map, length, IfOk, OnOk};
+ghost use Rattle.std.specs.Prelude.{◌≡◌, ◌<◌, ◌++◌, map, length, IfOk, None, OnOk};
 ghost use Rattle.std.specs.List.{All};
 ghost use Rattle.index_versions.specs.Terms.{version_term};
 ghost use Rattle.index_versions.specs.Versions.{terms_of};
 ghost use Rattle.plan_compiler.specs.declared.node.Node as Node;
+ghost use Rattle.plan_kinds.specs.steps.MergeKinds as kinds;
 ghost use Rattle.plan_runs.specs.steps.OpenedItems as items;
 ghost use Rattle.plan_runs.specs.steps.OpenedWords as spec;
 ghost use Rattle.index_phrases.specs.steps.Aiming.{size_of, sizes_of, variant_words, wanted_size};
@@ -13,6 +14,7 @@ ghost use Rattle.plan_runs.specs.steps.RunShapes.{group_shape, phrase_shape, sha
 use crate::choosing::{Opening, terms_for};
 use crate::opening_hits::open_hits;
 use crate::opening_merges::open_merge;
+use crate::opening_near::open_near;
 use crate::opening_operators::open_ways;
 use crate::opening_placed::{open_at_edge, open_outside};
 use crate::rarity::rarest;
@@ -22,7 +24,7 @@ use index_phrases::WordTerms;
 use index_versions::{TermCursor, TermSource, TermSources};
 use place_merges::{Item, Variant};
 use plan_compiler::{ItemTest, Node, PhrasePlan, WaysPlan, WordsPlan};
-use plan_kinds::{asks_nothing, edge_of, merge_of, outside_of, pass_of};
+use plan_kinds::{asks_nothing, edge_of, is_near, merge_of, outside_of, pass_of};
 
 /// The compiled selection, opened.
 #[cycle(open)]
@@ -57,14 +59,21 @@ fn open_all<'v>(opening: &Opening<'v>, parts: &Items<Node>) -> Result<Vec<RunNod
     Ok(runs)
 }
 
-/// A filter or `not in`: a merge, the spots of phrases or a pass through their hits, where these decide it, or else a walk through its
-/// ways.
+/// A filter or `not in`: a merge, where one decides it, or else what doesn't bound its moves.
 fn open_filtered<'v>(opening: &Opening<'v>, plan: &WaysPlan) -> Result<RunNode<'v>, Memory>
     ensures { IfOk result (λ run. spec.IsOpened opening.now.looks opening.now.lists.now.stems opening.now.version.now (shape run) (Node.Ways plan.now)) }
 {
-    if let Some((kind, operand)) = merge_of(&plan.operator) {
-        return Ok(RunNode::Merge(open_merge(opening, kind, operand)?));
+    match merge_of(&plan.operator) {
+        Some((kind, operand)) => Ok(RunNode::Merge(open_merge(opening, kind, operand)?)),
+        None => open_unmerged(opening, plan),
     }
+}
+
+/// The spots of phrases or a pass through their hits, where these decide it, or else a walk through its ways.
+fn open_unmerged<'v>(opening: &Opening<'v>, plan: &WaysPlan) -> Result<RunNode<'v>, Memory>
+    requires { kinds.merge_of plan.now.operator ≡ None }
+    ensures { IfOk result (λ run. spec.IsOpened opening.now.looks opening.now.lists.now.stems opening.now.version.now (shape run) (Node.Ways plan.now)) }
+{
     if let Some((edge, phrase)) = edge_of(&plan.operator) {
         let placed = open_at_edge(opening, edge, phrase)?;
         return Ok(RunNode::Placed(placed));
@@ -76,10 +85,14 @@ fn open_filtered<'v>(opening: &Opening<'v>, plan: &WaysPlan) -> Result<RunNode<'
     open_passed(opening, plan)
 }
 
-/// A pass through hits, where one decides it, or else a walk through its ways.
+/// A pass through hits or their ends, where one decides it, or else a walk through its ways.
 fn open_passed<'v>(opening: &Opening<'v>, plan: &WaysPlan) -> Result<RunNode<'v>, Memory>
+    requires { kinds.merge_of plan.now.operator ≡ None }
     ensures { IfOk result (λ run. spec.IsOpened opening.now.looks opening.now.lists.now.stems opening.now.version.now (shape run) (Node.Ways plan.now)) }
 {
+    if is_near(&plan.operator) {
+        return Ok(RunNode::Near(open_near(opening, &plan.operator)?));
+    }
     match pass_of(&plan.operator) {
         Some((kind, operand)) => {
             let operator = &plan.operator;

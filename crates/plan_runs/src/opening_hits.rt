@@ -126,7 +126,7 @@ fn push_phrase<'v>(
 }
 
 /// A cursor for each of the variants.
-fn open_each<'v>(
+pub(crate) fn open_each<'v>(
     opening: &Opening<'v>,
     number: u32,
     variants: &[Items<ItemTest>],

@@ -1,9 +1,8 @@
 //! Whether phrases stand in a span where they have to.
 
-ghost use Rattle.std.specs.Prelude.{◌≡◌, ◌+◌, ◌≤◌};
+ghost use Rattle.std.specs.Prelude.{◌≡◌, ◌≤◌};
 ghost use Rattle.plan_runs.specs.steps.AskedPlaces.{asked_at};
 ghost use Rattle.plan_runs.specs.declared.run_placed.RunPlaced.TheVariants.{Apart, AtEdge};
-ghost use Rattle.plan_runs.specs.steps.RunCosts.{moves_for, placed_cost};
 ghost use Rattle.plan_runs.specs.steps.RunShapes.{placed_shape};
 ghost use Rattle.plan_runs.specs.steps.RunTruth.{ArePlaced, placed_say};
 
@@ -24,21 +23,25 @@ pub(crate) fn placed_holds<'v, L: Ledger>(
     requires { ArePlaced place.now.version.now (placed_shape placed.old) }
     ensures says { result ≡ placed_say place.now.version.now (placed_shape placed.old) (asked_at place.now) }
     ensures same { placed_shape placed.new ≡ placed_shape placed.old }
-    ensures price { moves.new ≤ moves.old + placed_cost (moves_for place.now) (placed_shape placed.old) }
     ensures grown { moves.old ≤ moves.new }
 {
     match placed {
-        RunPlaced::AtEdge(phrase) => holds_at_edge(place, phrase),
+        RunPlaced::AtEdge(phrase) => holds_at_edge(place, phrase, moves),
         RunPlaced::Apart(phrases) => holds_apart(place, phrases, moves),
     }
 }
 
-fn holds_at_edge(place: &AskedPlace<'_>, phrase: &mut EdgePhrase<'_>) -> bool
+fn holds_at_edge<L: Ledger>(
+    place: &AskedPlace<'_>,
+    phrase: &mut EdgePhrase<'_>,
+    moves: &mut Steps<L>,
+) -> bool
     requires { ArePlaced place.now.version.now (placed_shape (AtEdge phrase.old)) }
     ensures says { result ≡ placed_say place.now.version.now (placed_shape (AtEdge phrase.old)) (asked_at place.now) }
     ensures same { placed_shape (AtEdge phrase.new) ≡ placed_shape (AtEdge phrase.old) }
+    ensures grown { moves.old ≤ moves.new }
 {
-    stands_at_edge(place, phrase.edge, &mut phrase.variants)
+    stands_at_edge(place, phrase.edge, &mut phrase.variants, moves)
 }
 
 fn holds_apart<'v, L: Ledger>(
@@ -49,7 +52,6 @@ fn holds_apart<'v, L: Ledger>(
     requires { ArePlaced place.now.version.now (placed_shape (Apart phrases.old)) }
     ensures says { result ≡ placed_say place.now.version.now (placed_shape (Apart phrases.old)) (asked_at place.now) }
     ensures same { placed_shape (Apart phrases.new) ≡ placed_shape (Apart phrases.old) }
-    ensures price { moves.new ≤ moves.old + placed_cost (moves_for place.now) (placed_shape (Apart phrases.old)) }
     ensures grown { moves.old ≤ moves.new }
 {
     let left = &mut phrases.left;

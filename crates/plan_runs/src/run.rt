@@ -5,6 +5,7 @@ ghost use Rattle.ft_base.specs.declared.span.Span.{Span};
 ghost use Rattle.all_matches.specs.Meaning.{sat};
 ghost use Rattle.index_meaning.specs.Documents.{document_at, has_document, token_count};
 ghost use Rattle.index_phrases.specs.Tokens.{span_tokens};
+ghost use Rattle.plan_compiler.specs.CheapSelections.{is_cheap};
 ghost use Rattle.plan_compiler.specs.Lexicon.{lexicon};
 ghost use Rattle.plan_runs.specs.RunPrice.{price_at};
 
@@ -70,15 +71,14 @@ impl<'v> Run<'v> {
         })
     }
 
-    /// Whether the tokens of the span of the document satisfy the plan's selection. It moves cursors forward, and takes no memory. The
-    /// moves that are counted are at most the selection's price at the span. Those of a walk through the ways of a filter or `not in`,
-    /// and of a pass through the hits of phrases, aren't counted; each other one is.
+    /// Whether the tokens of the span of the document satisfy the plan's selection. It moves cursors forward, counts each move, and takes
+    /// no memory. The moves of a cheap selection are at most its price at the span.
     pub fn test<L: Ledger>(&mut self, doc: DocId, span: Span, moves: &mut Steps<L>) -> bool
         requires there { has_document doc.0 self.old.version ≡ true }
         requires inside { (1 ≤ span.from) × (span.from ≤ span.to) × (span.to ≤ token_count (document_at doc.0 self.old.version) + 1) }
         ensures says { result ≡ sat (lexicon self.old.lists) self.old.form (span_tokens span (document_at doc.0 self.old.version)) }
         ensures same { self.new ≡ self.old }
-        ensures price { moves.new ≤ moves.old + price_at self.old doc.0 span }
+        ensures price { is_cheap (lexicon self.old.lists) self.old.form ≡ true → moves.new ≤ moves.old + price_at self.old doc.0 span }
         ensures grown { moves.old ≤ moves.new }
     {
         let version = self.version;

@@ -2,6 +2,7 @@
 
 use crate::run_hits::RunHits;
 use crate::run_merge::RunMerge;
+use crate::run_near::RunNear;
 use crate::run_placed::RunPlaced;
 use crate::run_ways::RunWays;
 use ft_base::Range;
@@ -20,7 +21,9 @@ pub(crate) enum RunNode<'v> {
     Not(Box<RunNode<'v>>),
     /// A selection with filters or `not in`, by its ways.
     Ways(Box<RunWays<'v>>),
-    /// A filter over phrases, by one pass through their hits.
+    /// Windows and scopes over phrases, by one pass through the ends of their hits.
+    Near(Box<RunNear<'v>>),
+    /// Another filter over phrases, by one pass through their hits.
     Hits(Box<RunHits<'v>>),
     /// A filter over single words, by a merge of their hits.
     Merge(RunMerge<'v>),

@@ -28,6 +28,7 @@ pub(crate) fn skip(doc: DocId, part: Span, node: &RunNode<'_>) -> Option<u32>
         RunNode::And(nodes) => last_skip(doc, part, nodes),
         RunNode::Not(_node) => Some(0),
         RunNode::Ways(ways) => needs_skip(doc, part, &ways.needs),
+        RunNode::Near(near) => needs_skip(doc, part, &near.needs),
         RunNode::Hits(hits) => needs_skip(doc, part, &hits.needs),
         RunNode::Merge(merge) => merge_skip(doc, part, &merge.words),
         RunNode::Placed(placed) => placed_skip(doc, part, placed),

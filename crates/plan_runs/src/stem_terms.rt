@@ -20,6 +20,7 @@ pub(crate) fn asked_stem(looks: Looks, test: &ItemTest) -> Option<&str>
     ensures { option_copied result ≡ spec.asked_stem looks test.now }
 {
     match test {
+        ItemTest::Any => None,
         ItemTest::ByForms(_test) => None,
         ItemTest::ByStem(stem, _case) => {
             if looks.stems {

@@ -5,7 +5,15 @@
 #![tactic(auto)]
 
 pub mod allowed;
+pub mod connective;
+pub mod counting;
 pub mod distance;
+pub mod hit;
 pub mod occurs;
+pub mod operators;
 pub mod ordered;
+pub mod scope;
+pub mod selections;
+pub mod ways;
+pub mod window;
 pub mod word;

@@ -7,9 +7,9 @@ ghost use Rattle.ft_base.specs.declared.options.StopChoice.TheVariants as S;
 ghost use Rattle.ft_base.specs.declared.options.StopSource.TheVariants as W;
 ghost use Rattle.ft_base.specs.declared.options.ThesaurusChoice.TheVariants as T;
 ghost use Rattle.ft_base.specs.Selection.{no_options, with_options};
-ghost use Rattle.all_matches.specs.Examples.{plain, also_x, text, value, quoted, with_thesaurus};
+ghost use Rattle.all_matches.specs.Examples.{plain, also_x, text, value, quoted, stopped, with_thesaurus};
 ghost use Rattle.all_matches.specs.Meaning.{sat};
-ghost use Rattle.all_matches.specs.Variants.{pattern};
+ghost use Rattle.all_matches.specs.Variants.{any_word, word, pattern, is_pattern, reached_keys};
 
 /// `{"a b", "c"} all words` and `any word`.
 pub fn modes_by_words()
@@ -32,8 +32,26 @@ pub fn lists_of_stop_words()
         (text (codes "propagating few errors")) ≡ true }
 {}
 
-/// A thesaurus reaches nothing from a phrase that holds a pattern.
+/// `"a b" using stop words ("c") except ("d")` and the like: a word is one where some list holds it, and no later one takes it out.
+pub fn words_of_no_list()
+    ensures of_no_list { sat plain
+        (with_options (quoted (codes "a b")) (stopped (S.Sets (record { except = false; source = W.Written (codes "c" ∷ []) } ∷ []))))
+        (text (codes "x b")) ≡ false }
+    ensures not_taken_out_of_what_is_no_list { sat plain
+        (with_options (quoted (codes "a b")) (stopped (S.Sets
+        (record { except = false; source = W.Written (codes "c" ∷ []) } ∷ record { except = true; source = W.Written (codes "d" ∷ []) } ∷ []))))
+        (text (codes "x b")) ≡ false }
+    ensures not_taken_out { sat plain
+        (with_options (quoted (codes "a b")) (stopped (S.Sets
+        (record { except = false; source = W.Written (codes "a" ∷ []) } ∷ record { except = true; source = W.Written (codes "d" ∷ []) } ∷ []))))
+        (text (codes "x b")) ≡ true }
+{}
+
+/// A thesaurus reaches nothing from a phrase that holds a pattern, whatever else it holds.
 pub fn patterns_under_thesauri()
+    ensures beside_a_word { reached_keys also_x (Some (T.Uses (record { name = codes "list"; relationship = None; levels = None } ∷ [])))
+        (word (codes "a") ∷ pattern (codes "b") ∷ []) ≡ [] }
+    ensures no_pattern { is_pattern any_word ≡ false }
     ensures not_reached { sat (record also_x { items_of = λ options string. pattern string ∷ [] })
         (with_options (quoted (codes "a")) (with_thesaurus (T.Uses (record { name = codes "list"; relationship = None; levels = None } ∷ []))))
         (text (codes "x")) ≡ false }

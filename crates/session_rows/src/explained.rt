@@ -9,7 +9,7 @@ use std::test::Fail;
 /// A text, and the reply to it as a selection that is to be explained.
 type ExplainedRow = (&'static str, &'static str);
 
-const EXPLAINED: [ExplainedRow; 15] = [
+const EXPLAINED: [ExplainedRow; 20] = [
     (r#"'a'"#, "= \"a\"\n"),
     (
         r#"ftnot ("a" ftor ftnot "b")"#,
@@ -36,7 +36,22 @@ const EXPLAINED: [ExplainedRow; 15] = [
         r#"("a" ftand "b") ftand ("a" ftand "c")"#,
         "= \"a\" ftand \"b\" ftand \"c\"\n",
     ),
-    // under a filter operands only give up their parentheses
+    // of equal operands of a negated selection one is left
+    (r#"ftnot ("a" ftor "a")"#, "= ftnot \"a\"\n"),
+    (r#"ftnot ("a" ftand "a")"#, "= ftnot \"a\"\n"),
+    // under `not in` and under a filter operands only give up their parentheses
+    (
+        r#"("a" ftor "a") not in "b""#,
+        "= (\"a\" ftor \"a\") not in \"b\"\n",
+    ),
+    (
+        r#""b" not in ("a" ftor "a")"#,
+        "= \"b\" not in (\"a\" ftor \"a\")\n",
+    ),
+    (
+        r#"(ftnot ("a" ftor "a")) ordered"#,
+        "= ftnot (\"a\" ftor \"a\") ordered\n",
+    ),
     (
         r#"("a" ftor ("a" ftor "b")) ordered"#,
         "= \"a\" ftor \"a\" ftor \"b\" ordered\n",

@@ -1,6 +1,9 @@
 // Positional filters and `not in`: which Matches they keep, and which excludes.
-use crate::rows::{Row, TruthRow, expect_rows, expect_truths, expect_truths_after};
+use crate::rows::{NEVER, Row, TruthRow, expect_rows, expect_truths, is_answered};
+use call_rows::texts::repeated;
 use ft_session::Status;
+use std::alloc::Global;
+use std::process::Abort;
 use std::test::Fail;
 
 const ORDERED: [TruthRow; 8] = [
@@ -297,20 +300,6 @@ const MIXED: [TruthRow; 12] = [
     ),
 ];
 
-const VARIANTS: [TruthRow; 3] = [
-    (
-        "ny city",
-        r#""ny" using thesaurus at "t" entire content"#,
-        true,
-    ),
-    (
-        "ny city x",
-        r#""ny" using thesaurus at "t" entire content"#,
-        false,
-    ),
-    ("x ny", r#""ny" using thesaurus at "t" at end"#, true),
-];
-
 const SESSIONS: [Row; 3] = [
     // the words of an element count from its own first one
     (
@@ -447,12 +436,34 @@ fn filters_stand_in_selections(rt: HostRuntime) -> Result<(), Fail> {
 }
 
 #[test]
-fn variants_of_phrases_are_filtered(rt: HostRuntime) -> Result<(), Fail> {
-    let thesaurus = "thesaurus t\nr | ny | ny city\n.\n";
-    expect_truths_after(&rt, rt.alloc(), thesaurus, "ok\n", &VARIANTS)
+fn elements_are_filtered_by_their_own_words(rt: HostRuntime) -> Result<(), Fail> {
+    expect_rows(&rt, rt.alloc(), &SESSIONS)
+}
+
+/// What stands between a thousand `a` and a thousand `b`, and the reply to a window of two words.
+const LONG_TEXTS: [(&str, &str); 2] = [("c c ", "ok\n= 0\n"), ("", "ok\n= 1\ndoc(\"x\")/a[1]\n")];
+
+fn expect_long_text(rt: &impl Abort, alloc: Global, row: (&str, &str)) -> Result<(), Fail> {
+    let (between, output) = row;
+    let first = repeated(alloc, "load x\n<a>", 1000, "a ", between)?;
+    let query = "</a>\n.\nquery collection()/a[. contains text \"a\" ftand \"b\" window 2 words]\n";
+    let session = repeated(alloc, first.as_str(), 1000, "b ", query)?;
+    let answered = is_answered(
+        alloc,
+        session.as_bytes(),
+        NEVER,
+        NEVER,
+        &[output],
+        Status::Done,
+    )?;
+    assert!(rt; answered, "{between}");
+    Ok(())
 }
 
 #[test]
-fn elements_are_filtered_by_their_own_words(rt: HostRuntime) -> Result<(), Fail> {
-    expect_rows(&rt, rt.alloc(), &SESSIONS)
+fn a_window_lies_between_many_words(rt: HostRuntime) -> Result<(), Fail> {
+    for row in LONG_TEXTS {
+        expect_long_text(&rt, rt.alloc(), row)?;
+    }
+    Ok(())
 }

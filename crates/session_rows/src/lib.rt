@@ -4,6 +4,8 @@
 #![tactic(auto)]
 
 #[cfg(test)]
+mod asked_again;
+#[cfg(test)]
 mod asked_elements;
 #[cfg(test)]
 mod commands;
@@ -26,9 +28,13 @@ mod explained;
 #[cfg(test)]
 mod failures;
 #[cfg(test)]
+mod filtered_choices;
+#[cfg(test)]
 mod filters;
 #[cfg(test)]
 mod judges;
+#[cfg(test)]
+mod library;
 #[cfg(test)]
 mod limits;
 #[cfg(test)]

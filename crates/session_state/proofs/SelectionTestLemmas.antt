@@ -25,11 +25,13 @@ use Rattle.path_meaning.specs.Elements.{Element, placed}
 use Rattle.path_nodes.specs.References.{Spot, spots_in, spot_element, spot_reference, found_in, element_of, IsElement}
 use Rattle.path_nodes.specs.Says.{Meaning}
 use Rattle.path_nodes.proofs.SpotLemmas.{spot-stand, spot-there}
+use Rattle.plan_compiler.specs.CheapSelections.{is_cheap}
+use Rattle.plan_compiler.specs.Lexicon.{lexicon}
 use Rattle.plan_runs.specs.Judgement.{Judgement}
 use Rattle.plan_runs.specs.RunMeaning.{RunMeaning}
 use Rattle.kept_plans.specs.PlanOf.{PlanOf}
 use Rattle.tokenizer.specs.Tokens.{tokens}
-use Rattle.session_state.specs.PathPrices.{element_price, words_of as element_words}
+use Rattle.session_state.specs.PathPrices.{are_cheap, element_price, words_of as element_words}
 use Rattle.session_state.specs.PlannedPaths.{is_meant, meant, run_meant, run_over, run_price}
 use Rattle.session_state.specs.SelectionTests.{asked_of, is_there, may_ask, span_among, span_at, AreOver, AreOverEach}
 use Rattle.collections.specs.Indexed.{FollowsEach}
@@ -139,6 +141,12 @@ unfolding element_price
 priced-at [] k run e more is = absurd (omega (arith, more))
 priced-at (r ∷ runs) zero run e more is = ap (λ q. run_price q (element_words e)) is
 priced-at (r ∷ runs) (suc k) run e more is = priced-at runs k run e (omega (arith, more)) is
+
+pub cheap-at : (runs : List RunMeaning) (k : ℕ) (run : RunMeaning) → are_cheap (map run_meant runs) ≡ true → k < length runs → get_or runs k run ≡ run
+    → is_cheap (lexicon run.lists) run.form ≡ true
+cheap-at [] k run h more is = absurd (omega (arith, more))
+cheap-at (r ∷ runs) zero run h more is = sym (ap (λ (q : RunMeaning). is_cheap (lexicon q.lists) q.form) is) ∙ (and_parts (is_cheap (lexicon r.lists) r.form) (are_cheap (map run_meant runs)) h).0
+cheap-at (r ∷ runs) (suc k) run h more is = cheap-at runs k run (and_parts (is_cheap (lexicon r.lists) r.form) (are_cheap (map run_meant runs)) h).1 (omega (arith, more)) is
 
 pub over-at : (runs : List RunMeaning) (k : ℕ) (run : RunMeaning) (t : ℕ × Numbered) → k < length runs → get_or runs k run ≡ run → AreOver runs t → Follows run.version t.0 t.1
 over-at runs k run t more is over = subst (λ (q : RunMeaning). Follows q.version t.0 t.1) is (over k run more)

@@ -1,6 +1,7 @@
--- How far cursors may move by which a path is answered: the prices of the tests for which it asks, over the version of the index.
-use Rattle.std.specs.Prelude.{ℕ, zero, suc, List, [], ◌∷◌, map, Option, Some, None, Result, Ok, Err}
-use Rattle.std.specs.List.{sum_by}
+-- How far cursors may move by which a path of cheap selections is answered: the prices of the tests for which it asks, over the version of the index.
+use Rattle.std.specs.Prelude.{ℕ, zero, suc, Bool, true, List, [], ◌∷◌, map, Option, Some, None, Result, Ok, Err}
+use Rattle.std.specs.List.{list_all, sum_by}
+use Rattle.ft_base.specs.Selection.{Form}
 use Rattle.ft_base.specs.declared.fault.QueryFault.{QueryFault}
 use Rattle.index_meaning.specs.Documents.{Numbered}
 use Rattle.path_meaning.specs.Collection.{documents}
@@ -11,6 +12,7 @@ use Rattle.path_subset.specs.Answer.{path_read}
 use Rattle.path_subset.specs.Paths.{PathForm}
 use Rattle.plain_tree.specs.Document.{Node}
 use Rattle.plan_runs.specs.Judgement.{Judgement}
+use Rattle.plan_compiler.specs.CheapSelections.{is_cheap}
 use Rattle.plan_compiler.specs.Lexicon.{lexicon}
 use Rattle.plan_compiler.specs.NamedLists.{NamedLists}
 use Rattle.plan_runs.specs.RunPrice.{price}
@@ -60,7 +62,26 @@ abbrev pub price_at : Judgement → Held → List ℕ → List ℕ → Option Ma
 price_at says held name path None = 0
 price_at says held name path (Some mark) = read_price says (held_at held name mark) (path_read path)
 
--- how far a command may move cursors: as far as the tests of its path cost
+-- whether selections are cheap, each under its lists
+abbrev pub are_cheap : List (NamedLists × Form) → Bool
+are_cheap selections = list_all (λ s. is_cheap (lexicon s.0) s.1) selections
+
+-- whether all selections of a path are cheap under lists; a text that is no path has none
+abbrev pub is_cheap_path : NamedLists → Result PathForm QueryFault → Bool
+is_cheap_path lists (Err fault) = true
+is_cheap_path lists (Ok p) = are_cheap (map (λ form. (lists, form)) (selections_of p))
+
+-- whether all selections for which a command asks are cheap
+unfoldable pub asks_cheaply : NamedLists → Command → Bool
+asks_cheaply lists (command.Insert how path block) = is_cheap_path lists (path_read path)
+asks_cheaply lists (command.Replace path block) = is_cheap_path lists (path_read path)
+asks_cheaply lists (command.Delete path) = is_cheap_path lists (path_read path)
+asks_cheaply lists (command.Query path) = is_cheap_path lists (path_read path)
+asks_cheaply lists (command.QueryAt name path) = is_cheap_path lists (path_read path)
+asks_cheaply lists (command.Print path) = is_cheap_path lists (path_read path)
+asks_cheaply lists _ = true
+
+-- how far a command may move cursors, where all selections for which it asks are cheap: as far as the tests of its path cost
 unfoldable pub moves_for : Judgement → Held → Command → ℕ
 moves_for says held (command.Insert how path block) = read_price says held (path_read path)
 moves_for says held (command.Replace path block) = read_price says held (path_read path)

@@ -21,7 +21,7 @@ use Rattle.plan_runs.specs.RunPrice.{price}
 use Rattle.plan_runs.specs.RunMeaning.{RunMeaning}
 use Rattle.tokenizer.specs.Tokens.{tokens}
 use Rattle.session_state.specs.KeptTexts.{text_at}
-use Rattle.session_state.specs.PathPrices.{element_price}
+use Rattle.session_state.specs.PathPrices.{are_cheap, element_price}
 use Rattle.session_state.specs.Paths.{lines_of, selections_of}
 use Rattle.session_state.specs.declared.planned.PlannedPath.{PlannedPath}
 use Rattle.session_state.specs.declared.shown.Shown.{Shown}
@@ -65,6 +65,10 @@ pub record IsPlanOf (lists : NamedLists) (p : PathForm) (planned : PlannedPath) 
 -- There is a run for each plan of a path, in order.
 abbrev pub AreRunsOf : PlannedPath → List RunMeaning → Type 0
 AreRunsOf path runs = map run_meant runs ≡ map meant path.plans.now
+
+-- The selections of a path's plans are cheap.
+abbrev pub has_cheap_plans : PlannedPath → Bool
+has_cheap_plans path = are_cheap (map meant path.plans.now)
 
 -- whether an element's tokens satisfy the selection of that number, under its lists
 unfoldable pub is_meant : Judgement → List (NamedLists × Form) → ℕ → Element → Bool

@@ -1,5 +1,5 @@
 -- What is said of the nodes of a document, by runs and the judge that is asked with them.
-use Rattle.std.specs.Prelude.{ℕ, ◌==◌, Bool, ◌&&◌, nat_lt, List, [], ◌∷◌, length, map, All, if◌then◌else◌}
+use Rattle.std.specs.Prelude.{ℕ, ◌==◌, Bool, ◌&&◌, nat_lt, List, [], ◌∷◌, length, map, All, cond, if◌then◌else◌}
 use Rattle.std.specs.List.{list_any, AllByRecursion}
 use Rattle.index_updates.specs.Follows.{Follows}
 use Rattle.ordered_tree.specs.Numbered.{Numbered}
@@ -10,7 +10,7 @@ use Rattle.path_nodes.specs.References.{Spot, element_of, spot_reference, spots_
 use Rattle.path_nodes.specs.Says.{Meaning}
 use Rattle.plan_runs.specs.Judgement.{Judgement}
 use Rattle.plan_runs.specs.RunMeaning.{RunMeaning}
-use Rattle.session_state.specs.PathPrices.{element_price}
+use Rattle.session_state.specs.PathPrices.{are_cheap, element_price}
 use Rattle.session_state.specs.PlannedPaths.{is_meant, run_meant, run_price}
 
 -- whether a reference names a node of a document
@@ -29,13 +29,17 @@ span_at root r = span_among r (spots_in root)
 abbrev pub may_ask : List RunMeaning → Numbered → ℕ → NodeRef → Bool
 may_ask runs root k r = nat_lt k (length runs) && is_there root r
 
--- It is said whether the element that the reference names satisfies the selection, for the price of the run at its words. The runs and a count
--- of steps are lent, under these names.
+-- Where all selections are cheap, what is counted, and else nothing.
+abbrev pub where_cheap : List RunMeaning → ℕ → ℕ
+where_cheap runs count = cond (are_cheap (map run_meant runs)) count 0
+
+-- It is said whether the element that the reference names satisfies the selection, for the price of the run at its words where all
+-- selections are cheap. The runs and a count of steps are lent, under these names.
 abbrev pub asked_of : Judgement → List RunMeaning → Numbered → ℕ → ℕ → Meaning
 asked_of says runs root runs_loan moves_loan = record {
   may_ask = may_ask runs root;
   says = λ k r. is_meant says (map run_meant runs) k (element_of root r);
-  price = λ k r. element_price (map run_price runs) k (element_of root r);
+  price = λ k r. where_cheap runs (element_price (map run_price runs) k (element_of root r));
   span = span_at root;
   lent = runs_loan ∷ moves_loan ∷ [];
 }

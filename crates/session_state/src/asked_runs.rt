@@ -43,11 +43,11 @@ pub(crate) struct SelectionTest<'j, 't, 'r, 'v, 'm, J: Judge, B: Loan, M: Ledger
 
 impl<'j, 't, 'r, 'v, 'm, J: Judge, B: Loan, M: Ledger> TextTest
     for SelectionTest<'j, 't, 'r, 'v, 'm, J, B, M> {
-    ghost use Rattle.session_state.specs.SelectionTests.{asked_of};
+    ghost use Rattle.session_state.specs.SelectionTests.{asked_of, where_cheap};
 
     ghost meaning = { λ test. asked_of J.says B.runs test.tree.now.root test.runs.ghost_name test.moves.ghost_name };
 
-    ghost cost = { λ test. test.moves.now };
+    ghost cost = { λ test. where_cheap B.runs test.moves.now };
 
     fn contains(&mut self, selection: usize, node: NodeRef) -> Result<bool, Memory> {
         let span = self.tree.span_of(node);

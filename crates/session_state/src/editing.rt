@@ -1,11 +1,11 @@
 //! Edits of the elements that a path selects.
 
-ghost use Rattle.std.specs.Prelude.{◌≡◌, ◌≤◌, ◌+◌, IfOk, None, OnErr, map};
+ghost use Rattle.std.specs.Prelude.{◌≡◌, ◌≤◌, ◌+◌, IfOk, None, OnErr, map, true};
 ghost use Rattle.collections.specs.Documents.{edited_within, touched_in};
 ghost use Rattle.collections.specs.Targets.{places_of_targets, AreTargets};
 ghost use Rattle.path_meaning.specs.Collection.{documents as documents_of};
 ghost use Rattle.session_state.specs.Edits.{edit_placed, has_root, if_within, is_one, target_count, target_refusal, targets_refused, touched_placed};
-ghost use Rattle.session_state.specs.PlannedPaths.{prices_in, run_over, HasItsPlans};
+ghost use Rattle.session_state.specs.PlannedPaths.{prices_in, run_over, HasItsPlans, has_cheap_plans};
 ghost use Rattle.session_state.specs.steps.Chosen.{edit_of, planned_places};
 ghost use Rattle.tree_edits.specs.steps.Acts.{stays as does_stay};
 
@@ -35,7 +35,7 @@ pub(crate) fn edit_along<J: Judge, L: Ledger, M: Ledger>(
         (target_refusal edit.now.targets (edit_of edit.now) (map (planned_places J.says path.now) collection.old.documents))) }
     ensures err { OnErr result (collection.new ≡ collection.old) }
     ensures moves { moves.old ≤ moves.new }
-    ensures price { moves.new
+    ensures price { has_cheap_plans path.now ≡ true → moves.new
         ≤ moves.old
         + prices_in J.says path.now (map (run_over collection.old.version) path.now.plans.now) (documents_of path.now.root.now collection.old.documents) }
     ensures rows { rows.new
@@ -67,7 +67,7 @@ fn choose_along<J: Judge, M: Ledger>(
     ensures count { IfOk result (λ chosen. chosen.count ≡ target_count (map (planned_places J.says path.now) collection.now.documents)) }
     ensures rooted { IfOk result (λ chosen. chosen.has_root ≡ has_root (map (planned_places J.says path.now) collection.now.documents)) }
     ensures moves { moves.old ≤ moves.new }
-    ensures price { moves.new
+    ensures price { has_cheap_plans path.now ≡ true → moves.new
         ≤ moves.old
         + prices_in J.says path.now (map (run_over collection.now.version) path.now.plans.now) (documents_of path.now.root.now collection.now.documents) }
 {

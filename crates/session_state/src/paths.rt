@@ -1,6 +1,6 @@
 //! Paths along which commands may go, and the reply to a path: the elements that it selects, or why it is refused.
 
-ghost use Rattle.std.specs.Prelude.{◌≡◌, ◌≢◌, ◌≤◌, ◌+◌, ◌^◌, ◌<◌, IfErr, IfOk, IsTrue, None, Ok, OnErr, OnOk, flat_map, length, map};
+ghost use Rattle.std.specs.Prelude.{◌≡◌, ◌≢◌, ◌≤◌, ◌+◌, ◌^◌, ◌<◌, IfErr, IfOk, IsTrue, None, Ok, OnErr, OnOk, flat_map, length, map, true};
 ghost use Rattle.std.specs.List.{list_all};
 ghost use Rattle.std.specs.Option.{option_copied};
 ghost use Rattle.all_matches.specs.Allowed.{is_allowed};
@@ -12,9 +12,9 @@ ghost use Rattle.path_grammar.specs.View.{step};
 ghost use Rattle.path_meaning.specs.Collection.{documents as documents_of};
 ghost use Rattle.path_subset.specs.Answer.{path_read};
 ghost use Rattle.path_subset.specs.Paths.{read_form};
-ghost use Rattle.session_state.specs.PathPrices.{read_price};
+ghost use Rattle.session_state.specs.PathPrices.{is_cheap_path, read_price};
 ghost use Rattle.session_state.specs.Paths as paths;
-ghost use Rattle.session_state.specs.PlannedPaths.{planned_lines, plans_under, prices_in, run_over, HasItsPlans};
+ghost use Rattle.session_state.specs.PlannedPaths.{planned_lines, plans_under, prices_in, run_over, HasItsPlans, has_cheap_plans};
 ghost use Rattle.session_state.specs.ReadyPaths.{kept_for, path_refusal, IsReady, IsRefused};
 ghost use Rattle.session_state.specs.StateView.{held_of, state_of};
 
@@ -214,7 +214,8 @@ pub(crate) fn answer_path<J: Judge, M: Ledger>(
     ensures kept { IfOk result (λ reply. prepared.new ≡ kept_for text.now reply prepared.old) }
     ensures err { OnErr result (prepared.new ≡ prepared.old) }
     ensures moves { moves.old ≤ moves.new }
-    ensures price { moves.new ≤ moves.old + read_price J.says (held_of collection.now prepared.old.lists) (path_read text.now) }
+    ensures price { is_cheap_path prepared.old.lists (path_read text.now) ≡ true
+        → moves.new ≤ moves.old + read_price J.says (held_of collection.now prepared.old.lists) (path_read text.now) }
 {
     match ready_path(alloc, collection, prepared, text) {
         Ok(Ready::Path(ready)) => {
@@ -239,7 +240,7 @@ fn answer_planned<J: Judge, M: Ledger>(
     ensures reply { IfOk result (λ reply. reply
         ≡ paths.reply_with shown (flat_map (planned_lines J.says shown planned.now) (documents_of planned.now.root.now collection.now.documents))) }
     ensures moves { moves.old ≤ moves.new }
-    ensures price { moves.new
+    ensures price { has_cheap_plans planned.now ≡ true → moves.new
         ≤ moves.old
         + prices_in J.says planned.now (map (run_over collection.now.version) planned.now.plans.now)
         (documents_of planned.now.root.now collection.now.documents) }

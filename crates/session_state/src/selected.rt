@@ -1,12 +1,12 @@
 //! The lines of the elements that a path selects.
 
-ghost use Rattle.std.specs.Prelude.{◌≡◌, ◌≤◌, ◌+◌, ◌++◌, All, IfOk, OnOk, flat_map, length, map};
+ghost use Rattle.std.specs.Prelude.{◌≡◌, ◌≤◌, ◌+◌, ◌++◌, All, IfOk, OnOk, flat_map, length, map, true};
 ghost use Rattle.ordered_tree.specs.Numbered.{plain};
 ghost use Rattle.path_meaning.specs.Collection.{documents as documents_of};
 ghost use Rattle.path_grammar.specs.declared.path.PathRoot.TheVariants as roots;
 ghost use Rattle.path_nodes.specs.References.{IsElement, element_of};
 ghost use Rattle.session_state.specs.Paths.{lines_of};
-ghost use Rattle.session_state.specs.PlannedPaths.{planned_in, planned_lines, planned_price, prices_in, AreRunsOf, HasItsPlans};
+ghost use Rattle.session_state.specs.PlannedPaths.{planned_in, planned_lines, planned_price, prices_in, AreRunsOf, HasItsPlans, has_cheap_plans};
 ghost use Rattle.session_state.specs.SelectionTests.{AreOver, AreOverEach};
 ghost use Rattle.collections.specs.Loaded.{to_document, trees_of};
 
@@ -41,7 +41,7 @@ pub(crate) fn collect_lines<J: Judge, M: Ledger>(
     ensures lines { IfOk result (λ lines. lines
         ≡ flat_map (planned_lines J.says shown path.now) (documents_of path.now.root.now (map to_document documents.now))) }
     ensures moves { moves.old ≤ moves.new }
-    ensures price { moves.new
+    ensures price { has_cheap_plans path.now ≡ true → moves.new
         ≤ moves.old
         + prices_in J.says path.now runs.old (documents_of path.now.root.now (map to_document documents.now)) }
 {
@@ -65,7 +65,7 @@ fn collect_all<J: Judge, M: Ledger>(
     requires over { AreOverEach runs.old (trees_of documents.now) }
     ensures lines { IfOk result (λ lines. lines ≡ flat_map (planned_lines J.says shown path.now) (map to_document documents.now)) }
     ensures moves { moves.old ≤ moves.new }
-    ensures price { moves.new ≤ moves.old + prices_in J.says path.now runs.old (map to_document documents.now) }
+    ensures price { has_cheap_plans path.now ≡ true → moves.new ≤ moves.old + prices_in J.says path.now runs.old (map to_document documents.now) }
 {
     let mut lines = TextList::new(path.alloc);
     for (name, document) in documents.iter() {
@@ -98,7 +98,7 @@ fn collect_one<J: Judge, M: Ledger>(
     ensures lines { IfOk result (λ lines. lines
         ≡ flat_map (planned_lines J.says shown path.now) (documents_of (roots.Doc name.now) (map to_document documents.now))) }
     ensures moves { moves.old ≤ moves.new }
-    ensures price { moves.new
+    ensures price { has_cheap_plans path.now ≡ true → moves.new
         ≤ moves.old
         + prices_in J.says path.now runs.old (documents_of (roots.Doc name.now) (map to_document documents.now)) }
 {
@@ -125,7 +125,7 @@ fn collect_from<J: Judge, M: Ledger>(
     requires over { AreOver runs.old (document.now.doc.0, document.now.tree.root) }
     ensures lines { IfOk result (λ lines. lines ≡ planned_lines J.says shown path.now (to_document (name.now, document.now))) }
     ensures moves { moves.old ≤ moves.new }
-    ensures price { moves.new ≤ moves.old + planned_price J.says path.now runs.old (plain document.now.tree.root) }
+    ensures price { has_cheap_plans path.now ≡ true → moves.new ≤ moves.old + planned_price J.says path.now runs.old (plain document.now.tree.root) }
 {
     let found = select(judge, document, path, runs, moves)?;
     let mut lines = TextList::new(path.alloc);
@@ -174,7 +174,7 @@ pub(crate) fn select<J: Judge, M: Ledger>(
     ensures there { IfOk result (λ found. All (IsElement document.now.tree.root) found.items) }
     ensures runs { runs.new ≡ runs.old }
     ensures moves { moves.old ≤ moves.new }
-    ensures price { moves.new ≤ moves.old + planned_price J.says path.now runs.old (plain document.now.tree.root) }
+    ensures price { has_cheap_plans path.now ≡ true → moves.new ≤ moves.old + planned_price J.says path.now runs.old (plain document.now.tree.root) }
 {
     look_up(runs, document.doc());
     select_with::<J, Brand, M>(judge, document, path, runs, moves)
@@ -197,7 +197,7 @@ fn select_with<J: Judge, B: Loan, M: Ledger>(
     ensures there { IfOk result (λ found. All (IsElement document.now.tree.root) found.items) }
     ensures runs { runs.new ≡ runs.old }
     ensures moves { moves.old ≤ moves.new }
-    ensures price { moves.new ≤ moves.old + planned_price J.says path.now runs.old (plain document.now.tree.root) }
+    ensures price { has_cheap_plans path.now ≡ true → moves.new ≤ moves.old + planned_price J.says path.now runs.old (plain document.now.tree.root) }
 {
     // The root is an element, as the clauses of `root` say.
     let tree = document.tree();

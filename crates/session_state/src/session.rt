@@ -1,4 +1,4 @@
-ghost use Rattle.std.specs.Prelude.{◌≡◌, ◌≤◌, ◌+◌, false, None, Some, IfOk, OnErr};
+ghost use Rattle.std.specs.Prelude.{◌≡◌, ◌≤◌, ◌+◌, false, None, Some, IfOk, OnErr, true};
 ghost use Rattle.collections.specs.Documents.{dropped, loadable, loaded, tokens_loaded, tokens_named};
 ghost use Rattle.collections.specs.Indexed.{IsIndexOf};
 ghost use Rattle.doc_profile.specs.Readings.{fragment_of};
@@ -7,7 +7,7 @@ ghost use Rattle.session_state.specs.Edits.{edit_path, touched_path, touched_wit
 ghost use Rattle.session_state.specs.Held.{nothing_held};
 ghost use Rattle.session_state.specs.KeptTexts.{keep_plans};
 ghost use Rattle.session_state.specs.Marks.{mark_named, marked, unmarked, AreIndexesOf};
-ghost use Rattle.session_state.specs.PathPrices.{moves_for, price_at, read_price};
+ghost use Rattle.session_state.specs.PathPrices.{asks_cheaply, is_cheap_path, moves_for, price_at, read_price};
 ghost use Rattle.path_subset.specs.Answer.{path_read};
 ghost use Rattle.session_state.specs.ReadyPaths.{IsReadyPath};
 ghost use Rattle.session_state.specs.State.{with_documents};
@@ -98,8 +98,8 @@ impl<J: Judge + Drop> Session<J> {
     /// changes nothing, nor does one for which memory runs out. Whatever the answer, the version that the session holds is
     /// then the index of its documents, and that of each mark the index of the mark's.
     ///
-    /// `moves` counts the steps of the cursors by which commands with a path answer `contains text`: no more than what the tests
-    /// for which the path asks cost. `rows` counts the rows of the index that are put and taken.
+    /// `moves` counts the steps of the cursors by which commands with a path answer `contains text`: where all selections of the path are
+    /// cheap, no more than what the tests for which it asks cost. `rows` counts the rows of the index that are put and taken.
     pub fn step<L: Ledger, M: Ledger>(
         &mut self,
         command: &Command,
@@ -111,7 +111,8 @@ impl<J: Judge + Drop> Session<J> {
         ensures indexed { IsIndexOf self.new.state.documents self.new.version }
         ensures marked { AreIndexesOf self.new.state.marks self.new.mark_versions }
         ensures moves { moves.old ≤ moves.new }
-        ensures moves_most { moves.new ≤ moves.old + moves_for J.says self.old command.now }
+        ensures moves_most { asks_cheaply self.old.state.lists command.now ≡ true
+            → moves.new ≤ moves.old + moves_for J.says self.old command.now }
         ensures moves_kept { has_path command.now ≡ false → moves.new ≡ moves.old }
         ensures rows { rows.new ≤ rows.old + rows_for J.says self.old.state command.now }
         ensures rows_kept { changes_documents command.now ≡ false → rows.new ≡ rows.old }
@@ -124,7 +125,7 @@ impl<J: Judge + Drop> Session<J> {
     }
 
     /// Does what the command says, and answers it.
-    #[tactic(auto, unfolding(crate::specs::Step::step, crate::specs::Step::rows_for, crate::specs::PathPrices::moves_for))]
+    #[tactic(auto, unfolding(crate::specs::Step::step, crate::specs::Step::rows_for, crate::specs::PathPrices::moves_for, crate::specs::PathPrices::asks_cheaply))]
     fn carry_out<L: Ledger, M: Ledger>(
         &mut self,
         command: &Command,
@@ -134,7 +135,8 @@ impl<J: Judge + Drop> Session<J> {
         ensures answer { IfOk result (λ reply. (self.new.state, reply) ≡ step J.says self.old.state command.now) }
         ensures err { OnErr result (self.new ≡ self.old) }
         ensures moves { moves.old ≤ moves.new }
-        ensures moves_most { moves.new ≤ moves.old + moves_for J.says self.old command.now }
+        ensures moves_most { asks_cheaply self.old.state.lists command.now ≡ true
+            → moves.new ≤ moves.old + moves_for J.says self.old command.now }
         ensures moves_kept { has_path command.now ≡ false → moves.new ≡ moves.old }
         ensures rows { rows.new ≤ rows.old + rows_for J.says self.old.state command.now }
         ensures rows_kept { changes_documents command.now ≡ false → rows.new ≡ rows.old }
@@ -205,7 +207,8 @@ impl<J: Judge + Drop> Session<J> {
             ≡ keep_plans path.now (edits.edit_with J.says self.old.state how path.now (fragment_of block.now))) }
         ensures err { OnErr result (self.new ≡ self.old) }
         ensures moves { moves.old ≤ moves.new }
-        ensures price { moves.new ≤ moves.old + read_price J.says self.old (path_read path.now) }
+        ensures price { is_cheap_path self.old.state.lists (path_read path.now) ≡ true
+            → moves.new ≤ moves.old + read_price J.says self.old (path_read path.now) }
         ensures rows { rows.new ≤ rows.old + touched_with J.says self.old.state how path.now (fragment_of block.now) }
     {
         match read_fragment(self.alloc, block) {
@@ -233,7 +236,8 @@ impl<J: Judge + Drop> Session<J> {
         ensures answer { IfOk result (λ reply. (self.new.state, reply) ≡ keep_plans path.now (edits.deleted J.says self.old.state path.now)) }
         ensures err { OnErr result (self.new ≡ self.old) }
         ensures moves { moves.old ≤ moves.new }
-        ensures price { moves.new ≤ moves.old + read_price J.says self.old (path_read path.now) }
+        ensures price { is_cheap_path self.old.state.lists (path_read path.now) ≡ true
+            → moves.new ≤ moves.old + read_price J.says self.old (path_read path.now) }
         ensures rows { rows.new ≤ rows.old + touched_path J.says self.old.state Targets.Any edits.deletion path.now }
     {
         let content = Kids::new(self.alloc);
@@ -259,7 +263,8 @@ impl<J: Judge + Drop> Session<J> {
             ≡ keep_plans path.now (edit_path J.says self.old.state edit.now.targets (edit_of edit.now) path.now)) }
         ensures err { OnErr result (self.new ≡ self.old) }
         ensures moves { moves.old ≤ moves.new }
-        ensures price { moves.new ≤ moves.old + read_price J.says self.old (path_read path.now) }
+        ensures price { is_cheap_path self.old.state.lists (path_read path.now) ≡ true
+            → moves.new ≤ moves.old + read_price J.says self.old (path_read path.now) }
         ensures rows { rows.new ≤ rows.old + touched_path J.says self.old.state edit.now.targets (edit_of edit.now) path.now }
     {
         match ready_path(self.alloc, &self.collection, &self.prepared, path) {
@@ -283,7 +288,8 @@ impl<J: Judge + Drop> Session<J> {
             ≡ keep_plans path.now (edit_path J.says self.old.state edit.now.targets (edit_of edit.now) path.now)) }
         ensures err { OnErr result (self.new ≡ self.old) }
         ensures moves { moves.old ≤ moves.new }
-        ensures price { moves.new ≤ moves.old + read_price J.says self.old (path_read path.now) }
+        ensures price { is_cheap_path self.old.state.lists (path_read path.now) ≡ true
+            → moves.new ≤ moves.old + read_price J.says self.old (path_read path.now) }
         ensures rows { rows.new ≤ rows.old + touched_path J.says self.old.state edit.now.targets (edit_of edit.now) path.now }
     {
         let planned = ready.planned();
@@ -335,7 +341,8 @@ impl<J: Judge + Drop> Session<J> {
         ensures answer { IfOk result (λ reply. (self.new.state, reply) ≡ shown_by J.says shown self.old.state path.now) }
         ensures err { OnErr result (self.new ≡ self.old) }
         ensures moves { moves.old ≤ moves.new }
-        ensures price { moves.new ≤ moves.old + read_price J.says self.old (path_read path.now) }
+        ensures price { is_cheap_path self.old.state.lists (path_read path.now) ≡ true
+            → moves.new ≤ moves.old + read_price J.says self.old (path_read path.now) }
     {
         answer_path(
             self.alloc,
@@ -359,7 +366,8 @@ impl<J: Judge + Drop> Session<J> {
             ≡ shown_at J.says self.old.state name.now path.now (mark_named name.now self.old.state.marks)) }
         ensures err { OnErr result (self.new ≡ self.old) }
         ensures moves { moves.old ≤ moves.new }
-        ensures price { moves.new ≤ moves.old + price_at J.says self.old name.now path.now (mark_named name.now self.old.state.marks) }
+        ensures price { is_cheap_path self.old.state.lists (path_read path.now) ≡ true
+            → moves.new ≤ moves.old + price_at J.says self.old name.now path.now (mark_named name.now self.old.state.marks) }
     {
         match self.marks.get(name) {
             Some(collection) => answer_path(

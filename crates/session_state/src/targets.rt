@@ -1,13 +1,13 @@
 //! The elements of which an edit is: those that its path selects, of each document.
 
-ghost use Rattle.std.specs.Prelude.{◌≡◌, ◌≤◌, ◌+◌, ◌||◌, ◌++◌, ◌∷◌, [], All, IfOk, OnOk, length, map};
+ghost use Rattle.std.specs.Prelude.{◌≡◌, ◌≤◌, ◌+◌, ◌||◌, ◌++◌, ◌∷◌, [], All, IfOk, OnOk, length, map, true};
 ghost use Rattle.std.specs.List.{list_any};
 ghost use Rattle.collections.specs.Loaded.{to_document, trees_of};
 ghost use Rattle.document_edits.specs.Targets.{places_of};
 ghost use Rattle.ft_base.specs.Lists.{is_empty};
 ghost use Rattle.path_nodes.specs.References.{IsElement};
 ghost use Rattle.session_state.specs.Edits.{has_root, leads_through as leads, target_count};
-ghost use Rattle.session_state.specs.PlannedPaths.{AreRunsOf, HasItsPlans};
+ghost use Rattle.session_state.specs.PlannedPaths.{AreRunsOf, HasItsPlans, has_cheap_plans};
 ghost use Rattle.session_state.specs.SelectionTests.{AreOver, AreOverEach};
 ghost use Rattle.tree_edits.specs.Edits.{is_among as among};
 ghost use Rattle.session_state.specs.steps.Chosen.{planned_places, price_through, prices_through, AreLedTo, AreLedToEach};
@@ -45,7 +45,7 @@ pub(crate) fn choose<J: Judge, M: Ledger>(
     ensures count { IfOk result (λ chosen. chosen.count ≡ target_count (map (planned_places J.says path.now) (map to_document documents.now))) }
     ensures rooted { IfOk result (λ chosen. chosen.has_root ≡ has_root (map (planned_places J.says path.now) (map to_document documents.now))) }
     ensures moves { moves.old ≤ moves.new }
-    ensures price { moves.new ≤ moves.old + prices_through J.says path.now runs.old (map to_document documents.now) }
+    ensures price { has_cheap_plans path.now ≡ true → moves.new ≤ moves.old + prices_through J.says path.now runs.old (map to_document documents.now) }
 {
     let mut chosen = Chosen {
         refs: Items::new(path.alloc),
@@ -74,7 +74,7 @@ fn choose_in<J: Judge, M: Ledger>(
     ensures led { IfOk result (AreLedTo J.says path.now (name.now, document.now)) }
     ensures runs { runs.new ≡ runs.old }
     ensures moves { moves.old ≤ moves.new }
-    ensures price { moves.new ≤ moves.old + price_through J.says path.now runs.old (to_document (name.now, document.now)) }
+    ensures price { has_cheap_plans path.now ≡ true → moves.new ≤ moves.old + price_through J.says path.now runs.old (to_document (name.now, document.now)) }
 {
     if !leads_through(path.root, name) {
         return Ok(Items::new(path.alloc));

@@ -1,6 +1,6 @@
 //! Edits of documents in slots, by the references of their elements.
 
-ghost use Rattle.std.specs.Prelude.{◌≡◌, ◌+◌, ◌<◌, ◌^◌, ◌||◌, ◌∷◌, [], length, map, nat_le, true, false, Err, IfOk, OnErr, OnOk};
+ghost use Rattle.std.specs.Prelude.{◌≡◌, ◌+◌, ◌<◌, ◌^◌, ◌||◌, ◌∷◌, [], length, map, nat_le, true, false, Some, None, Err, IfOk, OnErr, OnOk};
 ghost use Rattle.std.specs.List.{list_all};
 ghost use Rattle.doc_grammar.specs.Limits.{node_count, nodes_count};
 ghost use Rattle.ft_base.specs.Lists.{is_empty};
@@ -28,7 +28,8 @@ use std::alloc::Global;
 pub enum TreeFault {
     /// No element has the reference, or one of the references.
     NoSuchNode,
-    /// The edit needs siblings, and the reference is the root's, or one of them is.
+    /// The reference is the root's, or one of them is, and the edit needs siblings, as each does but an insertion before or after the
+    /// children of an element.
     RootTarget,
     /// There was not enough memory.
     Memory,
@@ -69,6 +70,8 @@ pub fn insert(
     ensures kept { OnErr result (tree.new ≡ tree.old) }
     ensures no_such_node { result ≡ Err NoSuchNode → names_element node tree.old.root ≡ false }
     ensures root_target { result ≡ Err RootTarget → node ≡ reference tree.old.root }
+    ensures beside { result ≡ Err RootTarget → stays (Some how) ≡ false }
+    ensures one_root { OnOk result (root_stays (node ∷ []) (Some how) tree.old.root ≡ true) }
 {
     let done = changed_one(alloc, tree, node, Some(how), content)?;
     *tree = done.tree;
@@ -89,6 +92,7 @@ pub fn replace(
     ensures kept { OnErr result (tree.new ≡ tree.old) }
     ensures no_such_node { result ≡ Err NoSuchNode → names_element node tree.old.root ≡ false }
     ensures root_target { result ≡ Err RootTarget → node ≡ reference tree.old.root }
+    ensures one_root { OnOk result (root_stays (node ∷ []) None tree.old.root ≡ true) }
 {
     let done = changed_one(alloc, tree, node, None, content)?;
     *tree = done.tree;
@@ -104,6 +108,7 @@ pub fn remove(alloc: Global, tree: &mut DocTree, nodes: &NodeRefs) -> Result<Cha
     ensures kept { OnErr result (tree.new ≡ tree.old) }
     ensures no_such_node { result ≡ Err NoSuchNode → list_all (λ node. names_element node tree.old.root) nodes.now ≡ false }
     ensures root_target { result ≡ Err RootTarget → is_among nodes.now (reference tree.old.root) ≡ true }
+    ensures one_root { OnOk result (root_stays nodes.now None tree.old.root ≡ true) }
 {
     // The document has fewer than 2^31 nodes.
     let _count = tree.node_count();
@@ -126,6 +131,8 @@ fn changed_one(
     ensures there { OnOk result (names_element node tree.now.root ≡ true) }
     ensures no_such_node { result ≡ Err NoSuchNode → names_element node tree.now.root ≡ false }
     ensures root_target { result ≡ Err RootTarget → node ≡ reference tree.now.root }
+    ensures beside { result ≡ Err RootTarget → stays how ≡ false }
+    ensures one_root { OnOk result (root_stays (node ∷ []) how tree.now.root ≡ true) }
 {
     let chosen = NodeRefs::from_slice(alloc, &[node])?;
     changed(alloc, tree, &chosen, how, content)
@@ -146,6 +153,8 @@ fn changed(
     ensures there { OnOk result (list_all (λ node. names_element node tree.now.root) chosen.now ≡ true) }
     ensures no_such_node { result ≡ Err NoSuchNode → list_all (λ node. names_element node tree.now.root) chosen.now ≡ false }
     ensures root_target { result ≡ Err RootTarget → is_among chosen.now (reference tree.now.root) ≡ true }
+    ensures beside { result ≡ Err RootTarget → stays how ≡ false }
+    ensures one_root { OnOk result (root_stays chosen.now how tree.now.root ≡ true) }
 {
     if !root_stays(tree, chosen, how) {
         return Err(TreeFault::RootTarget);
@@ -195,6 +204,7 @@ fn carried_out(alloc: Global, tree: &DocTree, draft: Draft) -> Result<Outcome, M
 fn root_stays(tree: &DocTree, chosen: &NodeRefs, how: Option<How>) -> bool
     ensures stays { result ≡ root_stays chosen.now how tree.now.root }
     ensures chosen { result ≡ false → is_among chosen.now (reference tree.now.root) ≡ true }
+    ensures beside { result ≡ false → stays how ≡ false }
 {
     let root = tree.root();
     stays(how) || !is_among(chosen, root)

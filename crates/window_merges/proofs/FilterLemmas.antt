@@ -28,7 +28,7 @@ some_in [] = refl
 some_in (x ∷ xs) = sym (lt-ltb 0 (length (x ∷ xs)) (omega arith))
 
 -- where a filter keeps the includes there is a way through it
-some_through : (kind : Filter) (includes : List Hit) (item : Span) → passes kind includes item ≡ true → list_any (λ choice. true) (choices kind includes) ≡ true
+pub some_through : (kind : Filter) (includes : List Hit) (item : Span) → passes kind includes item ≡ true → list_any (λ choice. true) (choices kind includes) ≡ true
 some_through F.Ordered includes item h = refl
 some_through (F.Window size kind) includes item h =
     some_in (choices (F.Window size kind) includes) ∙ sym (some_window size kind includes item) ∙ h

@@ -6,7 +6,7 @@ use Rattle.ft_base.specs.declared.hit.Hit.{Hit}
 use Rattle.all_matches.specs.MildNot.{stands_out}
 use Rattle.all_matches.specs.Ways.{Way, way_includes, standing_out}
 use Rattle.ft_operators.specs.declared.course.Course.{Course}
-use Rattle.ft_operators.specs.Course.{ways_on}
+use Rattle.ft_operators.specs.Course.{ways_on, without_bounds}
 use Rattle.ft_operators.specs.declared.standing_out.Tried.{Tried}
 use Rattle.ft_operators.specs.Standing.{Standing, frame, includes_now}
 
@@ -25,7 +25,7 @@ tried_ways left tried ways = fold (λ so_far way. with_includes left (way_includ
 abbrev pub admitted : List Way → List Hit → Bool
 admitted right left = not (list_any (λ way. is_not_empty (way_includes way)) right) || list_all (λ way. stands_out left (way_includes way)) right
 
--- a way of the left side that was tried against each of the right side
+-- a way of the left side that was tried against each of the right side on a course
 pub record IsTried (course : Course) (left right left_now right_now : Standing) (room new_room start end : ℕ) (answer : Bool) : Type 0 where
   pub same_left : left_now ≡ left
   pub same_right : frame right_now ≡ frame right
@@ -50,7 +50,7 @@ pub record Trying (course : Course) (left right left_now right_now : Standing) (
 
 -- what the loop over the left side keeps: what was passed over doesn't stand out
 pub record Sifting (course : Course) (left right left_now right_now : Standing) (room new_room start end : ℕ) (there : Bool) : Type 0 where
-  pub passed : standing_out left_now.rest (ways_on course right.operator) ≡ standing_out left.rest (ways_on course right.operator)
+  pub passed : standing_out left_now.rest (ways_on (without_bounds course) right.operator) ≡ standing_out left.rest (ways_on (without_bounds course) right.operator)
   pub same_left : frame left_now ≡ frame left
   pub same_right : frame right_now ≡ frame right
   pub there_now : there ≡ is_not_empty left_now.rest

@@ -6,10 +6,10 @@ use Rattle.ft_base.specs.declared.filter.Filter.{Filter}
 use Rattle.ft_base.specs.declared.hit.Hit.{Hit}
 use Rattle.all_matches.specs.declared.window.Window.{Window}
 use Rattle.all_matches.specs.Filters.{passes, choices}
-use Rattle.all_matches.specs.Ways.{phrase, either, together, apart, negated, through_filter, matches_of}
+use Rattle.all_matches.specs.Ways.{Operator, phrase, either, together, apart, negated, through_filter, matches_of}
 use Rattle.all_matches.specs.Ways.{Way, one_hit, two_ways, turned_about, by_filter, way_includes, standing_out}
 use Rattle.ft_operators.specs.declared.course.Course.{Course}
-use Rattle.ft_operators.specs.Course.{asked_for, filtered_on, ways_on}
+use Rattle.ft_operators.specs.Course.{asked_for, filtered_on, pairs_with, ways_on, without_bounds}
 use Rattle.ft_operators.specs.Phrases.{PhraseState}
 use Rattle.ft_operators.specs.Standing.{Shape, Frame, Standing, phrase_aims, one_aims, two_aims}
 
@@ -74,18 +74,29 @@ choice_of course second left right = record {
   rest = if second then right.rest else first_left left.rest (ways_on course right.operator);
 }
 
--- the present way of the left side with what is left of the right side, and then each further one with all of the right side
-abbrev pub pairs_left : List Way → List Way → List Way → List Way
-pairs_left [] now all = []
-pairs_left (a ∷ more) [] all = []
-pairs_left (a ∷ more) (b ∷ rest) all = map (two_ways a) (b ∷ rest) ++ flat_map (λ other. map (two_ways other) all) more
+-- the present way of the left side with what is left of the right side beside it, and then each further one with all of the right
+-- side beside that
+abbrev pub pairs_left : Course → Operator → List Way → List Way → List Way
+pairs_left course right [] now = []
+pairs_left course right (a ∷ more) [] = []
+pairs_left course right (a ∷ more) (b ∷ rest) = map (two_ways a) (b ∷ rest) ++ flat_map (pairs_with course right) more
 
+-- the right side is one on the course beside the present way of the left side
 abbrev pub both_of : Course → Standing → Standing → Standing
 both_of course left right = record {
   aims = two_aims together left.aims right.aims;
   shape = both_shape left.shape right.shape;
   operator = together left.operator right.operator;
-  rest = pairs_left left.rest right.rest (ways_on course right.operator);
+  rest = pairs_left course right.operator left.rest right.rest;
+}
+
+-- before the first of the ways that the left side has left which have one of the right side beside them
+abbrev pub paired : Course → Standing → Standing → Standing
+paired course left right = record {
+  aims = two_aims together left.aims right.aims;
+  shape = both_shape left.shape right.shape;
+  operator = together left.operator right.operator;
+  rest = flat_map (pairs_with course right.operator) left.rest;
 }
 
 -- the present way of the left side, and then those further ones that stand out
@@ -98,7 +109,7 @@ apart_of course left right = record {
   aims = two_aims apart left.aims right.aims;
   shape = apart_shape left.shape right.shape;
   operator = apart left.operator right.operator;
-  rest = apart_left left.rest (ways_on course right.operator);
+  rest = apart_left left.rest (ways_on (without_bounds course) right.operator);
 }
 
 -- before the first of the ways that the left side has left which stand out
@@ -107,7 +118,7 @@ apart_sifted course left right = record {
   aims = two_aims apart left.aims right.aims;
   shape = apart_shape left.shape right.shape;
   operator = apart left.operator right.operator;
-  rest = standing_out left.rest (ways_on course right.operator);
+  rest = standing_out left.rest (ways_on (without_bounds course) right.operator);
 }
 
 -- the one way of a negated selection, where it isn't passed. Where a walk through the operand stands doesn't matter

@@ -6,7 +6,8 @@ use Rattle.ft_operators.specs.declared.node.Pair.{Pair}
 use Rattle.ft_operators.specs.declared.node.Negation.{Negation}
 use Rattle.ft_operators.specs.declared.node.Sieve.{Sieve}
 use Rattle.ft_operators.specs.Phrases.{PhraseState}
-use Rattle.ft_operators.specs.Standing.{Shape, Frame, Standing, frame}
+use Rattle.ft_operators.specs.Course.{course_inside, without_bounds}
+use Rattle.ft_operators.specs.Standing.{Shape, Frame, Standing, course_now, frame}
 use Rattle.ft_operators.specs.steps.Forms.{phrase_of, choice_of, both_of, apart_of, negation_of, sieve_of}
 use Rattle.ft_operators.specs.steps.Forms.{phrase_shape, choice_shape, both_shape, apart_shape, negated_shape, filtered_shape}
 use Rattle.ft_operators.specs.steps.Forms.{choice_frame, both_frame, apart_frame, negated_frame, filtered_frame}
@@ -14,25 +15,25 @@ use Rattle.ft_operators.specs.steps.Forms.{choice_frame, both_frame, apart_frame
 unfoldable pub standing : {P : Type 0} → (P → PhraseState) → Course → Node P → Standing
 standing state course (Phrase found) = phrase_of (state found)
 standing state course (Choice' p left right second) = choice_of course second (standing state course left) (standing state course right)
-standing state course (Both' p left right) = both_of course (standing state course left) (standing state course right)
-standing state course (MildNot' p left right) = apart_of course (standing state course left) (standing state course right)
+standing state course (Both' p left right) = both_of course (standing state course left) (standing state (course_now course (standing state course left).rest) right)
+standing state course (MildNot' p left right) = apart_of course (standing state course left) (standing state (without_bounds course) right)
 standing state course (Negated' p operand there) = negation_of course there (standing state course operand)
-standing state course (Filtered' p operand kind lead) = sieve_of course kind lead (standing state course operand)
+standing state course (Filtered' p operand kind lead) = sieve_of course kind lead (standing state (course_inside kind course) operand)
 
 abbrev pub fork_standing : {P : Type 0} → (P → PhraseState) → Course → Fork P → Standing
 fork_standing state course fork = choice_of course fork.second (standing state course fork.left) (standing state course fork.right)
 
 abbrev pub pair_standing : {P : Type 0} → (P → PhraseState) → Course → Pair P → Standing
-pair_standing state course pair = both_of course (standing state course pair.left) (standing state course pair.right)
+pair_standing state course pair = both_of course (standing state course pair.left) (standing state (course_now course (standing state course pair.left).rest) pair.right)
 
 abbrev pub apart_standing : {P : Type 0} → (P → PhraseState) → Course → Pair P → Standing
-apart_standing state course pair = apart_of course (standing state course pair.left) (standing state course pair.right)
+apart_standing state course pair = apart_of course (standing state course pair.left) (standing state (without_bounds course) pair.right)
 
 abbrev pub negation_standing : {P : Type 0} → (P → PhraseState) → Course → Negation P → Standing
 negation_standing state course negation = negation_of course negation.there (standing state course negation.operand)
 
 abbrev pub sieve_standing : {P : Type 0} → (P → PhraseState) → Course → Sieve P → Standing
-sieve_standing state course sieve = sieve_of course sieve.kind sieve.lead (standing state course sieve.operand)
+sieve_standing state course sieve = sieve_of course sieve.kind sieve.lead (standing state (course_inside sieve.kind course) sieve.operand)
 
 -- the frame of a node, whatever the place of the walk
 unfoldable pub frame_of : {P : Type 0} → (P → PhraseState) → Node P → Frame

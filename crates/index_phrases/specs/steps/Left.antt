@@ -10,4 +10,4 @@ use Rattle.index_phrases.specs.declared.found.Found.{Found}
 abbrev pub rest_of : ℕ → List (List Wanted) → Option Found → List Hit
 rest_of number variants None = []
 rest_of number variants (Some found) =
-    found.hit ∷ map (numbered_hit number found.target.breaks.breaks.now found.target.span) (spots_left found.target.span.to variants found.spot)
+    found.hit ∷ map (numbered_hit number found.target.breaks.breaks.now found.target.span) (spots_left found.to variants found.spot)

@@ -1,21 +1,11 @@
 -- Phrases that are joined by `ftand` and numbered one after the other.
-use Rattle.std.specs.Prelude.{◌-◌, ◌==◌, Bool, not, ◌&&◌, cond, List, [], ◌∷◌, ◌++◌, length, Option, Some, None, option_map}
-use Rattle.std.specs.List.{list_all}
+use Rattle.std.specs.Prelude.{◌-◌, ◌==◌, Bool, ◌&&◌, cond, List, [], ◌∷◌, ◌++◌, Option, Some, None, option_map}
 use Rattle.ft_base.specs.declared.filter.Filter.{Filter}
-use Rattle.plan_compiler.specs.declared.item_matching.ItemTest.{ItemTest}
+use Rattle.plan_compiler.specs.CheapPlans.{is_word}
 use Rattle.plan_compiler.specs.declared.operator_plan.FilteredPlan.{FilteredPlan}
 use Rattle.plan_compiler.specs.declared.operator_plan.OperatorPlan.{OperatorPlan, Phrase, Choice', Both', MildNot', Negated', Filtered'}
 use Rattle.plan_compiler.specs.declared.operator_plan.PhraseTests.{PhraseTests}
-use Rattle.plan_kinds.specs.steps.AskedKeys.{asks_nothing}
 use Rattle.plan_kinds.specs.declared.joined.Joined.{Joined}
-
--- whether a variant is one word, and not any word
-abbrev pub is_single : List ItemTest → Bool
-is_single tests = (length tests == 1) && list_all (λ test. not (asks_nothing test)) tests
-
--- whether each variant of a phrase is
-abbrev pub is_word : PhraseTests → Bool
-is_word found = list_all is_single found.variants
 
 -- the phrase that a plan is
 abbrev pub phrase_of : OperatorPlan → Option PhraseTests

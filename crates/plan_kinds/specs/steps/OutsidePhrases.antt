@@ -9,7 +9,8 @@ use Rattle.spot_merges.specs.declared.outside.Outside.TheVariants.{Cover, Window
 use Rattle.plan_compiler.specs.declared.operator_plan.FilteredPlan.{FilteredPlan}
 use Rattle.plan_compiler.specs.declared.operator_plan.OperatorPlan.{OperatorPlan, Phrase, Choice', Both', MildNot', Negated', Filtered'}
 use Rattle.plan_compiler.specs.declared.operator_plan.PhraseTests.{PhraseTests}
-use Rattle.plan_kinds.specs.steps.JoinedPhrases.{is_word, negated_phrase, phrase_of}
+use Rattle.plan_compiler.specs.CheapPlans.{is_word}
+use Rattle.plan_kinds.specs.steps.JoinedPhrases.{negated_phrase, phrase_of}
 use Rattle.plan_kinds.specs.steps.PlacedPhrases.{both_of}
 
 -- two phrases and how the first has to stand outside the second, where both are known

@@ -1,40 +1,33 @@
--- Filters that are decided by one pass through the hits of phrases: windows, `ordered`, `same sentence` and `same paragraph`, over phrases
--- that are joined by `ftand`, and over two of them a distance in words.
+-- Filters that are decided by one pass through the hits of phrases: `ordered` over phrases that are joined by `ftand`, and a distance over
+-- two of them.
 use Rattle.std.specs.Prelude.{Bool, cond, List, Option, Some, None}
 use Rattle.ft_base.specs.declared.filter.Filter.{Filter}
 use Rattle.ft_base.specs.declared.filter.Filter.TheVariants as F
 use Rattle.ft_base.specs.declared.hit.Hit.{Hit}
 use Rattle.ft_base.specs.declared.range.Range.{Range}
 use Rattle.ft_base.specs.declared.unit.TextUnit.{TextUnit}
-use Rattle.ft_base.specs.declared.unit.TextUnit.TheVariants as Unit
-use Rattle.phrase_merges.specs.Choices.{are_apart, are_within, begin_in_order}
+use Rattle.phrase_merges.specs.Choices.{are_apart, begin_in_order}
 use Rattle.plan_compiler.specs.declared.operator_plan.OperatorPlan.{OperatorPlan}
 use Rattle.plan_kinds.specs.steps.JoinedPhrases.{are_two, filtered_of, kind_under}
 use Rattle.plan_kinds.specs.declared.joined.Joined.{Joined}
 use Rattle.plan_kinds.specs.declared.pass_kind.PassKind.{PassKind}
-use Rattle.plan_kinds.specs.declared.pass_kind.PassKind.TheVariants.{Within, Apart, InOrder}
+use Rattle.plan_kinds.specs.declared.pass_kind.PassKind.TheVariants.{Apart, InOrder}
 
 -- whether hits, one of each phrase, stand like this
 abbrev pub hits_stand : PassKind → List Hit → Bool
-hits_stand (Within size unit) hits = are_within size unit hits
 hits_stand (Apart range unit) hits = are_apart range unit hits
 hits_stand InOrder hits = begin_in_order hits
 
-abbrev pub two_apart : Range → Joined → Option PassKind
-two_apart range joined = cond (are_two joined) (Some (Apart range Unit.Words)) None
-
 abbrev pub apart_kind : Range → TextUnit → Joined → Option PassKind
-apart_kind range Unit.Words joined = two_apart range joined
-apart_kind range Unit.Sentences joined = None
-apart_kind range Unit.Paragraphs joined = None
+apart_kind range unit joined = cond (are_two joined) (Some (Apart range unit)) None
 
 -- how phrases have to stand by a filter
 abbrev pub pass_kind : Filter → Joined → Option PassKind
 pass_kind F.Ordered joined = Some InOrder
-pass_kind (F.Window size unit) joined = Some (Within size unit)
+pass_kind (F.Window size unit) joined = None
 pass_kind (F.Distance range unit) joined = apart_kind range unit joined
-pass_kind F.SameSentence joined = Some (Within 1 Unit.Sentences)
-pass_kind F.SameParagraph joined = Some (Within 1 Unit.Paragraphs)
+pass_kind F.SameSentence joined = None
+pass_kind F.SameParagraph joined = None
 pass_kind F.DifferentSentence joined = None
 pass_kind F.DifferentParagraph joined = None
 pass_kind F.AtStart joined = None

@@ -4,11 +4,12 @@ use Rattle.index_meaning.specs.Documents.{Numbered}
 use Rattle.index_meaning.specs.Entries.{Entry}
 use Rattle.index_versions.specs.Versions.{term_at, terms_of}
 use Rattle.plan_compiler.specs.declared.item_matching.ItemTest.{ItemTest}
-use Rattle.plan_compiler.specs.declared.item_matching.ItemTest.TheVariants.{ByForms, ByStem}
+use Rattle.plan_compiler.specs.declared.item_matching.ItemTest.TheVariants.{Any, ByForms, ByStem}
 use Rattle.plan_compiler.specs.declared.looks.Looks.{Looks}
 
 -- the stem that words have which pass, where the test asks for one and stems are looked at
 abbrev pub asked_stem : Looks → ItemTest → Option (List ℕ)
+asked_stem looks Any = None
 asked_stem looks (ByForms test) = None
 asked_stem looks (ByStem stem case) = cond looks.stems (Some stem) None
 

@@ -7,7 +7,7 @@ use Rattle.index_versions.specs.Terms.{version_term}
 use Rattle.word_lists.specs.Stems.{Stem}
 use Rattle.plan_compiler.specs.ItemTests.{passes}
 use Rattle.plan_compiler.specs.TextWords.{word_as}
-use Rattle.plan_kinds.specs.steps.AskedKeys.{asks_nothing}
+use Rattle.plan_compiler.specs.ItemTests.{asks_nothing}
 use Rattle.plan_runs.specs.steps.ChosenTerms.{terms_for}
 use Rattle.plan_compiler.specs.declared.item_matching.ItemTest.{ItemTest}
 use Rattle.plan_compiler.specs.declared.looks.Looks.{Looks}

@@ -1,13 +1,15 @@
 -- Compiled words opened over a version: terms in the place of tests.
-use Rattle.std.specs.Prelude.{◌≡◌, ◌≤◌, ℕ, List, map}
-use Rattle.std.specs.List.{All, sum_by}
+use Rattle.std.specs.Prelude.{◌≡◌, ◌≤◌, ℕ, true, List, map}
+use Rattle.std.specs.List.{All, list_all, sum_by}
 use Rattle.index_meaning.specs.Documents.{Numbered}
 use Rattle.word_lists.specs.Stems.{Stem}
 use Rattle.plan_compiler.specs.Operators.{looked_text}
 use Rattle.plan_runs.specs.steps.AskedSpans.{AskedSpan, IsAsked, tokens_in}
 use Rattle.plan_runs.specs.steps.OpenedItems.{opened_item, opened_variant}
+use Rattle.plan_compiler.specs.CheapPlans.{is_cheap_node}
 use Rattle.plan_compiler.specs.NodeCosts.{node_cost}
 use Rattle.plan_compiler.specs.NodeMeaning.{truth}
+use Rattle.plan_runs.specs.steps.CheapShapes.{is_cheap_shape}
 use Rattle.plan_runs.specs.steps.RunCosts.{IsFair, run_cost}
 use Rattle.index_phrases.specs.steps.Aiming.{wanted_size}
 use Rattle.plan_runs.specs.steps.RunShapes.{GroupShape, WordsShape, Shape}
@@ -32,13 +34,14 @@ module _ (looks : Looks) (stems : List Stem) (version : List Numbered) where
   abbrev pub opened_words : WordsPlan → WordsShape
   opened_words plan = record { phrases = map opened_phrase plan.phrases; all = plan.all; times = plan.times }
 
-  -- a tree that says of spans of documents what the compiled selection says of their tokens, and costs no more where no word costs more
-  -- than its test
+  -- a tree that says of spans of documents what the compiled selection says of their tokens, costs no more where no word costs more than
+  -- its test, and is cheap where the selection is
   pub record IsOpened (run : Shape) (node : Node) : Type 0 where
     pub sound : IsSound version run
     pub says : (asked : AskedSpan) → IsAsked version asked → run_truth version run asked ≡ truth node (looked_text looks stems (tokens_in version asked))
     pub cost : (word_cost : WordTerms → ℕ) → (test_cost : ItemTest → ℕ) → IsFair word_cost
         → ((test : ItemTest) → word_cost (opened_item looks stems version test) ≤ test_cost test) → run_cost word_cost run ≤ node_cost test_cost node
+    pub cheap : is_cheap_node node ≡ true → is_cheap_shape run ≡ true
 
   -- the same of lists of both
   pub record AreOpened (runs : List Shape) (nodes : List Node) : Type 0 where
@@ -48,3 +51,4 @@ module _ (looks : Looks) (stems : List Stem) (version : List Numbered) where
     pub cost : (word_cost : WordTerms → ℕ) → (test_cost : ItemTest → ℕ) → IsFair word_cost
         → ((test : ItemTest) → word_cost (opened_item looks stems version test) ≤ test_cost test)
         → sum_by (run_cost word_cost) runs ≤ sum_by (node_cost test_cost) nodes
+    pub cheap : list_all is_cheap_node nodes ≡ true → list_all is_cheap_shape runs ≡ true

@@ -1,13 +1,13 @@
--- What the words of a run's tree cost together, whatever each of them costs. Those of a walk through ways and of a pass through hits
--- cost nothing: their moves aren't counted.
+-- What the words of a run's tree cost together, whatever each of them costs. Those of a walk through ways, of a pass through hits and of
+-- spots have no part in it: nothing bounds their moves.
 use Rattle.std.specs.Prelude.{◌≡◌, ◌≤◌, ℕ, ◌+◌, ◌*◌, List, [], ◌++◌, length}
 use Rattle.std.specs.List.{sum_by}
 use Rattle.index_versions.specs.Terms.{VersionTerm}
 use Rattle.plan_runs.specs.steps.AskedPlaces.{hits_at}
 use Rattle.plan_runs.specs.steps.ChosenTerms.{numbers_of}
 use Rattle.plan_runs.specs.steps.Merges.{merge_cost}
-use Rattle.plan_runs.specs.steps.RunShapes.{GroupShape, WordsShape, PlacedShape, Shape, Shapes, none, more, at_edge, outside}
-use Rattle.plan_runs.specs.steps.RunShapes.{words, any_of, all_of, not_of, by_ways, by_hits, by_merge, by_spots}
+use Rattle.plan_runs.specs.steps.RunShapes.{GroupShape, WordsShape, Shape, Shapes, none, more}
+use Rattle.plan_runs.specs.steps.RunShapes.{words, any_of, all_of, not_of, by_ways, by_near, by_hits, by_merge, by_spots}
 use Rattle.plan_runs.specs.declared.asked_place.AskedPlace.{AskedPlace}
 use Rattle.index_phrases.specs.declared.word_terms.WordTerms.{WordTerms}
 use Rattle.index_phrases.specs.declared.word_terms.WordTerms.TheVariants as Terms
@@ -22,11 +22,6 @@ module _ (cost : WordTerms → ℕ) where
   abbrev pub words_cost : WordsShape → ℕ
   words_cost run = sum_by phrase_cost run.phrases
 
-  -- a phrase at an edge moves no cursor
-  abbrev pub placed_cost : PlacedShape → ℕ
-  placed_cost (at_edge edge variants) = 0
-  placed_cost (outside kind left right) = group_cost left + group_cost right
-
   unfoldable mutual
     pub run_cost : Shape → ℕ
     run_cost (words run) = words_cost run
@@ -34,9 +29,10 @@ module _ (cost : WordTerms → ℕ) where
     run_cost (all_of parts) = run_costs parts
     run_cost (not_of part) = run_cost part
     run_cost (by_ways run) = 0
+    run_cost (by_near run) = 0
     run_cost (by_hits run) = 0
     run_cost (by_merge merge) = merge_cost cost merge
-    run_cost (by_spots run) = placed_cost run
+    run_cost (by_spots run) = 0
 
     pub run_costs : Shapes → ℕ
     run_costs none = 0

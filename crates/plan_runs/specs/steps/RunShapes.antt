@@ -9,15 +9,18 @@ use Rattle.ft_operators.specs.Standing.{Aims}
 use Rattle.index_phrases.specs.Cursors.{state_of}
 use Rattle.index_phrases.specs.declared.word_terms.WordTerms.{WordTerms}
 use Rattle.index_phrases.specs.steps.Aiming.{sizes_of, variant_words}
+use Rattle.phrase_merges.specs.NearTrees.{near_aims, near_lists}
 use Rattle.phrase_merges.specs.Rows.{all_aims}
 use Rattle.spot_merges.specs.declared.edge.Edge.{Edge}
 use Rattle.spot_merges.specs.declared.outside.Outside.{Outside}
 use Rattle.plan_runs.specs.steps.Merges.{MergeShape}
+use Rattle.plan_runs.specs.steps.NearRuns.{NearShape}
 use Rattle.plan_runs.specs.steps.Skips.{skip_of}
 use Rattle.plan_runs.specs.steps.OpenedOperators.{aims_of}
 use Rattle.plan_runs.specs.steps.Passes.{HitsShape}
 use Rattle.plan_runs.specs.declared.run_hits.RunHits.{RunHits}
 use Rattle.plan_runs.specs.declared.run_merge.RunMerge.{RunMerge}
+use Rattle.plan_runs.specs.declared.run_near.RunNear.{RunNear}
 use Rattle.plan_runs.specs.declared.run_node.RunGroup.{RunGroup}
 use Rattle.plan_runs.specs.declared.run_node.RunPhrase.{RunPhrase}
 use Rattle.plan_runs.specs.declared.run_node.RunWords.{RunWords}
@@ -54,6 +57,7 @@ mutual
     all_of : Shapes → Shape
     not_of : Shape → Shape
     by_ways : WaysShape → Shape
+    by_near : NearShape → Shape
     by_hits : HitsShape → Shape
     by_merge : MergeShape → Shape
     by_spots : PlacedShape → Shape
@@ -88,6 +92,9 @@ merge_shape run = record { kind = run.kind; words = run.words.items; sizes = map
 abbrev pub ways_shape : RunWays → WaysShape
 ways_shape run = record { aims = aims_of run.tuples; skips = skip_of run.needs }
 
+abbrev pub near_shape : RunNear → NearShape
+near_shape run = record { aims = near_aims state_of run.tree; lists = near_lists state_of run.tree; skips = skip_of run.needs }
+
 abbrev pub hits_shape : RunHits → HitsShape
 hits_shape run = record { kind = run.kind; phrases = all_aims state_of run.phrases.items; skips = skip_of run.needs }
 
@@ -102,6 +109,7 @@ layer (RunNode-F.Or parts) = any_of (shapes_of parts.items)
 layer (RunNode-F.And parts) = all_of (shapes_of parts.items)
 layer (RunNode-F.Not part) = not_of part.value
 layer (RunNode-F.Ways run) = by_ways (ways_shape run.value)
+layer (RunNode-F.Near run) = by_near (near_shape run.value)
 layer (RunNode-F.Hits run) = by_hits (hits_shape run.value)
 layer (RunNode-F.Merge run) = by_merge (merge_shape run)
 layer (RunNode-F.Placed run) = by_spots (placed_shape run)

@@ -12,12 +12,13 @@ use Rattle.index_meaning.specs.Documents.{Numbered}
 use Rattle.plan_runs.specs.steps.AskedSpans.{AskedSpan, words_in}
 use Rattle.plan_runs.specs.steps.ChosenTerms.{is_among, numbers_of}
 use Rattle.plan_runs.specs.steps.Merges.{IsMerge, merge_says}
+use Rattle.plan_runs.specs.steps.NearRuns.{AreNear}
 use Rattle.plan_runs.specs.steps.OpenedOperators.{AreAims}
 use Rattle.plan_runs.specs.steps.Passes.{AreHits, hits_say}
 use Rattle.index_phrases.specs.steps.Aiming.{AreThere, wanted_size}
 use Rattle.plan_runs.specs.steps.Skips.{IsWithin, ends_before}
 use Rattle.plan_runs.specs.steps.RunShapes.{GroupShape, WaysShape, WordsShape, PlacedShape, at_edge, outside}
-use Rattle.plan_runs.specs.steps.RunShapes.{Shape, Shapes, words, any_of, all_of, not_of, by_ways, by_hits, by_merge, none, more, by_spots}
+use Rattle.plan_runs.specs.steps.RunShapes.{Shape, Shapes, words, any_of, all_of, not_of, by_ways, by_near, by_hits, by_merge, none, more, by_spots}
 use Rattle.index_phrases.specs.Phrases.{wanted_at}
 use Rattle.place_merges.specs.declared.spot.Spot.{Spot}
 use Rattle.spot_merges.specs.Edges.{is_at, spots_of}
@@ -65,6 +66,7 @@ unfoldable mutual
   run_truth version (all_of parts) asked = all_true version parts asked
   run_truth version (not_of part) asked = not (run_truth version part asked)
   run_truth version (by_ways run) asked = aims_say run.aims asked
+  run_truth version (by_near run) asked = aims_say run.aims asked
   run_truth version (by_hits run) asked = hits_say run asked
   run_truth version (by_merge merge) asked = merge_says version merge asked
   run_truth version (by_spots run) asked = placed_say version run asked
@@ -104,6 +106,7 @@ unfoldable mutual
   IsSound version (all_of parts) = AreSound version parts
   IsSound version (not_of part) = IsSound version part
   IsSound version (by_ways run) = AreWays version run
+  IsSound version (by_near run) = AreNear version run
   IsSound version (by_hits run) = AreHits version run
   IsSound version (by_merge merge) = IsMerge version merge
   IsSound version (by_spots run) = ArePlaced version run

@@ -1,5 +1,7 @@
 //! Prices of paths in small documents, by computation.
-#![tactic(auto, unfolding(crate::specs::PathPrices::element_price, crate::specs::PathPrices::moves_for,
+#![tactic(auto, unfolding(crate::specs::PathPrices::element_price, crate::specs::PathPrices::moves_for, crate::specs::PathPrices::asks_cheaply,
+// which selections are cheap
+plan_compiler::specs::CheapSelections::is_cheap_under,
 // where steps lead
 path_meaning::specs::Meaning::stepped, path_meaning::specs::Meaning::led,
 // what predicates keep
@@ -12,7 +14,8 @@ path_meaning::specs::Tests::predicates_tests, path_meaning::specs::Tests::predic
 ghost use Rattle.std.specs.Prelude.{◌≡◌, ◌∷◌, [], ℕ, List, map, codes, false, true, Ok, Err};
 ghost use Rattle.std.specs.List.{sum_by};
 ghost use Rattle.ft_base.specs.declared.fault.QueryFault.TheVariants as faults;
-ghost use Rattle.ft_base.specs.Selection.{Form};
+ghost use Rattle.ft_base.specs.Selection.{Form, mild_not};
+ghost use Rattle.all_matches.specs.Examples.{word_a, word_b};
 ghost use Rattle.index_meaning.specs.Documents.{Numbered};
 ghost use Rattle.path_grammar.specs.declared.path.PathRoot.TheVariants.{Collection, Doc};
 ghost use Rattle.path_meaning.specs.Elements.{Element};
@@ -27,7 +30,7 @@ ghost use Rattle.session_text.specs.declared.command.Command.TheVariants as comm
 ghost use Rattle.tokenizer.specs.Tokens.{tokens};
 ghost use Rattle.session_state.specs.KeptTexts.{text_at};
 ghost use Rattle.session_state.specs.Held.{Held};
-ghost use Rattle.session_state.specs.PathPrices.{element_price, moves_for, path_price, price_in, read_price, words_of};
+ghost use Rattle.session_state.specs.PathPrices.{asks_cheaply, element_price, is_cheap_path, moves_for, path_price, price_in, read_price, words_of};
 ghost use Rattle.session_state.specs.PriceExamples.{both_asked, first_asked, named_b, two_held, with_selections};
 
 /// The selections of a path are numbered from 0, and one that isn't there costs nothing.
@@ -70,6 +73,19 @@ pub fn prices_of_commands()
     ensures query { (says : Judgement) → (held : Held) → (text : List ℕ) → moves_for says held (command.Query text) ≡ read_price says held (path_read text) }
     ensures print { (says : Judgement) → (held : Held) → (text : List ℕ) → moves_for says held (command.Print text) ≡ read_price says held (path_read text) }
     ensures drop { (says : Judgement) → (held : Held) → (name : List ℕ) → moves_for says held (command.Drop name) ≡ 0 }
+{}
+
+/// A path is cheap where each of its selections is; a command asks cheaply where its path is cheap, or where it has none.
+pub fn cheap_paths()
+    ensures all { (lists : NamedLists) → is_cheap_path lists (Ok (with_selections Collection both_asked (word_a ∷ word_b ∷ []))) ≡ true }
+    ensures none_asked { (lists : NamedLists) → is_cheap_path lists (Ok (with_selections Collection [] [])) ≡ true }
+    ensures first_not { (lists : NamedLists) → is_cheap_path lists (Ok (with_selections Collection both_asked (mild_not word_a word_b ∷ word_b ∷ []))) ≡ false }
+    ensures last_not { (lists : NamedLists) → is_cheap_path lists (Ok (with_selections Collection both_asked (word_a ∷ mild_not word_a word_b ∷ []))) ≡ false }
+    ensures no_path { (lists : NamedLists) → is_cheap_path lists (Err (faults.Syntax 0)) ≡ true }
+    ensures query { (lists : NamedLists) → (text : List ℕ) → asks_cheaply lists (command.Query text) ≡ is_cheap_path lists (path_read text) }
+    ensures at_a_mark { (lists : NamedLists) → (name text : List ℕ) → asks_cheaply lists (command.QueryAt name text) ≡ is_cheap_path lists (path_read text) }
+    ensures delete { (lists : NamedLists) → (text : List ℕ) → asks_cheaply lists (command.Delete text) ≡ is_cheap_path lists (path_read text) }
+    ensures drop { (lists : NamedLists) → (name : List ℕ) → asks_cheaply lists (command.Drop name) ≡ true }
 {}
 
 /// What stands at an extent of a text: a selection as it is written, with its quotes; nothing after the text's end.

@@ -1,7 +1,8 @@
 -- Kind by kind, one operand after the other.
 use Rattle.std.proofs.Common.{◌≡◌, ◌∙◌, ap, sym, subst, arith, length, vec_capacity, drop, refl}
 use Rattle.all_matches.specs.Filters.{after}
-use Rattle.ft_operators.specs.Course.{every}
+use Rattle.ft_operators.specs.Course.{course_inside, every, without_bounds}
+use Rattle.ft_operators.specs.Standing.{course_now}
 use Rattle.ft_operators.specs.steps.Forms.{choice_of, both_of, sieve_of}
 use Rattle.ft_operators.specs.steps.Nodes.{standing}
 use Rattle.ft_operators.specs.steps.Walking.{Replaced}
@@ -44,8 +45,8 @@ returns-in-Both g t c course =
     let same = ap (λ x. standing state course x.left) (c.deref-in-Both-2.ensures ∙ sym c.deref-in-Both.ensures) in
     gathered_inside _ _ _ _ _ _
     (inside_Both state course c.args.node.now c.in-Both.pair then c.in-Both.is c.deref-in-Both-2.ensures
-    ∙ ap (λ s. both_of course s (standing state course then.right)) same)
-    (gathered_both course (standing state course first.left) (standing state course then.right) _ _ _ _ _ _ (c.gather-in-Both.ensures course) (c.gather-in-Both-2.ensures course))
+    ∙ ap (λ s. both_of course s (standing state (course_now course s.rest) then.right)) same)
+    (gathered_both course (standing state course first.left) (standing state (course_now course (standing state course first.left).rest) then.right) _ _ _ _ _ _ (c.gather-in-Both.ensures course) (c.gather-in-Both-2.ensures (course_now course (standing state course first.left).rest)))
 
 pub returns-in-MildNot : goal.returns-in-MildNot
 returns-in-MildNot g t c course =
@@ -53,7 +54,7 @@ returns-in-MildNot g t c course =
     let pair = c.deref-in-MildNot.result.now in
     gathered_inside _ _ _ _ _ _
     (inside_MildNot state course c.args.node.now c.in-MildNot.pair pair c.in-MildNot.is c.deref-in-MildNot.ensures)
-    (gathered_apart course (standing state course pair.left) (standing state course pair.right) _ _ _ _ (c.gather-in-MildNot.ensures course))
+    (gathered_apart course (standing state course pair.left) (standing state (without_bounds course) pair.right) _ _ _ _ (c.gather-in-MildNot.ensures course))
 
 pub returns-in-Negated : goal.returns-in-Negated
 returns-in-Negated g t c course =
@@ -68,12 +69,13 @@ returns-in-Filtered g t c course =
     let state = g.P.PhraseHits.state in
     let first = c.deref-in-Filtered.result.now in
     let then = c.deref-in-Filtered-2.result.now in
-    let same = ap (λ x. standing state course x.operand) (c.deref-in-Filtered-2.ensures ∙ sym c.deref-in-Filtered.ensures) in
+    let inside = course_inside then.kind course in
+    let same = ap (λ x. standing state inside x.operand) (c.deref-in-Filtered-2.ensures ∙ sym c.deref-in-Filtered.ensures) in
     let mid = c.gather-in-Filtered.new.held in
     let new = c.replace_after.new.held in
     let place : c.len-place.result ≡ length c.args.held.now.items = omega (arith, c.len-place.ensures, c.args.held.now.ok.0) in
     gathered_inside _ _ _ _ _ _
     (inside_Filtered state course c.args.node.now c.in-Filtered.sieve then c.in-Filtered.is c.deref-in-Filtered-2.ensures
     ∙ ap (λ s. sieve_of course then.kind then.lead s) same)
-    (gathered_filtered course then.kind then.lead (standing state course first.operand) _ _ _ _ _ _ (c.gather-in-Filtered.ensures course)
+    (gathered_filtered course then.kind then.lead (standing state inside first.operand) _ _ _ _ _ _ (c.gather-in-Filtered.ensures inside)
     (subst (λ n. Replaced n (after then.kind (drop n mid.items)) (vec_capacity mid) (vec_capacity new) mid.items new.items) place c.replace_after.ensures))

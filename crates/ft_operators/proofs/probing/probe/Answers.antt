@@ -14,14 +14,14 @@ use Rattle.ft_operators.proofs.probing.probe.Goals as goal
 pub some_is_kept-requires : goal.some_is_kept-requires
 some_is_kept-requires g c =
     let negated = c.args.negated.now in
-    let same = ap (λ s. s.room) (standing_shape g.P.PhraseHits.state (firsts negated.item) negated.node negated.node) in
+    let same = ap (λ s. s.room) (standing_shape g.P.PhraseHits.state c.firsts-firsts.result negated.node negated.node) in
     let fits = negated.fits in
     omega arith
 
 pub invariant_of-negated : goal.invariant_of-negated
 invariant_of-negated g c =
     let negated = c.args.negated.now in
-    let same = kept_shape g.P.PhraseHits.state (firsts negated.item) negated.node c.some_is_kept.new.node c.some_is_kept.ensures.same in
+    let same = kept_shape g.P.PhraseHits.state c.firsts-firsts.result negated.node c.some_is_kept.new.node c.some_is_kept.ensures.same in
     let room = ap (λ s. s.room) same in
     let fits = negated.fits in
     let kept = c.some_is_kept.ensures.kept_room in
@@ -36,10 +36,11 @@ returns-clause-kept g c bare =
     let negated = c.args.negated.now in
     let kept = kept_by (links_of c.args.chain.now) in
     c.some_is_kept.ensures.found tt
-    ∙ ap (λ f. list_any (all_kept kept) (ways_on (firsts negated.item) f.operator)) (frame_same g.P.PhraseHits.state (firsts negated.item) negated.node)
-    ∙ some_kept (firsts negated.item) (frame_of g.P.PhraseHits.state negated.node).operator kept bare
+    ∙ ap (λ f. list_any (all_kept kept) (ways_on c.firsts-firsts.result f.operator)) (frame_same g.P.PhraseHits.state c.firsts-firsts.result negated.node)
+    ∙ ap (λ course. list_any (all_kept kept) (ways_on course (frame_of g.P.PhraseHits.state negated.node).operator)) (c.firsts-firsts.ensures ∙ ap (firsts negated.item) c.bounds.ensures)
+    ∙ some_kept negated.item (frame_of g.P.PhraseHits.state negated.node).operator (links_of c.args.chain.now) bare
 
 pub returns-clause-walk : goal.returns-clause-walk
 returns-clause-walk g c =
     let negated = c.args.negated.now in
-    passed_shown g.P.PhraseHits.state negated.item (firsts negated.item) negated.node c.some_is_kept.new.node c.some_is_kept.ensures.same
+    passed_shown g.P.PhraseHits.state negated.item c.firsts-firsts.result negated.node c.some_is_kept.new.node c.some_is_kept.ensures.same

@@ -11,7 +11,7 @@ use Rattle.plan_compiler.specs.ChosenOptions.{options_of}
 use Rattle.plan_compiler.specs.CompiledSelection.{CompileAll, Compiles}
 use Rattle.plan_compiler.specs.Served.{are_served, is_served, all_served}
 use Rattle.plan_compiler.specs.declared.node.Node.{Node}
-use Rattle.plan_compiler.proofs.AllowedLemmas.{allowed-And, allowed-Filtered, allowed-MildNot, allowed-Not, allowed-Or, allowed-With, allowed_at}
+use Rattle.plan_compiler.proofs.AllowedLemmas.{allowed-And, allowed-Filtered, allowed-MildNot, allowed-Not, allowed-Or, allowed-With, allowed_at, positional-Filtered, positional-MildNot}
 use Rattle.plan_compiler.proofs.CompiledLemmas.{and_compiles, compile_more, not_compiles, or_compiles, with_compiles}
 use Rattle.plan_compiler.proofs.ServedLemmas.{served-Words, served-Or, served-And, served-Not, served-With}
 use Rattle.plan_compiler.proofs.SelectionMeaning.{served_at, served_inside}
@@ -25,6 +25,12 @@ compile-compile_all-requires t c = (search (rules, the_lemmas), (c.requires.opti
 
 pub compile-compile_all-requires-in-And : goal.compile-compile_all-requires-in-And
 compile-compile_all-requires-in-And t c = (search (rules, the_lemmas), (c.requires.options, (sym (served-And c.args.looks c.args.selection.now c.in-And.parts c.in-And.is) ∙ c.requires.selection, sym (allowed-And c.args.selection.now c.in-And.parts c.in-And.is) ∙ c.requires.allowed)))
+
+pub compile-compile_ways-requires-clause-positional : goal.compile-compile_ways-requires-clause-positional
+compile-compile_ways-requires-clause-positional t c = positional-MildNot c.args.selection.now c.in-MildNot._left c.in-MildNot._right c.in-MildNot.is
+
+pub compile-compile_ways-requires-in-Filtered-clause-positional : goal.compile-compile_ways-requires-in-Filtered-clause-positional
+compile-compile_ways-requires-in-Filtered-clause-positional t c = positional-Filtered c.args.selection.now c.in-Filtered._operand c.in-Filtered._filter c.in-Filtered.is
 
 pub compile-compile_ways-requires-clause-allowed : goal.compile-compile_ways-requires-clause-allowed
 compile-compile_ways-requires-clause-allowed t c = allowed-MildNot c.args.selection.now c.in-MildNot._left c.in-MildNot._right c.in-MildNot.is c.requires.allowed

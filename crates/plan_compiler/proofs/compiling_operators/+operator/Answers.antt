@@ -24,7 +24,7 @@ compile_operator-returns-in_ok-plan-in-Or t c =
 pub compile_operator-returns-in_ok-plan-in-And : goal.compile_operator-returns-in_ok-plan-in-And
 compile_operator-returns-in_ok-plan-in-And t c =
     and_to c.args.lists.now (options_of c.args.chosen.now) c.args.next.now c.compile_operands-in-And.new.next c.in_ok-plan-in-And.plan c.args.selection.now c.in-And.parts c.in-And.is
-    c.in_ok-operands-in-And.operands c.in_ok-operands-in-And.ensures c.in_ok-plan-in-And.ensures.same c.in_ok-plan-in-And.ensures.cost
+    c.in_ok-operands-in-And.operands c.in_ok-operands-in-And.ensures c.in_ok-plan-in-And.ensures.same c.in_ok-plan-in-And.ensures.cost c.in_ok-plan-in-And.ensures.words
 
 pub compile_operator-returns-in_ok-plan-in-Ok : goal.compile_operator-returns-in_ok-plan-in-Ok
 compile_operator-returns-in_ok-plan-in-Ok t c =
@@ -53,7 +53,7 @@ compile_operator-returns-in_ok-plan-in-Filtered t c =
     let next = c.compile_operator-in-Filtered.new.next in
     filtered_to lists options c.args.next.now next c.in_ok-plan-in-Filtered.plan c.args.selection.now c.in-Filtered.operand c.in-Filtered.filter c.in-Filtered.is c.in_ok-operand-in-Filtered.operand
     (subst (λ (s : Selection). CompilesTo lists options c.args.next.now next c.in_ok-operand-in-Filtered.operand (form s)) c.deref-in-Filtered.ensures c.in_ok-operand-in-Filtered.ensures)
-    c.in_ok-plan-in-Filtered.ensures.same c.in_ok-plan-in-Filtered.ensures.cost
+    c.in_ok-plan-in-Filtered.ensures.same c.in_ok-plan-in-Filtered.ensures.cost c.in_ok-plan-in-Filtered.ensures.cheap
 
 pub compile_operator-returns-in_ok-plan-in-With : goal.compile_operator-returns-in_ok-plan-in-With
 compile_operator-returns-in_ok-plan-in-With t c =

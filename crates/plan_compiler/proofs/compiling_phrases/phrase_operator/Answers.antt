@@ -6,4 +6,4 @@ use Rattle.plan_compiler.proofs.compiling_phrases.phrase_operator.Goals as goal
 
 pub returns-in-Some : goal.returns-in-Some
 returns-in-Some c =
-    phrase_to c.args.reading.now c.args.next.now c.in-Some.following c.in_ok-variants.variants (map item c.args.phrase.now) c.in_ok-variants.ensures (search rules)
+    phrase_to c.args.reading.now c.args.next.now c.in-Some.following c.in_ok-variants.variants (map item c.args.phrase.now) c.in_ok-variants.ensures.passes c.in_ok-variants.ensures.asks (search rules)

@@ -16,7 +16,7 @@ returns-then-all_empty c =
     (subst (PhrasesCompileTo reading c.args.next.now c.phrase_operators.new.next c.in_ok-operands.operands) (ap (map (map item)) c.as_slice.ensures ∙ c.in_ok-phrases.ensures) c.in_ok-operands.ensures)
     c.no_hit.result
     (ap (list_all is_empty) (sym c.in_ok-phrases.ensures) ∙ items_empty c.in_ok-phrases.phrases ∙ ap (list_all is_empty) (sym c.as_slice-2.ensures) ∙ sym c.all_empty.ensures ∙ c.if-all_empty.true)
-    c.no_hit.ensures.same c.no_hit.ensures.cost
+    c.no_hit.ensures.same c.no_hit.ensures.cost c.no_hit.ensures.word
 
 pub returns : goal.returns
 returns c =
@@ -26,4 +26,4 @@ returns c =
     (subst (PhrasesCompileTo reading c.args.next.now c.phrase_operators.new.next c.in_ok-operands.operands) (ap (map (map item)) c.as_slice.ensures ∙ c.in_ok-phrases.ensures) c.in_ok-operands.ensures)
     c.join_of.result c.in_ok-plan.plan
     (ap (list_all is_empty) (sym c.in_ok-phrases.ensures) ∙ items_empty c.in_ok-phrases.phrases ∙ ap (list_all is_empty) (sym c.as_slice-2.ensures) ∙ sym c.all_empty.ensures ∙ c.if-all_empty.false)
-    c.join_of.ensures c.in_ok-plan.ensures.same c.in_ok-plan.ensures.cost
+    c.join_of.ensures c.in_ok-plan.ensures.same c.in_ok-plan.ensures.cost c.in_ok-plan.ensures.alone

@@ -14,7 +14,7 @@ loop-phrase-init c = ap (map group_tests) c.requires
 pub loop-phrase-preserved : goal.loop-phrase-preserved
 loop-phrase-preserved c =
     let test = spec.item_test c.args.reading.now in
-    let tests : map passes c.in_ok-tests.tests ≡ map test (map item c.phrase-item.result) = c.in_ok-tests.ensures ∙ ap (λ p. map test (map item p)) c.as_slice.ensures in
+    let tests : map passes c.in_ok-tests.tests ≡ map test (map item c.phrase-item.result) = c.in_ok-tests.ensures.passes ∙ ap (λ p. map test (map item p)) c.as_slice.ensures in
     ap (map group_tests) c.in_ok-add_variant.ensures
     ∙ sym (with_variant-map passes c.loop-phrase.groups.entries c.in_ok-tests.tests)
     ∙ (λ i. with_variant (c.loop-phrase.invariant i) (tests i))

@@ -10,7 +10,7 @@ use Rattle.plan_runs.proofs.EdgeLemmas.{any_here, any_later, any_nowhere}
 use Rattle.plan_runs.proofs.edge_holding.stands_at_edge.Goals as goal
 
 pub variant_stands-requires : goal.variant_stands-requires
-variant_stands-requires c =
+variant_stands-requires g c =
     let views = map variant_words c.args.variants.now.items in
     let old = as_many variant_words c.args.variants.now.items views refl in
     let now = as_many variant_words c.loop-number.variants.items views c.loop-number.invariant.same in
@@ -21,7 +21,7 @@ variant_stands-requires c =
     c.requires c.loop-number.invariant.same within c.index_mut.ensures.value
 
 pub returns-then-variant_stands-clause-says : goal.returns-then-variant_stands-clause-says
-returns-then-variant_stands-clause-says c =
+returns-then-variant_stands-clause-says g c =
     let place = c.args.place.now in
     let views = map variant_words c.args.variants.now.items in
     let old = as_many variant_words c.args.variants.now.items views refl in
@@ -33,12 +33,12 @@ returns-then-variant_stands-clause-says c =
     c.loop-number.invariant.says (sym c.variant_stands.ensures.says ∙ c.if-variant_stands.true)
 
 pub returns-then-variant_stands-clause-same : goal.returns-then-variant_stands-clause-same
-returns-then-variant_stands-clause-same c =
+returns-then-variant_stands-clause-same g c =
     parts_kept variant_words c.loop-number.variants.items (map variant_words c.args.variants.now.items) c.loop-number.number c.index_mut.result.now c.variant_stands.new.words
     c.loop-number.invariant.same c.index_mut.ensures.value c.variant_stands.ensures.same
 
 pub loop-number-preserved : goal.loop-number-preserved
-loop-number-preserved c =
+loop-number-preserved g c =
     let place = c.args.place.now in
     let views = map variant_words c.args.variants.now.items in
     let old = as_many variant_words c.args.variants.now.items views refl in
@@ -51,10 +51,11 @@ loop-number-preserved c =
       says = any_later (λ (own : List WordTerms). edges.stands_at_edge c.args.edge place.span (map (wanted_at place.version.now place.doc.0 place.span) own)) views c.loop-number.number words.items (omega arith)
           (part_at variant_words c.loop-number.variants.items views c.loop-number.number words c.loop-number.invariant.same c.index_mut.ensures.value)
           c.loop-number.invariant.says (sym c.variant_stands.ensures.says ∙ c.if-variant_stands.false);
+      grown = omega (arith, c.loop-number.invariant.grown, c.variant_stands.ensures.grown);
     }
 
 pub returns-clause-says : goal.returns-clause-says
-returns-clause-says c =
+returns-clause-says g c =
     let place = c.args.place.now in
     let views = map variant_words c.args.variants.now.items in
     let old = as_many variant_words c.args.variants.now.items views refl in

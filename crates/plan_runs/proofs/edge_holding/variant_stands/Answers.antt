@@ -9,19 +9,19 @@ use Rattle.spot_merges.proofs.EdgeLemmas.{place_spot}
 use Rattle.plan_runs.proofs.edge_holding.variant_stands.Goals as goal
 
 pub words_stand-requires-clause-from : goal.words_stand-requires-clause-from
-words_stand-requires-clause-from c =
+words_stand-requires-clause-from g c =
     let span = c.args.place.now.span in
     let words = c.args.words.now in
     (place_spot span c.args.edge (length words.items) c.in-Some.from (sym (c.in-Some.ensures ∙ ap (edge_place c.args.edge span) (c.len.ensures ∙ words.ok.0)))).first
 
 pub words_stand-requires-clause-within : goal.words_stand-requires-clause-within
-words_stand-requires-clause-within c =
+words_stand-requires-clause-within g c =
     let span = c.args.place.now.span in
     let words = c.args.words.now in
     (place_spot span c.args.edge (length words.items) c.in-Some.from (sym (c.in-Some.ensures ∙ ap (edge_place c.args.edge span) (c.len.ensures ∙ words.ok.0)))).last
 
 pub returns-in-Some-clause-says : goal.returns-in-Some-clause-says
-returns-in-Some-clause-says c =
+returns-in-Some-clause-says g c =
     let place = c.args.place.now in
     let words = c.args.words.now in
     let wanted = wanted_at place.version.now place.doc.0 place.span in
@@ -30,7 +30,7 @@ returns-in-Some-clause-says c =
     (c.in-Some.ensures ∙ ap (edge_place c.args.edge place.span) (c.len.ensures ∙ words.ok.0 ∙ sym (length-map words.items wanted)))
 
 pub returns-in-None-clause-says : goal.returns-in-None-clause-says
-returns-in-None-clause-says c =
+returns-in-None-clause-says g c =
     let place = c.args.place.now in
     let words = c.args.words.now in
     let wanted = wanted_at place.version.now place.doc.0 place.span in

@@ -8,7 +8,7 @@ use Rattle.plan_runs.proofs.EdgeLemmas.{word_there}
 use Rattle.plan_runs.proofs.edge_holding.word_stands.Goals as goal
 
 pub returns-in-Of-clause-says : goal.returns-in-Of-clause-says
-returns-in-Of-clause-says c =
+returns-in-Of-clause-says g c =
     let place = c.args.place.now in
     let at = c.args.part.from in
     let wanted = wanted_at place.version.now place.doc.0 place.span in

@@ -9,7 +9,7 @@ use Rattle.plan_runs.proofs.EdgeLemmas.{stands_more, stands_not, stands_whole}
 use Rattle.plan_runs.proofs.edge_holding.words_stand.Goals as goal
 
 pub word_stands-requires-clause-there : goal.word_stands-requires-clause-there
-word_stands-requires-clause-there c =
+word_stands-requires-clause-there g c =
     let words = c.args.words.now.items in
     let number = c.loop-number.number in
     let word = c.index_mut.result.now in
@@ -19,7 +19,7 @@ word_stands-requires-clause-there c =
     subst (AreThere c.args.place.now.version.now) (sym is) (All-get_or (AreThere c.args.place.now.version.now) words number word (omega arith) c.requires.there)
 
 pub returns-then-not-word_stands-clause-says : goal.returns-then-not-word_stands-clause-says
-returns-then-not-word_stands-clause-says c =
+returns-then-not-word_stands-clause-says g c =
     let place = c.args.place.now in
     let words = c.args.words.now.items in
     let number = c.loop-number.number in
@@ -31,7 +31,7 @@ returns-then-not-word_stands-clause-says c =
     c.loop-number.invariant.says (sym c.word_stands.ensures.says ∙ c.if-not-word_stands.true)
 
 pub loop-number-preserved : goal.loop-number-preserved
-loop-number-preserved c =
+loop-number-preserved g c =
     let place = c.args.place.now in
     let words = c.args.words.now.items in
     let number = c.loop-number.number in
@@ -43,10 +43,11 @@ loop-number-preserved c =
       same = set_kept c.loop-number.words.items words number word c.word_stands.new.word c.loop-number.invariant.same c.index_mut.ensures.value c.word_stands.ensures.same;
       says = stands_more (wanted_at place.version.now place.doc.0 place.span) words c.args.part.from number word (omega arith) is
           c.loop-number.invariant.says (sym c.word_stands.ensures.says ∙ c.if-not-word_stands.false);
+      grown = omega (arith, c.loop-number.invariant.grown, c.word_stands.ensures.grown);
     }
 
 pub returns-clause-says : goal.returns-clause-says
-returns-clause-says c =
+returns-clause-says g c =
     let place = c.args.place.now in
     let words = c.args.words.now.items in
     let test = c.loop-number-test.false in

@@ -1,9 +1,11 @@
 -- Each kind is tested by its parts, which keep their shapes.
-use Rattle.std.proofs.Common.{◌∙◌, ◌||◌, ◌&&◌, Bool, ap, sym, not, refl, rules, map, drop, ◌+◌, arith, subst, Box, Global, Vec}
-use Rattle.plan_runs.specs.steps.RunCosts.{moves_for, run_cost, run_costs, words_cost, placed_cost}
-use Rattle.plan_runs.specs.steps.RunShapes.{hits_shape, merge_shape, shape, shapes_of, words_shape, placed_shape}
+use Rattle.std.proofs.Common.{◌≡◌, ◌∙◌, ◌||◌, ◌&&◌, Bool, true, true≢false, ap, sym, not, refl, rules, map, drop, ◌+◌, arith, subst, Box, Global, Vec}
+use Rattle.plan_runs.specs.steps.CheapShapes.{are_cheap_shapes, is_cheap_shape}
+use Rattle.plan_runs.specs.steps.RunCosts.{moves_for, run_cost, run_costs, words_cost}
+use Rattle.plan_runs.specs.steps.RunShapes.{hits_shape, merge_shape, near_shape, shape, shapes_of, words_shape, placed_shape}
 use Rattle.plan_runs.specs.steps.Passes.{AreHits, hits_say}
 use Rattle.plan_runs.specs.steps.Merges.{IsMerge, merge_cost, merge_says}
+use Rattle.plan_runs.specs.steps.NearRuns.{AreNear}
 use Rattle.plan_runs.specs.steps.OpenedOperators.{AreAims, aims_of}
 use Rattle.plan_runs.specs.steps.Skips.{skip_of}
 use Rattle.plan_runs.specs.steps.RunTruth.{ArePlaced, AreSound, IsSound, IsWords, all_true, aims_say, placed_say, run_truth, some_true, words_say}
@@ -11,13 +13,14 @@ use Rattle.plan_runs.specs.steps.AskedPlaces.{asked_at, text_at}
 use Rattle.plan_runs.specs.declared.run_node.RunNode.{RunNode, the_lemmas}
 use Rattle.plan_runs.specs.declared.run_hits.RunHits.{RunHits}
 use Rattle.plan_runs.specs.declared.run_merge.RunMerge.{RunMerge}
+use Rattle.plan_runs.specs.declared.run_near.RunNear.{RunNear}
 use Rattle.plan_runs.specs.declared.run_node.RunNode as R
 use Rattle.plan_runs.specs.declared.run_node.RunWords.{RunWords}
 use Rattle.plan_runs.specs.declared.run_placed.RunPlaced.{RunPlaced}
 use Rattle.plan_runs.specs.declared.run_ways.RunWays.{RunWays}
 use Rattle.index_phrases.proofs.PartLemmas.{as_many, holds_at, part_at, parts_kept}
 use Rattle.plan_runs.proofs.SumLemmas.{one_more}
-use Rattle.plan_runs.proofs.TreeLemmas.{all_end, all_more, cost-And, cost-Merge, cost-Not, cost-Or, cost-Words, costs_so_far, each_sound, same-And, same-Hits, same-Merge, same-Not, same-Or, same-Ways, same-Words, says-And, says-Hits, says-Merge, says-Not, says-Or, says-Ways, says-Words, some_end, some_more, sound-And, sound-Hits, sound-Merge, sound-Not, sound-Or, sound-Ways, sound-Words, weight, weights, weight_at, weight-And, weight-Not, weight-Or, cost-Placed, same-Placed, says-Placed, sound-Placed}
+use Rattle.plan_runs.proofs.TreeLemmas.{all_end, all_more, cost-And, cost-Merge, cost-Not, cost-Or, cost-Words, costs_so_far, each_sound, same-And, same-Hits, same-Merge, same-Near, same-Not, same-Or, same-Ways, same-Words, says-And, says-Hits, says-Merge, says-Near, says-Not, says-Or, says-Ways, says-Words, some_end, some_more, sound-And, sound-Hits, sound-Merge, sound-Near, sound-Not, sound-Or, sound-Ways, sound-Words, weight, weights, weight_at, weight-And, weight-Not, weight-Or, cheap-And, cheap-Hits, cheap-Near, cheap-Not, cheap-Or, cheap-Placed, cheap-Ways, each_cheap, same-Placed, says-Placed, sound-Placed}
 use Rattle.plan_runs.proofs.holding.+holding.Goals as goal
 
 pub node_holds-words_hold-requires : goal.node_holds-words_hold-requires
@@ -102,6 +105,18 @@ node_holds-returns-in-Ways-clause-same g t c =
     let same = same-Ways (R.Ways c.in-Ways.ways) c.in-Ways.ways c.ways_hold.new.ways refl (c.ways_hold.ensures.same ∙ ap (λ (run : Box RunWays Global). aims_of run.value.tuples) c.in-Ways.ways-is)
     (ap skip_of (c.ways_hold.ensures.needs ∙ ap (λ (run : Box RunWays Global). run.value.needs) c.in-Ways.ways-is)) in rw c.in-Ways.is (search (rules, the_lemmas, same))
 
+pub node_holds-near_holds-requires : goal.node_holds-near_holds-requires
+node_holds-near_holds-requires g t c =
+    subst (λ (run : Box RunNear Global). AreNear c.args.place.now.version.now (near_shape run.value)) (sym c.in-Near.near-is) (sound-Near c.args.place.now.version.now (asked_at c.args.place.now) c.args.node.now c.in-Near.near c.in-Near.is c.requires)
+
+pub node_holds-returns-in-Near-clause-says : goal.node_holds-returns-in-Near-clause-says
+node_holds-returns-in-Near-clause-says g t c =
+    c.near_holds.ensures.says ∙ ap (λ (run : Box RunNear Global). aims_say (near_shape run.value).aims (asked_at c.args.place.now)) c.in-Near.near-is ∙ says-Near c.args.place.now.version.now (asked_at c.args.place.now) c.args.node.now c.in-Near.near c.in-Near.is
+
+pub node_holds-returns-in-Near-clause-same : goal.node_holds-returns-in-Near-clause-same
+node_holds-returns-in-Near-clause-same g t c =
+    let same = same-Near (R.Near c.in-Near.near) c.in-Near.near c.near_holds.new.near refl (c.near_holds.ensures.same ∙ ap (λ (run : Box RunNear Global). near_shape run.value) c.in-Near.near-is) in rw c.in-Near.is (search (rules, the_lemmas, same))
+
 pub node_holds-hits_hold-requires : goal.node_holds-hits_hold-requires
 node_holds-hits_hold-requires g t c =
     subst (λ (run : Box RunHits Global). AreHits c.args.place.now.version.now (hits_shape run.value)) (sym c.in-Hits.hits-is) (sound-Hits c.args.place.now.version.now (asked_at c.args.place.now) c.args.node.now c.in-Hits.hits c.in-Hits.is c.requires)
@@ -131,7 +146,7 @@ node_holds-returns-in-Merge-clause-price g t c =
     let cost = moves_for c.args.place.now in
     let own = ap (λ (run : RunMerge). merge_cost cost (merge_shape run)) c.in-Merge.merge-is in
     let whole = cost-Merge cost c.args.node.now c.in-Merge.merge c.in-Merge.is in
-    omega (arith, own, whole, c.merge_holds.ensures.price)
+    λ h. omega (arith, own, whole, c.merge_holds.ensures.price)
 
 pub node_holds-placed_holds-requires : goal.node_holds-placed_holds-requires
 node_holds-placed_holds-requires g t c =
@@ -146,11 +161,16 @@ node_holds-returns-in-Placed-clause-same g t c =
     let same = same-Placed (R.Placed c.in-Placed.placed) c.in-Placed.placed c.placed_holds.new.placed refl (c.placed_holds.ensures.same ∙ ap placed_shape c.in-Placed.placed-is) in rw c.in-Placed.is (search (rules, the_lemmas, same))
 
 pub node_holds-returns-in-Placed-clause-price : goal.node_holds-returns-in-Placed-clause-price
-node_holds-returns-in-Placed-clause-price g t c =
-    let cost = moves_for c.args.place.now in
-    let own = ap (λ (run : RunPlaced). placed_cost cost (placed_shape run)) c.in-Placed.placed-is in
-    let whole = cost-Placed cost c.args.node.now c.in-Placed.placed c.in-Placed.is in
-    omega (arith, own, whole, c.placed_holds.ensures.price)
+node_holds-returns-in-Placed-clause-price g t c h = absurd (true≢false (sym h ∙ cheap-Placed c.args.node.now c.in-Placed.placed c.in-Placed.is))
+
+pub node_holds-returns-in-Ways-clause-price : goal.node_holds-returns-in-Ways-clause-price
+node_holds-returns-in-Ways-clause-price g t c h = absurd (true≢false (sym h ∙ cheap-Ways c.args.node.now c.in-Ways.ways c.in-Ways.is))
+
+pub node_holds-returns-in-Near-clause-price : goal.node_holds-returns-in-Near-clause-price
+node_holds-returns-in-Near-clause-price g t c h = absurd (true≢false (sym h ∙ cheap-Near c.args.node.now c.in-Near.near c.in-Near.is))
+
+pub node_holds-returns-in-Hits-clause-price : goal.node_holds-returns-in-Hits-clause-price
+node_holds-returns-in-Hits-clause-price g t c h = absurd (true≢false (sym h ∙ cheap-Hits c.args.node.now c.in-Hits.hits c.in-Hits.is))
 
 pub some_holds-node_holds-requires : goal.some_holds-node_holds-requires
 some_holds-node_holds-requires g t c κs within =
@@ -201,9 +221,11 @@ some_holds-loop-number-preserved g t c =
           (some_more c.args.place.now.version.now (asked_at c.args.place.now) views c.loop-number.number (shape c.index_mut.result.now) (omega arith) (part_at shape c.loop-number.parts.items views c.loop-number.number c.index_mut.result.now c.loop-number.invariant.same c.index_mut.ensures.value)
           ∙ ap (λ (b : Bool). b || some_true c.args.place.now.version.now (shapes_of (drop (c.loop-number.number + 1) views)) (asked_at c.args.place.now)) (sym c.node_holds.ensures.says ∙ c.if-node_holds.false))
           ∙ c.loop-number.invariant.says;
-      price = one_more (run_cost (moves_for c.args.place.now)) views c.loop-number.number c.args.moves.now (shape c.index_mut.result.now) c.loop-number.moves c.node_holds.new.moves (omega arith)
+      price = λ h.
+          one_more (run_cost (moves_for c.args.place.now)) views c.loop-number.number c.args.moves.now (shape c.index_mut.result.now) c.loop-number.moves c.node_holds.new.moves (omega arith)
           (part_at shape c.loop-number.parts.items views c.loop-number.number c.index_mut.result.now c.loop-number.invariant.same c.index_mut.ensures.value)
-          c.loop-number.invariant.price c.node_holds.ensures.price;
+          (c.loop-number.invariant.price h)
+          (c.node_holds.ensures.price (holds_at shape (λ own. is_cheap_shape own ≡ true) c.loop-number.parts.items views c.loop-number.number c.index_mut.result.now (each_cheap views h) c.loop-number.invariant.same (omega arith) c.index_mut.ensures.value));
       grown = omega arith;
     }
 
@@ -264,9 +286,11 @@ all_hold-loop-number-preserved g t c =
           (all_more c.args.place.now.version.now (asked_at c.args.place.now) views c.loop-number.number (shape c.index_mut.result.now) (omega arith) (part_at shape c.loop-number.parts.items views c.loop-number.number c.index_mut.result.now c.loop-number.invariant.same c.index_mut.ensures.value)
           ∙ ap (λ (b : Bool). b && all_true c.args.place.now.version.now (shapes_of (drop (c.loop-number.number + 1) views)) (asked_at c.args.place.now)) (sym c.node_holds.ensures.says ∙ c.if-not-node_holds.false))
           ∙ c.loop-number.invariant.says;
-      price = one_more (run_cost (moves_for c.args.place.now)) views c.loop-number.number c.args.moves.now (shape c.index_mut.result.now) c.loop-number.moves c.node_holds.new.moves (omega arith)
+      price = λ h.
+          one_more (run_cost (moves_for c.args.place.now)) views c.loop-number.number c.args.moves.now (shape c.index_mut.result.now) c.loop-number.moves c.node_holds.new.moves (omega arith)
           (part_at shape c.loop-number.parts.items views c.loop-number.number c.index_mut.result.now c.loop-number.invariant.same c.index_mut.ensures.value)
-          c.loop-number.invariant.price c.node_holds.ensures.price;
+          (c.loop-number.invariant.price h)
+          (c.node_holds.ensures.price (holds_at shape (λ own. is_cheap_shape own ≡ true) c.loop-number.parts.items views c.loop-number.number c.index_mut.result.now (each_cheap views h) c.loop-number.invariant.same (omega arith) c.index_mut.ensures.value));
       grown = omega arith;
     }
 
@@ -285,28 +309,34 @@ node_holds-returns-in-Words-clause-price g t c =
     let cost = moves_for c.args.place.now in
     let same = ap (λ (run : RunWords). words_cost cost (words_shape run)) c.in-Words.words-is in
     let whole = cost-Words cost c.args.node.now c.in-Words.words c.in-Words.is in
-    omega (arith, c.words_hold.ensures.price, same, whole)
+    λ h. omega (arith, c.words_hold.ensures.price, same, whole)
 
 pub node_holds-returns-in-Or-clause-price : goal.node_holds-returns-in-Or-clause-price
 node_holds-returns-in-Or-clause-price g t c =
     let cost = moves_for c.args.place.now in
     let same = ap (λ (parts : Vec RunNode Global). run_costs cost (shapes_of (map shape parts.items))) c.in-Or.parts-is in
     let whole = cost-Or cost c.args.node.now c.in-Or.parts c.in-Or.is in
-    omega (arith, c.some_holds.ensures.price, same, whole)
+    λ h.
+    let all = ap (λ (parts : Vec RunNode Global). are_cheap_shapes (shapes_of (map shape parts.items))) c.in-Or.parts-is ∙ cheap-Or c.args.node.now c.in-Or.parts c.in-Or.is ∙ h in
+    omega (arith, c.some_holds.ensures.price all, same, whole)
 
 pub node_holds-returns-in-And-clause-price : goal.node_holds-returns-in-And-clause-price
 node_holds-returns-in-And-clause-price g t c =
     let cost = moves_for c.args.place.now in
     let same = ap (λ (parts : Vec RunNode Global). run_costs cost (shapes_of (map shape parts.items))) c.in-And.parts-is in
     let whole = cost-And cost c.args.node.now c.in-And.parts c.in-And.is in
-    omega (arith, c.all_hold.ensures.price, same, whole)
+    λ h.
+    let all = ap (λ (parts : Vec RunNode Global). are_cheap_shapes (shapes_of (map shape parts.items))) c.in-And.parts-is ∙ cheap-And c.args.node.now c.in-And.parts c.in-And.is ∙ h in
+    omega (arith, c.all_hold.ensures.price all, same, whole)
 
 pub node_holds-returns-in-Not-clause-price : goal.node_holds-returns-in-Not-clause-price
 node_holds-returns-in-Not-clause-price g t c =
     let cost = moves_for c.args.place.now in
     let same = ap (λ (part : Box RunNode Global). run_cost cost (shape part.value)) c.in-Not.part-is in
     let whole = cost-Not cost c.args.node.now c.in-Not.part c.in-Not.is in
-    omega (arith, c.part_holds.ensures.price, same, whole)
+    λ h.
+    let own = ap (λ (part : Box RunNode Global). is_cheap_shape (shape part.value)) c.in-Not.part-is ∙ cheap-Not c.args.node.now c.in-Not.part c.in-Not.is ∙ h in
+    omega (arith, c.part_holds.ensures.price own, same, whole)
 
 pub some_holds-returns-then-node_holds-clause-price : goal.some_holds-returns-then-node_holds-clause-price
 some_holds-returns-then-node_holds-clause-price g t c =
@@ -314,14 +344,17 @@ some_holds-returns-then-node_holds-clause-price g t c =
     let old = as_many shape c.args.parts.now.items views refl in
     let test = c.loop-number-test.true in
     let end = c.len-number-end.ensures in
+    let now = as_many shape c.loop-number.parts.items views c.loop-number.invariant.same in
+    λ h.
     costs_so_far (moves_for c.args.place.now) views (c.loop-number.number + 1) c.args.moves.now c.node_holds.new.moves
     (one_more (run_cost (moves_for c.args.place.now)) views c.loop-number.number c.args.moves.now (shape c.index_mut.result.now) c.loop-number.moves c.node_holds.new.moves (omega arith)
     (part_at shape c.loop-number.parts.items views c.loop-number.number c.index_mut.result.now c.loop-number.invariant.same c.index_mut.ensures.value)
-    c.loop-number.invariant.price c.node_holds.ensures.price)
+    (c.loop-number.invariant.price h)
+    (c.node_holds.ensures.price (holds_at shape (λ own. is_cheap_shape own ≡ true) c.loop-number.parts.items views c.loop-number.number c.index_mut.result.now (each_cheap views h) c.loop-number.invariant.same (omega arith) c.index_mut.ensures.value)))
 
 pub some_holds-returns-clause-price : goal.some_holds-returns-clause-price
 some_holds-returns-clause-price g t c =
-    costs_so_far (moves_for c.args.place.now) (map shape c.args.parts.now.items) c.loop-number.number c.args.moves.now c.loop-number.moves c.loop-number.invariant.price
+    λ h. costs_so_far (moves_for c.args.place.now) (map shape c.args.parts.now.items) c.loop-number.number c.args.moves.now c.loop-number.moves (c.loop-number.invariant.price h)
 
 pub all_hold-returns-then-not-node_holds-clause-price : goal.all_hold-returns-then-not-node_holds-clause-price
 all_hold-returns-then-not-node_holds-clause-price g t c =
@@ -329,11 +362,14 @@ all_hold-returns-then-not-node_holds-clause-price g t c =
     let old = as_many shape c.args.parts.now.items views refl in
     let test = c.loop-number-test.true in
     let end = c.len-number-end.ensures in
+    let now = as_many shape c.loop-number.parts.items views c.loop-number.invariant.same in
+    λ h.
     costs_so_far (moves_for c.args.place.now) views (c.loop-number.number + 1) c.args.moves.now c.node_holds.new.moves
     (one_more (run_cost (moves_for c.args.place.now)) views c.loop-number.number c.args.moves.now (shape c.index_mut.result.now) c.loop-number.moves c.node_holds.new.moves (omega arith)
     (part_at shape c.loop-number.parts.items views c.loop-number.number c.index_mut.result.now c.loop-number.invariant.same c.index_mut.ensures.value)
-    c.loop-number.invariant.price c.node_holds.ensures.price)
+    (c.loop-number.invariant.price h)
+    (c.node_holds.ensures.price (holds_at shape (λ own. is_cheap_shape own ≡ true) c.loop-number.parts.items views c.loop-number.number c.index_mut.result.now (each_cheap views h) c.loop-number.invariant.same (omega arith) c.index_mut.ensures.value)))
 
 pub all_hold-returns-clause-price : goal.all_hold-returns-clause-price
 all_hold-returns-clause-price g t c =
-    costs_so_far (moves_for c.args.place.now) (map shape c.args.parts.now.items) c.loop-number.number c.args.moves.now c.loop-number.moves c.loop-number.invariant.price
+    λ h. costs_so_far (moves_for c.args.place.now) (map shape c.args.parts.now.items) c.loop-number.number c.args.moves.now c.loop-number.moves (c.loop-number.invariant.price h)

@@ -1,6 +1,7 @@
 -- The parts so far don't settle it.
-use Rattle.std.proofs.Common.{◌≡◌, ◌≤◌, ◌+◌, ◌*◌, drop, map, take}
+use Rattle.std.proofs.Common.{◌≡◌, ◌≤◌, ◌+◌, ◌*◌, drop, map, take, true}
 use Rattle.std.specs.List.{sum_by}
+use Rattle.plan_runs.specs.steps.CheapShapes.{are_cheap_shapes}
 use Rattle.plan_runs.specs.steps.RunCosts.{moves_for, run_cost}
 use Rattle.plan_runs.specs.steps.RunShapes.{shape, shapes_of}
 use Rattle.plan_runs.specs.steps.RunTruth.{all_true, some_true}
@@ -25,7 +26,8 @@ invariant-some_holds-loop-number g l = record {
   same : map shape l.parts.items ≡ map shape l.fn.parts.items;
   says : some_true l.place.version.now (shapes_of (drop l.number (map shape l.fn.parts.items))) (asked_at l.place)
       ≡ some_true l.place.version.now (shapes_of (map shape l.fn.parts.items)) (asked_at l.place);
-  price : l.moves ≤ l.fn.moves + sum_by (run_cost (moves_for l.place)) (take l.number (map shape l.fn.parts.items));
+  price : are_cheap_shapes (shapes_of (map shape l.fn.parts.items)) ≡ true
+      → l.moves ≤ l.fn.moves + sum_by (run_cost (moves_for l.place)) (take l.number (map shape l.fn.parts.items));
   grown : l.fn.moves ≤ l.moves;
 }
 
@@ -34,6 +36,7 @@ invariant-all_hold-loop-number g l = record {
   same : map shape l.parts.items ≡ map shape l.fn.parts.items;
   says : all_true l.place.version.now (shapes_of (drop l.number (map shape l.fn.parts.items))) (asked_at l.place)
       ≡ all_true l.place.version.now (shapes_of (map shape l.fn.parts.items)) (asked_at l.place);
-  price : l.moves ≤ l.fn.moves + sum_by (run_cost (moves_for l.place)) (take l.number (map shape l.fn.parts.items));
+  price : are_cheap_shapes (shapes_of (map shape l.fn.parts.items)) ≡ true
+      → l.moves ≤ l.fn.moves + sum_by (run_cost (moves_for l.place)) (take l.number (map shape l.fn.parts.items));
   grown : l.fn.moves ≤ l.moves;
 }

@@ -1,14 +1,15 @@
 -- Each kind is looked up by its parts, which keep their shapes.
 use Rattle.std.proofs.Common.{◌∙◌, ap, refl, rules, map, arith, Box, Global, Vec}
 use Rattle.index_phrases.proofs.PartLemmas.{as_many, part_at, parts_kept}
-use Rattle.plan_runs.specs.steps.RunShapes.{hits_shape, merge_shape, placed_shape, shape, shapes_of, words_shape}
+use Rattle.plan_runs.specs.steps.RunShapes.{hits_shape, merge_shape, near_shape, placed_shape, shape, shapes_of, words_shape}
 use Rattle.plan_runs.specs.declared.run_node.RunNode.{RunNode, the_lemmas}
 use Rattle.plan_runs.specs.declared.run_node.RunNode as R
 use Rattle.plan_runs.specs.declared.run_hits.RunHits.{RunHits}
+use Rattle.plan_runs.specs.declared.run_near.RunNear.{RunNear}
 use Rattle.plan_runs.specs.declared.run_ways.RunWays.{RunWays}
 use Rattle.plan_runs.specs.steps.OpenedOperators.{aims_of}
 use Rattle.plan_runs.specs.steps.Skips.{skip_of}
-use Rattle.plan_runs.proofs.TreeLemmas.{same-And, same-Hits, same-Merge, same-Or, same-Placed, same-Ways, same-Words, weights, weight_at, weight-And, weight-Or}
+use Rattle.plan_runs.proofs.TreeLemmas.{same-And, same-Hits, same-Merge, same-Near, same-Or, same-Placed, same-Ways, same-Words, weights, weight_at, weight-And, weight-Or}
 use Rattle.plan_runs.proofs.looking_up.+looking_up.Goals as goal
 
 pub look_parts_up-look_up-part-requires : goal.look_parts_up-look_up-part-requires
@@ -64,6 +65,11 @@ look_up-returns-in-Ways t c =
     let same = same-Ways (R.Ways c.in-Ways.ways) c.in-Ways.ways c.look_ways_up.new.ways refl (c.look_ways_up.ensures.aims ∙ ap (λ (run : Box RunWays Global). aims_of run.value.tuples) c.in-Ways.ways-is)
     (c.look_ways_up.ensures.needs ∙ ap (λ (run : Box RunWays Global). skip_of run.value.needs) c.in-Ways.ways-is) in
     rw c.in-Ways.is (search (rules, the_lemmas, same))
+
+pub look_up-returns-in-Near : goal.look_up-returns-in-Near
+look_up-returns-in-Near t c =
+    let same = same-Near (R.Near c.in-Near.near) c.in-Near.near c.look_near_up.new.near refl (c.look_near_up.ensures ∙ ap (λ (run : Box RunNear Global). near_shape run.value) c.in-Near.near-is) in
+    rw c.in-Near.is (search (rules, the_lemmas, same))
 
 pub look_up-returns-in-Hits : goal.look_up-returns-in-Hits
 look_up-returns-in-Hits t c =

@@ -1,12 +1,10 @@
--- The variants of both stand where their terms do, keep their cursors, and pass each hit at most once.
-use Rattle.std.proofs.Common.{◌∙◌, map, true, arith}
-use Rattle.std.proofs.lemmas.Bool.{and_from}
+-- The variants of both stand where their terms do, and keep their cursors.
+use Rattle.std.proofs.Common.{◌∙◌, map}
 use Rattle.index_phrases.specs.steps.Aiming.{variant_words}
 use Rattle.index_phrases.proofs.AimLemmas.{sizes_kept}
-use Rattle.place_merges.specs.Sources.{all_plain}
 use Rattle.spot_merges.specs.Outside.{stands_outside}
 use Rattle.plan_runs.specs.steps.RunShapes.{outside}
-use Rattle.plan_runs.proofs.GroupLaw.{aimed_spots, all_are_plain}
+use Rattle.plan_runs.proofs.GroupLaw.{aimed_spots}
 use Rattle.plan_runs.proofs.placed_holding.holds_apart.Goals as goal
 
 pub returns-clause-says : goal.returns-clause-says
@@ -21,12 +19,3 @@ returns-clause-same g c =
     let left = sizes_kept c.aim_variants.new.variants.items c.stand_outside.new.left.items c.stand_outside.ensures.left_lists ∙ c.aim_variants.ensures.same in
     let right = sizes_kept c.aim_variants-2.new.variants.items c.stand_outside.new.right.items c.stand_outside.ensures.right_lists ∙ c.aim_variants-2.ensures.same in
     λ i. outside c.args.phrases.now.outside (record { terms = c.aim_variants.ensures.terms i; sizes = left i }) (record { terms = c.aim_variants-2.ensures.terms i; sizes = right i })
-
-pub returns-clause-price : goal.returns-clause-price
-returns-clause-price g c =
-    let first = c.aim_variants.ensures.price in
-    let second = c.aim_variants-2.ensures.price in
-    let plain = and_from (all_plain (λ cursor. true) c.aim_variants.new.variants.items) (all_plain (λ cursor. true) c.aim_variants-2.new.variants.items)
-    (all_are_plain c.aim_variants.new.variants.items) (all_are_plain c.aim_variants-2.new.variants.items) in
-    let passed = c.stand_outside.ensures.counted plain in
-    omega (arith, first, second, passed)

@@ -9,7 +9,7 @@ use Rattle.plan_runs.specs.steps.RunShapes.{at_edge}
 use Rattle.plan_runs.proofs.placed_holding.holds_at_edge.Goals as goal
 
 pub returns-clause-says : goal.returns-clause-says
-returns-clause-says c =
+returns-clause-says g c =
     let place = c.args.place.now in
     let edge = c.args.phrase.now.edge in
     let wanted = map (wanted_at place.version.now place.doc.0 place.span) in
@@ -19,4 +19,4 @@ returns-clause-says c =
     ∙ edge_variants place.span edge (map wanted variants)
 
 pub returns-clause-same : goal.returns-clause-same
-returns-clause-same c = ap (at_edge c.args.phrase.now.edge) c.stands_at_edge.ensures.same
+returns-clause-same g c = ap (at_edge c.args.phrase.now.edge) c.stands_at_edge.ensures.same

@@ -4,8 +4,9 @@ use Rattle.plan_runs.specs.steps.RunShapes.{shape}
 use Rattle.plan_runs.specs.steps.RunSkips.{skip}
 use Rattle.plan_runs.specs.steps.Skips.{skip_of}
 use Rattle.plan_runs.proofs.SkipLemmas.{one_is_none}
-use Rattle.plan_runs.proofs.RunSkipLaw.{skip-Words, skip-Or, skip-And, skip-Not, skip-Ways, skip-Hits, skip-Merge, words_listed, skip-Placed}
+use Rattle.plan_runs.proofs.RunSkipLaw.{skip-Words, skip-Or, skip-And, skip-Not, skip-Ways, skip-Near, skip-Hits, skip-Merge, words_listed, skip-Placed}
 use Rattle.plan_runs.specs.declared.run_hits.RunHits.{RunHits}
+use Rattle.plan_runs.specs.declared.run_near.RunNear.{RunNear}
 use Rattle.plan_runs.specs.declared.run_ways.RunWays.{RunWays}
 use Rattle.plan_runs.proofs.skipping.+skipping.Goals as goal
 
@@ -34,6 +35,12 @@ skip-returns-in-Ways t c =
     let doc = c.args.doc.0 in
     c.needs_skip.ensures ∙ ap (λ (ways : RunWays). skip_of ways.needs doc c.args.part) c.deref.ensures
     ∙ sym (ap (λ n. skip doc c.args.part (shape n)) c.in-Ways.is ∙ skip-Ways doc c.args.part c.in-Ways.ways)
+
+pub skip-returns-in-Near : goal.skip-returns-in-Near
+skip-returns-in-Near t c =
+    let doc = c.args.doc.0 in
+    c.needs_skip-in-Near.ensures ∙ ap (λ (near : RunNear). skip_of near.needs doc c.args.part) c.deref-in-Near.ensures
+    ∙ sym (ap (λ n. skip doc c.args.part (shape n)) c.in-Near.is ∙ skip-Near doc c.args.part c.in-Near.near)
 
 pub skip-returns-in-Hits : goal.skip-returns-in-Hits
 skip-returns-in-Hits t c =

@@ -34,7 +34,7 @@ returns-clause-places g c =
     c.documents-documents.ensures.trees c.documents-documents.ensures.documents c.choose-chosen.result c.choose-chosen.ensures.refs
 
 pub returns-clause-price : goal.returns-clause-price
-returns-clause-price g c =
+returns-clause-price g c cheap =
     let says = g.J.Judge.says in
     let path = c.args.path.now in
     let all : List RunMeaning → List Named → ℕ = λ rs ds. prices_in says path rs (documents path.root.now ds) in
@@ -42,4 +42,4 @@ returns-clause-price g c =
     let runs = c.as_mut_slice.ensures.value ∙ c.in_ok-runs.ensures ∙ ap (λ (v : List Numbered). map (run_over v) path.plans.now) c.version.ensures in
     subst (λ (ds : List Named). c.choose-chosen.new.moves ≤ c.args.moves.now + all (map (run_over c.args.collection.now.version) path.plans.now) ds) c.documents-documents.ensures.documents
     (subst (λ (rs : List RunMeaning). c.choose-chosen.new.moves ≤ c.args.moves.now + all rs (map to_document entries)) runs
-    (subst (λ (n : ℕ). c.choose-chosen.new.moves ≤ c.args.moves.now + n) (prices-led says path c.as_mut_slice.result.now (map to_document entries)) c.choose-chosen.ensures.price))
+    (subst (λ (n : ℕ). c.choose-chosen.new.moves ≤ c.args.moves.now + n) (prices-led says path c.as_mut_slice.result.now (map to_document entries)) (c.choose-chosen.ensures.price cheap)))

@@ -11,7 +11,7 @@ use Rattle.path_subset.specs.Paths.{read_form}
 use Rattle.session_text.specs.Replies.{is_refusal}
 use Rattle.session_text.specs.declared.reply.Reply.{Reply}
 use Rattle.session_state.specs.KeptTexts.{kept_after}
-use Rattle.session_state.specs.PathPrices.{read_price}
+use Rattle.session_state.specs.PathPrices.{are_cheap, is_cheap_path, read_price}
 use Rattle.session_state.specs.Paths.{answer, answer_read, reply_with}
 use Rattle.session_state.specs.PlannedPaths.{AskBelow}
 use Rattle.session_state.specs.ReadyPaths.{IsReady, IsReadyPath}
@@ -70,7 +70,7 @@ returns-in-Ok-Path-clause-err g c =
     c.keep_accepted.ensures.err
 
 pub returns-in-Ok-Path-clause-price : goal.returns-in-Ok-Path-clause-price
-returns-in-Ok-Path-clause-price g c =
+returns-in-Ok-Path-clause-price g c cheap =
     let says = g.J.Judge.says in
     let lists = c.args.prepared.now.lists in
     let text = c.args.text.now in
@@ -82,7 +82,8 @@ returns-in-Ok-Path-clause-price g c =
     let plan = ready-plan c.args.collection.now.documents c.args.prepared.now text c.in-Ok-Path.ready ready planned c.planned.ensures.root c.planned.ensures.steps
     c.planned.ensures.plans in
     subst (λ n. c.answer_planned-answered.new.moves ≤ c.args.moves.now + n)
-    (planned-prices says held p planned plan ∙ ap (read_price says held) (sym ready.read)) c.answer_planned-answered.ensures.price
+    (planned-prices says held p planned plan ∙ ap (read_price says held) (sym ready.read))
+    (c.answer_planned-answered.ensures.price (ap are_cheap plan.plans ∙ sym (ap (is_cheap_path lists) ready.read) ∙ cheap))
 
 pub returns-in-Ok-Refused-clause-reply : goal.returns-in-Ok-Refused-clause-reply
 returns-in-Ok-Refused-clause-reply g c =

@@ -24,7 +24,7 @@ collect_lines-lines-requires-clause-over g c =
     (over-each c.version.result.now c.args.planned.now.plans.now trees follow)
 
 pub returns-in-Ok-clause-price : goal.returns-in-Ok-clause-price
-returns-in-Ok-clause-price g c =
+returns-in-Ok-clause-price g c cheap =
     let planned = c.args.planned.now in
     let all : List RunMeaning → List Named → ℕ = λ rs ds. prices_in g.J.Judge.says planned rs (documents planned.root.now ds) in
     let over = map (run_over c.args.collection.now.version) in
@@ -32,10 +32,10 @@ returns-in-Ok-clause-price g c =
     subst (λ (ds : List Named). c.collect_lines-lines.new.moves ≤ c.args.moves.now + all (over planned.plans.now) ds)
     c.documents-documents.ensures.documents
     (subst (λ (rs : List RunMeaning). c.collect_lines-lines.new.moves ≤ c.args.moves.now + all rs (map to_document c.documents-documents.result.now))
-    runs c.collect_lines-lines.ensures.price)
+    runs (c.collect_lines-lines.ensures.price cheap))
 
 pub returns-in-Err-clause-price : goal.returns-in-Err-clause-price
-returns-in-Err-clause-price g c =
+returns-in-Err-clause-price g c cheap =
     let planned = c.args.planned.now in
     let all : List RunMeaning → List Named → ℕ = λ rs ds. prices_in g.J.Judge.says planned rs (documents planned.root.now ds) in
     let over = map (run_over c.args.collection.now.version) in
@@ -43,4 +43,4 @@ returns-in-Err-clause-price g c =
     subst (λ (ds : List Named). c.collect_lines-lines.new.moves ≤ c.args.moves.now + all (over planned.plans.now) ds)
     c.documents-documents.ensures.documents
     (subst (λ (rs : List RunMeaning). c.collect_lines-lines.new.moves ≤ c.args.moves.now + all rs (map to_document c.documents-documents.result.now))
-    runs c.collect_lines-lines.ensures.price)
+    runs (c.collect_lines-lines.ensures.price cheap))

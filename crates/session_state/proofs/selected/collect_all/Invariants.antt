@@ -1,7 +1,7 @@
 -- The lines of the documents so far, and those of the others, are all, and so are the prices; the runs are as they were, over the others too.
-use Rattle.std.proofs.Common.{◌≡◌, ◌≤◌, ◌+◌, ◌++◌, map}
+use Rattle.std.proofs.Common.{◌≡◌, ◌≤◌, ◌+◌, ◌++◌, map, true}
 use Rattle.std.specs.List.{flat_map}
-use Rattle.session_state.specs.PlannedPaths.{planned_lines, prices_in}
+use Rattle.session_state.specs.PlannedPaths.{has_cheap_plans, planned_lines, prices_in}
 use Rattle.session_state.specs.SelectionTests.{AreOverEach}
 use Rattle.collections.specs.Loaded.{to_document, trees_of}
 use Rattle.session_state.proofs.selected.collect_all.Given as goal
@@ -13,6 +13,7 @@ invariant-loop-name g l = record {
   runs : l.runs ≡ l.fn.runs;
   over : AreOverEach l.fn.runs (trees_of l.name-iterator);
   moves : l.fn.moves ≤ l.moves;
-  price : l.moves + prices_in g.J.Judge.says l.path l.fn.runs (map to_document l.name-iterator)
+  price : has_cheap_plans l.path ≡ true
+      → l.moves + prices_in g.J.Judge.says l.path l.fn.runs (map to_document l.name-iterator)
       ≤ l.fn.moves + prices_in g.J.Judge.says l.path l.fn.runs (map to_document l.documents);
 }

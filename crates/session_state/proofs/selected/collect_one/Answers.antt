@@ -42,7 +42,7 @@ returns-in-None-clause-lines g c =
     c.new.ensures ∙ sym (ap (flat_map lines) (none-named name entries none))
 
 pub returns-in-Some-clause-price : goal.returns-in-Some-clause-price
-returns-in-Some-clause-price g c =
+returns-in-Some-clause-price g c cheap =
     let says = g.J.Judge.says in
     let path = c.args.path.now in
     let runs = c.args.runs.now in
@@ -52,4 +52,4 @@ returns-in-Some-clause-price g c =
     let one : planned_price says path runs (plain c.in-Some.document.now.tree.root) ≡ prices_in says path runs (documents (Doc name) (map to_document entries)) =
     sym (prices-one says path runs (to_document (name, c.in-Some.document.now)))
     ∙ sym (ap (prices_in says path runs) (one-named name entries c.in-Some.document.now c.iter-entries.ensures.distinct found)) in
-    subst (λ n. c.collect_from.new.moves ≤ c.args.moves.now + n) one c.collect_from.ensures.price
+    subst (λ n. c.collect_from.new.moves ≤ c.args.moves.now + n) one (c.collect_from.ensures.price cheap)

@@ -1,14 +1,14 @@
 -- The test may be asked for each selection that the steps name, and what it was lent comes back.
-use Rattle.std.proofs.Common.{rules, ◌≡◌, ◌<◌, ap, sym, refl, ◌∙◌, length, map, arith, IsTrue}
+use Rattle.std.proofs.Common.{rules, ◌≡◌, ℕ, true, cond, ◌<◌, ap, sym, refl, ◌∙◌, length, map, arith, IsTrue}
 use Rattle.ft_base.specs.declared.ids.NodeRef.{NodeRef}
 use Rattle.path_grammar.specs.Form.{steps}
 use Rattle.path_grammar.specs.View.{step}
 use Rattle.ordered_tree.specs.Numbered.{plain}
 use Rattle.ordered_tree.specs.Stands.{OnNode, span}
 use Rattle.path_nodes.specs.References.{IsElement, element_of}
-use Rattle.session_state.specs.PathPrices.{element_price}
+use Rattle.session_state.specs.PathPrices.{are_cheap, element_price}
 use Rattle.session_state.specs.PlannedPaths.{is_meant, meant, planned_price, run_meant, run_price}
-use Rattle.session_state.specs.SelectionTests.{may_ask, span_at}
+use Rattle.session_state.specs.SelectionTests.{may_ask, span_at, where_cheap}
 use Rattle.session_state.proofs.PathLemmas.{asked-weaker}
 use Rattle.session_state.proofs.SelectionTestLemmas.{as-many, may-asked, moves-loan, runs-loan}
 use Rattle.session_state.proofs.selected.select_with.Goals as goal
@@ -32,14 +32,17 @@ returns-clause-moves g c =
     search rules
 
 pub returns-clause-price : goal.returns-clause-price
-returns-clause-price g c =
+returns-clause-price g c cheap =
     let says = g.J.Judge.says in
     let path = c.args.path.now in
     let runs = g.B.Loan.runs in
     let root = c.tree-tree.result.now.root in
     let plans = map meant path.plans.now in
     let meant_same : map run_meant runs ≡ plans = ap (map run_meant) (sym c.requires.lent_runs) ∙ c.requires.runs in
-    let bound = c.nodes.ensures.costs (is_meant says plans) (element_price (map run_price runs)) (λ k r e. ap (λ ms. is_meant says ms k (element_of root r)) meant_same) (λ k r e. refl) in
+    let all : are_cheap (map run_meant runs) ≡ true = ap are_cheap meant_same ∙ cheap in
+    let prices = element_price (map run_price runs) in
+    let counted : (n : ℕ) → where_cheap runs n ≡ n = λ n. ap (λ b. cond b n 0) all in
+    let bound = rw all at (c.nodes.ensures.costs (is_meant says plans) prices (λ k r e. ap (λ ms. is_meant says ms k (element_of root r)) meant_same) (λ k r e. counted (prices k (element_of root r)))) in
     let there = ap (λ t. planned_price says path runs (plain t.root)) c.tree-tree.ensures.tree in
     let lent = ap (λ rs. planned_price says path rs (plain c.args.document.now.tree.root)) c.requires.lent_runs in
     let same = moves-loan says runs _ _ _ _ _ _ c.nodes.ensures.meaning in

@@ -1,8 +1,9 @@
 -- The elements of the documents so far, and those of the others, are all, and so are the prices; the runs are as they were, over the others too.
-use Rattle.std.proofs.Common.{◌≡◌, ◌≤◌, ◌+◌, ◌||◌, ◌++◌, List, map}
+use Rattle.std.proofs.Common.{◌≡◌, ◌≤◌, ◌+◌, ◌||◌, ◌++◌, List, map, true}
 use Rattle.collections.specs.Loaded.{to_document, trees_of}
 use Rattle.ft_base.specs.declared.ids.NodeRef.{NodeRef}
 use Rattle.session_state.specs.Edits.{has_root, target_count}
+use Rattle.session_state.specs.PlannedPaths.{has_cheap_plans}
 use Rattle.session_state.specs.SelectionTests.{AreOverEach}
 use Rattle.session_state.specs.steps.Chosen.{planned_places, prices_through, AreLedToEach}
 use Rattle.session_state.proofs.targets.choose.Given as goal
@@ -17,6 +18,7 @@ invariant-loop-name g l = record {
   runs : l.runs ≡ l.fn.runs;
   over : AreOverEach l.fn.runs (trees_of l.name-iterator);
   moves : l.fn.moves ≤ l.moves;
-  price : l.moves + prices_through g.J.Judge.says l.path l.fn.runs (map to_document l.name-iterator)
+  price : has_cheap_plans l.path ≡ true
+      → l.moves + prices_through g.J.Judge.says l.path l.fn.runs (map to_document l.name-iterator)
       ≤ l.fn.moves + prices_through g.J.Judge.says l.path l.fn.runs (map to_document l.documents);
 }

@@ -5,6 +5,7 @@ use Rattle.all_matches.specs.Chain.{kept_by}
 use Rattle.all_matches.specs.Ways.{clean_under, is_plain}
 use Rattle.ft_operators.specs.Course.{tellings, ways_on}
 use Rattle.ft_operators.specs.Chains.{links_of}
+use Rattle.ft_operators.specs.steps.Nodes.{standing}
 use Rattle.ft_operators.proofs.AnswerLemmas.{satisfied_ways, through_shown}
 use Rattle.ft_operators.proofs.FrameLemmas.{frame_same}
 use Rattle.ft_operators.proofs.TupleLemmas.{kept_shape, standing_shape}
@@ -13,14 +14,14 @@ use Rattle.ft_operators.proofs.tuples.Tuples.satisfied_at.Goals as goal
 pub some_is_clean-requires-clause-fits : goal.some_is_clean-requires-clause-fits
 some_is_clean-requires-clause-fits g c =
     let self = c.aim.new.self in
-    let same = ap (λ s. s.room) (standing_shape g.P.PhraseHits.state (tellings self.item) self.node self.node) in
+    let same = ap (λ s. s.room) (standing_shape g.P.PhraseHits.state c.tellings-tellings.result self.node self.node) in
     let fits = self.fits in
     omega arith
 
 pub some_is_clean-requires-clause-filters : goal.some_is_clean-requires-clause-filters
 some_is_clean-requires-clause-filters g c =
     let self = c.aim.new.self in
-    let same = ap (λ s. s.filters) (standing_shape g.P.PhraseHits.state (tellings self.item) self.node self.node) in
+    let same = ap (λ s. s.filters) (standing_shape g.P.PhraseHits.state c.tellings-tellings.result self.node self.node) in
     let filters = self.filters in
     let room = ap (λ r. r.filters) c.aim.ensures.room in
     omega (arith, c.requires.filters)
@@ -28,7 +29,7 @@ some_is_clean-requires-clause-filters g c =
 pub some_is_clean-requires-clause-hits : goal.some_is_clean-requires-clause-hits
 some_is_clean-requires-clause-hits g c =
     let self = c.aim.new.self in
-    let same = ap (λ s. s.hits) (standing_shape g.P.PhraseHits.state (tellings self.item) self.node self.node) in
+    let same = ap (λ s. s.hits) (standing_shape g.P.PhraseHits.state c.tellings-tellings.result self.node self.node) in
     let hits = self.hits in
     let room = ap (λ r. r.hits) c.aim.ensures.room in
     omega (arith, c.requires.hits)
@@ -36,7 +37,7 @@ some_is_clean-requires-clause-hits g c =
 pub invariant_of-self : goal.invariant_of-self
 invariant_of-self g c =
     let self = c.aim.new.self in
-    let same = kept_shape g.P.PhraseHits.state (tellings self.item) self.node c.some_is_clean.new.node c.some_is_clean.ensures.search.same in
+    let same = kept_shape g.P.PhraseHits.state c.tellings-tellings.result self.node c.some_is_clean.new.node c.some_is_clean.ensures.search.same in
     let room = ap (λ s. s.room) same in
     let fits = self.fits in
     let kept = c.some_is_clean.ensures.search.kept_room in
@@ -50,14 +51,15 @@ pub returns-clause-answer : goal.returns-clause-answer
 returns-clause-answer g c plain =
     let self = c.aim.new.self in
     let links = links_of c.args.chain.now in
-    let operator = ap (λ f. f.operator) (frame_same g.P.PhraseHits.state (tellings self.item) self.node) ∙ ap (λ w. w.operator) c.aim.ensures.walk in
+    let operator = ap (λ f. f.operator) (frame_same g.P.PhraseHits.state c.tellings-tellings.result self.node) ∙ ap (λ w. w.operator) c.aim.ensures.walk in
     let item = ap (λ w. w.item) c.aim.ensures.walk in
     c.some_is_clean.ensures.search.found (ap is_plain operator ∙ plain)
+    ∙ ap (λ course. list_any (clean_under (kept_by links)) (ways_on course (standing g.P.PhraseHits.state c.tellings-tellings.result self.node).operator)) c.tellings-tellings.ensures
     ∙ (λ i. list_any (clean_under (kept_by links)) (ways_on (tellings (item i)) (operator i)))
     ∙ satisfied_ways _ _ links c.requires.none plain
 
 pub returns-clause-walk : goal.returns-clause-walk
 returns-clause-walk g c =
     let self = c.aim.new.self in
-    through_shown g.P.PhraseHits.state self.item (tellings self.item) self.node c.some_is_clean.new.node c.some_is_clean.ensures.search.same self.there self.held.items c.some_is_clean.new.held.items (ap (λ w. w.tuple) c.aim.ensures.walk)
+    through_shown g.P.PhraseHits.state self.item c.tellings-tellings.result self.node c.some_is_clean.new.node c.some_is_clean.ensures.search.same self.there self.held.items c.some_is_clean.new.held.items (ap (λ w. w.tuple) c.aim.ensures.walk)
     ∙ c.aim.ensures.walk

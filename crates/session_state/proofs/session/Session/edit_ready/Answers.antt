@@ -9,7 +9,7 @@ use Rattle.session_text.specs.declared.reply.Reply.{Reply}
 use Rattle.session_state.specs.Edits.{edit_path, touched_path}
 use Rattle.session_state.specs.Held.{Held}
 use Rattle.session_state.specs.KeptTexts.{keep_plans}
-use Rattle.session_state.specs.PathPrices.{read_price}
+use Rattle.session_state.specs.PathPrices.{are_cheap, is_cheap_path, read_price}
 use Rattle.session_state.specs.ReadyPaths.{IsReadyPath}
 use Rattle.session_state.specs.StateView.{prepared_of}
 use Rattle.session_state.specs.steps.Chosen.{edit_of}
@@ -44,7 +44,7 @@ returns-clause-answer g c =
     ≡ keep_plans text (edit_path g.J.Judge.says was.state edit.targets (edit_of edit) text))) (sym c.keep_accepted.ensures.same) done)
 
 pub returns-clause-price : goal.returns-clause-price
-returns-clause-price g c =
+returns-clause-price g c cheap =
     let says = g.J.Judge.says in
     let inside = c.self.inside in
     let was = held_as inside.collection inside.prepared inside.marks in
@@ -54,9 +54,11 @@ returns-clause-price g c =
     subst (λ (h : Held). IsReadyPath h.state.documents (prepared_of h.state) text c.args.ready) (sym c.self.view_is) c.requires in
     let plan = ready-plan was.state.documents (prepared_of was.state) text c.args.ready ready c.planned-planned.result c.planned-planned.ensures.root
     c.planned-planned.ensures.steps c.planned-planned.ensures.plans in
+    let own = ap (λ (h : Held). is_cheap_path h.state.lists (path_read text)) c.self.view_is ∙ cheap in
+    let all = ap are_cheap plan.plans ∙ sym (ap (is_cheap_path was.state.lists) ready.read) ∙ own in
     subst (λ (h : Held). c.edit_along-edited.new.moves ≤ c.args.moves.now + read_price says h (path_read text)) c.self.view_is
     (subst (λ (n : ℕ). c.edit_along-edited.new.moves ≤ c.args.moves.now + n)
-    (planned-prices says was p c.planned-planned.result plan ∙ ap (read_price says was) (sym ready.read)) c.edit_along-edited.ensures.price)
+    (planned-prices says was p c.planned-planned.result plan ∙ ap (read_price says was) (sym ready.read)) (c.edit_along-edited.ensures.price all))
 
 pub returns-clause-rows : goal.returns-clause-rows
 returns-clause-rows g c =

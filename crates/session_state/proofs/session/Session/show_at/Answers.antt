@@ -4,9 +4,10 @@ use Rattle.std.specs.Prelude.{IfOk, Some, None}
 use Rattle.std.specs.Map.{lookup}
 use Rattle.std.specs.Option.{option_copied}
 use Rattle.std.specs.Str.{bytes_eq}
+use Rattle.path_subset.specs.Answer.{path_read}
 use Rattle.session_state.specs.Held.{Held}
 use Rattle.session_state.specs.Marks.{mark_named}
-use Rattle.session_state.specs.PathPrices.{price_at}
+use Rattle.session_state.specs.PathPrices.{is_cheap_path, price_at}
 use Rattle.session_state.specs.Step.{shown_at}
 use Rattle.session_state.proofs.EditLemmas.{replied, with_prepared_in}
 use Rattle.session_state.proofs.MarkLemmas.{none-marked}
@@ -26,15 +27,16 @@ returns-in-Some-clause-answer g c =
     (shown-at-mark g.J.Judge.says was inside.marks refl refl name path mark found c.answer_path.result q c.answer_path.ensures.reply c.answer_path.ensures.kept)
 
 pub returns-in-Some-clause-price : goal.returns-in-Some-clause-price
-returns-in-Some-clause-price g c =
+returns-in-Some-clause-price g c cheap =
     let inside = c.self.inside in
     let was = held_as inside.collection inside.prepared inside.marks in
     let name = c.args.name.now in
     let path = c.args.path.now in
     let mark = c.in-Some.collection.now in
     let found : lookup (bytes_eq name) inside.marks ≡ Some mark = sym c.get.ensures ∙ ap option_copied c.in-Some.is in
+    let own = ap (λ (h : Held). is_cheap_path h.state.lists (path_read path)) c.self.view_is ∙ cheap in
     subst (λ (h : Held). c.answer_path.new.moves ≤ c.args.moves.now + price_at g.J.Judge.says h name path (mark_named name h.state.marks)) c.self.view_is
-    (subst (λ (n : ℕ). c.answer_path.new.moves ≤ c.args.moves.now + n) (price-at-mark g.J.Judge.says was inside.marks refl refl name path mark found) c.answer_path.ensures.price)
+    (subst (λ (n : ℕ). c.answer_path.new.moves ≤ c.args.moves.now + n) (price-at-mark g.J.Judge.says was inside.marks refl refl name path mark found) (c.answer_path.ensures.price own))
 
 pub returns-in-None-clause-answer : goal.returns-in-None-clause-answer
 returns-in-None-clause-answer g c =

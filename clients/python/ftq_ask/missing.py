@@ -1,0 +1,90 @@
+"""Hints beside an answer of nothing: the words that a question asks for and no document has, with close ones that there are."""
+
+from __future__ import annotations
+
+from itertools import islice
+from typing import Iterator
+
+from ftq_client import TimedOut
+
+from .collection import Collection
+from .hints import hints, looks_like_pattern
+from .paths import DOCUMENTS, asked_strings, is_said, quoted, symbols
+from .reading import BLOCKS
+from .words import words_of
+
+MOST_WORDS = 12
+MOST_HALVES = 20
+
+
+def all_hints(path: str, found: int, collection: Collection) -> list[str]:
+    """What is likely meant otherwise in a path that was answered with so many elements."""
+    try:
+        missing = [] if found else list(missing_words(path, collection))
+    except TimedOut:
+        missing = []
+    told = hints(path, found, collection.vocabulary, collection.has_stems, bool(missing))
+    return [*told, *missing, *_of_blocks(path, collection), *_of_apostrophes(path, collection)]
+
+
+_UNITS = {"sentence", "sentences", "paragraph", "paragraphs"}
+
+
+def _of_blocks(path: str, collection: Collection) -> Iterator[str]:
+    """Where sentences or paragraphs are asked for, and no element of the collection parts them."""
+    parting = (BLOCKS | collection.rules.blocks) & collection.vocabulary.elements.keys()
+    if not parting and any(it.kind == "name" and it.text in _UNITS for it in symbols(path)):
+        yield "none of the elements here parts paragraphs (docs/QUERIES.md has those that do); --blocks NAME,NAME says which do too"
+
+
+def _of_apostrophes(path: str, collection: Collection) -> Iterator[str]:
+    """That both apostrophes were asked for, the first time that they were."""
+    if collection.sent(path) != path and not collection.told_of_apostrophes:
+        collection.told_of_apostrophes = True
+        yield f"' finds ’ too: the program was asked for {collection.sent(path)}; --as-typed leaves questions as they are"
+
+
+def missing_words(path: str, collection: Collection) -> Iterator[str]:
+    """A hint for each word of a path that the program doesn't find in the documents which the path begins at."""
+    front = DOCUMENTS.match(path)
+    if front is None:
+        return
+    options = "".join(f" using {it}" for it in ("stemming", "wildcards") if is_said(path, "using", it))
+    for word in islice(dict.fromkeys(_words(path)), MOST_WORDS):
+        if not _has(front[0], word, options, collection):
+            yield _told(front[0], word, options, collection)
+
+
+def _words(path: str) -> Iterator[str]:
+    """The words that have to be there, or the patterns among them."""
+    patterns = is_said(path, "using", "wildcards")
+    for text in asked_strings(path, negated=False):
+        if not patterns and looks_like_pattern(text):
+            continue
+        for part in text.split() if patterns else [text]:
+            if patterns and ("." in part or "\\" in part):
+                yield part
+            else:
+                yield from (it[0] for it in words_of(part))
+
+
+def _has(front: str, words: str, options: str, collection: Collection) -> bool:
+    """Whether the program finds words beside each other in some document."""
+    return bool(collection.query(f"{front}/*[. contains text {quoted(words)}{options}]"))
+
+
+def _told(front: str, word: str, options: str, collection: Collection) -> str:
+    documents = "no document has" if front.strip().startswith("collection") else f"{front.strip()} doesn't have"
+    if "wildcards" in options and ("." in word or "\\" in word):
+        return f"{documents} a word that fits the pattern {word}"
+    told = f"{documents} the word {word}"
+    close = _close(front, word, collection)
+    return f"{told}; close to it there is {', '.join(close)}" if close else told
+
+
+def _close(front: str, word: str, collection: Collection) -> list[str]:
+    """What may be meant by a word: the same word in another form, the word in two, or else one that looks like it; each as the program finds it."""
+    known = collection.spellings
+    found = [it for it in known.same(word) if _has(front, it, "", collection)]
+    found = found or [quoted(it) for it in islice(known.halves(word), MOST_HALVES) if _has(front, it, "", collection)][:1]
+    return found or [it for it in known.near(word) if _has(front, it, "", collection)]

@@ -1,0 +1,78 @@
+"""Trees of elements as lxml has them: their names as they are written, and nodes that are put in the place of others."""
+
+from __future__ import annotations
+
+from dataclasses import dataclass
+from pathlib import Path
+from typing import Iterator
+
+from lxml import etree
+
+
+class Untaken(Exception):
+    """A file that can't be taken, with the line where that shows (None where it has none) and the reason."""
+
+    def __init__(self, path: Path, line: int | None, reason: str) -> None:
+        super().__init__(f"{path}:{line}: {reason}" if line else f"{path}: {reason}")
+        self.path = path
+        self.line = line
+        self.reason = reason
+
+
+@dataclass(frozen=True)
+class Tree:
+    """A file's root element, the digest of all that was read for it, of elements that an inclusion brought in the files they are from, and the
+    files that stand in it as wholes."""
+
+    root: etree._Element
+    digest: bytes
+    origins: dict[etree._Element, Path]
+    parts: frozenset[Path]
+
+
+def written_name(element: etree._Element) -> str:
+    """An element's name as it is written in the file, with its prefix."""
+    name = element.tag.rpartition("}")[2]
+    return f"{element.prefix}:{name}" if element.prefix else name
+
+
+def written_attributes(element: etree._Element) -> Iterator[tuple[str, str]]:
+    """An element's attributes as the program sees them, with declarations of prefixes."""
+    above = element.getparent()
+    known = above.nsmap if above is not None else {}
+    for prefix, space in element.nsmap.items():
+        if known.get(prefix) != space:
+            yield (f"xmlns:{prefix}" if prefix else "xmlns"), space
+    prefixes = {space: prefix for prefix, space in element.nsmap.items() if prefix}
+    prefixes["http://www.w3.org/XML/1998/namespace"] = "xml"
+    for name, value in element.attrib.items():
+        space, _, local = name.rpartition("}")
+        yield (f"{prefixes[space[1:]]}:{local}" if space else name), value
+
+
+def put_text(node: etree._Element, text: str) -> None:
+    """Puts a text, and what follows the node, in the place of the node."""
+    before, above = node.getprevious(), node.getparent()
+    text += node.tail or ""
+    node.tail = None
+    above.remove(node)
+    if before is not None:
+        before.tail = (before.tail or "") + text
+    else:
+        above.text = (above.text or "") + text
+
+
+def put_nodes(node: etree._Element, text: str, elements: list[etree._Element]) -> None:
+    """Puts a text and elements, each with the text behind it, and what follows the node, in the place of the node."""
+    above = node.getparent()
+    if not elements:
+        put_text(node, text)
+        return
+    place = above.index(node)
+    before = above[place - 1] if place else None
+    if before is not None:
+        before.tail = (before.tail or "") + text
+    else:
+        above.text = (above.text or "") + text
+    elements[-1].tail = (elements[-1].tail or "") + (node.tail or "")
+    above[place : place + 1] = elements

@@ -1,0 +1,6 @@
+pub mod AlikeLemmas
+pub mod NumberedFilters
+pub mod NumberedMatches
+pub mod TestedMatches
+pub mod UnitedLemmas
+pub mod NumberedOperators

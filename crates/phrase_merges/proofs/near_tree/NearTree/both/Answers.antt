@@ -1,0 +1,13 @@
+-- What was put into the box is what the tree has inside.
+use Rattle.std.proofs.Common.{ap, ◌∙◌}
+use Rattle.phrase_merges.specs.NearTrees.{aims_at, all_lists}
+use Rattle.phrase_merges.proofs.PassageLemmas.{both_passage, view_Both}
+use Rattle.phrase_merges.proofs.near_tree.NearTree.both.Goals as goal
+
+pub returns-in-Ok-clause-aims : goal.returns-in-Ok-clause-aims
+unfolding aims_at
+returns-in-Ok-clause-aims g c = ap aims_at (view_Both g.P.PhraseHits.state c.in-Ok.pair ∙ ap (both_passage g.P.PhraseHits.state) c.in-Ok.ensures.ok)
+
+pub returns-in-Ok-clause-lists : goal.returns-in-Ok-clause-lists
+unfolding all_lists
+returns-in-Ok-clause-lists g c = ap all_lists (view_Both g.P.PhraseHits.state c.in-Ok.pair ∙ ap (both_passage g.P.PhraseHits.state) c.in-Ok.ensures.ok)
