@@ -29,6 +29,8 @@ mod thesauri;
 #[cfg(test)]
 mod tokens;
 #[cfg(test)]
+mod tree_changes;
+#[cfg(test)]
 mod trees;
 #[cfg(test)]
 mod unicode_forms;
