@@ -7,7 +7,7 @@ ghost use Rattle.plain_tree.specs.Document.{nodes};
 ghost use Rattle.plain_tree.specs.View.{node};
 
 use doc_profile::{print_doc, read_doc, read_fragment};
-use ft_base::{Line, Memory};
+use ft_base::{Line, MAX_NODES, Memory};
 use ordered_tree::{DocTree, NodeRef, NodeRefs};
 use plain_tree::{How, Kids, Place, PlaceFault, PlainDoc};
 use std::alloc::Global;
@@ -66,7 +66,10 @@ fn tree_of(alloc: Global, doc: &PlainDoc) -> Result<DocTree, Fail>
     };
     drop(tokens);
     let tree = DocTree::from_doc(alloc, doc)?;
-    let _count = tree.node_count();
+    if tree.node_count() > MAX_NODES {
+        drop(tree);
+        return Err(Fail::from("too many nodes"));
+    }
     Ok(tree)
 }
 
@@ -93,15 +96,15 @@ fn edit_tree(
     alloc: Global,
     tree: &mut DocTree,
     act: Act,
-    node: NodeRef,
+    target: NodeRef,
     content: &Kids,
 ) -> Result<(), TreeFault>
     requires { node_count (plain tree.old.root) + nodes_count (nodes (map node content.now)) < 2 ^ 31 }
 {
     let change = match act {
-        Act::Insert(how) => insert(alloc, tree, node, how, content),
-        Act::Replace => replace(alloc, tree, node, content),
-        Act::Remove => remove(alloc, tree, &NodeRefs::from_slice(alloc, &[node])?),
+        Act::Insert(how) => insert(alloc, tree, target, how, content),
+        Act::Replace => replace(alloc, tree, target, content),
+        Act::Remove => remove(alloc, tree, &NodeRefs::from_slice(alloc, &[target])?),
     };
     drop(change?);
     Ok(())
