@@ -19,6 +19,8 @@ use Rattle.all_matches.proofs.PlainOperators.{clean-survives}
 use Rattle.all_matches.proofs.WayLaws.{some_way}
 use Rattle.ft_operators.specs.declared.chain.Chain.{Chain}
 use Rattle.ft_operators.specs.declared.course.Course.{Course}
+use Rattle.ft_operators.specs.declared.extent.Extent.{Extent}
+use Rattle.ft_operators.specs.Extents.{extent_inside}
 use Rattle.ft_operators.specs.declared.node.Node.{Node}
 use Rattle.ft_operators.specs.Chains.{clean_now, links_of, window_now}
 use Rattle.ft_operators.specs.Course.{every, filtered_on, tellings, ways_on}
@@ -26,6 +28,7 @@ use Rattle.ft_operators.specs.Phrases.{PhraseState}
 use Rattle.ft_operators.specs.Standing.{frame, includes_now}
 use Rattle.ft_operators.specs.Walk.{tuple_of}
 use Rattle.ft_operators.specs.steps.Cleaning.{Asked, MayAsk}
+use Rattle.ft_operators.specs.steps.Measuring.{holds}
 use Rattle.ft_operators.specs.steps.Forms.{sieve_left, chosen_left, choices_at}
 use Rattle.ft_operators.specs.steps.Nodes.{standing, frame_of, shape_of}
 use Rattle.ft_operators.specs.steps.Walking.{IsHeld}
@@ -38,10 +41,10 @@ use Rattle.ft_operators.proofs.TupleLemmas.{shown, shown_ways, kept_frame, stand
 
 -- ---- a selection is satisfied where some way is clean under no filter
 
-pub satisfied_ways : (item : Span) (operator : Operator) (links : List Link) → links ≡ [] → is_plain operator ≡ true
-    → list_any (clean_under (kept_by links)) (ways_on (tellings item) operator) ≡ satisfied (matches_of item operator)
-satisfied_ways item operator links none plain =
-    clean_told item operator (kept_by links)
+pub satisfied_ways : (item : Span) (extent : Option Extent) (operator : Operator) (links : List Link) → links ≡ [] → is_plain operator ≡ true → holds extent (extent_inside operator) ≡ true
+    → list_any (clean_under (kept_by links)) (ways_on (tellings item extent) operator) ≡ satisfied (matches_of item operator)
+satisfied_ways item extent operator links none plain held =
+    clean_told item extent operator (kept_by links) held
     ∙ ap (λ ls. list_any (clean_under (kept_by ls)) (ways_of item operator)) none
     ∙ sym (list_any-alike is_clean (survives (kept_by [])) (matches_of item operator) clean-survives ∙ some_way item operator (kept_by []) plain)
 
@@ -76,13 +79,14 @@ module _ {P : Type 0} (state : P → PhraseState) (course : Course) (old new : N
   asked_shown false mid_room new_room held way same h fits = cc
 
 -- one that was aimed, and gone through on any course
-module _ {P : Type 0} (state : P → PhraseState) (item : Span) (course : Course) (old new : Node P) (same : frame (standing state course new) ≡ frame (standing state course old)) where
+module _ {P : Type 0} (state : P → PhraseState) (item : Span) (old new : Node P) (same : frame_of state new ≡ frame_of state old) where
   pub through_shown : (there : Bool) (held new_held : List Hit) → cond there (Some held) None ≡ None
       → shown item (frame_of state new) (cond there (standing state (every item) new).rest []) (cond there (Some new_held) None)
       ≡ shown item (frame_of state old) (cond there (standing state (every item) old).rest []) (cond there (Some held) None)
   through_shown true held new_held none = cc
-  through_shown false held new_held none = ap (λ f. shown item f [] None) (kept_frame state course old new same)
+  through_shown false held new_held none = ap (λ f. shown item f [] None) same
 
+module _ {P : Type 0} (state : P → PhraseState) (item : Span) (course : Course) (old new : Node P) (same : frame (standing state course new) ≡ frame (standing state course old)) where
   pub passed_shown : shown item (frame_of state new) [] None ≡ shown item (frame_of state old) [] None
   passed_shown = ap (λ f. shown item f [] None) (kept_frame state course old new same)
 

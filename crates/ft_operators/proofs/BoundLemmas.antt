@@ -17,12 +17,15 @@ use Rattle.all_matches.specs.Filters.{passes, after}
 use Rattle.all_matches.specs.Join.{join, least, greatest}
 use Rattle.all_matches.specs.Positions.{share_one, agree_in_order}
 use Rattle.all_matches.specs.Window.{fits_window}
-use Rattle.ft_operators.specs.Bounds.{any_order, everywhere, is_before, lies_between, is_allowed, lies_in, fit_together, stands_behind, agrees, are_within}
+use Rattle.ft_operators.specs.declared.extent.Extent.{Extent}
+use Rattle.ft_operators.specs.Bounds.{no_reach, any_order, everywhere, is_before, lies_between, is_allowed, lies_in, fit_together, stands_behind, agrees, are_within}
 use Rattle.ft_operators.specs.Bounds.{numbers_round, order_behind, round_hit, round_hits, smaller, window_reach, filter_reach, before_joining, filter_bounds}
 use Rattle.ft_operators.specs.declared.bounds.Bounds.{Bounds}
 use Rattle.ft_operators.specs.declared.bounds.UnitBounds.{UnitBounds}
 use Rattle.ft_operators.specs.declared.bounds.OrderBound.{OrderBound}
 use Rattle.ft_operators.specs.declared.reach.Reach.{Reach}
+use Rattle.ft_operators.specs.Extents.{most_between, spread}
+use Rattle.ft_operators.proofs.SpreadLemmas.{few_where, lies_from, spread_in, SpreadIn}
 
 -- ---- tests of all elements of a list
 
@@ -224,6 +227,31 @@ window_agree size Words first rest h = all_fit (λ hit. hit.from) (λ hit. hit.t
 window_agree size Sentences first rest h = all_fit (λ hit. hit.sent_from) (λ hit. hit.sent_to) first rest size (agrees (window_reach size Sentences)) (λ a b e i. e i && true) h
 window_agree size Paragraphs first rest h = all_fit (λ hit. hit.para_from) (λ hit. hit.para_to) first rest size (agrees (window_reach size Paragraphs)) (λ a b e i. e i && true) h
 
+-- what a distance that is passed says of every two of so few
+agree_words : (words : Option ℕ) (hits : List Hit) → ((size : ℕ) → words ≡ Some size → SpreadIn size hits)
+    → list_all (λ a. list_all (agrees (record no_reach { words = words }) a) hits) hits ≡ true
+agree_words None hits said = all_pass (λ a. list_all (λ b. true) hits) (λ a. all_pass (λ b. true) (λ b. refl) hits) hits
+agree_words (Some size) hits said =
+    let s = said size refl in
+    all_pairs (lies_from s.low (s.low + size)) (agrees (record no_reach { words = Some size })) (λ a b h k i. fit s.low a.from a.to b.from b.to h k i && true) hits s.all
+  where
+    fit : (low a_first a_last b_first b_last : ℕ) → (nat_le low a_first && nat_lt a_last (low + size)) ≡ true → (nat_le low b_first && nat_lt b_last (low + size)) ≡ true
+        → fit_together (Some size) a_first a_last b_first b_last ≡ true
+    fit low a_first a_last b_first b_last h k = grind (arith, nat_tests)
+
+-- the includes before a filter, of which an extent says how many there are
+abbrev pub few_at : Option Extent → Filter → List Hit → Bool
+few_at extent F.Ordered hits = true
+few_at extent (F.Window size kind) hits = true
+few_at extent (F.Distance range kind) hits = few_where (most_between range kind) extent hits
+few_at extent F.SameSentence hits = true
+few_at extent F.SameParagraph hits = true
+few_at extent F.DifferentSentence hits = true
+few_at extent F.DifferentParagraph hits = true
+few_at extent F.AtStart hits = true
+few_at extent F.AtEnd hits = true
+few_at extent F.EntireContent hits = true
+
 -- what a scope says
 one_window : (size : Option ℕ) (a_first a_last b_first b_last : ℕ) → fit_together size a_first a_last b_first b_last ≡ true
     → ((a_first == a_last) && (b_first == b_last) && (a_first == b_first)) ≡ true → fit_together (Some (smaller size 1)) a_first a_last b_first b_last ≡ true
@@ -247,13 +275,9 @@ last_part_of true false c d d_more more h = cc
 last_part_of false b c d d_more more h = cc
 
 -- what ordered says
-either_order : (a_from a_query b_from b_query : ℕ) → ((nat_le a_from b_from && nat_le a_query b_query) || (nat_le b_from a_from && nat_le b_query a_query)) ≡ true
-    → (nat_le a_from b_from || nat_le b_query a_query) ≡ true
-either_order a_from a_query b_from b_query h = grind (arith, nat_tests)
-
-pub other_order : (a_from a_query b_from b_query : ℕ) → ((nat_le a_from b_from && nat_le a_query b_query) || (nat_le b_from a_from && nat_le b_query a_query)) ≡ true
-    → (nat_le b_from a_from || nat_le a_query b_query) ≡ true
-other_order a_from a_query b_from b_query h = grind (arith, nat_tests)
+pub either_order : (a_from a_query b_from b_query : ℕ) → ((nat_le a_from b_from && nat_le a_query b_query) || (nat_le b_from a_from && nat_le b_query a_query)) ≡ true
+    → ((nat_le a_from b_from || nat_le b_query a_query) ≡ true) × ((nat_le b_from a_from || nat_le a_query b_query) ≡ true)
+either_order a_from a_query b_from b_query h = (grind (arith, nat_tests), grind (arith, nat_tests))
 
 own_order : (n m : ℕ) → (nat_le n n || nat_le m m) ≡ true
 own_order n m = grind (arith, nat_tests)
@@ -262,8 +286,8 @@ all_behind : (hits : List Hit) → every_two agree_in_order hits ≡ true → li
 all_behind [] h = refl
 all_behind (hit ∷ rest) h =
     let parts = and_parts (list_all (agree_in_order hit) rest) (every_two agree_in_order rest) h in
-    let before = all_more (agree_in_order hit) (stands_behind true hit) (λ other e. either_order hit.from hit.query other.from other.query e) rest parts.0 in
-    let behind = all_more (agree_in_order hit) (λ other. stands_behind true other hit) (λ other e. other_order hit.from hit.query other.from other.query e) rest parts.0 in
+    let before = all_more (agree_in_order hit) (stands_behind true hit) (λ other e. (either_order hit.from hit.query other.from other.query e).0) rest parts.0 in
+    let behind = all_more (agree_in_order hit) (λ other. stands_behind true other hit) (λ other e. (either_order hit.from hit.query other.from other.query e).1) rest parts.0 in
     let inner = all_both (λ other. stands_behind true other hit) (λ other. list_all (stands_behind true other) rest) (λ other. list_all (stands_behind true other) (hit ∷ rest))
     (λ other a b i. a i && b i) rest behind (all_behind rest parts.1) in
     λ i. (own_order hit.from hit.query i && before i) && inner i
@@ -277,31 +301,32 @@ with_pairs bounds p q r both hits h k =
     λ i. parts.0 i && pairs_both p q r both hits parts.1 k i
 
 -- what a filter lets through was within what it says, and within what those round it say
-pub filter_within : (kind : Filter) (item : Span) (bounds : Bounds) (reach : Reach) (hits : List Hit) → passes kind hits item ≡ true → are_within bounds reach (after kind hits) ≡ true
-    → are_within (filter_bounds kind bounds) (filter_reach kind reach) hits ≡ true
-filter_within F.Ordered item bounds reach hits p h =
-    with_pairs bounds (agrees reach) (stands_behind true) (agrees (filter_reach F.Ordered reach))
+pub filter_within : (extent : Option Extent) (kind : Filter) (item : Span) (bounds : Bounds) (reach : Reach) (hits : List Hit) → passes kind hits item ≡ true → few_at extent kind hits ≡ true
+    → are_within bounds reach (after kind hits) ≡ true → are_within (filter_bounds kind bounds) (filter_reach extent kind reach) hits ≡ true
+filter_within extent F.Ordered item bounds reach hits p few h =
+    with_pairs bounds (agrees reach) (stands_behind true) (agrees (filter_reach extent F.Ordered reach))
     (λ a b e f. last_part_of (fit_together reach.words a.from a.to b.from b.to) (fit_together reach.sentences a.sent_from a.sent_to b.sent_from b.sent_to)
     (fit_together reach.paragraphs a.para_from a.para_to b.para_from b.para_to) (stands_behind reach.ordered a b) (stands_behind true a b) f e) hits h (all_behind hits p)
-filter_within (F.Window size kind) item bounds reach [] p h = refl
-filter_within (F.Window size kind) item bounds reach (first ∷ rest) p h = λ i. all_joined bounds reach first rest h i && window_agree size kind first rest p i
-filter_within (F.Distance range kind) item bounds reach [] p h = refl
-filter_within (F.Distance range kind) item bounds reach (first ∷ rest) p h =
-    λ i. all_joined bounds reach first rest h i && all_pass (λ a. list_all (λ b. true) (first ∷ rest)) (λ a. all_pass (λ b. true) (λ b. refl) (first ∷ rest)) (first ∷ rest) i
-filter_within F.SameSentence item bounds reach hits p h =
-    with_pairs bounds (agrees reach) (share_one Sentences) (agrees (filter_reach F.SameSentence reach))
+filter_within extent (F.Window size kind) item bounds reach [] p few h = refl
+filter_within extent (F.Window size kind) item bounds reach (first ∷ rest) p few h = λ i. all_joined bounds reach first rest h i && window_agree size kind first rest p i
+filter_within extent (F.Distance range kind) item bounds reach [] p few h = refl
+filter_within extent (F.Distance range kind) item bounds reach (first ∷ rest) p few h =
+    let hits = first ∷ rest in
+    λ i. all_joined bounds reach first rest h i && agree_words (spread extent (most_between range kind)) hits (λ size is. spread_in extent range kind size hits is p few) i
+filter_within extent F.SameSentence item bounds reach hits p few h =
+    with_pairs bounds (agrees reach) (share_one Sentences) (agrees (filter_reach extent F.SameSentence reach))
     (λ a b e f. second_part (fit_together reach.words a.from a.to b.from b.to) (fit_together reach.sentences a.sent_from a.sent_to b.sent_from b.sent_to)
     (fit_together (Some (smaller reach.sentences 1)) a.sent_from a.sent_to b.sent_from b.sent_to)
     (fit_together reach.paragraphs a.para_from a.para_to b.para_from b.para_to && stands_behind reach.ordered a b)
     (λ g. one_window reach.sentences a.sent_from a.sent_to b.sent_from b.sent_to g f) e) hits h p
-filter_within F.SameParagraph item bounds reach hits p h =
-    with_pairs bounds (agrees reach) (share_one Paragraphs) (agrees (filter_reach F.SameParagraph reach))
+filter_within extent F.SameParagraph item bounds reach hits p few h =
+    with_pairs bounds (agrees reach) (share_one Paragraphs) (agrees (filter_reach extent F.SameParagraph reach))
     (λ a b e f. third_part (fit_together reach.words a.from a.to b.from b.to) (fit_together reach.sentences a.sent_from a.sent_to b.sent_from b.sent_to)
     (fit_together reach.paragraphs a.para_from a.para_to b.para_from b.para_to) (fit_together (Some (smaller reach.paragraphs 1)) a.para_from a.para_to b.para_from b.para_to)
     (stands_behind reach.ordered a b)
     (λ g. one_window reach.paragraphs a.para_from a.para_to b.para_from b.para_to g f) e) hits h p
-filter_within F.DifferentSentence item bounds reach hits p h = h
-filter_within F.DifferentParagraph item bounds reach hits p h = h
-filter_within F.AtStart item bounds reach hits p h = h
-filter_within F.AtEnd item bounds reach hits p h = h
-filter_within F.EntireContent item bounds reach hits p h = h
+filter_within extent F.DifferentSentence item bounds reach hits p few h = h
+filter_within extent F.DifferentParagraph item bounds reach hits p few h = h
+filter_within extent F.AtStart item bounds reach hits p few h = h
+filter_within extent F.AtEnd item bounds reach hits p few h = h
+filter_within extent F.EntireContent item bounds reach hits p few h = h

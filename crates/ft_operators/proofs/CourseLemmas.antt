@@ -24,12 +24,16 @@ use Rattle.ft_operators.specs.declared.course.Course.{Course}
 use Rattle.ft_operators.specs.declared.course.Windows.{Windows}
 use Rattle.ft_operators.specs.declared.course.Windows.TheVariants.{Each, Telling, First}
 use Rattle.ft_operators.specs.Chains.{all_kept}
-use Rattle.ft_operators.specs.Bounds.{agrees, are_within, bounds_inside, everywhere, lies_in, reach_inside}
+use Rattle.ft_operators.specs.Bounds.{agrees, are_within, bounds_inside, everywhere, lies_in, reach_inside, round_hits}
+use Rattle.ft_operators.specs.Extents.{extent_before, extent_inside, extent_of}
 use Rattle.ft_operators.specs.Course.{asked_for, course_beside, course_inside, filtered_on, ways_on, without_bounds, every, tellings, firsts}
 use Rattle.ft_operators.specs.declared.bounds.Bounds.{Bounds}
+use Rattle.ft_operators.specs.declared.extent.Extent.{Extent}
 use Rattle.ft_operators.specs.declared.reach.Reach.{Reach}
 use Rattle.ft_operators.specs.steps.Apart.{admitted}
-use Rattle.ft_operators.proofs.BoundLemmas.{all_lie, all_more, all_pass, filter_within, sides_within}
+use Rattle.ft_operators.specs.steps.Measuring.{holds}
+use Rattle.ft_operators.proofs.BoundLemmas.{all_lie, all_more, all_pass, few_at, filter_within, sides_within}
+use Rattle.ft_operators.proofs.ExtentLemmas.{few_before, few_inside, few_unsaid, holds_both}
 use Rattle.ft_operators.proofs.TellingLemmas.{any_more, first_decides, tell_windows, nth_window, first_window_gap, lies_in_later, clean_less}
 
 -- ---- every way
@@ -53,11 +57,13 @@ ways_every item (apart left right) = λ i. standing_out (ways_every item left i)
 ways_every item (negated operand) = refl
 ways_every item (through_filter operand kind) = ap (flat_map (filtered_ways kind item)) (ways_every item operand)
 
--- ---- a way that does for another: it has the same includes, and where that is asked it is clean wherever the other is
+-- ---- a way that does for another: it has the same includes, where that is asked it is clean wherever the other is, and it has as
+-- few includes before its distances
 
 pub record Serves (asked : Type 0) (better way : Way) : Type 0 where
   pub same : way_includes better ≡ way_includes way
   pub clean : asked → (kept : Hit → Bool) → clean_under kept way ≡ true → clean_under kept better ≡ true
+  pub few : (extent : Option Extent) → few_before extent way ≡ true → few_before extent better ≡ true
 
 -- a test that a way passes if one does for which it does
 abbrev pub Respects : Type 0 → (Way → Bool) → Type 0
@@ -73,12 +79,14 @@ serves_left : (asked : Type 0) (better way other : Way) → Serves asked better 
 serves_left asked better way other s = record {
   same = ap (λ hits. hits ++ way_includes other) s.same;
   clean = λ a kept h. let parts = and_parts (clean_under kept way) (clean_under kept other) h in λ i. s.clean a kept parts.0 i && parts.1 i;
+  few = λ extent h. let parts = and_parts (few_before extent way) (few_before extent other) h in λ i. s.few extent parts.0 i && parts.1 i;
 }
 
 serves_right : (asked : Type 0) (better way other : Way) → Serves asked better way → Serves asked (two_ways other better) (two_ways other way)
 serves_right asked better way other s = record {
   same = ap (λ hits. way_includes other ++ hits) s.same;
   clean = λ a kept h. let parts = and_parts (clean_under kept other) (clean_under kept way) h in λ i. parts.0 i && s.clean a kept parts.1 i;
+  few = λ extent h. let parts = and_parts (few_before extent other) (few_before extent way) h in λ i. parts.0 i && s.few extent parts.1 i;
 }
 
 serves_filtered : (asked : Type 0) (better way : Way) (kind : Filter) (choice : Option Window) → Serves asked better way → Serves asked (by_filter better kind choice) (by_filter way kind choice)
@@ -86,10 +94,13 @@ serves_filtered asked better way kind choice s = record {
   same = ap (after kind) s.same;
   clean = λ a kept h.
       subst (λ hits. clean_under (λ hit. keeps kind hits choice hit && kept hit) better ≡ true) (sym s.same) (s.clean a (λ hit. keeps kind (way_includes way) choice hit && kept hit) h);
+  few = λ extent h.
+      let parts = and_parts (few_at extent kind (way_includes way)) (few_before extent way) h in
+      λ i. (ap (few_at extent kind) s.same ∙ parts.0) i && s.few extent parts.1 i;
 }
 
 serves_any : (asked : Type 0) → (asked → ⊥) → (way : Way) (kind : Filter) (choice other : Option Window) → Serves asked (by_filter way kind choice) (by_filter way kind other)
-serves_any asked none way kind choice other = record { same = refl; clean = λ a kept h. absurd (none a) }
+serves_any asked none way kind choice other = record { same = refl; clean = λ a kept h. absurd (none a); few = λ extent h. h }
 
 serves_window : (asked : Type 0) (way : Way) (size : ℕ) (kind : TextUnit) (last n : ℕ) → n ≤ size - suc last
     → Serves asked (by_filter way (F.Window size kind) (Some (nth_window size last 0))) (by_filter way (F.Window size kind) (Some (nth_window size last n)))
@@ -101,6 +112,7 @@ serves_window asked way size kind last n early = record {
       let parts = and_parts (lies_in_window kind (nth_window size last 0) hit) (kept hit) e in
       λ i. lies_in_later kind size last n hit early parts.0 i && parts.1 i)
       way h;
+  few = λ extent h. h;
 }
 
 -- ---- the choices of a filter
@@ -192,14 +204,37 @@ Narrows Each = ⊥
 Narrows Telling = ⊤
 Narrows First = ⊤
 
--- a test that only ways pass whose includes lie in the bounds and agree
+-- a test that only ways pass whose includes lie in the bounds and agree, with as few before their distances as the course says
 abbrev pub Bounded : Course → (Way → Bool) → Type 0
-Bounded course test = (way : Way) → test way ≡ true → are_within course.bounds course.reach (way_includes way) ≡ true
+Bounded course test = (way : Way) → test way ≡ true → (are_within course.bounds course.reach (way_includes way) && few_before course.extent way) ≡ true
 
-pub bounded_nowhere : (course : Course) (test : Way → Bool) → Bounded (without_bounds course) test
+-- the same of a test of ways that are so few, and without bounds
+abbrev pub few_and : Course → (Way → Bool) → Way → Bool
+few_and course test way = few_before course.extent way && test way
+
+pub bounded_nowhere : (course : Course) (test : Way → Bool) → Bounded (without_bounds course) (few_and course test)
 bounded_nowhere course test way h =
     let hits = way_includes way in
-    λ i. all_pass (lies_in everywhere) all_lie hits i && all_pass (λ hit. list_all (λ other. true) hits) (λ hit. all_pass (λ other. true) (λ other. refl) hits) hits i
+    let few = and_parts (few_before course.extent way) (test way) h in
+    λ i. (all_pass (lies_in everywhere) all_lie hits i && all_pass (λ hit. list_all (λ other. true) hits) (λ hit. all_pass (λ other. true) (λ other. refl) hits) hits i) && few.0 i
+
+few_respects : (asked : Type 0) (course : Course) (test : Way → Bool) → Respects asked test → Respects asked (few_and course test)
+few_respects asked course test respects better way s h =
+    let parts = and_parts (few_before course.extent way) (test way) h in
+    λ i. s.few course.extent parts.0 i && respects better way s parts.1 i
+
+any_few : (few test : Way → Bool) (ways : List Way) → list_all few ways ≡ true → list_any (λ way. few way && test way) ways ≡ list_any test ways
+any_few few test [] h = refl
+any_few few test (way ∷ rest) h = let parts = and_parts (few way) (list_all few rest) h in λ i. (parts.0 i && test way) || any_few few test rest parts.1 i
+
+-- each way is so few where the extent holds
+told_few : (course : Course) (operator : Operator) (test : Way → Bool) → holds course.extent (extent_inside operator) ≡ true
+    → list_any (few_and course test) (ways_on course operator) ≡ list_any (few_and course test) (ways_of course.item operator)
+    → list_any test (ways_on course operator) ≡ list_any test (ways_of course.item operator)
+told_few course operator test held same =
+    let few = few_before course.extent in
+    sym (any_few few test (ways_on course operator) (few_inside operator course course.extent held)) ∙ same
+    ∙ any_few few test (ways_of course.item operator) (ap (list_all few) (sym (ways_every course.item operator)) ∙ few_inside operator (every course.item) course.extent held)
 
 hits_within : (course : Course) (test : Way → Bool) → Bounded course test → (found : List Hit) → list_any test (map one_hit (filter (lies_in course.bounds) found)) ≡ list_any test (map one_hit found)
 hits_within course test bounded [] = refl
@@ -207,7 +242,8 @@ hits_within course test bounded (hit ∷ rest) = by_test (lies_in course.bounds 
   where
     inside : test (one_hit hit) ≡ true → lies_in course.bounds hit ≡ true
     inside h =
-        (and_parts (lies_in course.bounds hit) true (and_parts (lies_in course.bounds hit && true) ((agrees course.reach hit hit && true) && true) (bounded (one_hit hit) h)).0).0
+        let within = and_parts ((lies_in course.bounds hit && true) && ((agrees course.reach hit hit && true) && true)) true (bounded (one_hit hit) h) in
+        (and_parts (lies_in course.bounds hit) true (and_parts (lies_in course.bounds hit && true) ((agrees course.reach hit hit && true) && true) within.0).0).0
 
     by_test : (b : Bool) → lies_in course.bounds hit ≡ b → list_any test (map one_hit (filter (lies_in course.bounds) rest)) ≡ list_any test (map one_hit rest)
         → list_any test (map one_hit (cond b (hit ∷ filter (lies_in course.bounds) rest) (filter (lies_in course.bounds) rest))) ≡ (test (one_hit hit) || list_any test (map one_hit rest))
@@ -223,63 +259,79 @@ any_gives p c each (x ∷ xs) h = by_test (p x) (each x) (any_gives p c each xs)
     by_test true here later e = here refl
     by_test false here later e = later e
 
-inside_within : (windows : Windows) → Narrows windows → (kind : Filter) (item : Span) (bounds : Bounds) (reach : Reach) (hits : List Hit) → passes kind hits item ≡ true
-    → are_within bounds reach (after kind hits) ≡ true → are_within (bounds_inside windows kind bounds) (reach_inside windows kind reach) hits ≡ true
-inside_within Each narrows kind item bounds reach hits p h = absurd narrows
-inside_within Telling narrows kind item bounds reach hits p h = filter_within kind item bounds reach hits p h
-inside_within First narrows kind item bounds reach hits p h = filter_within kind item bounds reach hits p h
+inside_within : (windows : Windows) → Narrows windows → (extent : Option Extent) (kind : Filter) (item : Span) (bounds : Bounds) (reach : Reach) (hits : List Hit) → passes kind hits item ≡ true
+    → few_at extent kind hits ≡ true → are_within bounds reach (after kind hits) ≡ true → are_within (bounds_inside windows kind bounds) (reach_inside windows extent kind reach) hits ≡ true
+inside_within Each narrows extent kind item bounds reach hits p few h = absurd narrows
+inside_within Telling narrows extent kind item bounds reach hits p few h = filter_within extent kind item bounds reach hits p few h
+inside_within First narrows extent kind item bounds reach hits p few h = filter_within extent kind item bounds reach hits p few h
 
-pub ways_tell : (operator : Operator) (course : Course) (test : Way → Bool) → Narrows course.windows → Respects (Asks course.windows) test → Bounded course test
-    → list_any test (ways_on course operator) ≡ list_any test (ways_of course.item operator)
+-- two ways whose includes lie in the bounds and agree, with few before their distances
+pair_bounded : (course : Course) (a b : Way) → (are_within course.bounds course.reach (way_includes a ++ way_includes b) && (few_before course.extent a && few_before course.extent b)) ≡ true
+    → ((are_within course.bounds course.reach (way_includes a) && few_before course.extent a) ≡ true)
+    × ((are_within (round_hits course.reach course.bounds (way_includes a)) course.reach (way_includes b) && few_before course.extent b) ≡ true)
+pair_bounded course a b h =
+    let parts = and_parts (are_within course.bounds course.reach (way_includes a ++ way_includes b)) (few_before course.extent a && few_before course.extent b) h in
+    let sides = sides_within course.bounds course.reach (way_includes a) (way_includes b) parts.0 in
+    let few = and_parts (few_before course.extent a) (few_before course.extent b) parts.1 in
+    (λ i. sides.0 i && few.0 i, λ i. sides.1 i && few.1 i)
+
+pub ways_tell : (operator : Operator) (course : Course) (test : Way → Bool) → Narrows course.windows → holds course.extent (extent_inside operator) ≡ true
+    → Respects (Asks course.windows) test → Bounded course test → list_any test (ways_on course operator) ≡ list_any test (ways_of course.item operator)
 unfolding ways_on ways_of
-ways_tell (phrase found) course test narrows respects bounded = hits_within course test bounded found
-ways_tell (either left right) course test narrows respects bounded =
+ways_tell (phrase found) course test narrows held respects bounded = hits_within course test bounded found
+ways_tell (either left right) course test narrows held respects bounded =
+    let parts = holds_both course.extent (extent_inside left) (extent_inside right) held in
     list_any-append test (ways_on course left) (ways_on course right)
-    ∙ (λ i. ways_tell left course test narrows respects bounded i || ways_tell right course test narrows respects bounded i)
+    ∙ (λ i. ways_tell left course test narrows parts.0 respects bounded i || ways_tell right course test narrows parts.1 respects bounded i)
     ∙ sym (list_any-append test (ways_of course.item left) (ways_of course.item right))
-ways_tell (together left right) course test narrows respects bounded =
+ways_tell (together left right) course test narrows held respects bounded =
+    let parts = holds_both course.extent (extent_inside left) (extent_inside right) held in
     let asked = Asks course.windows in
     let rights = ways_of course.item right in
     let beside = λ (a : Way). course_beside course (way_includes a) in
     let sides = λ (a b : Way) (h : test (two_ways a b) ≡ true).
-    sides_within course.bounds course.reach (way_includes a) (way_includes b) (bounded (two_ways a b) h) in
+    pair_bounded course a b (bounded (two_ways a b) h) in
     list_any-flat_map test (λ a. map (two_ways a) (ways_on (beside a) right)) (ways_on course left)
     ∙ list_any-alike (λ a. list_any test (map (two_ways a) (ways_on (beside a) right))) (λ a. list_any (λ b. test (two_ways a b)) rights) (ways_on course left)
     (λ a.
     list_any-map test (two_ways a) (ways_on (beside a) right)
-    ∙ ways_tell right (beside a) (λ b. test (two_ways a b)) narrows (λ better way s h. respects (two_ways a better) (two_ways a way) (serves_right asked better way a s) h)
+    ∙ ways_tell right (beside a) (λ b. test (two_ways a b)) narrows parts.1
+    (λ better way s h. respects (two_ways a better) (two_ways a way) (serves_right asked better way a s) h)
     (λ b h. (sides a b h).1))
-    ∙ ways_tell left course (λ a. list_any (λ b. test (two_ways a b)) rights) narrows
+    ∙ ways_tell left course (λ a. list_any (λ b. test (two_ways a b)) rights) narrows parts.0
     (λ better way s h. any_more (λ b. test (two_ways way b)) (λ b. test (two_ways better b)) (λ b e. respects (two_ways better b) (two_ways way b) (serves_left asked better way b s) e) rights h)
-    (λ a h. any_gives (λ b. test (two_ways a b)) (are_within course.bounds course.reach (way_includes a)) (λ b e. (sides a b e).0) rights h)
+    (λ a h. any_gives (λ b. test (two_ways a b)) (are_within course.bounds course.reach (way_includes a) && few_before course.extent a) (λ b e. (sides a b e).0) rights h)
     ∙ sym (any_pairs test rights (ways_of course.item left))
-ways_tell (apart left right) course test narrows respects bounded =
+ways_tell (apart left right) course test narrows held respects bounded =
+    let parts = holds_both course.extent (extent_inside left) (extent_inside right) held in
     let asked = Asks course.windows in
     let rights = ways_of course.item right in
     let all = without_bounds course in
+    let told = λ (of : List Hit → Bool).
+    told_few all right (λ way. of (way_includes way)) parts.1
+    (ways_tell right all (few_and course (λ way. of (way_includes way))) narrows parts.1
+    (few_respects asked course (λ way. of (way_includes way)) (of_includes asked of)) (bounded_nowhere course (λ way. of (way_includes way)))) in
     any_apart test (ways_on course left) (ways_on all right)
     ∙ list_any-alike (λ a. admitted (ways_on all right) (way_includes a) && test a) (λ a. admitted rights (way_includes a) && test a) (ways_on course left)
     (λ a i.
-    (not (ways_tell right all (λ way. is_not_empty (way_includes way)) narrows (of_includes asked is_not_empty) (bounded_nowhere course (λ way. is_not_empty (way_includes way))) i)
+    (not (told is_not_empty i)
     || (all_by_any (λ b. stands_out (way_includes a) (way_includes b)) (ways_on all right)
-    ∙ ap not
-    (ways_tell right all (λ b. not (stands_out (way_includes a) (way_includes b))) narrows (of_includes asked (λ hits. not (stands_out (way_includes a) hits)))
-    (bounded_nowhere course (λ b. not (stands_out (way_includes a) (way_includes b)))))
+    ∙ ap not (told (λ hits. not (stands_out (way_includes a) hits)))
     ∙ sym (all_by_any (λ b. stands_out (way_includes a) (way_includes b)) rights)) i)
     && test a)
-    ∙ ways_tell left course (λ a. admitted rights (way_includes a) && test a) narrows
+    ∙ ways_tell left course (λ a. admitted rights (way_includes a) && test a) narrows parts.0
     (λ better way s h.
-    let parts = and_parts (admitted rights (way_includes way)) (test way) h in
-    λ i. (ap (admitted rights) s.same ∙ parts.0) i && respects better way s parts.1 i)
+    let both = and_parts (admitted rights (way_includes way)) (test way) h in
+    λ i. (ap (admitted rights) s.same ∙ both.0) i && respects better way s both.1 i)
     (λ a h. bounded a (and_parts (admitted rights (way_includes a)) (test a) h).1)
     ∙ sym (any_apart test (ways_of course.item left) rights)
-ways_tell (negated operand) course test narrows respects bounded = refl
-ways_tell (through_filter operand kind) course test narrows respects bounded =
+ways_tell (negated operand) course test narrows held respects bounded = refl
+ways_tell (through_filter operand kind) course test narrows held respects bounded =
     let inside = course_inside kind course in
     any_filtered kind course test (ways_on inside operand)
     ∙ list_any-alike (λ way. passes kind (way_includes way) course.item && list_any (λ c. test (by_filter way kind c)) (asked_for course.windows (choices kind (way_includes way)))) (chosen course.item)
     (ways_on inside operand) (λ way. ap (λ b. passes kind (way_includes way) course.item && b) (choices_tell course.windows test respects way kind (way_includes way)))
-    ∙ ways_tell operand inside (chosen course.item) narrows
+    ∙ ways_tell operand inside (chosen course.item) narrows (holds_both course.extent (extent_inside operand) (extent_before kind (extent_of operand)) held).0
     (λ better way s h.
     let parts = and_parts (passes kind (way_includes way) course.item) (list_any (λ c. test (by_filter way kind c)) (choices kind (way_includes way))) h in
     λ i. (ap (λ hits. passes kind hits course.item) s.same ∙ parts.0) i && (ap (λ hits. list_any (λ c. test (by_filter better kind c)) (choices kind hits)) s.same
@@ -287,9 +339,11 @@ ways_tell (through_filter operand kind) course test narrows respects bounded =
     (λ c e. respects (by_filter better kind c) (by_filter way kind c) (serves_filtered (Asks course.windows) better way kind c s) e) (choices kind (way_includes way)) parts.1) i)
     (λ way h.
     let parts = and_parts (passes kind (way_includes way) course.item) (list_any (λ c. test (by_filter way kind c)) (choices kind (way_includes way))) h in
-    inside_within course.windows narrows kind course.item course.bounds course.reach (way_includes way) parts.0
-    (any_gives (λ c. test (by_filter way kind c)) (are_within course.bounds course.reach (after kind (way_includes way))) (λ c e. bounded (by_filter way kind c) e)
-    (choices kind (way_includes way)) parts.1))
+    let behind = are_within course.bounds course.reach (after kind (way_includes way)) in
+    let few = few_at course.extent kind (way_includes way) && few_before course.extent way in
+    let said = and_parts behind few (any_gives (λ c. test (by_filter way kind c)) (behind && few) (λ c e. bounded (by_filter way kind c) e) (choices kind (way_includes way)) parts.1) in
+    let fewer = and_parts (few_at course.extent kind (way_includes way)) (few_before course.extent way) said.1 in
+    λ i. inside_within course.windows narrows course.extent kind course.item course.bounds course.reach (way_includes way) parts.0 fewer.0 said.0 i && fewer.1 i)
     ∙ sym (any_filtered kind (every course.item) test (ways_of course.item operand))
   where
     chosen : Span → Way → Bool
@@ -297,15 +351,18 @@ ways_tell (through_filter operand kind) course test narrows respects bounded =
 
 -- ---- what a walk asks
 
-pub clean_told : (item : Span) (operator : Operator) (kept : Hit → Bool) → list_any (clean_under kept) (ways_on (tellings item) operator) ≡ list_any (clean_under kept) (ways_of item operator)
-clean_told item operator kept =
-    ways_tell operator (tellings item) (clean_under kept) tt (λ better way s h. s.clean tt kept h) (bounded_nowhere (tellings item) (clean_under kept))
+pub clean_told : (item : Span) (extent : Option Extent) (operator : Operator) (kept : Hit → Bool) → holds extent (extent_inside operator) ≡ true
+    → list_any (clean_under kept) (ways_on (tellings item extent) operator) ≡ list_any (clean_under kept) (ways_of item operator)
+clean_told item extent operator kept held =
+    let course = tellings item extent in
+    told_few course operator (clean_under kept) held
+    (ways_tell operator course (few_and course (clean_under kept)) tt held (few_respects ⊤ course (clean_under kept) (λ better way s h. s.clean tt kept h)) (bounded_nowhere course (clean_under kept)))
 
 -- those that are kept lie in bounds
 pub kept_told : (item : Span) (bounds : Bounds) (operator : Operator) (kept : Hit → Bool) → ((hit : Hit) → kept hit ≡ true → lies_in bounds hit ≡ true)
     → list_any (all_kept kept) (ways_on (firsts item bounds) operator) ≡ list_any (all_kept kept) (ways_of item operator)
 kept_told item bounds operator kept lie =
-    ways_tell operator (firsts item bounds) (all_kept kept) tt (of_includes ⊥ (list_all kept))
+    ways_tell operator (firsts item bounds) (all_kept kept) tt refl (of_includes ⊥ (list_all kept))
     (λ way h.
     let hits = way_includes way in
-    λ i. all_more kept (lies_in bounds) lie hits h i && all_pass (λ hit. list_all (λ other. true) hits) (λ hit. all_pass (λ other. true) (λ other. refl) hits) hits i)
+    λ i. (all_more kept (lies_in bounds) lie hits h i && all_pass (λ hit. list_all (λ other. true) hits) (λ hit. all_pass (λ other. true) (λ other. refl) hits) hits i) && few_unsaid way i)

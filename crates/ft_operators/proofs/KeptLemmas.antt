@@ -18,7 +18,7 @@ use Rattle.all_matches.specs.Window.{lies_in_window}
 use Rattle.ft_operators.specs.Bounds.{agrees, everywhere, is_allowed, lies_between, lies_in, order_reach}
 use Rattle.ft_operators.specs.KeptBounds.{after_zero, chain_bounds, from_zero, kept_bounds, numbers_between, unit_between}
 use Rattle.ft_operators.specs.declared.bounds.Bounds.{Bounds}
-use Rattle.ft_operators.proofs.BoundLemmas.{all_beside, all_lie, all_more, four_parts, other_order}
+use Rattle.ft_operators.proofs.BoundLemmas.{all_beside, all_lie, all_more, four_parts, either_order}
 
 numbers_lie : (from : ℕ) (to : Option ℕ) (first end one last : ℕ) → lies_between (record { from = from; to = to }) one last ≡ true → nat_le first one ≡ true → nat_lt last end ≡ true
     → lies_between (numbers_between first end (record { from = from; to = to })) one last ≡ true
@@ -71,7 +71,7 @@ keeps_lies : (kind : Filter) (includes : List Hit) (choice : Option Window) (bou
 keeps_lies F.Ordered includes choice bounds hit h k =
     (and_parts (lies_in (kept_bounds F.Ordered includes choice bounds) hit) true
     (all_beside order_reach bounds includes (hit ∷ []) (λ i. h i && true)
-    (all_more (agree_in_order hit) (λ a. list_all (agrees order_reach a) (hit ∷ [])) (λ a e i. other_order hit.from hit.query a.from a.query e i && true) includes k))).0
+    (all_more (agree_in_order hit) (λ a. list_all (agrees order_reach a) (hit ∷ [])) (λ a e i. (either_order hit.from hit.query a.from a.query e).1 i && true) includes k))).0
 keeps_lies (F.Window size kind) includes None bounds hit h k = h
 keeps_lies (F.Window size kind) includes (Some window) bounds hit h k = window_lies kind window bounds hit h k
 keeps_lies (F.Distance range kind) includes choice bounds hit h k = h

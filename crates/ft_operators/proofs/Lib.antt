@@ -18,3 +18,6 @@ pub mod TellingLemmas
 pub mod BoundLemmas
 pub mod KeptLemmas
 pub mod CourseLemmas
+pub mod MeasureLemmas
+pub mod SpreadLemmas
+pub mod ExtentLemmas

@@ -88,6 +88,18 @@ module _ {P : Type 0} (state : P → PhraseState) (course : Course) (old new : N
   pub aimed_shape : (doc : ℕ) (span : Span) (start end : ℕ) → IsAimed doc span (frame_of state old) (frame_of state new) start end → shape_of new ≡ shape_of old
   aimed_shape doc span start end a = sym (shape_same state new) ∙ ap (λ f. f.shape) a.framed ∙ shape_same state old
 
+-- a node that was looked at, and then moved
+module _ {P : Type 0} (state : P → PhraseState) (course : Course) (old seen : Node P) (same : frame_of state seen ≡ frame_of state old) where
+  pub told_shape : (standing state course seen).shape ≡ shape_of old
+  told_shape = standing_shape state course seen seen ∙ sym (shape_same state seen) ∙ ap (λ f. f.shape) same ∙ shape_same state old
+
+  module _ (new : Node P) (kept : frame (standing state course new) ≡ frame (standing state course seen)) where
+    pub told_frame : frame_of state new ≡ frame_of state old
+    told_frame = kept_frame state course seen new kept ∙ same
+
+    pub told_kept : shape_of new ≡ shape_of old
+    told_kept = sym (shape_same state new) ∙ ap (λ f. f.shape) told_frame ∙ shape_same state old
+
 pub answer_shown : (there : Bool) (rest : List Way) → there ≡ is_not_empty rest → there ≡ is_not_empty (cond there rest [])
 answer_shown true rest is = is
 answer_shown false rest is = refl

@@ -6,11 +6,13 @@ use Rattle.ft_base.specs.declared.filter.Filter.TheVariants as F
 use Rattle.ft_base.specs.declared.hit.Hit.{Hit}
 use Rattle.ft_base.specs.declared.unit.TextUnit.{TextUnit}
 use Rattle.ft_base.specs.declared.unit.TextUnit.TheVariants.{Words, Sentences, Paragraphs}
+use Rattle.ft_operators.specs.Extents.{most_between, spread}
 use Rattle.ft_operators.specs.declared.bounds.Bounds.{Bounds}
 use Rattle.ft_operators.specs.declared.bounds.UnitBounds.{UnitBounds}
 use Rattle.ft_operators.specs.declared.bounds.OrderBound.{OrderBound}
 use Rattle.ft_operators.specs.declared.course.Windows.{Windows}
 use Rattle.ft_operators.specs.declared.course.Windows.TheVariants.{Each, Telling, First}
+use Rattle.ft_operators.specs.declared.extent.Extent.{Extent}
 use Rattle.ft_operators.specs.declared.reach.Reach.{Reach}
 
 -- ---- hits in bounds
@@ -115,18 +117,19 @@ window_reach size Words = record no_reach { words = Some size }
 window_reach size Sentences = record no_reach { sentences = Some size }
 window_reach size Paragraphs = record no_reach { paragraphs = Some size }
 
--- what a filter, and those round it, say of every two includes before it. Those round a filter that joins see its joined hit
-abbrev pub filter_reach : Filter → Reach → Reach
-filter_reach F.Ordered reach = record reach { ordered = true }
-filter_reach (F.Window size kind) reach = window_reach size kind
-filter_reach (F.Distance range kind) reach = no_reach
-filter_reach F.SameSentence reach = record reach { sentences = Some (smaller reach.sentences 1) }
-filter_reach F.SameParagraph reach = record reach { paragraphs = Some (smaller reach.paragraphs 1) }
-filter_reach F.DifferentSentence reach = reach
-filter_reach F.DifferentParagraph reach = reach
-filter_reach F.AtStart reach = reach
-filter_reach F.AtEnd reach = reach
-filter_reach F.EntireContent reach = reach
+-- what a filter, and those round it, say of every two includes before it, which are no more and no longer than the extent says.
+-- Those round a filter that joins see its joined hit
+abbrev pub filter_reach : Option Extent → Filter → Reach → Reach
+filter_reach extent F.Ordered reach = record reach { ordered = true }
+filter_reach extent (F.Window size kind) reach = window_reach size kind
+filter_reach extent (F.Distance range kind) reach = record no_reach { words = spread extent (most_between range kind) }
+filter_reach extent F.SameSentence reach = record reach { sentences = Some (smaller reach.sentences 1) }
+filter_reach extent F.SameParagraph reach = record reach { paragraphs = Some (smaller reach.paragraphs 1) }
+filter_reach extent F.DifferentSentence reach = reach
+filter_reach extent F.DifferentParagraph reach = reach
+filter_reach extent F.AtStart reach = reach
+filter_reach extent F.AtEnd reach = reach
+filter_reach extent F.EntireContent reach = reach
 
 -- the bounds of the includes before a filter: where the joined hit lies in them, all do, but for the order, which is that of the
 -- joined hit's own phrase
@@ -146,10 +149,10 @@ filter_bounds F.AtEnd bounds = bounds
 filter_bounds F.EntireContent bounds = bounds
 
 -- where each window is gone through no way is left out
-abbrev pub reach_inside : Windows → Filter → Reach → Reach
-reach_inside Each kind reach = reach
-reach_inside Telling kind reach = filter_reach kind reach
-reach_inside First kind reach = filter_reach kind reach
+abbrev pub reach_inside : Windows → Option Extent → Filter → Reach → Reach
+reach_inside Each extent kind reach = reach
+reach_inside Telling extent kind reach = filter_reach extent kind reach
+reach_inside First extent kind reach = filter_reach extent kind reach
 
 abbrev pub bounds_inside : Windows → Filter → Bounds → Bounds
 bounds_inside Each kind bounds = bounds

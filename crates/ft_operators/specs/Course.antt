@@ -12,6 +12,7 @@ use Rattle.ft_operators.specs.Bounds.{lies_in, everywhere, no_reach, round_hits,
 use Rattle.ft_operators.specs.declared.bounds.Bounds.{Bounds}
 use Rattle.ft_operators.specs.declared.course.Course.{Course}
 use Rattle.ft_operators.specs.declared.course.Windows.{Windows}
+use Rattle.ft_operators.specs.declared.extent.Extent.{Extent}
 use Rattle.ft_operators.specs.declared.course.Windows.TheVariants.{Each, Telling, First}
 
 -- how many numbers stand after this one, up to 0
@@ -43,7 +44,8 @@ course_inside kind course = record {
   item = course.item;
   windows = course.windows;
   bounds = bounds_inside course.windows kind course.bounds;
-  reach = reach_inside course.windows kind course.reach;
+  reach = reach_inside course.windows course.extent kind course.reach;
+  extent = course.extent;
 }
 
 -- the course of the right side of an And, where these hits were chosen on the left side
@@ -53,11 +55,12 @@ course_beside course hits = record {
   windows = course.windows;
   bounds = round_hits course.reach course.bounds hits;
   reach = course.reach;
+  extent = course.extent;
 }
 
 -- the course of the right side of a mild not, of which each way counts
 abbrev pub without_bounds : Course → Course
-without_bounds course = record { item = course.item; windows = course.windows; bounds = everywhere; reach = no_reach }
+without_bounds course = record { item = course.item; windows = course.windows; bounds = everywhere; reach = no_reach; extent = course.extent }
 
 -- the ways of an operator
 unfoldable pub ways_on : Course → Operator → List Way
@@ -74,14 +77,15 @@ pairs_with course right a = map (two_ways a) (ways_on (course_beside course (way
 
 -- the courses of an item
 abbrev pub every : Span → Course
-every item = record { item = item; windows = Each; bounds = everywhere; reach = no_reach }
+every item = record { item = item; windows = Each; bounds = everywhere; reach = no_reach; extent = None }
 
-abbrev pub tellings : Span → Course
-tellings item = record { item = item; windows = Telling; bounds = everywhere; reach = no_reach }
+-- where the ways have so much before the distances inside
+abbrev pub tellings : Span → Option Extent → Course
+tellings item extent = record { item = item; windows = Telling; bounds = everywhere; reach = no_reach; extent = extent }
 
 -- that of a negated selection, whose includes lie in bounds
 abbrev pub firsts : Span → Bounds → Course
-firsts item bounds = record { item = item; windows = First; bounds = bounds; reach = no_reach }
+firsts item bounds = record { item = item; windows = First; bounds = bounds; reach = no_reach; extent = None }
 
 -- the number, among all windows of a size round a hit that ends there, of that one among those that are asked for
 abbrev pub number_among : Windows → ℕ → ℕ → ℕ → ℕ

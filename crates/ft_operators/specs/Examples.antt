@@ -4,6 +4,7 @@ use Rattle.ft_base.specs.declared.hit.Hit.{Hit}
 use Rattle.ft_base.specs.declared.span.Span.{Span}
 use Rattle.ft_base.specs.declared.filter.Filter.{Filter}
 use Rattle.ft_base.specs.declared.filter.Filter.TheVariants as F
+use Rattle.ft_base.specs.declared.range.Range.TheVariants.{AtMost}
 use Rattle.ft_base.specs.declared.unit.TextUnit.TheVariants.{Words}
 use Rattle.all_matches.specs.declared.window.Window.{Window}
 use Rattle.all_matches.specs.Chain.{Link}
@@ -14,6 +15,7 @@ use Rattle.ft_operators.specs.declared.bounds.Bounds.{Bounds}
 use Rattle.ft_operators.specs.declared.bounds.UnitBounds.{UnitBounds}
 use Rattle.ft_operators.specs.declared.chain.ChainLink.{ChainLink}
 use Rattle.ft_operators.specs.declared.course.Course.{Course}
+use Rattle.ft_operators.specs.declared.extent.Extent.{Extent}
 use Rattle.ft_operators.specs.Bounds.{everywhere}
 use Rattle.ft_operators.specs.Course.{course_inside, tellings, ways_on}
 use Rattle.ft_operators.specs.Standing.{phrase_aims}
@@ -91,7 +93,7 @@ two_hits number first second = phrase (hit_of number first ∷ hit_of number sec
 
 -- the course inside a filter
 abbrev pub inside : Filter → Course
-inside kind = course_inside kind (tellings (span 1 9))
+inside kind = course_inside kind (tellings (span 1 9) None)
 
 -- the ways of an And of two hits each on that course
 abbrev pub pairs_on : Course → List Way
@@ -100,3 +102,22 @@ pairs_on course = ways_on course (together (two_hits 1 1 5) (two_hits 2 2 4))
 -- a hit of each
 abbrev pub pair : ℕ → ℕ → Way
 pair first second = two_ways (one_hit (hit_of 1 first)) (one_hit (hit_of 2 second))
+
+-- so many includes of so many words
+abbrev pub extent : ℕ → ℕ → Option Extent
+extent includes words = Some record { includes = includes; words = words }
+
+-- at most so many words between neighbours
+abbrev pub at_most : ℕ → Filter
+at_most words = F.Distance (AtMost words) Words
+
+-- the course inside a filter, before which ways have two includes of one word
+abbrev pub inside_few : Filter → Course
+inside_few kind = course_inside kind (tellings (span 1 9) (extent 2 1))
+
+-- a phrase that has a hit of two words and one of one; those of one word each
+abbrev pub two_words : Operator
+two_words = phrase (from_to 1 2 ∷ at 4 ∷ [])
+
+abbrev pub one_word : Operator
+one_word = phrase (at 4 ∷ at 5 ∷ at 6 ∷ [])

@@ -1,3 +1,4 @@
+pub mod Extents
 pub mod Bounds
 pub mod KeptBounds
 pub mod Phrases

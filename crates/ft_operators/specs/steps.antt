@@ -4,3 +4,4 @@ pub mod Walking
 pub mod Pairs
 pub mod Apart
 pub mod Cleaning
+pub mod Measuring

@@ -1,10 +1,11 @@
 //! Through which ways of a node a walk goes, and where it seeks hits.
 
-ghost use Rattle.std.specs.Prelude.{◌≡◌};
+ghost use Rattle.std.specs.Prelude.{◌≡◌, None};
 ghost use Rattle.ft_operators.specs.Bounds.{everywhere, no_reach};
 ghost use Rattle.ft_operators.specs.Course.{course_inside, every, firsts, tellings, without_bounds};
 
 use crate::bounds::Bounds;
+use crate::extent::Extent;
 use crate::narrowing::{bounds_inside, reach_inside};
 use crate::reach::{Reach, no_reach};
 use ft_base::{Filter, Span};
@@ -17,6 +18,8 @@ pub(crate) struct Course {
     pub(crate) windows: Windows,
     pub(crate) bounds: Bounds,
     pub(crate) reach: Reach,
+    /// What the ways have before the distances inside, where it is known.
+    pub(crate) extent: Option<Extent>,
 }
 
 /// Which windows of a window filter a walk goes through, in each way of the filter's operand.
@@ -35,14 +38,15 @@ pub(crate) enum Windows {
 pub(crate) fn every(item: Span) -> Course
     ensures { result ≡ every item }
 {
-    unbounded(item, Windows::Each)
+    unbounded(item, Windows::Each, None)
 }
 
-/// The course of a whole node, through the windows that tell whether a way is clean.
-pub(crate) fn tellings(item: Span) -> Course
-    ensures { result ≡ tellings item }
+/// The course of a whole node, through the windows that tell whether a way is clean, where the ways have so much before the
+/// distances inside.
+pub(crate) fn tellings(item: Span, extent: Option<Extent>) -> Course
+    ensures { result ≡ tellings item extent }
 {
-    unbounded(item, Windows::Telling)
+    unbounded(item, Windows::Telling, extent)
 }
 
 /// The course of a whole node, through the first window of each filter, whose includes lie in the bounds.
@@ -54,6 +58,7 @@ pub(crate) fn firsts(item: Span, bounds: Bounds) -> Course
         windows: Windows::First,
         bounds,
         reach: no_reach(),
+        extent: None,
     }
 }
 
@@ -61,17 +66,18 @@ pub(crate) fn firsts(item: Span, bounds: Bounds) -> Course
 pub(crate) fn without_bounds(course: Course) -> Course
     ensures { result ≡ without_bounds course }
 {
-    unbounded(course.item, course.windows)
+    unbounded(course.item, course.windows, course.extent)
 }
 
-fn unbounded(item: Span, windows: Windows) -> Course
-    ensures { result ≡ record { item = item; windows = windows; bounds = everywhere; reach = no_reach } }
+fn unbounded(item: Span, windows: Windows, extent: Option<Extent>) -> Course
+    ensures { result ≡ record { item = item; windows = windows; bounds = everywhere; reach = no_reach; extent = extent } }
 {
     Course {
         item,
         windows,
         bounds: Bounds::everywhere(),
         reach: no_reach(),
+        extent,
     }
 }
 
@@ -83,6 +89,7 @@ pub(crate) fn course_inside(course: Course, kind: &Filter) -> Course
         item: course.item,
         windows: course.windows,
         bounds: bounds_inside(course.windows, kind, course.bounds),
-        reach: reach_inside(course.windows, kind, course.reach),
+        reach: reach_inside(course.windows, course.extent, kind, course.reach),
+        extent: course.extent,
     }
 }

@@ -3,14 +3,16 @@
 
 ghost use Rattle.std.specs.Prelude.{◌≡◌, ◌∷◌, [], length, negsuc, pos, true, false, Some, None};
 ghost use Rattle.ft_base.specs.declared.filter.Filter.TheVariants as F;
-ghost use Rattle.ft_base.specs.declared.range.Range.TheVariants.{Exactly};
+ghost use Rattle.ft_base.specs.declared.range.Range.TheVariants.{AtLeast, AtMost, Exactly, FromTo};
 ghost use Rattle.ft_base.specs.declared.unit.TextUnit.TheVariants.{Paragraphs, Sentences, Words};
 ghost use Rattle.all_matches.specs.Filters.{choices};
 ghost use Rattle.all_matches.specs.Ways.{apart, either, negated, one_hit, phrase, through_filter, together, two_ways};
 ghost use Rattle.ft_operators.specs.Chains.{all_kept, clean_now, first_includes, links_from, outer_window, passes_now, way_window, window_now};
 ghost use Rattle.ft_operators.specs.Bounds.{everywhere, filter_bounds, filter_reach, lies_in, no_reach, order_reach, reach_inside, round_hit, round_hits, window_reach};
 ghost use Rattle.ft_operators.specs.Examples.{a, a_and_b, at, is_after, link, moved, not_a, ordered, put, round_from, span, two_from, unmoved, within};
-ghost use Rattle.ft_operators.specs.Examples.{between, from_to, hit_of, inside, pair, pairs_on, words_between};
+ghost use Rattle.ft_operators.specs.Examples.{at_most, between, extent, from_to, hit_of, inside, inside_few, one_word, pair, pairs_on, two_words, words_between};
+ghost use Rattle.ft_operators.specs.Extents.{extent_before, extent_behind, extent_inside, extent_of, extent_of_both, extent_of_either, longest};
+ghost use Rattle.ft_operators.specs.Extents.{most_between, no_include, one_include, small, spread, words_of};
 ghost use Rattle.ft_operators.specs.Course.{asked_for, every, number_among, telling};
 ghost use Rattle.ft_operators.specs.KeptBounds.{chain_bounds, kept_bounds};
 ghost use Rattle.ft_operators.specs.declared.course.Windows.TheVariants.{Each, First, Telling};
@@ -126,25 +128,79 @@ pub fn bounds_beside_hits()
 
 /// A window says what it needs, whatever stands round it; a scope and an order say it besides what stands round them.
 pub fn filters_on_every_two()
-    ensures window { filter_reach (F.Window 4 Words) order_reach ≡ window_reach 4 Words }
-    ensures distance { filter_reach (F.Distance (Exactly 3) Words) order_reach ≡ no_reach }
-    ensures scope { filter_reach F.SameSentence (window_reach 4 Words) ≡ record (window_reach 4 Words) { sentences = Some 1 } }
-    ensures scope_in_a_window { filter_reach F.SameParagraph (window_reach 5 Paragraphs) ≡ window_reach 1 Paragraphs }
-    ensures order { filter_reach F.Ordered (window_reach 4 Words) ≡ record (window_reach 4 Words) { ordered = true } }
-    ensures start { filter_reach F.AtStart (window_reach 4 Words) ≡ window_reach 4 Words }
+    ensures window { filter_reach None (F.Window 4 Words) order_reach ≡ window_reach 4 Words }
+    ensures distance { filter_reach (extent 3 1) (at_most 2) order_reach ≡ window_reach 7 Words }
+    ensures distance_without_an_extent { filter_reach None (at_most 2) order_reach ≡ no_reach }
+    ensures distance_in_sentences { filter_reach (extent 3 1) (F.Distance (AtMost 2) Sentences) order_reach ≡ no_reach }
+    ensures scope { filter_reach None F.SameSentence (window_reach 4 Words) ≡ record (window_reach 4 Words) { sentences = Some 1 } }
+    ensures scope_in_a_window { filter_reach None F.SameParagraph (window_reach 5 Paragraphs) ≡ window_reach 1 Paragraphs }
+    ensures order { filter_reach None F.Ordered (window_reach 4 Words) ≡ record (window_reach 4 Words) { ordered = true } }
+    ensures start { filter_reach None F.AtStart (window_reach 4 Words) ≡ window_reach 4 Words }
     ensures joined { filter_bounds (F.Window 4 Words) (record (words_between 3 8) { order = record { query = 1; from = 5 } }) ≡ words_between 3 8 }
     ensures not_joined { filter_bounds F.SameSentence (record (words_between 3 8) { order = record { query = 1; from = 5 } })
         ≡ record (words_between 3 8) { order = record { query = 1; from = 5 } } }
-    ensures where_each_window_counts { reach_inside Each (F.Window 4 Words) no_reach ≡ no_reach }
-    ensures where_it_does_not { reach_inside Telling (F.Window 4 Words) no_reach ≡ window_reach 4 Words }
+    ensures where_each_window_counts { reach_inside Each None (F.Window 4 Words) no_reach ≡ no_reach }
+    ensures where_it_does_not { reach_inside Telling None (F.Window 4 Words) no_reach ≡ window_reach 4 Words }
 {}
 
 /// Inside a window those ways are gone through whose hits have room in one; inside `ordered`, those in order.
 pub fn ways_in_bounds()
     ensures in_a_window { pairs_on (inside (F.Window 2 Words)) ≡ pair 1 2 ∷ pair 5 4 ∷ [] }
+    ensures at_a_distance { pairs_on (inside_few (at_most 1)) ≡ pair 1 2 ∷ pair 5 4 ∷ [] }
+    ensures at_a_longer_one { pairs_on (inside_few (at_most 2)) ≡ pair 1 2 ∷ pair 1 4 ∷ pair 5 2 ∷ pair 5 4 ∷ [] }
     ensures in_order { pairs_on (inside F.Ordered) ≡ pair 1 2 ∷ pair 1 4 ∷ [] }
     ensures anywhere { pairs_on (inside F.AtStart) ≡ pair 1 2 ∷ pair 1 4 ∷ pair 5 2 ∷ pair 5 4 ∷ [] }
     ensures each { pairs_on (every (span 1 9)) ≡ pair 1 2 ∷ pair 1 4 ∷ pair 5 2 ∷ pair 5 4 ∷ [] }
+{}
+
+/// Includes with so many words between neighbours spread over their own words and those between.
+pub fn words_at_distances()
+    ensures of_three { words_of 3 2 4 ≡ 14 }
+    ensures of_one { words_of 1 2 4 ≡ 2 }
+    ensures of_none { words_of 0 2 4 ≡ 0 }
+    ensures exactly { most_between (Exactly 3) Words ≡ Some 3 }
+    ensures at_least { most_between (AtLeast 3) Words ≡ None }
+    ensures from_to { most_between (FromTo 1 4) Words ≡ Some 4 }
+    ensures in_sentences { most_between (AtMost 3) Sentences ≡ None }
+    ensures in_paragraphs { most_between (AtMost 3) Paragraphs ≡ None }
+    ensures known { spread (extent 2 1) (Some 3) ≡ Some 5 }
+    ensures unlimited { spread (extent 2 1) None ≡ None }
+    ensures of_unknown_includes { spread None (Some 3) ≡ None }
+    ensures below_two_to_the_32 { small 4294967295 ≡ Some 4294967295 }
+    ensures no_further { small 4294967296 ≡ None }
+{}
+
+/// How many includes ways have, and how many words the longest of them: a window and a distance leave one of their own size.
+pub fn extents()
+    ensures longest_hit { longest (at 4 ∷ from_to 1 3 ∷ at 5 ∷ []) ≡ 3 }
+    ensures of_no_hit { longest [] ≡ 0 }
+    ensures of_a_phrase { extent_of two_words ≡ extent 1 2 }
+    ensures of_a_choice { extent_of (either two_words (together one_word one_word)) ≡ extent 2 2 }
+    ensures of_both { extent_of (together two_words one_word) ≡ extent 2 2 }
+    ensures of_mild_not { extent_of (apart one_word two_words) ≡ extent 1 1 }
+    ensures of_negated { extent_of (negated two_words) ≡ extent 0 0 }
+    ensures of_a_distance { extent_of (through_filter (together two_words one_word) (at_most 3)) ≡ extent 1 7 }
+    ensures of_a_distance_without_end { extent_of (through_filter one_word (F.Distance (AtLeast 3) Words)) ≡ None }
+    ensures of_a_window { extent_behind (F.Window 9 Words) None ≡ extent 1 9 }
+    ensures of_a_window_of_sentences { extent_behind (F.Window 9 Sentences) (extent 2 1) ≡ None }
+    ensures of_another_filter { extent_behind F.Ordered (extent 2 1) ≡ extent 2 1 }
+    ensures of_an_unknown_side { extent_of_either (extent 2 1) None ≡ None }
+    ensures with_an_unknown_side { extent_of_both None (extent 2 1) ≡ None }
+    ensures of_unknown_words { one_include None ≡ None }
+    ensures of_too_many { extent_of_both (extent 4294967295 1) (extent 1 1) ≡ None }
+{}
+
+/// What ways have before distances whose words between neighbours are limited; there alone it matters.
+pub fn extents_before_distances()
+    ensures before_one { extent_inside (through_filter (together two_words one_word) (at_most 3)) ≡ extent 2 2 }
+    ensures without_one { extent_inside (through_filter (together two_words one_word) F.Ordered) ≡ extent 0 0 }
+    ensures before_one_without_end { extent_before (F.Distance (AtLeast 3) Words) (extent 2 2) ≡ no_include }
+    ensures before_one_in_sentences { extent_before (F.Distance (AtMost 3) Sentences) None ≡ no_include }
+    ensures before_two { extent_inside (through_filter (together one_word (through_filter (together two_words one_word) (at_most 3))) (at_most 1)) ≡ extent 2 7 }
+    ensures on_the_right { extent_inside (apart one_word (through_filter two_words (at_most 3))) ≡ extent 1 2 }
+    ensures on_both_sides { extent_inside (together (through_filter two_words (at_most 3)) (through_filter (together one_word one_word) (at_most 1))) ≡ extent 2 2 }
+    ensures on_either_side { extent_inside (either one_word (through_filter one_word (at_most 1))) ≡ extent 1 1 }
+    ensures in_what_is_negated { extent_inside (negated (through_filter one_word (at_most 1))) ≡ extent 0 0 }
 {}
 
 /// Excludes that are kept lie in the chosen window, in the sentence or paragraph of the includes, and behind them in order.

@@ -8,7 +8,9 @@
 //! beside it (`specs/steps/Forms.antt`).
 //!
 //! Where it is only asked whether some way is clean, a walk seeks each further hit where those that were chosen before, and
-//! the filters round all of them, let it lie (`bounds`, `narrowing`): ways that it leaves out go through no filter.
+//! the filters round all of them, let it lie (`bounds`, `narrowing`): ways that it leaves out go through no filter. How far
+//! apart the includes before a distance may lie follows from how many they are and how many words they have, which is read
+//! off the hits before (`measuring`).
 #![tactic(auto)]
 
 mod aiming;
@@ -20,9 +22,11 @@ mod choosing;
 mod cleaning;
 mod course;
 pub mod examples;
+mod extent;
 mod gathering;
 mod joining;
 mod kept_bounds;
+mod measuring;
 mod narrowing;
 mod node;
 mod own_span;

@@ -10,6 +10,7 @@ ghost use Rattle.ft_operators.specs.steps.Walking.{MayGoOn};
 use crate::PhraseHits;
 use crate::bounds::{Bounds, OrderBound, UnitBounds};
 use crate::course::{Course, Windows};
+use crate::extent::{Extent, most_between, spread};
 use crate::gathering::gather;
 use crate::node::Node;
 use crate::reach::{Reach, no_reach};
@@ -32,6 +33,7 @@ pub(crate) fn course_now<P: PhraseHits>(
         windows: course.windows,
         bounds: round_hits(&course.reach, course.bounds, held),
         reach: course.reach,
+        extent: course.extent,
     }
 }
 
@@ -130,17 +132,22 @@ fn filter_bounds(kind: &Filter, bounds: Bounds) -> Bounds
 }
 
 /// What is said of every two includes before a filter. Where each window is gone through no way is left out.
-pub(crate) fn reach_inside(windows: Windows, kind: &Filter, reach: Reach) -> Reach
-    ensures { result ≡ reach_inside windows kind.now reach }
+pub(crate) fn reach_inside(
+    windows: Windows,
+    extent: Option<Extent>,
+    kind: &Filter,
+    reach: Reach,
+) -> Reach
+    ensures { result ≡ reach_inside windows extent kind.now reach }
 {
     match windows {
         Windows::Each => reach,
-        Windows::Telling | Windows::First => filter_reach(kind, reach),
+        Windows::Telling | Windows::First => filter_reach(extent, kind, reach),
     }
 }
 
-fn filter_reach(kind: &Filter, reach: Reach) -> Reach
-    ensures { result ≡ filter_reach kind.now reach }
+fn filter_reach(extent: Option<Extent>, kind: &Filter, reach: Reach) -> Reach
+    ensures { result ≡ filter_reach extent kind.now reach }
 {
     match *kind {
         Filter::Ordered => Reach {
@@ -148,7 +155,10 @@ fn filter_reach(kind: &Filter, reach: Reach) -> Reach
             ..reach
         },
         Filter::Window(size, unit) => window_reach(size, unit),
-        Filter::Distance(..) => no_reach(),
+        Filter::Distance(range, unit) => Reach {
+            words: spread(extent, most_between(range, unit)),
+            ..no_reach()
+        },
         Filter::SameSentence => Reach {
             sentences: Some(smaller(reach.sentences, 1)),
             ..reach

@@ -7,6 +7,14 @@ pub returns-clause-in_a_window : goal.returns-clause-in_a_window
 unfolding ways_on
 returns-clause-in_a_window c = refl
 
+pub returns-clause-at_a_distance : goal.returns-clause-at_a_distance
+unfolding ways_on
+returns-clause-at_a_distance c = refl
+
+pub returns-clause-at_a_longer_one : goal.returns-clause-at_a_longer_one
+unfolding ways_on
+returns-clause-at_a_longer_one c = refl
+
 pub returns-clause-in_order : goal.returns-clause-in_order
 unfolding ways_on
 returns-clause-in_order c = refl
