@@ -35,6 +35,15 @@ tried_is left tried (way ∷ rest) =
 pub tried_all : (left : List Hit) (right : List Way) (so_far : Tried) → so_far ≡ tried_ways left none_tried right → (not so_far.some || so_far.all) ≡ admitted right left
 tried_all left right so_far is = ap (λ t. not t.some || t.all) (is ∙ tried_is left none_tried right)
 
+-- whatever follows
+barred : (left : List Hit) (tried : Tried) (ways : List Way) → (tried.some && not tried.all) ≡ true → (not (tried_ways left tried ways).some || (tried_ways left tried ways).all) ≡ false
+barred left tried ways h = ap (λ t. not t.some || t.all) (tried_is left tried ways) ∙ stays tried.some tried.all _ _ h
+  where
+    stays : (some all more rest : Bool) → (some && not all) ≡ true → (not (some || more) || (all && rest)) ≡ false
+    stays true true more rest h = cc
+    stays true false more rest h = refl
+    stays false all more rest h = cc
+
 -- ---- the ways that stand out
 
 out_is : (left right : List Way) → standing_out left right ≡ filter (λ a. admitted right (way_includes a)) left
@@ -223,6 +232,20 @@ module _ (course : Course) (left right left_now right_now : Standing) (room now_
       → Moved (one_on right_now) next mid_room next_room end next_end next_answer → length next.rest < length right_now.rest
   trying_fewer next mid_room next_room next_end next_answer there m =
       let same = ap (λ s. length s.rest) m.stand in omega (arith, same, fewer right_now.rest (sym l.there_now ∙ there))
+
+  pub tried_barred : (tried : Tried) (mid_room : ℕ) → answer ≡ true → tried ≡ with_includes (includes_now left_now.rest) (includes_now right_now.rest) so_far
+      → (tried.some && not tried.all) ≡ true → now_room ≤ mid_room → IsTried course left right left_now right_now room mid_room start end false
+  tried_barred tried mid_room there is bars grew =
+      let hits = includes_now left.rest in
+      let same = is ∙ ap (λ s. with_includes (includes_now s.rest) (includes_now right_now.rest) so_far) l.same_left in record {
+        same_left = l.same_left;
+        same_right = l.same_right;
+        tried = sym (barred hits tried (drop 1 right_now.rest) bars)
+            ∙ tried_all hits (ways_on course right.operator) (tried_ways hits tried (drop 1 right_now.rest))
+            (ap (λ t. tried_ways hits t (drop 1 right_now.rest)) same ∙ tried_more hits so_far right_now.rest (sym l.there_now ∙ there) ∙ l.tried);
+        kept_room = omega (arith, grew, l.kept_room);
+        grown = l.grown;
+      }
 
   pub tried_out : (verdict : Bool) → verdict ≡ (not so_far.some || so_far.all) → answer ≡ false → IsTried course left right left_now right_now room now_room start end verdict
   tried_out verdict is none = record {

@@ -1,6 +1,6 @@
 //! Hits that stand out of others (the standard's FTMildNot): some word that they cover is covered by none of the others.
 
-ghost use Rattle.std.specs.Prelude.{◌≡◌, ◌≤◌, ◌-◌, ◌||◌, not, length, take, drop, vec_capacity};
+ghost use Rattle.std.specs.Prelude.{◌≡◌, ◌≤◌, ◌-◌, ◌&&◌, ◌||◌, not, length, take, drop, vec_capacity};
 ghost use Rattle.std.specs.List.{list_any, range_with_len};
 ghost use Rattle.all_matches.specs.MildNot.{stands_out};
 ghost use Rattle.all_matches.specs.Positions.{covers, places_from_to};
@@ -49,6 +49,13 @@ pub(crate) fn admits(tried: Tried) -> bool
     ensures { result ≡ (not tried.some || tried.all) }
 {
     !tried.some || tried.all
+}
+
+/// Whether the way of the left side is none of the mild not, whatever ways of the right side follow.
+pub(crate) fn is_barred(tried: Tried) -> bool
+    ensures { result ≡ (tried.some && not tried.all) }
+{
+    tried.some && !tried.all
 }
 
 /// What one more way of the right side, with these includes, makes of those before it.

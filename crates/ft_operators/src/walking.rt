@@ -16,7 +16,7 @@ use crate::choosing::choice_count;
 use crate::course::{Course, course_inside, without_bounds};
 use crate::narrowing::course_now;
 use crate::node::{Fork, Node, Pair, Sieve};
-use crate::standing_out::{Tried, admits, with_way};
+use crate::standing_out::{Tried, admits, is_barred, with_way};
 use ft_base::{Hit, Steps};
 use std::sync::ledger::Ledger;
 
@@ -308,7 +308,8 @@ fn settle_apart<P: PhraseHits, L: Ledger>(
     false
 }
 
-/// Whether the present way of the left side stands out of each way of the right side, or none of these has a hit.
+/// Whether the present way of the left side stands out of each way of the right side, or none of these has a hit. No
+/// further way is tried where it is known that neither holds.
 #[cycle(walk)]
 fn is_admitted<P: PhraseHits, L: Ledger>(
     pair: &mut Pair<P>,
@@ -329,6 +330,9 @@ fn is_admitted<P: PhraseHits, L: Ledger>(
     let mut there = first(&mut pair.right, all, held, steps);
     while there {
         tried = with_way(tried, pair, held);
+        if is_barred(tried) {
+            return false;
+        }
         there = go_on(&mut pair.right, all, held, steps);
     }
     admits(tried)

@@ -1,5 +1,5 @@
 -- A node moves as its inside does, and that as the operands do.
-use Rattle.std.proofs.Common.{◌≤◌, ◌∙◌, ap, sym, subst, arith, refl, vec_capacity, true}
+use Rattle.std.proofs.Common.{◌≤◌, ◌∙◌, ap, sym, subst, arith, refl, vec_capacity, true, false}
 use Rattle.ft_operators.specs.Course.{course_inside, without_bounds}
 use Rattle.ft_operators.specs.Standing.{at_prefix, course_now, frame, one_on}
 use Rattle.ft_operators.specs.steps.Apart.{IsTried}
@@ -12,7 +12,7 @@ use Rattle.ft_operators.proofs.SeenLemmas.{apart_room, counted, first_shape, nex
 use Rattle.ft_operators.proofs.TupleLemmas.{kept_shape, standing_room, standing_shape}
 use Rattle.ft_operators.proofs.NodeLemmas.{standing_Phrase, standing_Choice, standing_Both, standing_MildNot, standing_Negated, standing_Filtered, inside_Phrase, inside_Choice, inside_Both, inside_MildNot, inside_Negated, inside_Filtered, moved_inside}
 use Rattle.ft_operators.proofs.SieveLemmas.{lead_below}
-use Rattle.ft_operators.proofs.ApartLemmas.{apart_first, apart_next, sifting_may, apart_settled, sifting_left_may, sifting_on, sifting_fewer, apart_end, trying_may, trying_on, trying_fewer, tried_out}
+use Rattle.ft_operators.proofs.ApartLemmas.{apart_first, apart_next, sifting_may, apart_settled, sifting_left_may, sifting_on, sifting_fewer, apart_end, trying_may, trying_on, trying_fewer, tried_barred, tried_out}
 use Rattle.ft_operators.proofs.WalkLemmas.{choice_first_left, choice_first_right, negation_first, negation_next, sieve_first, sieve_next_choice, sieve_next_way, settling_may, settling_on, settled_here, settled_none, settling_fewer}
 use Rattle.ft_operators.proofs.walking.+walk.Goals as goal
 
@@ -477,6 +477,21 @@ is_admitted-loop-there-preserved g t c =
     (subst (λ e. MayGoOn (apart_of course (standing state course c.args.pair.now.left) (standing state e c.args.pair.now.right)) (vec_capacity c.args.held.now)) (sym c.without_bounds-all.ensures) c.requires)
     (omega arith) c.loop-there-test.true in
     trying_on all _ _ _ _ _ _ _ _ _ _ c.loop-there.invariant c.with_way-tried.result _ _ _ _ _ c.loop-there-test.true (c.with_way-tried.ensures.tried course all may) c.with_way-tried.ensures.room c.go_on-there.ensures
+
+pub is_admitted-returns-then-is_barred : goal.is_admitted-returns-then-is_barred
+is_admitted-returns-then-is_barred g t c =
+    let state = g.P.PhraseHits.state in
+    let course = c.args.course in
+    let at = standing state course in
+    let old = c.args.pair.now in
+    let now = c.loop-there.pair in
+    let all = c.without_bounds-all.result in
+    let may = trying_may all _ _ _ _ _ _ _ _ _ _ c.loop-there.invariant course _
+    (subst (λ e. MayGoOn (apart_of course (standing state course c.args.pair.now.left) (standing state e c.args.pair.now.right)) (vec_capacity c.args.held.now)) (sym c.without_bounds-all.ensures) c.requires)
+    (omega arith) c.loop-there-test.true in
+    subst (λ e. IsTried e (at old.left) (standing state e old.right) (at now.left) (standing state e now.right) (vec_capacity c.args.held.now) (vec_capacity c.with_way-tried.new.held) c.args.steps.now c.loop-there.steps false)
+    c.without_bounds-all.ensures
+    (tried_barred all _ _ _ _ _ _ _ _ _ _ c.loop-there.invariant c.with_way-tried.result _ c.loop-there-test.true (c.with_way-tried.ensures.tried course all may) (sym c.is_barred.ensures ∙ c.if-is_barred.true) c.with_way-tried.ensures.room)
 
 pub is_admitted-returns : goal.is_admitted-returns
 is_admitted-returns g t c =
