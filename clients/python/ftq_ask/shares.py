@@ -2,21 +2,99 @@
 
 Each document is judged by itself, so that the answer to a query is the answers of the shares one after the other. An edit goes to
 the share that holds its document. Each share has the limits of one program: 4,096 documents and 64 MiB.
+
+Where a machine goes away, what its share was given is given to another one, and the question is asked again there: it costs time, and the
+answer is the same. Where there is no other machine, `LeftOut` says which documents are missing, with what the others answer.
 """
 
 from __future__ import annotations
 
 import io
+import tempfile
 import zipfile
+import zlib
 from concurrent.futures import Future, ThreadPoolExecutor, wait
 from pathlib import Path
 from typing import Any, Callable, Iterable, TypeVar
 
 import ftq_client
-from ftq_client import Done, Element, Found, NameTaken, NoSuchDocument, NoSuchName, Reply, Session
+from ftq_client import ClientError, Done, Element, Found, NameTaken, NoSuchDocument, NoSuchName, ProgramEnded, Reply, Session
 
 Answer = TypeVar("Answer")
 Part = TypeVar("Part")
+
+MOST_MOVES = 5
+"""How often a share is given to another machine before one of its calls is given up."""
+
+LOOK_SECONDS = 1.0
+"""How long an answer from another machine is awaited before it is looked whether that machine is still there."""
+
+
+class Lost(ClientError):
+    """The machine that held a share went away, and there is no other."""
+
+    def __init__(self, why: str = "the machine that held a share of the documents went away, and there is no other") -> None:
+        super().__init__(why)
+
+
+class NoMachine(Lost):
+    """There is no machine for a share now."""
+
+
+class LeftOut(ClientError):
+    """An answer without the documents of a share whose machine went away, where no other takes them. `documents` names these, `found` is what the
+    other shares answer. The next question tries again to find a machine for them."""
+
+    def __init__(self, documents: Iterable[str], found: list[Any]) -> None:
+        self.documents, self.found = tuple(documents), found
+        names = ", ".join(self.documents[:3]) + (", .." if len(self.documents) > 3 else "")
+        count = len(self.documents)
+        super().__init__(
+            f"{count:,} document{'' if count == 1 else 's'} ({names}) {'is' if count == 1 else 'are'} left out, since the machine that held them went "
+            f"away and no other takes them; the others have {len(found):,} elements"
+        )
+
+    def __reduce__(self) -> tuple[type["LeftOut"], tuple[tuple[str, ...], list[Any]]]:
+        return LeftOut, (self.documents, self.found)
+
+
+class Kept:
+    """What a share was given and still holds, in a file of this machine, so that it can be given to another engine."""
+
+    def __init__(self) -> None:
+        self._file = tempfile.TemporaryFile(prefix="ftq-share-")
+        self._documents: dict[str, tuple[int, int]] = {}
+        self._calls: dict[tuple[str, str], tuple[Any, ...]] = {}
+
+    @property
+    def documents(self) -> tuple[str, ...]:
+        """The names of the documents, in the order of loading."""
+        return tuple(self._documents)
+
+    def load(self, name: str, content: bytes) -> None:
+        """The share holds a document more."""
+        self._documents[name] = self._file.seek(0, io.SEEK_END), len(content)
+        self._file.write(content)
+
+    def drop(self, name: str) -> None:
+        """It holds a document no more."""
+        self._documents.pop(name, None)
+
+    def called(self, method: str, name: str, *words: Any) -> None:
+        """A list was given to it, or something else that the last call of its kind tells."""
+        self._calls[method, name] = words
+
+    def give(self, engine: Any) -> None:
+        """Gives all of that to an engine that holds nothing."""
+        for (method, _), words in self._calls.items():
+            getattr(engine, method)(*words)
+        for name, (at, size) in self._documents.items():
+            self._file.seek(at)
+            engine.load(name, self._file.read(size))
+
+    def close(self) -> None:
+        """Gives the file up."""
+        self._file.close()
 
 
 def divided(sizes: list[int], shares: int) -> list[int]:
@@ -31,10 +109,16 @@ def divided(sizes: list[int], shares: int) -> list[int]:
 class Shares:
     """An engine over several others. Documents go to the share that was last told of, and to the last one at first."""
 
-    def __init__(self, engines: list[Any], at_end: Callable[[], None] = lambda: None) -> None:
-        """Over these engines; `at_end` is called when they are closed."""
+    def __init__(self, engines: list[Any], at_end: Callable[[], None] = lambda: None, another: Callable[[int], Any] | None = None) -> None:
+        """Over these engines; `at_end` is called when they are closed. `another` makes an engine for the share of that number on a machine
+        that is there, or raises `Lost`; it is called where an engine raises `Lost`."""
         self._engines = engines
         self._at_end = at_end
+        self._another = another
+        self._kept = [Kept() for _ in engines] if another else []
+        self._is_given_up = False
+        self.moves = 0
+        """How often a share was given to another machine."""
         # A session is for one thread: each has a lane of its own, in which what is asked of it stands in a row.
         self._lanes = [ThreadPoolExecutor(max_workers=1) for _ in engines]
         self._homes: dict[str, int] = {}
@@ -50,19 +134,24 @@ class Shares:
         """Loads a document into the share of now."""
         if name in self._homes:
             raise NameTaken(f"! 3 name taken: {name}", name=name)
-        self._engines[self.share].load(name, content)
+        self._lanes[self.share].submit(self._load, self.share, name, content).result()
         self._homes[name] = self.share
 
     def load_all(self, documents: Iterable[tuple[int, str, bytes]], done: Callable[[str, Exception | None], None]) -> None:
         """Loads documents, each with its share, into all shares at once; `done` is told of each, with the fault if there was one."""
         waiting: list[tuple[int, str, Future[None]]] = []
         for share, name, content in documents:
-            waiting.append((share, name, self._lanes[share].submit(self._engines[share].load, name, content)))
+            waiting.append((share, name, self._lanes[share].submit(self._load, share, name, content)))
             # Few documents wait at a time, so that a collection needn't stand in memory.
             if len(waiting) > 4 * len(self._lanes):
                 self._await(*waiting.pop(0), done)
         for it in waiting:
             self._await(*it, done)
+
+    def _load(self, share: int, name: str, content: bytes) -> None:
+        self._ask(share, lambda it: it.load(name, content))
+        for kept in self._kept[share : share + 1]:
+            kept.load(name, content)
 
     def _await(self, share: int, name: str, result: Future[None], done: Callable[[str, Exception | None], None]) -> None:
         fault = result.exception()
@@ -76,20 +165,23 @@ class Shares:
         """Drops a document from the share that holds it."""
         if name not in self._homes:
             raise NoSuchName(f"! 4 no such name: {name}", name=name)
-        self._engines[self._homes[name]].drop(name)
+        share = self._homes[name]
+        self._lanes[share].submit(self._ask, share, lambda it: it.drop(name)).result()
+        for kept in self._kept[share : share + 1]:
+            kept.drop(name)
         del self._homes[name]
 
     def stop(self, name: str, words: bytes) -> None:
         """Gives a stop list to all shares."""
-        self._all(lambda it: it.stop(name, words))
+        self._give("stop", name, name, words)
 
     def stems(self, lines: bytes) -> None:
         """Gives the stems to all shares."""
-        self._all(lambda it: it.stems(lines))
+        self._give("stems", "", lines)
 
     def thesaurus(self, name: str, lines: bytes) -> None:
         """Gives a thesaurus to all shares."""
-        self._all(lambda it: it.thesaurus(name, lines))
+        self._give("thesaurus", name, name, lines)
 
     def query(self, path: str) -> list[Element]:
         """The elements that the path selects, those of the first share first."""
@@ -119,44 +211,98 @@ class Shares:
 
     def give_up_after(self, seconds: float | None) -> None:
         """Lets each share raise `TimedOut` where it takes longer to answer."""
-        self._all(lambda it: it.give_up_after(seconds))
+        self._give("give_up_after", "", seconds)
 
     def close(self) -> int:
         """Ends all programs; the greatest of their statuses."""
-        statuses = self._all(lambda it: it.close())
+        closing = [lane.submit(self._close, share) for share, lane in enumerate(self._lanes)]
+        statuses = [it.result() for it in closing]
         for lane in self._lanes:
             lane.shutdown()
+        for kept in self._kept:
+            kept.close()
         self._at_end()
         return max(statuses)
+
+    def _close(self, share: int) -> int:
+        try:
+            return self._engines[share].close() if self._engines[share] else 0
+        except Lost:
+            return 0
+
+    def _ask(self, share: int, ask: Callable[[Any], Answer]) -> Answer:
+        """The answer of a share, in its lane. Where its machine went away, another one is given what it held, and asked; a program that
+        somebody ended is asked once more, since its session starts another one with the same documents."""
+        moved, was_ended = 0, False
+        while True:
+            try:
+                if self._engines[share] is None:
+                    self._engines[share] = self._made_again(share)
+                return ask(self._engines[share])
+            except NoMachine:
+                raise
+            except Lost as lost:
+                self._engines[share], moved = None, moved + 1
+                if self._another is None or moved > MOST_MOVES:
+                    raise NoMachine(str(lost)) from lost
+            except ProgramEnded as ended:
+                if ended.status >= 0 or was_ended or self._is_given_up:
+                    raise
+                was_ended = True
+
+    def _made_again(self, share: int) -> Any:
+        """Another engine with what the share was given. Without a machine for it the share has to wait, and the call is over."""
+        assert self._another
+        try:
+            engine = self._another(share)
+        except Lost as lost:
+            raise NoMachine(str(lost)) from lost
+        self._kept[share].give(engine)
+        self.moves += 1
+        return engine
 
     def _asked(self, ask: Callable[[Any], Answer]) -> list[Future[Answer]]:
         """Asks all shares at once, and waits for all of them. An interrupt ends their programs, which are started again when they are
         asked next."""
-        asked = [lane.submit(ask, engine) for lane, engine in zip(self._lanes, self._engines)]
+        self._is_given_up = False
+        asked = [lane.submit(self._ask, share, ask) for share, lane in enumerate(self._lanes)]
         try:
             wait(asked)
         except KeyboardInterrupt:
+            self._is_given_up = True
             for engine in self._engines:
                 if isinstance(engine, Session):
                     engine.interrupt()
             raise
         return asked
 
-    def _all(self, ask: Callable[[Any], Answer]) -> list[Answer]:
-        """The answers of all shares; the first fault that one of them tells is raised when all have answered."""
-        return [it.result() for it in self._asked(ask)]
+    def _give(self, method: str, name: str, *words: Any) -> None:
+        """Gives all shares a list, say; the first fault that one of them tells is raised when all have answered. One whose machine went away
+        gets it with its documents."""
+        faults = [it.exception() for it in self._asked(lambda it: getattr(it, method)(*words))]
+        others = [it for it in faults if it and not isinstance(it, NoMachine)]
+        if others:
+            raise others[0]
+        for kept in self._kept:
+            kept.called(method, name, *words)
 
     def _joined(self, ask: Callable[[Any], list[Part]]) -> list[Part]:
         """The answers one after the other. A document that a path names is in one share; the others' word that it isn't there
         doesn't count."""
         asked = self._asked(ask)
         faults = [it.exception() for it in asked]
-        others = [it for it in faults if it and not isinstance(it, NoSuchDocument)]
+        others = [it for it in faults if it and not isinstance(it, (NoSuchDocument, NoMachine))]
         if others:
             raise others[0]
-        if faults[0] and all(faults):
-            raise faults[0]
-        return [part for fault, it in zip(faults, asked) if fault is None for part in it.result()]
+        lost = [share for share, it in enumerate(faults) if isinstance(it, NoMachine)]
+        absent = [it for it in faults if isinstance(it, NoSuchDocument)]
+        found = [part for fault, it in zip(faults, asked) if fault is None for part in it.result()]
+        is_named_elsewhere = bool(absent) and len(absent) + len(lost) < len(faults)
+        if lost and not is_named_elsewhere:
+            raise LeftOut([name for share in lost for name in self._kept[share].documents], found)
+        if absent and not is_named_elsewhere:
+            raise absent[0]
+        return found
 
 
 def local_shares(count: int, program: Path | None = None) -> Shares:
@@ -165,13 +311,39 @@ def local_shares(count: int, program: Path | None = None) -> Shares:
 
 
 class RemoteSession:
-    """A session on another machine, as an actor of Dask's `distributed`: the same calls, each awaited."""
+    """A session on another machine, as an actor of Dask's `distributed`: the same calls, each awaited. Where the machine goes away, `Lost` is
+    raised, also in the middle of a call."""
 
-    def __init__(self, actor: Any) -> None:
-        self._actor = actor
+    def __init__(self, client: Any, worker: str, program: bytes) -> None:
+        """Makes one on the worker of that address, with the program, whose bytes are packed by zlib."""
+        self._client = client
+        self.worker = worker
+        self._actor = self._awaited(lambda: client.submit(Actor, program, actor=True, workers=[worker], pure=False))
 
     def __getattr__(self, name: str) -> Callable[..., Any]:
-        return lambda *words: getattr(self._actor, "call")(name, *words).result()
+        return lambda *words: self._call(name, words)
+
+    def _call(self, name: str, words: tuple[Any, ...]) -> Any:
+        fault, answer = self._awaited(lambda: getattr(self._actor, "call")(name, *words))
+        if fault:
+            raise fault
+        return answer
+
+    def _awaited(self, begin: Callable[[], Any]) -> Any:
+        """What is begun on the other machine comes to. What `distributed` raises by itself means that the machine is lost, as does that
+        the scheduler knows it no more: an answer that is awaited from it would never come."""
+        try:
+            result = begin()
+            while True:
+                try:
+                    return result.result(timeout=LOOK_SECONDS)
+                except TimeoutError:
+                    if self.worker not in workers_of(self._client):
+                        raise Lost() from None
+        except Lost:
+            raise
+        except Exception as error:
+            raise Lost(f"the machine at {self.worker} is lost: {error}") from error
 
 
 class Actor:
@@ -179,22 +351,25 @@ class Actor:
 
     def __init__(self, program: bytes) -> None:
         import os
-        import tempfile
 
         from ftq_client import Session as Here
 
         handle, path = tempfile.mkstemp(prefix="ftq-")
         with os.fdopen(handle, "wb") as file:
-            file.write(program)
+            file.write(zlib.decompress(program))
         os.chmod(path, 0o700)
         self._session = Here(path)
 
-    def call(self, name: str, *words: Any) -> Any:
-        """Calls a method of the session; `close` takes the program away too."""
-        answer = getattr(self._session, name)(*words)
+    def call(self, name: str, *words: Any) -> tuple[Exception | None, Any]:
+        """What a method of the session raises, and what it answers; `close` takes the program away too."""
+        fault, answer = None, None
+        try:
+            answer = getattr(self._session, name)(*words)
+        except Exception as raised:
+            fault = raised
         if name == "close":
             self._session.program.unlink(missing_ok=True)
-        return answer
+        return fault, answer
 
 
 def package_bytes() -> bytes:
@@ -208,21 +383,35 @@ def package_bytes() -> bytes:
     return out.getvalue()
 
 
-def scheduled_shares(address: str, count: int | None, program: Path) -> Shares:
-    """So many programs on the workers of a scheduler, dealt out among them in turn; without a number one for each worker."""
-    import tempfile
+def workers_of(client: Any) -> list[str]:
+    """The addresses of the workers that the scheduler knows now; none where the scheduler itself is away."""
+    return sorted(client.scheduler_info()["workers"]) if client.status == "running" else []
 
+
+def scheduled_shares(address: str, count: int | None, program: Path) -> Shares:
+    """So many programs on the workers of a scheduler, dealt out among them in turn; without a number one for each worker. Where a worker goes
+    away, its shares go to those that have the fewest, also to such as came later."""
     from distributed import Client
+    from distributed.diagnostics.plugin import UploadFile
 
     # Actors look for the client that is the default one.
     client = Client(address)
-    workers = sorted(client.scheduler_info()["workers"])
+    workers = workers_of(client)
     if not workers:
         raise ValueError(f"the scheduler at {address} has no workers")
     with tempfile.TemporaryDirectory() as folder:
         package = Path(folder) / "ftq_packages.zip"
         package.write_bytes(package_bytes())
-        client.upload_file(str(package))
-    sent = client.scatter(program.read_bytes(), broadcast=True)
-    actors = [client.submit(Actor, sent, actor=True, workers=[workers[it % len(workers)]], pure=False) for it in range(count or len(workers))]
-    return Shares([RemoteSession(it.result()) for it in actors], client.close)
+        # Workers that come later get it too. The method has another name in later versions.
+        (getattr(client, "register_plugin", None) or client.register_worker_plugin)(UploadFile(str(package)))
+    packed = zlib.compress(program.read_bytes())
+    engines: list[Any] = [RemoteSession(client, workers[it % len(workers)], packed) for it in range(count or len(workers))]
+
+    def another(share: int) -> RemoteSession:
+        there = workers_of(client)
+        loads = {it: sum(1 for engine in engines if engine is not None and engine.worker == it) for it in there}
+        if not loads:
+            raise Lost()
+        return RemoteSession(client, min(loads, key=lambda it: (loads[it], it)), packed)
+
+    return Shares(engines, client.close, another)

@@ -24,18 +24,19 @@ VARIABLE = "FTQ"
 
 def find_program() -> Path:
     """The program to start where none is given: what the variable FTQ names, else what was built in the checkout of the repository that
-    this package lies in, else `ftq` on the path."""
+    this package lies in or was packed beside it, else `ftq` on the path."""
     named = os.environ.get(VARIABLE)
     if named:
         return Path(named)
-    top = Path(__file__).resolve().parents[3]
-    built = top / "crates" / "ftq" / "out" / "ftq"
-    if os.access(built, os.X_OK):
-        return built
+    above = Path(__file__).resolve().parents
+    for top in above:
+        for built in (top / "crates" / "ftq" / "out" / "ftq", top / "lib" / "ftq" / "ftq"):
+            if os.access(built, os.X_OK):
+                return built
     found = shutil.which("ftq")
     if found:
         return Path(found)
-    building = " (./ftq examples/hello.ftq builds it)" if (top / "crates.txt").exists() else ""
+    building = " (./ftq examples/hello.ftq builds it)" if any((top / "crates.txt").exists() for top in above) else ""
     raise ProgramMissing(f"the program ftq isn't found{building}: name it by an argument or by the variable {VARIABLE}, or put it on the path")
 
 
