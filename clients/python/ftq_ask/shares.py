@@ -185,11 +185,11 @@ class Shares:
 
     def query(self, path: str) -> list[Element]:
         """The elements that the path selects, those of the first share first."""
-        return self._joined(lambda it: it.query(path))
+        return self._joined(path, lambda it: it.query(path))
 
     def print(self, path: str) -> list[str]:
         """The elements that the path selects as XML, those of the first share first."""
-        return self._joined(lambda it: it.print(path))
+        return self._joined(path, lambda it: it.print(path))
 
     def command(self, line: str, block: bytes | None = None) -> Reply:
         """The reply to a command. Queries go to all shares, lists too, documents to the share that is theirs; a `ValueError` tells of
@@ -197,7 +197,7 @@ class Shares:
         words = line.split()
         kind, names = (words[0] if words else ""), words[1:]
         if kind in ("query", "print"):
-            return Found(tuple(self._joined(lambda it: list(it.command(line).lines))))
+            return Found(tuple(self._joined(line.strip()[len(kind) :], lambda it: list(it.command(line).lines))))
         by_name = {"load": self.load, "stop": self.stop, "thesaurus": self.thesaurus}
         if kind in by_name and len(names) == 1 and block is not None:
             by_name[kind](names[0], block)
@@ -286,9 +286,9 @@ class Shares:
         for kept in self._kept:
             kept.called(method, name, *words)
 
-    def _joined(self, ask: Callable[[Any], list[Part]]) -> list[Part]:
-        """The answers one after the other. A document that a path names is in one share; the others' word that it isn't there
-        doesn't count."""
+    def _joined(self, path: str, ask: Callable[[Any], list[Part]]) -> list[Part]:
+        """The answers to a path one after the other. A document that it names is in one share; the others' word that it isn't there
+        doesn't count, and where one has it none is left out."""
         asked = self._asked(ask)
         faults = [it.exception() for it in asked]
         others = [it for it in faults if it and not isinstance(it, (NoSuchDocument, NoMachine))]
@@ -297,10 +297,11 @@ class Shares:
         lost = [share for share, it in enumerate(faults) if isinstance(it, NoMachine)]
         absent = [it for it in faults if isinstance(it, NoSuchDocument)]
         found = [part for fault, it in zip(faults, asked) if fault is None for part in it.result()]
-        is_named_elsewhere = bool(absent) and len(absent) + len(lost) < len(faults)
-        if lost and not is_named_elsewhere:
+        if path.lstrip().startswith("doc") and None in faults:
+            return found
+        if lost:
             raise LeftOut([name for share in lost for name in self._kept[share].documents], found)
-        if absent and not is_named_elsewhere:
+        if absent:
             raise absent[0]
         return found
 
