@@ -213,6 +213,19 @@ class Shares:
         """Lets each share raise `TimedOut` where it takes longer to answer."""
         self._give("give_up_after", "", seconds)
 
+    def interrupt(self) -> None:
+        """Ends the programs that are sessions of this machine, from another thread; they are started again when they are asked next."""
+        self._is_given_up = True
+        for engine in self._engines:
+            if isinstance(engine, Session):
+                engine.interrupt()
+
+    def twin(self) -> "Shares":
+        """The same shares anew, each over an engine that is made like this one's."""
+        other = Shares([it.twin() for it in self._engines])
+        other._homes = dict(self._homes)
+        return other
+
     def close(self) -> int:
         """Ends all programs; the greatest of their statuses."""
         closing = [lane.submit(self._close, share) for share, lane in enumerate(self._lanes)]
@@ -269,10 +282,7 @@ class Shares:
         try:
             wait(asked)
         except KeyboardInterrupt:
-            self._is_given_up = True
-            for engine in self._engines:
-                if isinstance(engine, Session):
-                    engine.interrupt()
+            self.interrupt()
             raise
         return asked
 

@@ -36,6 +36,7 @@ from .faults import (
     TimedOut,
     refusal_of,
 )
+from .folders import Folder
 from .program import find_program
 from .replies import Counts, Done, Element, Found, Reply, Said, Step
 from .session import Engine, Position, Session
@@ -53,6 +54,7 @@ __all__ = [
     "Done",
     "Element",
     "Engine",
+    "Folder",
     "Found",
     "Full",
     "ManyTargets",

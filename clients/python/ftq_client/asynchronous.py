@@ -9,6 +9,7 @@ from types import TracebackType
 from typing import Callable, TypeVar
 
 from .blocks import Content
+from .folders import Folder
 from .program import MOST_BYTES
 from .replies import Counts, Element, Reply
 from .session import Position, Session
@@ -36,6 +37,10 @@ class AsyncSession:
         """As `Session.load`."""
         await self._in_turn(lambda: self.session.load(name, content))
 
+    async def load_folder(self, folder: str | Path, pattern: str = "**/*.xml") -> Folder:
+        """As `Session.load_folder`."""
+        return await self._in_turn(lambda: self.session.load_folder(folder, pattern))
+
     async def drop(self, name: str) -> None:
         """As `Session.drop`."""
         await self._in_turn(lambda: self.session.drop(name))
@@ -59,6 +64,10 @@ class AsyncSession:
     async def print(self, path: str) -> list[str]:
         """As `Session.print`."""
         return await self._in_turn(lambda: self.session.print(path))
+
+    async def text(self, element: Element | str) -> str:
+        """As `Session.text`."""
+        return await self._in_turn(lambda: self.session.text(element))
 
     async def insert(self, position: Position, path: str, content: Content) -> None:
         """As `Session.insert`."""

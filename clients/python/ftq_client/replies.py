@@ -5,6 +5,7 @@ from __future__ import annotations
 import re
 from dataclasses import dataclass
 from typing import NamedTuple, Union
+from xml.parsers import expat
 
 
 class Step(NamedTuple):
@@ -36,6 +37,15 @@ class Element:
             raise ValueError(f"no line that names an element: {line!r}")
         steps = tuple(Step(name, int(number)) for name, number in cls.STEP.findall(parts[2]))
         return cls(parts[1], steps, line)
+
+
+def text_of(printed: str) -> str:
+    """All text of an element as `print` writes it. A colon is a character of a name there, so that no prefix has to be declared."""
+    texts: list[str] = []
+    parser = expat.ParserCreate()
+    parser.CharacterDataHandler = texts.append
+    parser.Parse(printed, True)
+    return "".join(texts)
 
 
 @dataclass(frozen=True)

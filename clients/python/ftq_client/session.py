@@ -11,9 +11,10 @@ from typing import Iterator, Literal, Protocol, TypeVar, get_args
 
 from .blocks import Content, command_bytes
 from .faults import ClientError, ProgramEnded, Refusal, SessionClosed, SessionFull, TimedOut
+from .folders import Folder, named_files
 from .history import History
 from .program import MOST_BYTES, Process, find_program
-from .replies import Counts, Done, Element, Found, Reply, Said
+from .replies import Counts, Done, Element, Found, Reply, Said, text_of
 
 Wanted = TypeVar("Wanted", Done, Found, Said)
 
@@ -78,6 +79,18 @@ class Session:
         """Reads `content` as a document and puts it last in the collection. Any bytes may be given, or a text."""
         self._said(self.command(f"load {name}", content), Done)
 
+    def load_folder(self, folder: str | Path, pattern: str = "**/*.xml") -> Folder:
+        """Loads the files of a folder whose paths match, in their order, each under its path's name. One that the program refuses, as it does one
+        with a document type, is told with the refusal, and the rest goes on; `ftq_ask` reads such files by lxml."""
+        came = Folder({}, {})
+        for name, path in named_files(Path(folder), pattern):
+            try:
+                self.load(name, path.read_bytes())
+                came.documents[name] = path
+            except (Refusal, SessionFull) as fault:
+                came.refused[path] = fault
+        return came
+
     def drop(self, name: str) -> None:
         """Takes the document out of the collection."""
         self._said(self.command(f"drop {name}"), Done)
@@ -102,6 +115,14 @@ class Session:
     def print(self, path: str) -> list[str]:
         """The elements that the path selects as XML, each on one line, in the order of `query`."""
         return list(self._said(self.command(f"print {path}"), Found).lines)
+
+    def text(self, element: Element | str) -> str:
+        """All text inside an element that was found, or inside the one that a path selects; a `ValueError` where it selects none or several."""
+        path = element if isinstance(element, str) else element.line
+        printed = self.print(path)
+        if len(printed) != 1:
+            raise ValueError(f"{path} selects {len(printed)} elements, and the text is that of one")
+        return text_of(printed[0])
 
     def insert(self, position: Position, path: str, content: Content) -> None:
         """Reads `content` as nodes and puts them into the one element that the path selects, as its first or last children, or before or after it."""
