@@ -141,7 +141,7 @@ def say_refusal(console: Console, path: str, refusal: Refusal, fault_of: Callabl
             if advice.write:
                 say(console, Text(f"    {advice.write}", "green"))
     else:
-        say(console, Text(prefix + _in_words(refusal), "red"))
+        say(console, Text(prefix + in_words(refusal), "red"))
 
 
 _WORDS: dict[int, Callable[[Refusal], str]] = {
@@ -154,6 +154,6 @@ _WORDS: dict[int, Callable[[Refusal], str]] = {
 }
 
 
-def _in_words(refusal: Refusal) -> str:
+def in_words(refusal: Refusal) -> str:
     say_it = _WORDS.get(refusal.number)
     return say_it(refusal) if say_it else refusal.reply.removeprefix("! ").lstrip("0123456789 ")

@@ -31,36 +31,43 @@ FOUND, NONE, FAULT = 0, 1, 2
 def parser() -> argparse.ArgumentParser:
     """The words of the tool."""
     it = argparse.ArgumentParser(prog="ask", description=__doc__, formatter_class=argparse.RawDescriptionHelpFormatter)
-    it.add_argument("paths", nargs="+", type=Path, metavar="FOLDER|FILE")
+    add_collection(it)
     it.add_argument("--query", metavar="PATH", action="append", default=[], help="answers this question and ends; may be given again")
     it.add_argument("--format", choices=answers.FORMATS, default="text", help="how the answer to --query is written")
     it.add_argument("--count", action="store_true", help="writes how many elements there are, and nothing else")
-    it.add_argument("--limit", type=_number, metavar="N", help="shows N elements at most of each answer")
-    it.add_argument("--offset", type=_number, default=0, metavar="N", help="leaves out the first N elements")
+    it.add_argument("--limit", type=number, metavar="N", help="shows N elements at most of each answer")
+    it.add_argument("--offset", type=number, default=0, metavar="N", help="leaves out the first N elements")
     it.add_argument("--whole", action="store_true", help="shows the whole text of each element")
-    add_arguments(it)
-    it.add_argument("--stem", metavar="LANGUAGE", help="makes the stems of the collection's words, for using stemming")
-    it.add_argument("--stop", metavar="LANGUAGE", action="append", default=[], help='loads a stop list, for using stop words at "LANGUAGE"')
     it.add_argument("--as-typed", action="store_true", help="asks as it is typed: without it ' finds ’ too")
-    it.add_argument("--timeout", type=_seconds, metavar="SECONDS", help="gives a question up that isn't answered in so many seconds")
-    it.add_argument("--workers", type=_number, metavar="N", help="divides the documents among N programs")
-    it.add_argument("--scheduler", metavar="ADDRESS", help="divides them over the workers of Dask's scheduler there")
-    it.add_argument("--program", type=Path, metavar="FILE", help="the program that answers")
+    it.add_argument("--timeout", type=seconds, metavar="SECONDS", help="gives a question up that isn't answered in so many seconds")
+    it.add_argument("--scheduler", metavar="ADDRESS", help="divides the documents over the workers of Dask's scheduler there")
     return it
 
 
-def _number(word: str) -> int:
-    number = int(word)
-    if number < 0:
+def add_collection(it: argparse.ArgumentParser) -> None:
+    """The words of a call that say what is asked, and by which programs."""
+    it.add_argument("paths", nargs="+", type=Path, metavar="FOLDER|FILE")
+    add_arguments(it)
+    it.add_argument("--stem", metavar="LANGUAGE", help="makes the stems of the collection's words, for using stemming")
+    it.add_argument("--stop", metavar="LANGUAGE", action="append", default=[], help='loads a stop list, for using stop words at "LANGUAGE"')
+    it.add_argument("--workers", type=number, metavar="N", help="divides the documents among N programs")
+    it.add_argument("--program", type=Path, metavar="FILE", help="the program that answers")
+
+
+def number(word: str) -> int:
+    """A number that a word of a call gives."""
+    told = int(word)
+    if told < 0:
         raise argparse.ArgumentTypeError("a number below zero")
-    return number
+    return told
 
 
-def _seconds(word: str) -> float:
-    seconds = float(word)
-    if not seconds > 0:
+def seconds(word: str) -> float:
+    """A time that a word of a call gives."""
+    told = float(word)
+    if not told > 0:
         raise argparse.ArgumentTypeError("no time at all")
-    return seconds
+    return told
 
 
 def read_words(arguments: list[str]) -> argparse.Namespace:
@@ -75,6 +82,10 @@ def read_words(arguments: list[str]) -> argparse.Namespace:
 
 def main(arguments: list[str]) -> int:
     """The tool: its exit status."""
+    if arguments[:1] == ["serve"]:
+        from .serving.command import serve
+
+        return serve(arguments[1:])
     options = read_words(arguments)
     errors = Console(stderr=True)
     try:
@@ -83,8 +94,11 @@ def main(arguments: list[str]) -> int:
     except (ClientError, NoList, OSError, ValueError) as error:
         answers.say(errors, f"ask: {error}")
         return FAULT
+    start = time.monotonic()
     try:
-        _load(collection, options, errors)
+        load(collection, options, errors)
+        if not options.query:
+            answers.say(errors, loaded(collection, start))
         collection.engine.give_up_after(options.timeout)
         if options.query:
             return answer_all(collection, options, errors)
@@ -112,9 +126,8 @@ def _engine(options: argparse.Namespace) -> Any:
     return Session(program)
 
 
-def _load(collection: Collection, options: argparse.Namespace, errors: Console) -> None:
+def load(collection: Collection, options: argparse.Namespace, errors: Console) -> None:
     """Loads the files with a bar where there is a terminal, and names what wasn't taken."""
-    start = time.monotonic()
     planned = collection.plan(options.paths)
     if errors.is_terminal:
         _load_with_bar(collection, planned, errors)
@@ -130,10 +143,12 @@ def _load(collection: Collection, options: argparse.Namespace, errors: Console) 
     collection.send_stems()
     for language in options.stop:
         collection.send_stop_list(language)
-    if not options.query:
-        seconds = time.monotonic() - start
-        count = len(collection.sources)
-        answers.say(errors, f"{count:,} document{'' if count == 1 else 's'}, {collection.bytes / 1e6:,.1f} MB, in {seconds:.1f} s")
+
+
+def loaded(collection: Collection, start: float) -> str:
+    """What was loaded since a time, in words."""
+    count = len(collection.sources)
+    return f"{count:,} document{'' if count == 1 else 's'}, {collection.bytes / 1e6:,.1f} MB, in {time.monotonic() - start:.1f} s"
 
 
 def _load_with_bar(collection: Collection, planned: list[Planned], errors: Console) -> None:

@@ -2,9 +2,11 @@
 
 from __future__ import annotations
 
+import threading
 from collections import OrderedDict
 from dataclasses import dataclass
 from pathlib import Path
+from typing import Callable
 
 from lxml import etree
 
@@ -54,7 +56,7 @@ class Located:
         return f"{self.path}:{self.line}" if self.line else str(self.path)
 
 
-class _Document:
+class Document:
     """A document's tree, in which children are found by name and number in one look."""
 
     def __init__(self, tree: Tree, path: Path) -> None:
@@ -95,43 +97,60 @@ class _Document:
         return self._children[parent]
 
 
+class Kept:
+    """Documents that were read to be shown, the last ones, since answers name one document after another."""
+
+    def __init__(self, most: int = 4) -> None:
+        self._most = most
+        self._documents: OrderedDict[tuple[str, bytes], "Document | str"] = OrderedDict()
+        self._lock = threading.Lock()
+
+    def get(self, key: tuple[str, bytes], read: Callable[[], "Document | str"]) -> "Document | str":
+        """The document of that name and digest, or why it can't be read, which `read` tells where it isn't kept."""
+        with self._lock:
+            document = self._documents.get(key)
+        if document is None:
+            document = read()
+        with self._lock:
+            self._documents[key] = document
+            self._documents.move_to_end(key)
+            if len(self._documents) > self._most:
+                self._documents.popitem(last=False)
+        return document
+
+
 class Locator:
-    """Finds elements in their files again. Some documents are kept, since answers name one document after another."""
+    """Finds elements in their files again."""
 
-    KEPT = 4
-
-    def __init__(self, sources: dict[str, Source], rules: Rules) -> None:
+    def __init__(self, sources: dict[str, Source], rules: Rules, kept: Kept | None = None) -> None:
         self._sources = sources
         self._rules = rules
-        self._kept: OrderedDict[str, _Document | str] = OrderedDict()
+        self._kept = kept or Kept()
 
     def locate(self, element: Element) -> Located:
         """The element in its file, or why it can't be shown there: a document without a file, a file that has changed."""
         source = self._sources.get(element.document)
-        if source is None:
-            return Located(element, note="this document wasn't read from a file")
-        if source.edited:
-            return Located(element, source.path, note="the document was edited since it was read")
-        document = self._document(element.document, source)
-        if isinstance(document, str):
-            return Located(element, source.path, note=document)
+        document = self.document(element.document)
+        if source is None or isinstance(document, str):
+            return Located(element, source.path if source else None, note=str(document))
         found = document.find(element)
         if found is None:
             return Located(element, source.path, note="the file has no such element")
         path, line = document.place(found)
         return Located(element, path, line, tuple(found.itertext()), tuple(written_attributes(found)))
 
-    def _document(self, name: str, source: Source) -> "_Document | str":
-        if name not in self._kept:
-            self._kept[name] = self._read(source)
-            if len(self._kept) > self.KEPT:
-                self._kept.popitem(last=False)
-        self._kept.move_to_end(name)
-        return self._kept[name]
+    def document(self, name: str) -> "Document | str":
+        """A document as its file has it, or why it can't be shown."""
+        source = self._sources.get(name)
+        if source is None:
+            return "this document wasn't read from a file"
+        if source.edited:
+            return "the document was edited since it was read"
+        return self._kept.get((name, source.digest), lambda: self._read(source))
 
-    def _read(self, source: Source) -> "_Document | str":
+    def _read(self, source: Source) -> "Document | str":
         try:
             tree = read_tree(source.path, self._rules)
         except Untaken as untaken:
             return f"the file can't be read any more: {untaken.reason}"
-        return _Document(tree, source.path) if tree.digest == source.digest else "the file has changed since it was read"
+        return Document(tree, source.path) if tree.digest == source.digest else "the file has changed since it was read"

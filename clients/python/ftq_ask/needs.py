@@ -12,20 +12,30 @@ PACKAGES = {
     "rich": "python3-rich",
     "Stemmer": "python3-stemmer",
     "distributed": "python3-distributed",
+    "starlette": "python3-starlette",
+    "uvicorn": "python3-uvicorn",
+    "jinja2": "python3-jinja2",
 }
 """The package that brings each module."""
 
 USUAL = "apt-get install python3-lxml python3-prompt-toolkit python3-rich python3-stemmer"
 """The line that installs all that the tools use on one machine."""
 
+SERVING = "apt-get install python3-starlette python3-uvicorn python3-jinja2"
+"""The line that installs what serve needs besides."""
+
+CLUSTER = "apt-get install python3-distributed"
+"""The line that installs what --scheduler needs besides."""
+
+EXTRAS = {"ask": USUAL, "serve": SERVING, "cluster": CLUSTER}
+"""What this package calls those needs, where it is installed by pip."""
+
 
 def line_for(module: str) -> str:
-    """The line that installs what is missing: the usual packages, or the one that only a cluster needs. An environment of its own doesn't
-    look at Debian's packages, and gets what the package itself names."""
-    package = PACKAGES[module]
-    if sys.prefix != sys.base_prefix:
-        return f"pip install ftq-client[{'ask' if package in USUAL else 'cluster'}]"
-    return USUAL if package in USUAL else f"apt-get install {package}"
+    """The line that installs what is missing, with all that is needed for the same. An environment of its own doesn't look at Debian's
+    packages, and gets what the package itself names."""
+    extra = next(it for it, line in EXTRAS.items() if PACKAGES[module] in line.split())
+    return f"pip install ftq-client[{extra}]" if sys.prefix != sys.base_prefix else EXTRAS[extra]
 
 
 def ask() -> int:

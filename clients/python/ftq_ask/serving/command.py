@@ -1,0 +1,122 @@
+"""Serves a folder of XML to a browser on this machine, and to programs beside it: ask serve FOLDER.
+
+It listens at 127.0.0.1 alone, and goes on until it is interrupted.
+"""
+
+from __future__ import annotations
+
+import argparse
+import logging
+import os
+import signal
+import socket
+import time
+from types import FrameType
+from typing import Any
+
+import uvicorn
+from rich.console import Console
+
+from ftq_client import ClientError, find_program
+
+from .. import answers
+from ..choosing import Choice, rules_of
+from ..collection import Collection
+from ..commands import FAULT, add_collection, load, loaded, number, seconds
+from ..lists import NoList, Stems
+from .application import Served
+from .desk import Desk
+from .engines import served_engine
+from .pool import Pool
+
+USUAL_PORT = 8317
+USUAL_SECONDS = 60.0
+MOST_CONNECTIONS = 100
+
+
+def parser() -> argparse.ArgumentParser:
+    """The words of the call."""
+    it = argparse.ArgumentParser(prog="ask serve", description=__doc__, formatter_class=argparse.RawDescriptionHelpFormatter)
+    add_collection(it)
+    it.add_argument("--port", type=number, default=USUAL_PORT, metavar="N", help=f"the port, {USUAL_PORT} otherwise; 0 takes any that is free")
+    it.add_argument("--programs", type=number, default=2, metavar="N", help="how many programs hold the collection, 2 otherwise")
+    it.add_argument("--timeout", type=seconds, default=USUAL_SECONDS, metavar="SECONDS", help="how long a question may take, 60 otherwise")
+    return it
+
+
+class Server(uvicorn.Server):
+    """A server that stops all questions when it is to end, since it waits for their answers to be through."""
+
+    desk: Desk
+
+    def handle_exit(self, sig: signal.Signals, frame: FrameType | None) -> None:
+        self.desk.stop_all()
+        super().handle_exit(sig, frame)
+
+
+def serve(arguments: list[str]) -> int:
+    """Serves until it is interrupted: 0, or 2 where that can't begin."""
+    options = parser().parse_args(arguments)
+    options.query = []
+    errors = Console(stderr=True)
+    start = time.monotonic()
+    try:
+        listening = listen(options.port)
+    except (OSError, OverflowError) as error:
+        answers.say(errors, f"ask: the port {options.port} can't be had: {error}; --port 0 takes any that is free")
+        return FAULT
+    collection = None
+    try:
+        stems = Stems(options.stem) if options.stem else None
+        engine = served_engine(options.program or find_program(), options.workers)
+        collection = Collection(engine, stems, Choice(options.glob), rules_of(options))
+        load(collection, options, errors)
+        answers.say(errors, loaded(collection, start))
+    except (ClientError, NoList, OSError, ValueError) as error:
+        answers.say(errors, f"ask: {error}")
+        if collection is not None:
+            collection.engine.close()
+        return FAULT
+    collection.engine = Pool(collection.engine, max(1, options.programs))
+    desk = Desk(collection, collection.engine, ", ".join(map(str, options.paths)), options.timeout)
+    run(desk, listening)
+    return 0
+
+
+def listen(port: int) -> socket.socket:
+    """A socket at a port of this machine alone."""
+    listening = socket.socket(socket.AF_INET, socket.SOCK_STREAM)
+    try:
+        listening.setsockopt(socket.SOL_SOCKET, socket.SO_REUSEADDR, 1)
+        listening.bind(("127.0.0.1", port))
+    except BaseException:
+        listening.close()
+        raise
+    return listening
+
+
+def run(desk: Desk, listening: socket.socket) -> None:
+    """Answers at a socket until an interrupt comes."""
+    port = listening.getsockname()[1]
+    logging.getLogger("uvicorn.error").setLevel(logging.ERROR)
+    config = uvicorn.Config(
+        Served(desk, port).application,
+        http="h11",
+        ws="none",
+        loop="asyncio",
+        lifespan="off",
+        log_config=None,
+        access_log=False,
+        server_header=False,
+        proxy_headers=False,
+        limit_concurrency=MOST_CONNECTIONS,
+        timeout_keep_alive=15,
+    )
+    server = Server(config)
+    server.desk = desk
+    print(f"http://127.0.0.1:{port}/", flush=True)
+    try:
+        server.run(sockets=[listening])
+    finally:
+        desk.close()
+        listening.close()
