@@ -126,6 +126,10 @@ class Collection:
         """The elements that a path selects."""
         return self.found(f"query {path}", path)
 
+    def lines(self, path: str) -> list[str]:
+        """The lines of the elements that a path selects, where there are many and few of them are looked at."""
+        return self._lines("query ", path)
+
     def found(self, line: str, path: str) -> list[Element]:
         """The elements that a command with this path at its end finds, be it of now or of a mark."""
         return [Element.read(it) for it in self._lines(line.removesuffix(path), path)]

@@ -4,7 +4,7 @@ from __future__ import annotations
 
 import logging
 from collections import Counter
-from dataclasses import dataclass, field
+from dataclasses import dataclass, field, replace
 from typing import Iterator, Union
 
 from ftq_client import ClientError, Element, QueryFault, Refusal, TimedOut
@@ -15,7 +15,7 @@ from ..locating import Located
 from ..missing import all_hints
 from ..mistakes import FAULTS, advice_for
 from ..showing import Piece, shortened
-from .desk import Desk
+from .desk import Desk, document_of, name_of
 from .questions import Question, Stopped
 
 LOG = logging.getLogger("ftq_ask")
@@ -37,9 +37,10 @@ class Wish:
     whole: bool = False
     as_typed: bool = False
 
-    def takes(self, element: Element) -> bool:
-        """Whether an element is of the document and the name that are wanted."""
-        return (not self.document or element.document == self.document) and (not self.element or element.steps[-1].name == self.element)
+    def taken(self, found: list[str]) -> list[str]:
+        """The lines of the elements that are of the document and the name that are wanted."""
+        of_document = [it for it in found if document_of(it) == self.document] if self.document else found
+        return [it for it in of_document if name_of(it) == self.element] if self.element else of_document
 
 
 @dataclass(frozen=True)
@@ -107,7 +108,7 @@ def answer(desk: Desk, question: Question, wish: Wish) -> Iterator[Part]:
     try:
         found = desk.found(view, wish.path)
         yield counted(view, found, wish)
-        yield from hits(view, question, found, wish)
+        yield from hits(view, question, wish.taken(found), wish)
         hints = all_hints(wish.path, len(found), view)
     except Refusal as refusal:
         yield refused(wish.path, refusal, view)
@@ -129,30 +130,27 @@ def over(error: ClientError) -> Over:
     return Over(f"{error}; it is started again for the next question", False)
 
 
-def counted(view: Collection, found: list[Element], wish: Wish) -> Counted:
+def counted(view: Collection, found: list[str], wish: Wish) -> Counted:
     """The counts of an answer."""
-    documents = Counter(it.document for it in found if not wish.element or it.steps[-1].name == wish.element)
-    elements = Counter(it.steps[-1].name for it in found if not wish.document or it.document == wish.document)
+    documents = Counter(map(document_of, replace(wish, document="").taken(found)))
+    elements = Counter(map(name_of, replace(wish, element="").taken(found)))
     files = {name: str(source.path) for name, source in view.sources.items()}
     return Counted(
         len(found),
-        sum(1 for it in found if wish.takes(it)),
+        len(wish.taken(found)),
         [Tally(name, count, files.get(name, "")) for name, count in documents.most_common()],
         [Tally(name, count) for name, count in elements.most_common()],
     )
 
 
-def hits(view: Collection, question: Question, found: list[Element], wish: Wish) -> Iterator[Hit]:
+def hits(view: Collection, question: Question, taken: list[str], wish: Wish) -> Iterator[Hit]:
     """The elements that are shown, in their order."""
     asked = asked_of(wish.path, view)
-    inside: Counter[str] = Counter()
-    for number, element in enumerate((it for it in found if wish.takes(it)), 1):
-        inside[element.document] += 1
-        if number <= wish.offset:
-            continue
-        if number > wish.offset + wish.limit:
-            return
+    inside = Counter(map(document_of, taken[: wish.offset]))
+    for number, line in enumerate(taken[wish.offset : wish.offset + wish.limit], wish.offset + 1):
         question.left()
+        element = Element.read(line)
+        inside[element.document] += 1
         located = view.locator.locate(element)
         pieces = [Piece(located.text)] if wish.whole and located.text else shortened(located.shown, asked)
         attributes = shown_attributes(located) if not pieces and located.attributes else ""

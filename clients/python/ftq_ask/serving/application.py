@@ -4,7 +4,7 @@ from __future__ import annotations
 
 import asyncio
 import json
-from dataclasses import dataclass
+from dataclasses import dataclass, replace
 from typing import Any, AsyncIterator, Callable, Iterator, Mapping, TypeVar
 from urllib.parse import parse_qsl
 
@@ -14,7 +14,7 @@ from starlette.requests import Request
 from starlette.responses import JSONResponse, PlainTextResponse, Response, StreamingResponse
 from starlette.routing import Route
 
-from ftq_client import ClientError, Refusal
+from ftq_client import ClientError, Element, Refusal
 
 from ..answers import asked_of
 from ..showing import Piece, shortened
@@ -111,7 +111,8 @@ def shown(desk: Desk, question: Question, wish: Wish, name: str, hit: int, sheet
         if isinstance(document, str):
             yield Unshown(document if name in view.sources else "there is no such document")
             return
-        found = [it for it in desk.found(view, wish.path) if it.document == name and wish.takes(it)] if wish.path else []
+        taken = replace(wish, document=name).taken(desk.found(view, wish.path)) if wish.path else []
+        found = [Element.read(it) for it in taken]
         asked = asked_of(wish.path, view)
         sheets = Sheets(document, found, asked, view.rules.blocks)
         number = min(max(sheet or sheets.sheet_of(hit), 1), sheets.count)

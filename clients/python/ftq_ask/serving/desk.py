@@ -8,8 +8,6 @@ from concurrent.futures import Future, ThreadPoolExecutor
 from pathlib import Path
 from typing import Any, Iterator
 
-from ftq_client import Element
-
 from ..collection import Collection
 from ..locating import Kept, Locator
 from .pool import Asking, Pool
@@ -19,11 +17,21 @@ MOST_QUESTIONS = 24
 """How many questions are let in at once, those that wait for an engine counted."""
 
 MOST_KEPT_ANSWERS = 16
-MOST_KEPT_ELEMENTS = 200_000
+MOST_KEPT_ELEMENTS = 500_000
 """How many answers are kept for the next page of them, and how many elements they have at most together."""
 
 PATIENCE = 2.0
 """For how many seconds a question goes on that nobody waits for any more: to end a program costs more than a short answer."""
+
+
+def document_of(line: str) -> str:
+    """The name of the document in the line of an element."""
+    return line[5 : line.index('"', 5)]
+
+
+def name_of(line: str) -> str:
+    """The name of the element that a line names."""
+    return line[line.rindex("/") + 1 : line.rindex("[")]
 
 
 class Busy(Exception):
@@ -44,7 +52,7 @@ class Desk:
         self.edition = 0
         """How often the collection has changed since it was loaded."""
         self._questions: dict[str, Question] = {}
-        self._answers: dict[tuple[int, bool, str], list[Element]] = {}
+        self._answers: dict[tuple[int, bool, str], list[str]] = {}
         self._lock = threading.Lock()
         self.stopped = 0
         """How many questions were stopped or given up."""
@@ -112,32 +120,30 @@ class Desk:
         view.locator = Locator(view.sources, view.rules, self.kept)
         return view
 
-    def found(self, view: Collection, path: str) -> list[Element]:
-        """The elements that a path selects, in the order of the collection. An answer that was just given is given again."""
+    def found(self, view: Collection, path: str) -> list[str]:
+        """The lines of the elements that a path selects, in the order of the collection. An answer that was just given is given again."""
         key = (self.edition, view.as_typed, path)
         with self._lock:
             known = self._answers.pop(key, None)
             if known is not None:
                 self._answers[key] = known
                 return known
-        found = self.in_order(view, view.query(path))
+        found = self.in_order(view, view.lines(path))
         with self._lock:
             self._answers[key] = found
             while len(self._answers) > MOST_KEPT_ANSWERS or sum(map(len, self._answers.values())) > MOST_KEPT_ELEMENTS:
                 del self._answers[next(iter(self._answers))]
-                if not self._answers:
-                    break
         return found
 
     def freshen(self) -> None:
         """Takes in what has changed in the files since they were looked at."""
 
-    def in_order(self, view: Collection, found: list[Element]) -> list[Element]:
-        """Elements in the order in which the documents stand in the folder, which is that of loading until a file changes."""
+    def in_order(self, view: Collection, found: list[str]) -> list[str]:
+        """Lines in the order in which the documents stand in the folder, which is that of loading until a file changes."""
         if not self.edition:
             return found
         ranks = {name: rank for rank, name in enumerate(view.sources)}
-        return sorted(found, key=lambda it: ranks.get(it.document, len(ranks)))
+        return sorted(found, key=lambda it: ranks.get(document_of(it), len(ranks)))
 
     def files(self) -> Iterator[tuple[str, Path]]:
         """The documents with their files, in order."""
