@@ -114,6 +114,7 @@ def run(desk: Desk, listening: socket.socket) -> None:
     )
     server = Server(config)
     server.desk = desk
+    listening.listen()
     print(f"http://127.0.0.1:{port}/", flush=True)
     try:
         server.run(sockets=[listening])
