@@ -4,6 +4,7 @@ from __future__ import annotations
 
 import asyncio
 import json
+from concurrent.futures import Future
 from dataclasses import dataclass, replace
 from typing import Any, AsyncIterator, Callable, Iterator, Mapping, TypeVar
 from urllib.parse import parse_qsl
@@ -91,10 +92,10 @@ def examples_of(desk: Desk) -> list[str]:
 
 async def in_turn(desk: Desk, question: Question, parts: Iterator[Something]) -> AsyncIterator[Something]:
     """The parts of an answer, each worked out in a thread; where nobody reads on, the question is given up."""
-    step = None
+    step: Future[Something | None] | None = None
     try:
         while True:
-            step = desk.threads.submit(next, parts, None)
+            step = desk.threads.submit(lambda: next(parts, None))
             part = await asyncio.wrap_future(step)
             if part is None:
                 return
@@ -136,7 +137,6 @@ class Served:
     def __init__(self, desk: Desk, port: int, further: Mapping[str, Callable[[Request], Any]] = {}) -> None:
         """Before a desk, at a port; `further` are requests by POST that are answered besides."""
         self._desk = desk
-        self._port = port
         routes = [
             Route("/", self._query, methods=["GET"]),
             Route("/document", self._document, methods=["GET"]),
@@ -225,7 +225,7 @@ class Served:
         return JSONResponse({"elements": dict(known.elements), "attributes": dict(known.attributes)})
 
     async def _api_described(self, request: Request) -> Response:
-        return JSONResponse(interface.described(self._port))
+        return Response(interface.described(), media_type="application/json")
 
     async def _asset(self, request: Request) -> Response:
         name = request.url.path[1:]

@@ -63,7 +63,7 @@ class Desk:
         return len(self._questions)
 
     def begin(self, seconds: float | None = None) -> Question:
-        """Lets a question in; `Busy` where there are as many as there may be. It may take so many seconds, where these are less than it may anyway."""
+        """Lets a question in; `Busy` where there are as many as there may be. It may take so many seconds, if it may not take less anyway."""
         with self._lock:
             if len(self._questions) >= MOST_QUESTIONS:
                 raise Busy

@@ -6,17 +6,16 @@ import logging
 import threading
 from collections import deque
 from concurrent.futures import ThreadPoolExecutor
-from typing import Any, Callable, TypeVar
+from typing import Any, Callable, cast
 
-from ftq_client import ClientError, Element, ProgramEnded, Refusal, Reply, TimedOut
+from ftq_client import ClientError, ProgramEnded, Refusal, Reply, TimedOut
 
 from ..collection import NOWHERE
 from .questions import Question, Stopped
 
 LOG = logging.getLogger("ftq_ask")
 
-Answer = TypeVar("Answer")
-Change = Callable[[Any], Answer]
+Change = Callable[[Any], None]
 """What is done to an engine, and so to each of them."""
 
 _LOOK_AGAIN = 0.25
@@ -28,7 +27,7 @@ class Member:
 
     def __init__(self, engine: Any) -> None:
         self.engine = engine
-        self.behind: list[Change[Any]] = []
+        self.behind: list[Change] = []
 
     def catch_up(self) -> None:
         """Does what this engine is behind with. What one of them refuses the first one refused too."""
@@ -78,7 +77,7 @@ class Pool:
             member.catch_up()
             member.engine.give_up_after(question.left())
             with question.at(member.engine):
-                reply: Reply = member.engine.command(line)
+                reply = cast(Reply, member.engine.command(line))
             whole = not question.stopped
             return reply
         except Refusal:
@@ -96,7 +95,7 @@ class Pool:
         finally:
             self._return(member, whole)
 
-    def change(self, change: Change[Answer]) -> Answer:
+    def change(self, change: Change) -> None:
         """Does something to all engines: to one now, to the others in the background, or before they are asked."""
         with self._changing:
             member = self._take(Question())
@@ -104,7 +103,7 @@ class Pool:
             try:
                 member.catch_up()
                 member.engine.give_up_after(None)
-                done = change(member.engine)
+                change(member.engine)
                 whole = True
             except Refusal:
                 whole = True
@@ -116,7 +115,6 @@ class Pool:
                             other.behind.append(change)
                 self._return(member, whole)
         self._background.submit(self._catch_up)
-        return done
 
     def close(self) -> int:
         """Ends all engines, also those that are at a question; the greatest of their statuses."""
@@ -126,7 +124,7 @@ class Pool:
         for member in self._members:
             member.engine.interrupt()
         self._background.shutdown(wait=True, cancel_futures=True)
-        return max(member.engine.close() for member in self._members)
+        return max(int(member.engine.close()) for member in self._members)
 
     def _take(self, question: Question) -> Member:
         """An engine that is idle, once no question that came earlier waits for one."""
@@ -191,10 +189,10 @@ class Asking:
         assert block is None
         return self._pool.ask(self._question, line)
 
-    def query(self, path: str) -> list[Element]:
-        """The elements that a path selects."""
-        return [Element.read(it) for it in getattr(self.command(f"query {path}"), "lines")]
-
     def stems(self, lines: bytes) -> None:
         """Gives the stems to all engines."""
-        self._pool.change(lambda it: it.stems(lines))
+
+        def give(engine: Any) -> None:
+            engine.stems(lines)
+
+        self._pool.change(give)
