@@ -4,7 +4,6 @@ from __future__ import annotations
 
 import csv
 import json
-import sys
 from typing import Any, Callable, Iterable
 
 from rich.cells import cell_len
@@ -17,8 +16,6 @@ from .collection import Collection
 from .locating import Located
 from .mistakes import FAULTS, Fault, advice_for
 from .showing import Asked, Piece, shortened
-
-FORMATS = ("text", "json", "csv", "paths")
 
 
 def asked_of(path: str, collection: Collection) -> Asked:
@@ -48,11 +45,14 @@ def _row(located: Located, asked: Asked, whole: bool) -> dict[str, Any]:
 
 
 class Output:
-    """The answers to questions on standard output. Where there are many, each is told apart: as text by a line with its question, in CSV by
+    """The answers to questions on standard output or another console. Where there are many, each is told apart: as text by a line with its question, in CSV by
     a column, in JSON by an array."""
 
-    def __init__(self, collection: Collection, form: str, count: bool, whole: bool, many: bool) -> None:
+    def __init__(self, collection: Collection, form: str, count: bool, whole: bool, many: bool, console: Console | None = None) -> None:
+        """In this form, or the number alone, with whole texts or shortened ones; on that console, or on standard output."""
         self.collection = collection
+        self.console = console or Console(highlight=False)
+        self.out = self.console.file
         self.form = "count" if count else form
         self.whole = whole
         self.many = many
@@ -62,26 +62,26 @@ class Output:
     def write(self, path: str, count: int, shown: list[Element], told: list[str]) -> None:
         """Writes an answer: how many elements a question has found, those that are shown, and the hints."""
         if self.many and self.form in ("text", "paths"):
-            print(f"==> {path} <==")
+            self.out.write(f"==> {path} <==\n")
         if self.form == "count":
-            print(f"{count} {path}" if self.many else count)
+            self.out.write(f"{count} {path}\n" if self.many else f"{count}\n")
         elif self.form == "json":
             self._objects.append({"query": path, "count": count, "results": self._found(path, shown), "hints": told})
         elif self.form == "csv":
             self._csv(path, shown)
         elif self.form == "paths":
-            sys.stdout.writelines(f"{it.line}\n" for it in shown)
+            self.out.writelines(f"{it.line}\n" for it in shown)
         else:
-            sys.stdout.flush()
-            write_text(Console(highlight=False), self.collection, path, shown, self.whole)
+            self.out.flush()
+            write_text(self.console, self.collection, path, shown, self.whole)
 
     def end(self) -> None:
         """Writes what stands behind all answers."""
         if self.form == "json":
             written: list[Any] = [self._objects] if self.many else self._objects
             for it in written:
-                json.dump(it, sys.stdout, ensure_ascii=False, indent=1)
-                sys.stdout.write("\n")
+                json.dump(it, self.out, ensure_ascii=False, indent=1)
+                self.out.write("\n")
 
     def _found(self, path: str, shown: list[Element]) -> list[dict[str, Any]]:
         asked = asked_of(path, self.collection)
@@ -91,7 +91,7 @@ class Output:
         """A line of names, then one for each element."""
         if self._rows is None:
             names = ["document", "file", "line", "path", "text"]
-            self._rows = csv.DictWriter(sys.stdout, ["query", *names] if self.many else names, lineterminator="\n")
+            self._rows = csv.DictWriter(self.out, ["query", *names] if self.many else names, lineterminator="\n")
             self._rows.writeheader()
         self._rows.writerows({"query": path, **it} if self.many else it for it in self._found(path, shown))
 

@@ -29,22 +29,6 @@ UNNAMED = "aren't named by --glob"
 PART = "stand in other files, and are read with them"
 
 
-def add_arguments(parser: argparse.ArgumentParser) -> None:
-    """The words of a call that say which files of folders are read, and how."""
-    parser.add_argument(
-        "--glob", metavar="PATTERN", action="append", default=[], help="reads the files of folders that match; with ! before it those that don't"
-    )
-    parser.add_argument("--no-dtd", action="store_true", help="reads no document type in other files")
-    parser.add_argument("--no-xinclude", action="store_true", help="brings in no files that documents include")
-    parser.add_argument("--no-catalog", action="store_true", help="looks into no catalog for document types and entities")
-    blanks = parser.add_mutually_exclusive_group()
-    blanks.add_argument("--drop-blanks", action="store_true", help="leaves out white space between elements")
-    blanks.add_argument("--keep-blanks", action="store_true", help="keeps it also where a document type says that it means nothing")
-    parser.add_argument(
-        "--blocks", metavar="NAME,..", action="append", default=[], help="the elements of these names part paragraphs, beside those that always do"
-    )
-
-
 def rules_of(options: argparse.Namespace) -> Rules:
     """How files are read, as the words of a call say."""
     return Rules(

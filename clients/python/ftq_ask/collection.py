@@ -215,6 +215,7 @@ class Collection:
             try:
                 reading = read_file(it.path, self.rules, checked=False)
             except Untaken as untaken:
+                untaken.named = it.path
                 self.untaken.append(untaken)
                 step(it.shown)
                 continue

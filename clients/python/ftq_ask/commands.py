@@ -19,65 +19,14 @@ from rich.progress import BarColumn, MofNCompleteColumn, Progress, TextColumn, T
 from ftq_client import ClientError, Refusal, Session, TimedOut, find_program
 
 from . import answers
-from .choosing import Choice, add_arguments, rules_of
+from .calls import read_words
+from .choosing import Choice, rules_of
 from .collection import Collection, Planned
 from .lists import NoList, Stems
 from .missing import all_hints
 from .shares import local_shares, scheduled_shares
 
 FOUND, NONE, FAULT = 0, 1, 2
-
-
-def parser() -> argparse.ArgumentParser:
-    """The words of the tool."""
-    it = argparse.ArgumentParser(prog="ask", description=__doc__, formatter_class=argparse.RawDescriptionHelpFormatter)
-    add_collection(it)
-    it.add_argument("--query", metavar="PATH", action="append", default=[], help="answers this question and ends; may be given again")
-    it.add_argument("--format", choices=answers.FORMATS, default="text", help="how the answer to --query is written")
-    it.add_argument("--count", action="store_true", help="writes how many elements there are, and nothing else")
-    it.add_argument("--limit", type=number, metavar="N", help="shows N elements at most of each answer")
-    it.add_argument("--offset", type=number, default=0, metavar="N", help="leaves out the first N elements")
-    it.add_argument("--whole", action="store_true", help="shows the whole text of each element")
-    it.add_argument("--as-typed", action="store_true", help="asks as it is typed: without it ' finds ’ too")
-    it.add_argument("--timeout", type=seconds, metavar="SECONDS", help="gives a question up that isn't answered in so many seconds")
-    it.add_argument("--scheduler", metavar="ADDRESS", help="divides the documents over the workers of Dask's scheduler there")
-    return it
-
-
-def add_collection(it: argparse.ArgumentParser) -> None:
-    """The words of a call that say what is asked, and by which programs."""
-    it.add_argument("paths", nargs="+", type=Path, metavar="FOLDER|FILE")
-    add_arguments(it)
-    it.add_argument("--stem", metavar="LANGUAGE", help="makes the stems of the collection's words, for using stemming")
-    it.add_argument("--stop", metavar="LANGUAGE", action="append", default=[], help='loads a stop list, for using stop words at "LANGUAGE"')
-    it.add_argument("--workers", type=number, metavar="N", help="divides the documents among N programs")
-    it.add_argument("--program", type=Path, metavar="FILE", help="the program that answers")
-
-
-def number(word: str) -> int:
-    """A number that a word of a call gives."""
-    told = int(word)
-    if told < 0:
-        raise argparse.ArgumentTypeError("a number below zero")
-    return told
-
-
-def seconds(word: str) -> float:
-    """A time that a word of a call gives."""
-    told = float(word)
-    if not told > 0:
-        raise argparse.ArgumentTypeError("no time at all")
-    return told
-
-
-def read_words(arguments: list[str]) -> argparse.Namespace:
-    """The words of a call. Those that say how the answer to --query is written have no meaning at the prompt, and are faulty without it."""
-    words = parser()
-    options = words.parse_args(arguments)
-    for name in ("count", "format", "limit", "offset", "whole"):
-        if not options.query and getattr(options, name) != words.get_default(name):
-            words.error(f"--{name} is for the answer to --query, and there is none")
-    return options
 
 
 def main(arguments: list[str]) -> int:
@@ -97,6 +46,7 @@ def main(arguments: list[str]) -> int:
     start = time.monotonic()
     try:
         load(collection, options, errors)
+        tell(collection, errors)
         if not options.query:
             answers.say(errors, loaded(collection, start))
         collection.engine.give_up_after(options.timeout)
@@ -127,12 +77,19 @@ def _engine(options: argparse.Namespace) -> Any:
 
 
 def load(collection: Collection, options: argparse.Namespace, errors: Console) -> None:
-    """Loads the files with a bar where there is a terminal, and names what wasn't taken."""
+    """Loads the files, with a bar where there is a terminal, and the lists that go with them."""
     planned = collection.plan(options.paths)
     if errors.is_terminal:
         _load_with_bar(collection, planned, errors)
     else:
         collection.load(planned, lambda path: None)
+    collection.send_stems()
+    for language in options.stop:
+        collection.send_stop_list(language)
+
+
+def tell(collection: Collection, errors: Console) -> None:
+    """Says what of the files wasn't taken, and which names of --blocks no element has."""
     passed = collection.choice.said()
     if passed:
         answers.say(errors, f"ask: {passed}")
@@ -140,9 +97,6 @@ def load(collection: Collection, options: argparse.Namespace, errors: Console) -
         answers.say(errors, f"ask: {untaken}")
     for name in sorted(collection.rules.blocks - collection.vocabulary.elements.keys()):
         answers.say(errors, f"ask: --blocks names {name}, and no document has such an element")
-    collection.send_stems()
-    for language in options.stop:
-        collection.send_stop_list(language)
 
 
 def loaded(collection: Collection, start: float) -> str:
@@ -158,9 +112,9 @@ def _load_with_bar(collection: Collection, planned: list[Planned], errors: Conso
         collection.load(planned, lambda path: progress.update(task, advance=1, description=str(path)[-40:]))
 
 
-def answer_all(collection: Collection, options: argparse.Namespace, errors: Console) -> int:
-    """Answers the questions of --query on standard output, one after the other; hints and faults are written on standard error."""
-    out = answers.Output(collection, options.format, options.count, options.whole, many=len(options.query) > 1)
+def answer_all(collection: Collection, options: argparse.Namespace, errors: Console, console: Console | None = None) -> int:
+    """Answers the questions of --query, one after the other, on a console or standard output; hints and faults are written on standard error."""
+    out = answers.Output(collection, options.format, options.count, options.whole, len(options.query) > 1, console)
     faulty, some = bool(collection.untaken), False
     for path in options.query:
         try:
@@ -180,7 +134,7 @@ def answer_all(collection: Collection, options: argparse.Namespace, errors: Cons
             out.write(path, len(found), shown, all_hints(path, len(found), collection))
         else:
             out.write(path, len(found), shown, [])
-            sys.stdout.flush()
+            out.out.flush()
             answers.say_hints(errors, all_hints(path, len(found), collection))
     out.end()
     return FAULT if faulty else FOUND if some else NONE

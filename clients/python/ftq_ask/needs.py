@@ -39,8 +39,11 @@ def line_for(module: str) -> str:
 
 
 def ask() -> int:
-    """The command ftq-ask of the installed package."""
-    return run("ftq_ask.commands")
+    """The command ask: answered by what is running already, or by its own modules."""
+    from .beside import answered
+
+    status = answered(sys.argv[1:])
+    return run("ftq_ask.commands") if status is None else status
 
 
 def pack() -> int:

@@ -14,7 +14,8 @@ from typing import BinaryIO
 
 from ftq_client import command_bytes
 
-from .choosing import Choice, add_arguments, rules_of
+from .calls import add_arguments
+from .choosing import Choice, rules_of
 from .naming import Names
 from .reading import MOST_BYTES, Reading, read_file
 from .trees import Untaken

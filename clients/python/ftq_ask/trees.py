@@ -17,6 +17,8 @@ class Untaken(Exception):
         self.path = path
         self.line = line
         self.reason = reason
+        self.named = path
+        """The file that was to be read, where the fault is in one that stands in it."""
 
 
 @dataclass(frozen=True)

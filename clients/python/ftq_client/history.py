@@ -22,6 +22,7 @@ class History:
 
     def __init__(self) -> None:
         self._kept: list[Kept] = []
+        self._plain = True
 
     @property
     def size(self) -> int:
@@ -41,12 +42,12 @@ class History:
         """
         words = line.replace("\t", " ").split()
         kind, name = words[0], words[1] if len(words) > 1 else ""
-        plain = not any(it.kind in LOOKS_BACK for it in self._kept)
-        if plain and kind == "drop":
+        if self._plain and kind == "drop":
             self._forget("load", name)
             return
-        if plain and kind in ("stop", "thesaurus", "stems"):
+        if self._plain and kind in ("stop", "thesaurus", "stems"):
             self._forget(kind, name)
+        self._plain = self._plain and kind not in LOOKS_BACK
         self._kept.append(Kept(kind, name, command))
 
     def _forget(self, kind: str, name: str) -> None:

@@ -213,6 +213,7 @@ class Served:
                 "idle": desk.pool.idle,
                 "asked": desk.asked,
                 "stopped": desk.stopped,
+                "calls": desk.calls,
                 "untaken": [pages.shown_path(str(untaken)) for untaken in it.untaken],
             }
         )

@@ -11,8 +11,10 @@ import os
 import signal
 import socket
 import time
+from contextlib import contextmanager
+from pathlib import Path
 from types import FrameType
-from typing import Any
+from typing import Any, Iterator
 
 import uvicorn
 from rich.console import Console
@@ -20,11 +22,14 @@ from rich.console import Console
 from ftq_client import ClientError, find_program
 
 from .. import answers
+from ..beside import ADDRESS, forget, key_of, note
+from ..calls import add_collection, number, seconds
 from ..choosing import Choice, rules_of
 from ..collection import Collection
-from ..commands import FAULT, add_collection, load, loaded, number, seconds
+from ..commands import FAULT, load, loaded, tell
 from ..lists import NoList, Stems
 from .application import Served
+from .calls import Calls
 from .desk import Desk
 from .engines import served_engine
 from .pool import Pool
@@ -57,7 +62,6 @@ class Server(uvicorn.Server):
 def serve(arguments: list[str]) -> int:
     """Serves until it is interrupted: 0, or 2 where that can't begin."""
     options = parser().parse_args(arguments)
-    options.query = []
     errors = Console(stderr=True)
     start = time.monotonic()
     try:
@@ -68,9 +72,10 @@ def serve(arguments: list[str]) -> int:
     collection = None
     try:
         stems = Stems(options.stem) if options.stem else None
-        engine = served_engine(options.program or find_program(), options.workers)
-        collection = Collection(engine, stems, Choice(options.glob), rules_of(options))
+        program = options.program or find_program()
+        collection = Collection(served_engine(program, options.workers), stems, Choice(options.glob), rules_of(options))
         load(collection, options, errors)
+        tell(collection, errors)
         answers.say(errors, loaded(collection, start))
     except (ClientError, NoList, OSError, ValueError) as error:
         answers.say(errors, f"ask: {error}")
@@ -79,8 +84,23 @@ def serve(arguments: list[str]) -> int:
         return FAULT
     collection.engine = Pool(collection.engine, max(1, options.programs))
     desk = Desk(collection, collection.engine, ", ".join(map(str, options.paths)), options.timeout)
-    run(desk, listening)
+    with listening, beside(desk, program, options, listening.getsockname()[1]) as further:
+        run(desk, listening, further)
     return 0
+
+
+@contextmanager
+def beside(desk: Desk, program: Path, options: argparse.Namespace, port: int) -> Iterator[dict[str, Any]]:
+    """While this lasts, calls of tools/ask for the same files find what serves here; what answers them, by its address."""
+    key = key_of(options)
+    noted = note(key, port)
+    if noted is None:
+        yield {}
+        return
+    try:
+        yield {ADDRESS: Calls(desk, program, options.paths, noted[1]).answer}
+    finally:
+        forget(*noted)
 
 
 def listen(port: int) -> socket.socket:
@@ -95,12 +115,12 @@ def listen(port: int) -> socket.socket:
     return listening
 
 
-def run(desk: Desk, listening: socket.socket) -> None:
-    """Answers at a socket until an interrupt comes."""
+def run(desk: Desk, listening: socket.socket, further: dict[str, Any]) -> None:
+    """Answers at a socket until an interrupt comes; `further` are requests that are answered besides."""
     port = listening.getsockname()[1]
     logging.getLogger("uvicorn.error").setLevel(logging.ERROR)
     config = uvicorn.Config(
-        Served(desk, port).application,
+        Served(desk, port, further).application,
         http="h11",
         ws="none",
         loop="asyncio",
@@ -120,4 +140,3 @@ def run(desk: Desk, listening: socket.socket) -> None:
         server.run(sockets=[listening])
     finally:
         desk.close()
-        listening.close()

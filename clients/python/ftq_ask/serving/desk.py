@@ -6,7 +6,7 @@ import copy
 import threading
 from concurrent.futures import Future, ThreadPoolExecutor
 from pathlib import Path
-from typing import Any, Iterator
+from typing import Any, Callable, Iterator
 
 from ..collection import Collection
 from ..locating import Kept, Locator
@@ -34,6 +34,12 @@ def name_of(line: str) -> str:
     return line[line.rindex("/") + 1 : line.rindex("[")]
 
 
+def _in_order_of(names: list[str]) -> Callable[[tuple[str, ...]], tuple[str, ...]]:
+    """Puts lines into the order of these documents. The programs have that of loading, which is another one once a file has changed."""
+    ranks = {name: rank for rank, name in enumerate(names)}
+    return lambda lines: tuple(sorted(lines, key=lambda it: ranks.get(document_of(it), len(ranks))))
+
+
 class Busy(Exception):
     """As many questions are being answered as are let in at once."""
 
@@ -55,20 +61,21 @@ class Desk:
         self._answers: dict[tuple[int, bool, str], list[str]] = {}
         self._lock = threading.Lock()
         self.stopped = 0
-        """How many questions were stopped or given up."""
+        """How many questions were stopped by their names."""
+        self.calls = 0
+        """How many calls of tools/ask were answered."""
 
     @property
     def asked(self) -> int:
         """How many questions are being answered now."""
         return len(self._questions)
 
-    def begin(self, seconds: float | None = None) -> Question:
-        """Lets a question in; `Busy` where there are as many as there may be. It may take so many seconds, if it may not take less anyway."""
+    def begin(self, limited: bool = True) -> Question:
+        """Lets a question in, with the time that each has, or as much as it takes; `Busy` where there are as many as there may be."""
         with self._lock:
             if len(self._questions) >= MOST_QUESTIONS:
                 raise Busy
-            limits = [it for it in (seconds, self.seconds) if it is not None]
-            question = Question(min(limits, default=None))
+            question = Question(self.seconds if limited else None)
             self._questions[question.name] = question
             return question
 
@@ -114,7 +121,8 @@ class Desk:
         with self._lock:
             view = copy.copy(self.collection)
             view.sources = dict(self.collection.sources)
-        view.engine = Asking(self.pool, question)
+            edition = self.edition
+        view.engine = Asking(self.pool, question, _in_order_of(list(view.sources)) if edition else lambda lines: lines)
         view.as_typed = as_typed
         view.told_of_apostrophes = False
         view.locator = Locator(view.sources, view.rules, self.kept)
@@ -128,7 +136,7 @@ class Desk:
             if known is not None:
                 self._answers[key] = known
                 return known
-        found = self.in_order(view, view.lines(path))
+        found = view.lines(path)
         with self._lock:
             self._answers[key] = found
             while len(self._answers) > MOST_KEPT_ANSWERS or sum(map(len, self._answers.values())) > MOST_KEPT_ELEMENTS:
@@ -137,13 +145,6 @@ class Desk:
 
     def freshen(self) -> None:
         """Takes in what has changed in the files since they were looked at."""
-
-    def in_order(self, view: Collection, found: list[str]) -> list[str]:
-        """Lines in the order in which the documents stand in the folder, which is that of loading until a file changes."""
-        if not self.edition:
-            return found
-        ranks = {name: rank for rank, name in enumerate(view.sources)}
-        return sorted(found, key=lambda it: ranks.get(document_of(it), len(ranks)))
 
     def files(self) -> Iterator[tuple[str, Path]]:
         """The documents with their files, in order."""

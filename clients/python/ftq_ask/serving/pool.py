@@ -8,7 +8,7 @@ from collections import deque
 from concurrent.futures import ThreadPoolExecutor
 from typing import Any, Callable, cast
 
-from ftq_client import ClientError, ProgramEnded, Refusal, Reply, TimedOut
+from ftq_client import ClientError, Found, ProgramEnded, Refusal, Reply, TimedOut
 
 from ..collection import NOWHERE
 from .questions import Question, Stopped
@@ -68,14 +68,15 @@ class Pool:
         """How many engines there are."""
         return len(self._members)
 
-    def ask(self, question: Question, line: str) -> Reply:
-        """The reply to a command that changes nothing. Raises `Stopped` or `TimedOut` where the question is over; the engine that was at it is
-        then brought up again in the background."""
+    def ask(self, question: Question, line: str, seconds: float | None = None) -> Reply:
+        """The reply to a command that changes nothing, which may take so many seconds by itself. Raises `Stopped` or `TimedOut` where the
+        question is over; the engine that was at it is then brought up again in the background."""
         member = self._take(question)
         whole = False
         try:
             member.catch_up()
-            member.engine.give_up_after(question.left())
+            limits = [it for it in (seconds, question.left()) if it is not None]
+            member.engine.give_up_after(min(limits, default=None))
             with question.at(member.engine):
                 reply = cast(Reply, member.engine.command(line))
             whole = not question.stopped
@@ -87,8 +88,8 @@ class Pool:
             if question.stopped:
                 raise Stopped from None
             raise
-        except TimedOut:
-            raise TimedOut(question.seconds or 0) from None
+        except TimedOut as late:
+            raise TimedOut(late.seconds if seconds == late.seconds else question.seconds or 0) from None
         except Stopped:
             whole = True
             raise
@@ -180,14 +181,23 @@ class Pool:
 class Asking:
     """A pool as one question sees it: an engine as those of the client are."""
 
-    def __init__(self, pool: Pool, question: Question) -> None:
+    def __init__(self, pool: Pool, question: Question, in_order: Callable[[tuple[str, ...]], tuple[str, ...]]) -> None:
+        """`in_order` puts the lines of elements into the order of the collection."""
         self._pool = pool
         self._question = question
+        self._in_order = in_order
+        self._seconds: float | None = None
+
+    def give_up_after(self, seconds: float | None) -> None:
+        """Lets each command take so long at most."""
+        self._seconds = seconds
 
     def command(self, line: str, block: bytes | None = None) -> Reply:
         """The reply to a command that changes nothing."""
-        assert block is None
-        return self._pool.ask(self._question, line)
+        if block is not None:
+            raise ValueError("what is served isn't changed")
+        reply = self._pool.ask(self._question, line, self._seconds)
+        return Found(self._in_order(reply.lines)) if isinstance(reply, Found) and line.startswith("query ") else reply
 
     def stems(self, lines: bytes) -> None:
         """Gives the stems to all engines."""
