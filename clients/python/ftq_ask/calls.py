@@ -37,6 +37,7 @@ def add_collection(it: argparse.ArgumentParser) -> None:
     it.add_argument("--stem", metavar="LANGUAGE", help="makes the stems of the collection's words, for using stemming")
     it.add_argument("--stop", metavar="LANGUAGE", action="append", default=[], help='loads a stop list, for using stop words at "LANGUAGE"')
     it.add_argument("--workers", type=number, metavar="N", help="divides the documents among N programs")
+    it.add_argument("--no-cache", action="store_true", help="keeps nothing of what is read, and uses nothing that was kept")
     it.add_argument("--program", type=Path, metavar="FILE", help="the program that answers")
 
 

@@ -50,6 +50,10 @@ class Choice:
         self.passed: dict[str, Counter[str]] = {}
         """For each reason how many files were passed over, by the ending of their names."""
 
+    def again(self) -> "Choice":
+        """The same choice, in which nothing was passed over yet."""
+        return Choice([*self._wanted, *(f"!{it}" for it in self._unwanted)])
+
     def files_of(self, arguments: list[Path]) -> Iterator[tuple[Path, Path | Untaken]]:
         """The files that the arguments name, each as its path from its argument and its path. Folders give those that are chosen, in the
         order of their paths, without links to files in the same folder, which are found by themselves. An argument that gives none comes

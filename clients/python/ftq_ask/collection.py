@@ -9,12 +9,14 @@ from typing import Any, Callable, Iterator
 from ftq_client import BadLine, ClientError, DocumentFault, Element, Full, QueryFault, Refusal, Reply, SessionFull
 
 from .choosing import PART, Choice
+from .engines import Loading
 from .lists import Stems, stop_words, usual_stem
 from .locating import Locator, Source
 from .mistakes import Fault
 from .naming import Names
 from .paths import DOCUMENTS, is_said, path_in, with_apostrophes
-from .reading import Reading, Rules, Vocabulary, check_limits, names_of, read_file, read_tree, without_empty_lines
+from .loading import Reader
+from .reading import Reading, Rules, Vocabulary, names_of, read_file, read_tree, without_empty_lines
 from .shares import Shares, divided
 from .spellings import Spellings
 from .trees import Untaken
@@ -47,6 +49,8 @@ class Collection:
         """Whether questions are asked as they are typed."""
         self.told_of_apostrophes = False
         """Whether it was said that they aren't."""
+        self.edition = 0
+        """How often the documents have changed with their files since they were loaded."""
         self.rules = rules
         self.stems = stems
         self.has_stems = False
@@ -54,10 +58,13 @@ class Collection:
         self.vocabulary = Vocabulary()
         self.untaken: list[Untaken] = []
         self.bytes = 0
+        self.reader = Reader(rules)
         self.locator = Locator(self.sources, rules)
         self.spellings = Spellings(self._texts, stems.stem_of if stems else usual_stem())
         self._names = Names()
         self._reading: dict[str, Reading] = {}
+        self.known: dict[Path, Reading | Untaken] = {}
+        """What came of each file that was read, without its bytes."""
         self._parts: set[Path] = set()
 
     def plan(self, arguments: list[Path]) -> list[Planned]:
@@ -74,10 +81,11 @@ class Collection:
 
     def load(self, planned: list[Planned], step: Callable[[Path], None]) -> None:
         """Reads and loads files; `step` is told of each. What isn't taken is noted with the reason, and the rest goes on."""
-        if isinstance(self.engine, Shares):
-            self.engine.load_all(self._read_all(planned, step), self._done)
+        documents = self._read_all(planned, step)
+        if isinstance(self.engine, (Shares, Loading)):
+            self.engine.load_all(documents, self._done)
         else:
-            for _, name, content in self._read_all(planned, step):
+            for _, name, content in documents:
                 fault = None
                 try:
                     self.engine.load(name, content)
@@ -211,17 +219,15 @@ class Collection:
             return set()
 
     def _read_all(self, planned: list[Planned], step: Callable[[Path], None]) -> Iterator[tuple[int, str, bytes]]:
-        for it in planned:
-            try:
-                reading = read_file(it.path, self.rules, checked=False)
-            except Untaken as untaken:
-                untaken.named = it.path
-                self.untaken.append(untaken)
+        with self.reader as reader:
+            for it, reading in zip(planned, reader.read([it.path for it in planned])):
+                if isinstance(reading, Untaken):
+                    self.known[it.path] = reading
+                    self.untaken.append(reading)
+                else:
+                    self._reading[it.name] = reading
+                    yield it.share, it.name, reading.content
                 step(it.shown)
-                continue
-            self._reading[it.name] = reading
-            yield it.share, it.name, reading.content
-            step(it.shown)
 
     def _done(self, name: str, fault: Exception | None) -> None:
         """Takes note of a document that was loaded, or of the fault that kept it away."""
@@ -229,20 +235,22 @@ class Collection:
         if fault is not None:
             if not isinstance(fault, ClientError):
                 raise fault
-            self.untaken.append(self._untaken(reading, fault))
+            self.known[reading.path] = untaken = self.untaken_of(reading, fault)
+            self.untaken.append(untaken)
             return
-        self.sources[name] = Source(reading.path, reading.digest, reading.vocabulary, len(reading.content))
+        self.known[reading.path] = replace(reading, content=b"")
+        self.sources[name] = Source(reading.path, reading.digest, reading.vocabulary, reading.size)
         self._parts |= reading.parts
         self.vocabulary.add(reading.vocabulary)
-        self.bytes += len(reading.content)
+        self.bytes += reading.size
         if self.stems:
-            self.stems.add(reading.root.itertext())
+            self.stems.add(reading.texts())
 
-    def _untaken(self, reading: Reading, fault: Exception) -> Untaken:
+    def untaken_of(self, reading: Reading, fault: Exception) -> Untaken:
         """Why the program didn't take a document, with the line where that shows, if it does."""
         try:
             if isinstance(fault, DocumentFault):
-                check_limits(reading.path, reading.root, self.rules)
+                read_file(reading.path, self.rules)
         except Untaken as untaken:
             return untaken
         return Untaken(reading.path, None, _reason(fault))

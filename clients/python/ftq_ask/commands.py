@@ -16,15 +16,18 @@ from typing import Any
 from rich.console import Console
 from rich.progress import BarColumn, MofNCompleteColumn, Progress, TextColumn, TimeElapsedColumn
 
-from ftq_client import ClientError, Refusal, Session, TimedOut, find_program
+from ftq_client import ClientError, Refusal, TimedOut, find_program
 
 from . import answers
+from .caching import Cache, cache_file
 from .calls import read_words
 from .choosing import Choice, rules_of
 from .collection import Collection, Planned
+from .engines import engine_of
 from .lists import NoList, Stems
+from .loading import Reader
 from .missing import all_hints
-from .shares import local_shares, scheduled_shares
+from .shares import scheduled_shares
 
 FOUND, NONE, FAULT = 0, 1, 2
 
@@ -44,6 +47,7 @@ def main(arguments: list[str]) -> int:
         answers.say(errors, f"ask: {error}")
         return FAULT
     start = time.monotonic()
+    collection.reader = reader_of(options)
     try:
         load(collection, options, errors)
         tell(collection, errors)
@@ -71,9 +75,12 @@ def _engine(options: argparse.Namespace) -> Any:
     program = options.program or find_program()
     if options.scheduler:
         return scheduled_shares(options.scheduler, options.workers, program)
-    if options.workers and options.workers > 1:
-        return local_shares(options.workers, program)
-    return Session(program)
+    return engine_of(program, options.workers)
+
+
+def reader_of(options: argparse.Namespace) -> Reader:
+    """What reads the files, as the words of a call say."""
+    return Reader(rules_of(options), None if options.no_cache else Cache(cache_file()))
 
 
 def load(collection: Collection, options: argparse.Namespace, errors: Console) -> None:

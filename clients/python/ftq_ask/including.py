@@ -31,13 +31,14 @@ class Part:
     wholes: frozenset[Path]
 
 
-def included(path: Path, root: etree._Element, read: Read, inside: tuple[Path, ...]) -> Iterator[Part]:
-    """Does the inclusions of a file, which is the last of those in `inside`, and tells of each what it brought in."""
+def included(path: Path, root: etree._Element, read: Read, inside: tuple[Path, ...], looked: set[Path]) -> Iterator[Part]:
+    """Does the inclusions of a file, which is the last of those in `inside`, and tells of each what it brought in. The files that are looked
+    for are put into `looked`."""
     row = _includes(root)
     for include in row:
         if include.getparent() is None:
             raise Untaken(path, include.sourceline, "the root is an inclusion: name the file that it includes")
-        part = _part(path, include, inside)
+        part = _part(path, include, inside, looked)
         if part and include.get("parse", "xml") == "text":
             text = _text(path, include, part)
             put_text(include, text)
@@ -75,12 +76,13 @@ def _includes(root: etree._Element) -> list[etree._Element]:
     return [it for it in root.iter(INCLUDE) if not inside(it)]
 
 
-def _part(path: Path, include: etree._Element, inside: tuple[Path, ...]) -> Path | None:
+def _part(path: Path, include: etree._Element, inside: tuple[Path, ...], looked: set[Path]) -> Path | None:
     """The file that an inclusion brings in; None where it isn't in the folder of the file that includes it."""
     named = path_of(include.get("href", ""))
     if named is None or not include.get("href"):
         return None
     part = (path.parent / named).resolve()
+    looked.add(part)
     if len(inside) > MOST_INSIDE:
         raise Untaken(path, include.sourceline, f"{include.get('href')} is included by {MOST_INSIDE} files in one another")
     if part in inside:

@@ -3,6 +3,7 @@
 from __future__ import annotations
 
 import re
+import threading
 from pathlib import Path
 from typing import Callable, Iterable
 
@@ -28,16 +29,18 @@ class Stems:
         self.language = language
         self._stemmer = Stemmer.Stemmer(language)
         self._stems: dict[str, str] = {}
+        self._lock = threading.Lock()
 
     def add(self, texts: Iterable[str]) -> bool:
         """Takes the words of some texts in; whether one of them is new."""
-        before = len(self._stems)
-        for text in texts:
-            for it in words_of(text):
-                plain = key(it[0])
-                if plain not in self._stems:
-                    self._stems[plain] = key(self._stemmer.stemWord(it[0].lower()))
-        return len(self._stems) > before
+        with self._lock:
+            before = len(self._stems)
+            for text in texts:
+                for it in words_of(text):
+                    plain = key(it[0])
+                    if plain not in self._stems:
+                        self._stems[plain] = key(self._stemmer.stemWord(it[0].lower()))
+            return len(self._stems) > before
 
     def add_asked(self, path: str) -> bool:
         """Takes the words in that a path asks for; whether one of them is new."""
@@ -53,7 +56,9 @@ class Stems:
 
     def lines(self) -> bytes:
         """The dictionary for the program: a line for each word that isn't its own stem."""
-        rows = (f"{word} {stem}" for word, stem in sorted(self._stems.items()) if word != stem and _is_word(word) and _is_word(stem))
+        with self._lock:
+            known = sorted(self._stems.items())
+        rows = (f"{word} {stem}" for word, stem in known if word != stem and _is_word(word) and _is_word(stem))
         return "\n".join(rows).encode("utf-8")
 
 

@@ -146,7 +146,8 @@ class Locator:
             return "this document wasn't read from a file"
         if source.edited:
             return "the document was edited since it was read"
-        return self._kept.get((name, source.digest), lambda: self._read(source))
+        known = source
+        return self._kept.get((name, known.digest), lambda: self._read(known))
 
     def _read(self, source: Source) -> "Document | str":
         try:

@@ -73,15 +73,22 @@ class Rules:
 
 @dataclass(frozen=True)
 class Reading:
-    """A file that was read: its root, its bytes for the program, its names, a digest by which a later look knows the file again, and the files
-    that stand in it as wholes."""
+    """A file that was read: its bytes for the program, its names, a digest by which a later look knows the file again, the files that stand in
+    it as wholes, those that were looked for beside it, the digest of the file alone, and how many bytes the program gets."""
 
     path: Path
-    root: etree._Element
     content: bytes
     vocabulary: Vocabulary
     digest: bytes
     parts: frozenset[Path]
+    beside: frozenset[Path]
+    own: bytes
+    size: int
+
+    def texts(self) -> Iterator[str]:
+        """The texts of its elements."""
+        root = etree.fromstring(self.content, _parser(_Resolver(Path(os.devnull), Rules()), huge=True, doctypes=False))
+        return (str(it) for it in root.itertext())
 
 
 def read_tree(path: Path, rules: Rules = Rules(), inside: tuple[Path, ...] = ()) -> Tree:
@@ -91,20 +98,27 @@ def read_tree(path: Path, rules: Rules = Rules(), inside: tuple[Path, ...] = ())
     resolver = _Resolver(path, rules)
     root = _parsed(path, data, resolver, rules)
     digest = hashlib.blake2b(data, digest_size=16)
+    own = digest.digest()
     for beside in resolver.read:
         now = beside.stat()
         digest.update(f"{beside} {now.st_size} {now.st_mtime_ns}".encode("utf-8", errors="surrogateescape"))
     origins: dict[etree._Element, Path] = {}
     wholes = set(resolver.read)
-    read = lambda part, outer: read_tree(part, rules, outer)
+    looked = set(resolver.looked)
+
+    def read(part: Path, outer: tuple[Path, ...]) -> Tree:
+        tree = read_tree(part, rules, outer)
+        looked.update(tree.beside)
+        return tree
+
     includes = rules.includes and next(root.iter(INCLUDE), None) is not None
-    for part in included(path, root, read, (*inside, path.resolve())) if includes else ():
+    for part in included(path, root, read, (*inside, path.resolve()), looked) if includes else ():
         digest.update(part.digest)
         origins.update(part.origins)
         wholes |= part.wholes
     if not inside:
         _drop_blanks(root, rules)
-    return Tree(root, digest.digest(), origins, frozenset(wholes))
+    return Tree(root, digest.digest(), origins, frozenset(wholes), frozenset(looked), own)
 
 
 def _read(path: Path) -> bytes:
@@ -214,15 +228,14 @@ def read_file(path: Path, rules: Rules = Rules(), checked: bool = True) -> Readi
     """A file as the program takes it; `Untaken` where the file or one of the program's limits doesn't let it. Where it isn't `checked`, the
     program is left to find what is beyond its limits."""
     tree = read_tree(path, rules)
-    root = tree.root
     if rules.blocks:
-        _part_paragraphs(root, rules.blocks)
-    content = etree.tostring(root, encoding="UTF-8", xml_declaration=False, with_tail=False)
+        _part_paragraphs(tree.root, rules.blocks)
+    content = etree.tostring(tree.root, encoding="UTF-8", xml_declaration=False, with_tail=False)
     if len(content) > MOST_BYTES - 128:
         raise Untaken(path, None, f"its {len(content):,} bytes are more than a session has")
     if checked:
-        check_limits(path, root, rules)
-    return Reading(path, root, content, _names(content), tree.digest, tree.parts)
+        _check_limits(path, tree.root, rules)
+    return Reading(path, content, _names(content), tree.digest, tree.parts, tree.beside, tree.own, len(content))
 
 
 def lines_of(root: etree._Element, path: Path) -> dict[etree._Element, int]:
@@ -263,6 +276,8 @@ class _Resolver(etree.Resolver):
         self._elsewhere: list[tuple[str, str | None]] = []
         self.read: list[Path] = []
         """The files that were brought in."""
+        self.looked: set[Path] = set()
+        """Those, and the ones that weren't there."""
 
     def resolve(self, system_url: str | None, public_id: str | None, context: object) -> object:
         path = self._file(system_url or "", public_id)
@@ -283,12 +298,14 @@ class _Resolver(etree.Resolver):
         beside = path_of(system)
         if beside is not None and system:
             inside = (self._folders[0] / beside).resolve()
+            self.looked.add(inside)
             if inside.is_file() and any(map(inside.is_relative_to, self._folders)):
                 return inside
         if not self._rules.catalogs:
             return None
         known = in_catalogs(public, system)
         if known:
+            self.looked.add(known)
             self._folders.append(known.resolve().parent)
         return known
 
@@ -363,7 +380,7 @@ def _counted(names: Iterable[bytes]) -> dict[str, int]:
     return {it.decode("utf-8"): 1 for it in names}
 
 
-def check_limits(path: Path, root: etree._Element, rules: Rules) -> None:
+def _check_limits(path: Path, root: etree._Element, rules: Rules) -> None:
     """`Untaken` where a document is beyond one of the program's limits, at the line where that shows: of levels, of nodes or of words."""
     level = [root]
     for _ in range(MOST_LEVELS):

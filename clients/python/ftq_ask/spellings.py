@@ -3,6 +3,7 @@
 from __future__ import annotations
 
 import re
+import threading
 import time
 from collections import Counter
 from typing import Callable, Iterable, Iterator
@@ -27,6 +28,11 @@ class Spellings:
         self._stem = stem
         self._counts: Counter[str] | None = None
         self._written: dict[str, str] = {}
+        self._lock = threading.Lock()
+
+    def again(self) -> "Spellings":
+        """Those of the same texts as they are when they are needed next."""
+        return Spellings(self._texts, self._stem)
 
     def same(self, word: str) -> list[str]:
         """Words that are the same as one but for apostrophes and hyphens, an owner's ending, or their ending altogether, by their stem."""
@@ -50,16 +56,19 @@ class Spellings:
         return [self._written[it] for it in list(found)[:MOST_SHOWN]]
 
     def _gathered(self) -> Counter[str]:
-        if self._counts is None:
-            self._counts, end = Counter(), time.monotonic() + MOST_SECONDS
-            for text in self._texts():
-                for written, count in Counter(it[0] for it in words_of(text)).items():
-                    plain = key(written)
-                    self._counts[plain] += count
-                    self._written.setdefault(plain, written)
-                if time.monotonic() > end:
-                    break
-        return self._counts
+        with self._lock:
+            if self._counts is None:
+                counts: Counter[str] = Counter()
+                end = time.monotonic() + MOST_SECONDS
+                for text in self._texts():
+                    for written, count in Counter(it[0] for it in words_of(text)).items():
+                        plain = key(written)
+                        counts[plain] += count
+                        self._written.setdefault(plain, written)
+                    if time.monotonic() > end:
+                        break
+                self._counts = counts
+            return self._counts
 
     def _folded(self, plain: str) -> list[str]:
         folded = plain.translate(_FOLDED)

@@ -23,13 +23,15 @@ class Untaken(Exception):
 
 @dataclass(frozen=True)
 class Tree:
-    """A file's root element, the digest of all that was read for it, of elements that an inclusion brought in the files they are from, and the
-    files that stand in it as wholes."""
+    """A file's root element, the digest of all that was read for it, of elements that an inclusion brought in the files they are from, the
+    files that stand in it as wholes, all files that were looked for beside it, be they there or not, and the digest of the file alone."""
 
     root: etree._Element
     digest: bytes
     origins: dict[etree._Element, Path]
     parts: frozenset[Path]
+    beside: frozenset[Path]
+    own: bytes
 
 
 def written_name(element: etree._Element) -> str:

@@ -66,6 +66,11 @@ class Process:
 
     def ask(self, command: bytes) -> Reply:
         """The reply to one command; a `Refusal` where it is refused, `ProgramEnded` where none comes."""
+        self.send(command)
+        return self.reply()
+
+    def send(self, command: bytes) -> None:
+        """Sends a command, whose reply is the next one after those of the commands before it."""
         assert self._child.stdin
         self.sent += len(command)
         try:
@@ -73,6 +78,9 @@ class Process:
             self._child.stdin.flush()
         except BrokenPipeError:
             raise self._ended() from None
+
+    def reply(self) -> Reply:
+        """The next reply, as `ask` gives it."""
         first = self._line()
         if first == "ok":
             return Done()

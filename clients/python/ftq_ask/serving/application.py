@@ -208,7 +208,7 @@ class Served:
                 "folder": desk.folder,
                 "documents": len(it.sources),
                 "bytes": it.bytes,
-                "edition": desk.edition,
+                "edition": it.edition,
                 "programs": desk.pool.count,
                 "idle": desk.pool.idle,
                 "asked": desk.asked,

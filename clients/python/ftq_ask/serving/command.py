@@ -11,7 +11,7 @@ import os
 import signal
 import socket
 import time
-from contextlib import contextmanager
+from contextlib import closing, contextmanager
 from pathlib import Path
 from types import FrameType
 from typing import Any, Iterator
@@ -26,13 +26,15 @@ from ..beside import ADDRESS, forget, key_of, note
 from ..calls import add_collection, number, seconds
 from ..choosing import Choice, rules_of
 from ..collection import Collection
-from ..commands import FAULT, load, loaded, tell
+from ..commands import FAULT, load, loaded, reader_of, tell
+from ..engines import engine_of
 from ..lists import NoList, Stems
 from .application import Served
 from .calls import Calls
 from .desk import Desk
-from .engines import served_engine
+from .freshness import Freshness
 from .pool import Pool
+from .watching import Files
 
 USUAL_PORT = 8317
 USUAL_SECONDS = 60.0
@@ -73,7 +75,10 @@ def serve(arguments: list[str]) -> int:
     try:
         stems = Stems(options.stem) if options.stem else None
         program = options.program or find_program()
-        collection = Collection(served_engine(program, options.workers), stems, Choice(options.glob), rules_of(options))
+        collection = Collection(engine_of(program, options.workers), stems, Choice(options.glob), rules_of(options))
+        collection.reader = reader_of(options)
+        files = Files([str(it) for it in options.paths])
+        looked = files.look(time.time_ns(), set())
         load(collection, options, errors)
         tell(collection, errors)
         answers.say(errors, loaded(collection, start))
@@ -84,7 +89,9 @@ def serve(arguments: list[str]) -> int:
         return FAULT
     collection.engine = Pool(collection.engine, max(1, options.programs))
     desk = Desk(collection, collection.engine, ", ".join(map(str, options.paths)), options.timeout)
-    with listening, beside(desk, program, options, listening.getsockname()[1]) as further:
+    freshness = Freshness(desk, files, looked, options.paths)
+    desk.freshen = freshness.freshen
+    with listening, closing(freshness), beside(desk, program, options, listening.getsockname()[1]) as further:
         run(desk, listening, further)
     return 0
 

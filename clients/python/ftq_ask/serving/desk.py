@@ -55,8 +55,6 @@ class Desk:
         self.seconds = seconds
         self.threads = ThreadPoolExecutor(max_workers=MOST_QUESTIONS, thread_name_prefix="ftq-answer")
         self.kept = Kept(16)
-        self.edition = 0
-        """How often the collection has changed since it was loaded."""
         self._questions: dict[str, Question] = {}
         self._answers: dict[tuple[int, bool, str], list[str]] = {}
         self._lock = threading.Lock()
@@ -64,6 +62,10 @@ class Desk:
         """How many questions were stopped by their names."""
         self.calls = 0
         """How many calls of tools/ask were answered."""
+        self.held = {name: (it.path, it.digest) for name, it in collection.sources.items()}
+        """Of each document that the programs hold the file and the digest that it had."""
+        self.freshen: Callable[[], None] = lambda: None
+        """Takes in what has changed in the files since they were looked at."""
 
     @property
     def asked(self) -> int:
@@ -121,8 +123,7 @@ class Desk:
         with self._lock:
             view = copy.copy(self.collection)
             view.sources = dict(self.collection.sources)
-            edition = self.edition
-        view.engine = Asking(self.pool, question, _in_order_of(list(view.sources)) if edition else lambda lines: lines)
+        view.engine = Asking(self.pool, question, _in_order_of(list(view.sources)) if view.edition else lambda lines: lines)
         view.as_typed = as_typed
         view.told_of_apostrophes = False
         view.locator = Locator(view.sources, view.rules, self.kept)
@@ -130,7 +131,7 @@ class Desk:
 
     def found(self, view: Collection, path: str) -> list[str]:
         """The lines of the elements that a path selects, in the order of the collection. An answer that was just given is given again."""
-        key = (self.edition, view.as_typed, path)
+        key = (view.edition, view.as_typed, path)
         with self._lock:
             known = self._answers.pop(key, None)
             if known is not None:
@@ -143,8 +144,15 @@ class Desk:
                 del self._answers[next(iter(self._answers))]
         return found
 
-    def freshen(self) -> None:
-        """Takes in what has changed in the files since they were looked at."""
+    def renew(self, new: Collection) -> None:
+        """From now on questions are asked of the collection as this one tells of it."""
+        with self._lock:
+            old = self.collection
+            for name in ("choice", "_names", "untaken", "known", "sources", "vocabulary", "bytes"):
+                setattr(old, name, getattr(new, name))
+            old.spellings = old.spellings.again()
+            old.edition += 1
+            self._answers.clear()
 
     def files(self) -> Iterator[tuple[str, Path]]:
         """The documents with their files, in order."""
