@@ -22,6 +22,8 @@ MOST_BYTES = 1 << 30
 """How large the cache grows; then what wasn't used for longest goes."""
 
 ROWS_AT_ONCE = 500
+BYTES_AT_ONCE = 16_000_000
+"""How much is written at a time."""
 
 RECENT = 60.0
 """For how many seconds a file beside another one has to have been as it is, so that what was read can't be older than it."""
@@ -29,7 +31,7 @@ RECENT = 60.0
 State = tuple[int, int] | None
 """A file's size and time, by which a change shows; None where there is none."""
 
-SOURCES = ("reading.py", "including.py", "trees.py", "catalogs.py", "caching.py")
+SOURCES = ("reading.py", "limits.py", "including.py", "trees.py", "catalogs.py", "caching.py")
 """The modules that say what is kept: where one of them changes, nothing that was kept is found any more."""
 
 
@@ -54,7 +56,8 @@ class Cache:
         self._path = path
         self._lock = threading.RLock()
         self._database: sqlite3.Connection | None = None
-        self._unwritten = 0
+        self._rows: list[tuple[bytes, str, bytes, bytes, int]] = []
+        self._used: list[tuple[int, bytes]] = []
         self.found = 0
         """How many files were found again."""
         self._open()
@@ -68,7 +71,7 @@ class Cache:
                 if reading:
                     self.found += 1
                     if day != _today():
-                        self._done("UPDATE readings SET day = ? WHERE key = ?", _today(), key)
+                        self._used.append((_today(), key))
                     return reading
         return None
 
@@ -87,31 +90,35 @@ class Cache:
                 "beside": states,
             }
         )
-        row = (beside if states else alone, told, reading.content, _digest(told, reading.content), _today())
-        self._done("INSERT OR REPLACE INTO readings VALUES (?, ?, ?, ?, ?)", *row)
-        self._unwritten += 1
-        if self._unwritten >= ROWS_AT_ONCE:
+        self._rows.append((beside if states else alone, told, reading.content, _digest(told, reading.content), _today()))
+        if len(self._rows) >= ROWS_AT_ONCE or sum(len(it[2]) for it in self._rows) > BYTES_AT_ONCE:
             self.flush()
 
     def flush(self) -> None:
-        """Writes what is kept: all of it or, where that is cut off, nothing."""
+        """Writes what is to be kept: all of it or, where that is cut off, or another program is writing all the time, nothing."""
+        rows, used = self._rows, self._used
+        self._rows, self._used = [], []
         with self._lock:
-            if self._unwritten:
-                self._trim()
-            self._unwritten = 0
-            if self._database:
-                with contextlib.suppress(sqlite3.Error):
-                    self._database.commit()
+            if self._database is None or not (rows or used):
+                return
+            try:
+                with self._database:
+                    self._database.executemany("INSERT OR REPLACE INTO readings VALUES (?, ?, ?, ?, ?)", rows)
+                    self._database.executemany("UPDATE readings SET day = ? WHERE key = ?", used)
+                    if rows:
+                        self._trim(self._database)
+            except sqlite3.Error:
+                pass
 
-    def _trim(self) -> None:
+    def _trim(self, database: sqlite3.Connection) -> None:
         """Leaves out what wasn't used for longest, where there is too much: down to three quarters."""
-        rows = self._done("SELECT key, length(content) FROM readings ORDER BY day DESC")
-        whole = sum(length for _, length in rows)
+        kept = database.execute("SELECT key, length(content) FROM readings ORDER BY day DESC").fetchall()
+        whole = sum(length for _, length in kept)
         if whole <= MOST_BYTES:
             return
-        while rows and whole > MOST_BYTES * 3 // 4:
-            key, length = rows.pop()
-            self._done("DELETE FROM readings WHERE key = ?", key)
+        while kept and whole > MOST_BYTES * 3 // 4:
+            key, length = kept.pop()
+            database.execute("DELETE FROM readings WHERE key = ?", (key,))
             whole -= length
 
     def _open(self) -> None:

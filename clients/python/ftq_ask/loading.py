@@ -8,7 +8,7 @@ import queue
 import signal
 import threading
 from collections import deque
-from concurrent.futures import Future, ProcessPoolExecutor
+from concurrent.futures import BrokenExecutor, Future, ProcessPoolExecutor
 from multiprocessing import get_context
 from pathlib import Path
 from types import TracebackType
@@ -76,19 +76,30 @@ class Reader:
             group = paths[start : start + GROUP]
             known = {it: reading for it in group if (reading := self._known(it))}
             unknown = [it for it in group if it not in known]
-            read = self._pool.submit(read_group, unknown, self._rules) if self._pool and unknown else None
-            waiting.append((group, known, read or read_group(unknown, self._rules)))
+            waiting.append((group, known, self._begun(unknown)))
             while waiting and (len(waiting) > AHEAD or not isinstance(waiting[0][2], Future)):
                 yield self._joined(*waiting.popleft())
         while waiting:
             yield self._joined(*waiting.popleft())
 
+    def _begun(self, paths: list[Path]) -> Future[list[Read]] | list[Read]:
+        """Files that are read, or are being read by another process."""
+        if self._pool and paths:
+            try:
+                return self._pool.submit(read_group, paths, self._rules)
+            except BrokenExecutor:
+                pass
+        return read_group(paths, self._rules)
+
     def _known(self, path: Path) -> Reading | None:
         return self._cache.get(path, _bytes_of(path), self._rules) if self._cache else None
 
     def _joined(self, group: list[Path], known: dict[Path, Reading], read: Future[list[Read]] | list[Read]) -> list[Read]:
-        """The files of a group in their order; what was read anew is kept."""
-        new = iter(read.result() if isinstance(read, Future) else read)
+        """The files of a group in their order; what was read anew is kept. Where a process has ended before its time, they are read here."""
+        try:
+            new = iter(read.result() if isinstance(read, Future) else read)
+        except BrokenExecutor:
+            new = iter(read_group([it for it in group if it not in known], self._rules))
         rows = [known[it] if it in known else next(new) for it in group]
         for path, row in zip(group, rows):
             if self._cache and path not in known and isinstance(row, Reading):

@@ -12,7 +12,8 @@ from lxml import etree
 
 from ftq_client import Element
 
-from .reading import Rules, Vocabulary, lines_of, read_tree
+from .limits import lines_of
+from .reading import Rules, Vocabulary, read_tree
 from .trees import Tree, Untaken, written_attributes, written_name
 
 

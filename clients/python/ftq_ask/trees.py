@@ -20,6 +20,9 @@ class Untaken(Exception):
         self.named = path
         """The file that was to be read, where the fault is in one that stands in it."""
 
+    def __reduce__(self) -> tuple[type["Untaken"], tuple[Path, int | None, str], dict[str, Path]]:
+        return Untaken, (self.path, self.line, self.reason), {"named": self.named}
+
 
 @dataclass(frozen=True)
 class Tree:

@@ -10,7 +10,8 @@ from lxml import etree
 from ftq_client import Element
 
 from ..locating import Document
-from ..reading import BLANKS, BLOCKS
+from ..limits import BLANKS
+from ..reading import BLOCKS
 from ..showing import Asked, Piece
 from ..trees import written_attributes, written_name
 from ..words import words_of
