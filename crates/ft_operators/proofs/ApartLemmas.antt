@@ -9,10 +9,10 @@ use Rattle.ft_base.specs.declared.hit.Hit.{Hit}
 use Rattle.all_matches.specs.MildNot.{stands_out}
 use Rattle.all_matches.specs.Ways.{Way, apart, way_includes, standing_out}
 use Rattle.ft_operators.specs.declared.course.Course.{Course}
-use Rattle.ft_operators.specs.Course.{ways_on, without_bounds}
+use Rattle.ft_operators.specs.Course.{admitted, course_out, passes_out, stands_on, ways_on}
 use Rattle.ft_operators.specs.declared.standing_out.Tried.{Tried}
 use Rattle.ft_operators.specs.Standing.{Frame, Standing, frame, two_aims, at_prefix, one_on, includes_now}
-use Rattle.ft_operators.specs.steps.Apart.{with_includes, none_tried, tried_ways, admitted, IsTried, MayTry, Trying, Sifting}
+use Rattle.ft_operators.specs.steps.Apart.{with_includes, none_tried, tried_ways, IsTried, MayTry, Trying, Sifting}
 use Rattle.ft_operators.specs.steps.Forms.{apart_of, apart_left, apart_shape, apart_sifted}
 use Rattle.ft_operators.specs.steps.Walking.{Gathered, Moved, MayGoOn}
 use Rattle.ft_operators.proofs.SieveLemmas.{fewer}
@@ -46,7 +46,7 @@ barred left tried ways h = ap (λ t. not t.some || t.all) (tried_is left tried w
 
 -- ---- the ways that stand out
 
-out_is : (left right : List Way) → standing_out left right ≡ filter (λ a. admitted right (way_includes a)) left
+pub out_is : (left right : List Way) → standing_out left right ≡ filter (λ a. admitted right (way_includes a)) left
 out_is left right = by_test (list_any (λ way. is_not_empty (way_includes way)) right) left
   where
     by_test : (b : Bool) (ways : List Way) → cond b (filter (λ a. list_all (λ w. stands_out (way_includes a) (way_includes w)) right) ways) ways
@@ -55,41 +55,35 @@ out_is left right = by_test (list_any (λ way. is_not_empty (way_includes way)) 
     by_test false [] = refl
     by_test false (a ∷ more) = ap (λ ws. a ∷ ws) (by_test false more)
 
-admitted_first : (a : Way) (more right : List Way) → admitted right (way_includes a) ≡ true → apart_left (a ∷ more) right ≡ standing_out (a ∷ more) right
-admitted_first a more right verdict =
-    ap (λ ws. a ∷ ws) (out_is more right)
-    ∙ ap (λ b. cond b (a ∷ filter (λ x. admitted right (way_includes x)) more) (filter (λ x. admitted right (way_includes x)) more)) (sym verdict)
-    ∙ sym (out_is (a ∷ more) right)
+-- a test of the first of some ways by its includes
+module _ (test : List Hit → Bool) where
+  abbrev stands : Way → Bool
+  stands a = test (way_includes a)
 
-passed_first : (a : Way) (more right : List Way) → admitted right (way_includes a) ≡ false → standing_out more right ≡ standing_out (a ∷ more) right
-passed_first a more right bars =
-    out_is more right
-    ∙ ap (λ b. cond b (a ∷ filter (λ x. admitted right (way_includes x)) more) (filter (λ x. admitted right (way_includes x)) more)) (sym bars)
-    ∙ sym (out_is (a ∷ more) right)
+  here_admitted : (left : List Way) → is_not_empty left ≡ true → test (includes_now left) ≡ true → apart_left stands left ≡ filter stands left
+  here_admitted [] there verdict = cc
+  here_admitted (a ∷ more) there verdict = ap (λ b. cond b (a ∷ filter stands more) (filter stands more)) (sym verdict)
 
-here_admitted : (left right : List Way) → is_not_empty left ≡ true → admitted right (includes_now left) ≡ true → apart_left left right ≡ standing_out left right
-here_admitted [] right there verdict = cc
-here_admitted (a ∷ more) right there verdict = admitted_first a more right verdict
+  here_passed : (left : List Way) → test (includes_now left) ≡ false → filter stands (drop 1 left) ≡ filter stands left
+  here_passed [] bars = refl
+  here_passed (a ∷ more) bars = ap (λ b. cond b (a ∷ filter stands more) (filter stands more)) (sym bars)
 
-here_passed : (left right : List Way) → admitted right (includes_now left) ≡ false → standing_out (drop 1 left) right ≡ standing_out left right
-here_passed [] right bars = refl
-here_passed (a ∷ more) right bars = passed_first a more right bars
+module _ (stands : Way → Bool) where
+  none_out : (left : List Way) → is_not_empty left ≡ false → apart_left stands left ≡ filter stands left
+  none_out [] none = refl
+  none_out (a ∷ more) none = cc
 
-none_out : (left right : List Way) → is_not_empty left ≡ false → apart_left left right ≡ standing_out left right
-none_out [] right none = sym (out_is [] right)
-none_out (a ∷ more) right none = cc
+  one_out : (left : List Way) → filter stands (drop 1 left) ≡ drop 1 (apart_left stands left)
+  one_out [] = refl
+  one_out (a ∷ more) = refl
 
-one_out : (left right : List Way) → standing_out (drop 1 left) right ≡ drop 1 (apart_left left right)
-one_out [] right = out_is [] right
-one_out (a ∷ more) right = refl
+  pub apart_there : (left : List Way) → is_not_empty (apart_left stands left) ≡ is_not_empty left
+  apart_there [] = refl
+  apart_there (a ∷ more) = refl
 
-pub apart_there : (left right : List Way) → is_not_empty (apart_left left right) ≡ is_not_empty left
-apart_there [] right = refl
-apart_there (a ∷ more) right = refl
-
-pub apart_includes : (left right : List Way) → includes_now (apart_left left right) ≡ includes_now left
-apart_includes [] right = refl
-apart_includes (a ∷ more) right = refl
+  pub apart_includes : (left : List Way) → includes_now (apart_left stands left) ≡ includes_now left
+  apart_includes [] = refl
+  apart_includes (a ∷ more) = refl
 
 -- ---- moves
 
@@ -111,7 +105,7 @@ module _ (course : Course) (left left_now right now : Standing) (room mid_room n
       → Moved (one_on (apart_of course left right)) now room new_room start end second_answer
   unfolding with_rest
   apart_next m n = record {
-    stand = n.stand ∙ ap (λ s. apart_sifted course s right) m.stand ∙ ap (with_rest (apart_of course left right)) (one_out left.rest (ways_on (without_bounds course) right.operator));
+    stand = n.stand ∙ ap (λ s. apart_sifted course s right) m.stand ∙ ap (with_rest (apart_of course left right)) (one_out (stands_on course right.operator) left.rest);
     there = n.there;
     kept_room = omega (arith, m.kept_room, n.kept_room);
     grown = omega (arith, m.grown, n.grown);
@@ -129,24 +123,24 @@ made left right rest = record {
 module _ (course : Course) (left right left_now right_now : Standing) (room now_room start end : ℕ) (answer : Bool) (l : Sifting course left right left_now right_now room now_room start end answer) where
   pub sifting_may : (first_room : ℕ) → (apart_of course left right).shape.room ≤ first_room → first_room ≤ room → answer ≡ true → MayGoOn (apart_of course left_now right_now) now_room
   sifting_may first_room fits grew there = record {
-    there = apart_there left_now.rest (ways_on (without_bounds course) right_now.operator) ∙ sym l.there_now ∙ there;
+    there = apart_there (stands_on course right_now.operator) left_now.rest ∙ sym l.there_now ∙ there;
     fits =
         let a = ap (λ f. f.shape.room) l.same_left in
         let b = ap (λ f. f.shape.room) l.same_right in
         omega (arith, fits, grew, a, b, l.kept_room);
   }
 
-  module _ (left_tried right_tried : Standing) (tried_room tried_end : ℕ) (verdict : Bool) (e : IsTried (without_bounds course) left_now right_now left_tried right_tried now_room tried_room end tried_end verdict) where
-    known : verdict ≡ admitted (ways_on (without_bounds course) right.operator) (includes_now left_now.rest)
-    known = e.tried ∙ ap (λ f. admitted (ways_on (without_bounds course) f.operator) (includes_now left_now.rest)) l.same_right
+  module _ (left_tried right_tried : Standing) (tried_room tried_end : ℕ) (verdict : Bool) (e : IsTried course left_now right_now left_tried right_tried now_room tried_room end tried_end verdict) where
+    known : verdict ≡ passes_out course right.operator (includes_now left_now.rest)
+    known = e.tried ∙ ap (λ f. passes_out course f.operator (includes_now left_now.rest)) l.same_right
 
     pub apart_settled : answer ≡ true → verdict ≡ true → Moved (apart_sifted course left right) (apart_of course left_tried right_tried) room tried_room start tried_end true
     unfolding made rest_there
     apart_settled there admits = record {
-      stand = (λ i. made (frame (e.same_left i)) (e.same_right i) (apart_left (e.same_left i).rest (ways_on (without_bounds course) (e.same_right i).operator)))
-          ∙ (λ i. made (l.same_left i) (l.same_right i) (apart_left left_now.rest (ways_on (without_bounds course) (l.same_right i).operator)))
-          ∙ ap (made (frame left) (frame right)) (here_admitted left_now.rest (ways_on (without_bounds course) right.operator) (sym l.there_now ∙ there) (sym known ∙ admits) ∙ l.passed);
-      there = sym there ∙ l.there_now ∙ ap rest_there (sym e.same_left) ∙ sym (apart_there left_tried.rest (ways_on (without_bounds course) right_tried.operator));
+      stand = (λ i. made (frame (e.same_left i)) (e.same_right i) (apart_left (stands_on course (e.same_right i).operator) (e.same_left i).rest))
+          ∙ (λ i. made (l.same_left i) (l.same_right i) (apart_left (stands_on course (l.same_right i).operator) left_now.rest))
+          ∙ ap (made (frame left) (frame right)) (here_admitted (passes_out course right.operator) left_now.rest (sym l.there_now ∙ there) (sym known ∙ admits) ∙ l.passed);
+      there = sym there ∙ l.there_now ∙ ap rest_there (sym e.same_left) ∙ sym (apart_there (stands_on course right_tried.operator) left_tried.rest);
       kept_room = omega (arith, l.kept_room, e.kept_room);
       grown = omega (arith, l.grown, e.grown);
     }
@@ -166,7 +160,7 @@ module _ (course : Course) (left right left_now right_now : Standing) (room now_
       pub sifting_on : verdict ≡ false → Sifting course left right next right_tried room next_room start next_end next_answer
       sifting_on bars =
           let same = m.stand ∙ ap one_on e.same_left in record {
-            passed = ap (λ s. standing_out s.rest (ways_on (without_bounds course) right.operator)) same ∙ here_passed left_now.rest (ways_on (without_bounds course) right.operator) (sym known ∙ bars) ∙ l.passed;
+            passed = ap (λ s. filter (stands_on course right.operator) s.rest) same ∙ here_passed (passes_out course right.operator) left_now.rest (sym known ∙ bars) ∙ l.passed;
             same_left = ap frame same ∙ l.same_left;
             same_right = e.same_right ∙ l.same_right;
             there_now = m.there;
@@ -182,9 +176,9 @@ module _ (course : Course) (left right left_now right_now : Standing) (room now_
   pub apart_end : answer ≡ false → Moved (apart_sifted course left right) (apart_of course left_now right_now) room now_room start end false
   unfolding made
   apart_end none = record {
-    stand = (λ i. made (l.same_left i) (l.same_right i) (apart_left left_now.rest (ways_on (without_bounds course) (l.same_right i).operator)))
-        ∙ ap (made (frame left) (frame right)) (none_out left_now.rest (ways_on (without_bounds course) right.operator) (sym l.there_now ∙ none) ∙ l.passed);
-    there = sym none ∙ l.there_now ∙ sym (apart_there left_now.rest (ways_on (without_bounds course) right_now.operator));
+    stand = (λ i. made (l.same_left i) (l.same_right i) (apart_left (stands_on course (l.same_right i).operator) left_now.rest))
+        ∙ ap (made (frame left) (frame right)) (none_out (stands_on course right.operator) left_now.rest (sym l.there_now ∙ none) ∙ l.passed);
+    there = sym none ∙ l.there_now ∙ sym (apart_there (stands_on course right_now.operator) left_now.rest);
     kept_room = l.kept_room;
     grown = l.grown;
   }
@@ -204,7 +198,7 @@ module _ (course : Course) (left right left_now right_now : Standing) (room now_
   pub trying_may : (outer : Course) (first_room : ℕ) → MayGoOn (apart_of outer left right) first_room → first_room ≤ room → answer ≡ true → MayTry left_now right_now now_room
   unfolding rest_there
   trying_may outer first_room may grew there = record {
-    left_there = ap rest_there l.same_left ∙ sym (apart_there left.rest (ways_on (without_bounds outer) right.operator)) ∙ may.there;
+    left_there = ap rest_there l.same_left ∙ sym (apart_there (stands_on outer right.operator) left.rest) ∙ may.there;
     right_there = sym l.there_now ∙ there;
     fits =
         let a = ap (λ s. s.shape.room) l.same_left in
@@ -233,29 +227,33 @@ module _ (course : Course) (left right left_now right_now : Standing) (room now_
   trying_fewer next mid_room next_room next_end next_answer there m =
       let same = ap (λ s. length s.rest) m.stand in omega (arith, same, fewer right_now.rest (sym l.there_now ∙ there))
 
-  pub tried_barred : (tried : Tried) (mid_room : ℕ) → answer ≡ true → tried ≡ with_includes (includes_now left_now.rest) (includes_now right_now.rest) so_far
-      → (tried.some && not tried.all) ≡ true → now_room ≤ mid_room → IsTried course left right left_now right_now room mid_room start end false
-  tried_barred tried mid_room there is bars grew =
-      let hits = includes_now left.rest in
-      let same = is ∙ ap (λ s. with_includes (includes_now s.rest) (includes_now right_now.rest) so_far) l.same_left in record {
-        same_left = l.same_left;
-        same_right = l.same_right;
-        tried = sym (barred hits tried (drop 1 right_now.rest) bars)
-            ∙ tried_all hits (ways_on course right.operator) (tried_ways hits tried (drop 1 right_now.rest))
-            (ap (λ t. tried_ways hits t (drop 1 right_now.rest)) same ∙ tried_more hits so_far right_now.rest (sym l.there_now ∙ there) ∙ l.tried);
-        kept_room = omega (arith, grew, l.kept_room);
-        grown = l.grown;
-      }
+  -- told of the right side on any course
+  module _ (outer : Course) (out : course ≡ course_out outer (includes_now left.rest)) (seen seen_now : Standing) (same : frame seen ≡ frame right) (same_now : frame seen_now ≡ frame right_now) where
+    tried_on : (mid_room : ℕ) (verdict : Bool) → now_room ≤ mid_room → verdict ≡ admitted (ways_on course right.operator) (includes_now left.rest)
+        → IsTried outer left seen left_now seen_now room mid_room start end verdict
+    tried_on mid_room verdict grew is = record {
+      same_left = l.same_left;
+      same_right = same_now ∙ l.same_right ∙ sym same;
+      tried = is ∙ (λ i. admitted (ways_on (out i) (sym same i).operator) (includes_now left.rest));
+      kept_room = omega (arith, grew, l.kept_room);
+      grown = l.grown;
+    }
 
-  pub tried_out : (verdict : Bool) → verdict ≡ (not so_far.some || so_far.all) → answer ≡ false → IsTried course left right left_now right_now room now_room start end verdict
-  tried_out verdict is none = record {
-    same_left = l.same_left;
-    same_right = l.same_right;
-    tried = is ∙ tried_all (includes_now left.rest) (ways_on course right.operator) so_far
-        (tried_end (includes_now left.rest) so_far right_now.rest (sym l.there_now ∙ none) ∙ l.tried);
-    kept_room = l.kept_room;
-    grown = l.grown;
-  }
+    pub tried_barred : (tried : Tried) (mid_room : ℕ) → answer ≡ true → tried ≡ with_includes (includes_now left_now.rest) (includes_now right_now.rest) so_far
+        → (tried.some && not tried.all) ≡ true → now_room ≤ mid_room → IsTried outer left seen left_now seen_now room mid_room start end false
+    tried_barred tried mid_room there is bars grew =
+        let hits = includes_now left.rest in
+        let same = is ∙ ap (λ s. with_includes (includes_now s.rest) (includes_now right_now.rest) so_far) l.same_left in
+        tried_on mid_room false grew
+        (sym (barred hits tried (drop 1 right_now.rest) bars)
+        ∙ tried_all hits (ways_on course right.operator) (tried_ways hits tried (drop 1 right_now.rest))
+        (ap (λ t. tried_ways hits t (drop 1 right_now.rest)) same ∙ tried_more hits so_far right_now.rest (sym l.there_now ∙ there) ∙ l.tried))
+
+    pub tried_out : (verdict : Bool) → verdict ≡ (not so_far.some || so_far.all) → answer ≡ false → IsTried outer left seen left_now seen_now room now_room start end verdict
+    tried_out verdict is none =
+        tried_on now_room verdict (omega arith)
+        (is ∙ tried_all (includes_now left.rest) (ways_on course right.operator) so_far
+        (tried_end (includes_now left.rest) so_far right_now.rest (sym l.there_now ∙ none) ∙ l.tried))
 
 -- the includes of both sides, one after the other
 pub tried_pair : (left right : Standing) (room cleared_room left_room new_room : ℕ) (cleared held new : List Hit) (tried : Tried) (middle : ℕ) → cleared ≡ [] → cleared_room ≡ room → MayTry left right room

@@ -77,7 +77,7 @@ numbers_beside : (from : ℕ) (to : Option ℕ) (size first last other_first oth
 numbers_beside from None size first last other_first other_last h fits = grind (arith, nat_tests)
 numbers_beside from (Some end) size first last other_first other_last h fits = grind (arith, nat_tests)
 
-between_beside : (size : Option ℕ) (first last : ℕ) (bounds : UnitBounds) (other_first other_last : ℕ) → lies_between bounds other_first other_last ≡ true
+pub between_beside : (size : Option ℕ) (first last : ℕ) (bounds : UnitBounds) (other_first other_last : ℕ) → lies_between bounds other_first other_last ≡ true
     → fit_together size first last other_first other_last ≡ true → lies_between (numbers_round size first last bounds) other_first other_last ≡ true
 between_beside None first last bounds other_first other_last h fits = h
 between_beside (Some size) first last bounds other_first other_last h fits = numbers_beside bounds.from bounds.to size first last other_first other_last h fits

@@ -17,7 +17,7 @@ use Rattle.all_matches.proofs.ListTests.{list_any-map}
 use Rattle.all_matches.proofs.PlainOperators.{plain-positive}
 use Rattle.ft_operators.specs.declared.course.Course.{Course}
 use Rattle.ft_operators.specs.declared.course.Windows.{Windows}
-use Rattle.ft_operators.specs.Course.{asked_for, firsts, filtered_on, ways_on, without_bounds}
+use Rattle.ft_operators.specs.Course.{asked_for, firsts, filtered_on, stands_on, ways_on}
 use Rattle.ft_operators.specs.Bounds.{everywhere}
 use Rattle.ft_operators.specs.KeptBounds.{chain_bounds}
 use Rattle.ft_operators.specs.declared.chain.Chain.{Chain}
@@ -136,9 +136,9 @@ asked_phrase s node chain room start is = record {
   grown = omega arith;
 }
 
-apart_clean : (kept : Hit → Bool) (xs ys : List Way) → clean_now kept xs ≡ clean_now kept (apart_left xs ys)
-apart_clean kept [] ys = refl
-apart_clean kept (x ∷ xs) ys = refl
+apart_clean : (kept : Hit → Bool) (stands : Way → Bool) (xs : List Way) → clean_now kept xs ≡ clean_now kept (apart_left stands xs)
+apart_clean kept stands [] = refl
+apart_clean kept stands (x ∷ xs) = refl
 
 pub asked_apart : (course : Course) (left right left_now : Standing) (before after : Chain) (room new_room start end : ℕ) (answer : Bool) → Asked left left_now before after room new_room start end answer
     → Asked (apart_of course left right) (apart_of course left_now right) before after room new_room start end answer
@@ -146,7 +146,7 @@ asked_apart course left right left_now before after room new_room start end answ
   same = ap (λ s. apart_of course s right) a.same;
   clean = λ plain.
       a.clean (plain-positive left.operator (and_parts (without_negation left.operator) (without_negation right.operator) plain).0)
-      ∙ apart_clean (kept_by (links_of before)) left.rest (ways_on (without_bounds course) right.operator);
+      ∙ apart_clean (kept_by (links_of before)) (stands_on course right.operator) left.rest;
   kept = a.kept;
   kept_room = a.kept_room;
   grown = a.grown;

@@ -25,15 +25,18 @@ use Rattle.ft_operators.specs.declared.course.Windows.{Windows}
 use Rattle.ft_operators.specs.declared.course.Windows.TheVariants.{Each, Telling, First}
 use Rattle.ft_operators.specs.Chains.{all_kept}
 use Rattle.ft_operators.specs.Bounds.{agrees, are_within, bounds_inside, everywhere, lies_in, reach_inside, round_hits}
-use Rattle.ft_operators.specs.Extents.{extent_before, extent_inside, extent_of}
-use Rattle.ft_operators.specs.Course.{asked_for, course_beside, course_inside, filtered_on, ways_on, without_bounds, every, tellings, firsts}
+use Rattle.ft_operators.specs.Extents.{extent_before, extent_beside, extent_inside, extent_of, extent_of_either}
+use Rattle.ft_operators.specs.Course.{admitted, asked_for, course_beside, course_out, passes_out, stands_on, course_inside, filtered_on, ways_on, without_bounds, every, tellings, firsts}
 use Rattle.ft_operators.specs.declared.bounds.Bounds.{Bounds}
 use Rattle.ft_operators.specs.declared.extent.Extent.{Extent}
 use Rattle.ft_operators.specs.declared.reach.Reach.{Reach}
-use Rattle.ft_operators.specs.steps.Apart.{admitted}
 use Rattle.ft_operators.specs.steps.Measuring.{holds}
 use Rattle.ft_operators.proofs.BoundLemmas.{all_lie, all_more, all_pass, few_at, filter_within, sides_within}
-use Rattle.ft_operators.proofs.ExtentLemmas.{few_before, few_inside, few_unsaid, holds_both}
+use Rattle.ft_operators.proofs.ApartLemmas.{out_is}
+use Rattle.ft_operators.proofs.ExtentLemmas.{few_before, few_inside, few_more, few_unsaid, few_ways, holds_both}
+use Rattle.ft_operators.proofs.OutLemmas.{admitted_out, has_word, lies_beside_all, out_bounds, out_still, out_wordless}
+use Rattle.ft_operators.proofs.ServeLemmas.{Asks, Respects, Serves, choices_tell, serves_filtered, serves_left, serves_right}
+use Rattle.ft_operators.proofs.SpreadLemmas.{are_few}
 use Rattle.ft_operators.proofs.TellingLemmas.{any_more, first_decides, tell_windows, nth_window, first_window_gap, lies_in_later, clean_less}
 
 -- ---- every way
@@ -53,99 +56,11 @@ ways_every item (phrase found) = ap (map one_hit) (all_there found)
 ways_every item (either left right) = λ i. ways_every item left i ++ ways_every item right i
 ways_every item (together left right) =
     λ i. flat_map (λ a. map (two_ways a) ((ap (λ course. ways_on course right) (still item (way_includes a)) ∙ ways_every item right) i)) (ways_every item left i)
-ways_every item (apart left right) = λ i. standing_out (ways_every item left i) (ways_every item right i)
+ways_every item (apart left right) =
+    (λ i. filter (λ a. admitted ((ap (λ course. ways_on course right) (out_still item (way_includes a)) ∙ ways_every item right) i) (way_includes a)) (ways_every item left i))
+    ∙ sym (out_is (ways_of item left) (ways_of item right))
 ways_every item (negated operand) = refl
 ways_every item (through_filter operand kind) = ap (flat_map (filtered_ways kind item)) (ways_every item operand)
-
--- ---- a way that does for another: it has the same includes, where that is asked it is clean wherever the other is, and it has as
--- few includes before its distances
-
-pub record Serves (asked : Type 0) (better way : Way) : Type 0 where
-  pub same : way_includes better ≡ way_includes way
-  pub clean : asked → (kept : Hit → Bool) → clean_under kept way ≡ true → clean_under kept better ≡ true
-  pub few : (extent : Option Extent) → few_before extent way ≡ true → few_before extent better ≡ true
-
--- a test that a way passes if one does for which it does
-abbrev pub Respects : Type 0 → (Way → Bool) → Type 0
-Respects asked test = (better way : Way) → Serves asked better way → test way ≡ true → test better ≡ true
-
--- whether the course tells which ways are clean
-abbrev pub Asks : Windows → Type 0
-Asks Each = ⊤
-Asks Telling = ⊤
-Asks First = ⊥
-
-serves_left : (asked : Type 0) (better way other : Way) → Serves asked better way → Serves asked (two_ways better other) (two_ways way other)
-serves_left asked better way other s = record {
-  same = ap (λ hits. hits ++ way_includes other) s.same;
-  clean = λ a kept h. let parts = and_parts (clean_under kept way) (clean_under kept other) h in λ i. s.clean a kept parts.0 i && parts.1 i;
-  few = λ extent h. let parts = and_parts (few_before extent way) (few_before extent other) h in λ i. s.few extent parts.0 i && parts.1 i;
-}
-
-serves_right : (asked : Type 0) (better way other : Way) → Serves asked better way → Serves asked (two_ways other better) (two_ways other way)
-serves_right asked better way other s = record {
-  same = ap (λ hits. way_includes other ++ hits) s.same;
-  clean = λ a kept h. let parts = and_parts (clean_under kept other) (clean_under kept way) h in λ i. parts.0 i && s.clean a kept parts.1 i;
-  few = λ extent h. let parts = and_parts (few_before extent other) (few_before extent way) h in λ i. parts.0 i && s.few extent parts.1 i;
-}
-
-serves_filtered : (asked : Type 0) (better way : Way) (kind : Filter) (choice : Option Window) → Serves asked better way → Serves asked (by_filter better kind choice) (by_filter way kind choice)
-serves_filtered asked better way kind choice s = record {
-  same = ap (after kind) s.same;
-  clean = λ a kept h.
-      subst (λ hits. clean_under (λ hit. keeps kind hits choice hit && kept hit) better ≡ true) (sym s.same) (s.clean a (λ hit. keeps kind (way_includes way) choice hit && kept hit) h);
-  few = λ extent h.
-      let parts = and_parts (few_at extent kind (way_includes way)) (few_before extent way) h in
-      λ i. (ap (few_at extent kind) s.same ∙ parts.0) i && s.few extent parts.1 i;
-}
-
-serves_any : (asked : Type 0) → (asked → ⊥) → (way : Way) (kind : Filter) (choice other : Option Window) → Serves asked (by_filter way kind choice) (by_filter way kind other)
-serves_any asked none way kind choice other = record { same = refl; clean = λ a kept h. absurd (none a); few = λ extent h. h }
-
-serves_window : (asked : Type 0) (way : Way) (size : ℕ) (kind : TextUnit) (last n : ℕ) → n ≤ size - suc last
-    → Serves asked (by_filter way (F.Window size kind) (Some (nth_window size last 0))) (by_filter way (F.Window size kind) (Some (nth_window size last n)))
-serves_window asked way size kind last n early = record {
-  same = refl;
-  clean = λ a kept h.
-      clean_less (λ hit. lies_in_window kind (nth_window size last 0) hit && kept hit) (λ hit. lies_in_window kind (nth_window size last n) hit && kept hit)
-      (λ hit e.
-      let parts = and_parts (lies_in_window kind (nth_window size last 0) hit) (kept hit) e in
-      λ i. lies_in_later kind size last n hit early parts.0 i && parts.1 i)
-      way h;
-  few = λ extent h. h;
-}
-
--- ---- the choices of a filter
-
-module _ (asked : Type 0) (test : Way → Bool) (respects : Respects asked test) (way : Way) where
-  told_round : (size : ℕ) (kind : TextUnit) (joined : Option Hit)
-      → list_any (λ c. test (by_filter way (F.Window size kind) c)) (asked_for Telling (map Some (windows_round size kind joined)))
-      ≡ list_any (λ c. test (by_filter way (F.Window size kind) c)) (map Some (windows_round size kind joined))
-  told_round size kind None = refl
-  told_round size kind (Some joined) =
-      tell_windows (λ c. test (by_filter way (F.Window size kind) c)) (nth_window size (end_in kind joined)) (size - suc (end_in kind joined)) ((start_in kind joined + size) - end_in kind joined)
-      (first_window_gap size (end_in kind joined))
-      (λ n early h. respects _ _ (serves_window asked way size kind (end_in kind joined) n early) h)
-
-  known : (kind : Filter) (includes : List Hit)
-      → list_any (λ c. test (by_filter way kind c)) (asked_for Telling (choices kind includes)) ≡ list_any (λ c. test (by_filter way kind c)) (choices kind includes)
-  known F.Ordered includes = refl
-  known (F.Window size kind) includes = told_round size kind (join includes)
-  known (F.Distance range kind) includes = refl
-  known F.SameSentence includes = refl
-  known F.SameParagraph includes = refl
-  known F.DifferentSentence includes = refl
-  known F.DifferentParagraph includes = refl
-  known F.AtStart includes = refl
-  known F.AtEnd includes = refl
-  known F.EntireContent includes = refl
-
-choices_tell : (windows : Windows) (test : Way → Bool) → Respects (Asks windows) test → (way : Way) (kind : Filter) (includes : List Hit)
-    → list_any (λ c. test (by_filter way kind c)) (asked_for windows (choices kind includes)) ≡ list_any (λ c. test (by_filter way kind c)) (choices kind includes)
-choices_tell Each test respects way kind includes = refl
-choices_tell Telling test respects way kind includes = known ⊤ test respects way kind includes
-choices_tell First test respects way kind includes =
-    first_decides (λ c. test (by_filter way kind c)) (choices kind includes) (λ a b h. respects (by_filter way kind b) (by_filter way kind a) (serves_any ⊥ (λ none. none) way kind b a) h)
 
 -- ---- the ways of an operator
 
@@ -164,14 +79,7 @@ any_kept test kept (way ∷ rest) = by_test (kept way) (any_kept test kept rest)
     by_test false same = same
 
 any_apart : (test : Way → Bool) (lefts rights : List Way) → list_any test (standing_out lefts rights) ≡ list_any (λ a. admitted rights (way_includes a) && test a) lefts
-any_apart test lefts rights = by_test (list_any (λ way. is_not_empty (way_includes way)) rights)
-  where
-    stays : Way → Bool
-    stays a = list_all (λ b. stands_out (way_includes a) (way_includes b)) rights
-
-    by_test : (b : Bool) → list_any test (cond b (filter stays lefts) lefts) ≡ list_any (λ a. (not b || stays a) && test a) lefts
-    by_test true = any_kept test stays lefts
-    by_test false = refl
+any_apart test lefts rights = ap (list_any test) (out_is lefts rights) ∙ any_kept test (λ a. admitted rights (way_includes a)) lefts
 
 all_by_any : (p : Way → Bool) (ways : List Way) → list_all p ways ≡ not (list_any (λ w. not (p w)) ways)
 all_by_any p [] = refl
@@ -275,17 +183,77 @@ pair_bounded course a b h =
     let few = and_parts (few_before course.extent a) (few_before course.extent b) parts.1 in
     (λ i. sides.0 i && few.0 i, λ i. sides.1 i && few.1 i)
 
-pub ways_tell : (operator : Operator) (course : Course) (test : Way → Bool) → Narrows course.windows → holds course.extent (extent_inside operator) ≡ true
+-- ---- the right side of a mild not
+
+-- whether hits don't stand out of includes which are as few as is said
+abbrev pub bars : Option Extent → List Hit → List Hit → Bool
+bars beside hits includes = are_few beside includes && not (stands_out hits includes)
+
+abbrev pub barring : Course → List Hit → Way → Bool
+barring course hits = few_and course (λ way. bars course.beside hits (way_includes way))
+
+bounded_out : (course : Course) (hits : List Hit) → Bounded (course_out course hits) (barring course hits)
+bounded_out course hits way h =
+    let includes = way_includes way in
+    let parts = and_parts (few_before course.extent way) (bars course.beside hits includes) h in
+    let both = and_parts (are_few course.beside includes) (not (stands_out hits includes)) parts.1 in
+    λ i. (lies_beside_all course.beside hits includes both.0 both.1 i && all_pass (λ hit. list_all (λ other. true) includes) (λ hit. all_pass (λ other. true) (λ other. refl) includes) includes i)
+    && parts.0 i
+
+-- each way of the right side is as few as is said
+beside_few : (course other : Course) (right : Operator) → holds course.beside (extent_of right) ≡ true → list_all (λ way. are_few course.beside (way_includes way)) (ways_on other right) ≡ true
+beside_few course other right held =
+    all_more (λ way. are_few (extent_of right) (way_includes way)) (λ way. are_few course.beside (way_includes way))
+    (λ way h. few_more course.beside (extent_of right) (way_includes way) held h) (ways_on other right) (few_ways right other)
+
+-- whether hits stand out of each way of the right side is told by those that a course leaves
+out_told : (course : Course) (right : Operator) (hits : List Hit) → holds course.extent (extent_inside right) ≡ true → holds course.beside (extent_of right) ≡ true
+    → ((of : List Hit → Bool) → list_any (few_and course (λ way. of (way_includes way))) (ways_on (without_bounds course) right) ≡ list_any (few_and course (λ way. of (way_includes way))) (ways_of course.item right))
+    → list_any (barring course hits) (ways_on (course_out course hits) right) ≡ list_any (barring course hits) (ways_of course.item right)
+    → passes_out course right hits ≡ admitted (ways_of course.item right) hits
+out_told course right hits held few all some = by_test (has_word hits) refl
+  where
+    rights : List Way
+    rights = ways_of course.item right
+
+    ways : List Way
+    ways = ways_on (course_out course hits) right
+
+    told : (of : List Hit → Bool) → list_any (λ way. of (way_includes way)) (ways_on (without_bounds course) right) ≡ list_any (λ way. of (way_includes way)) rights
+    told of = told_few (without_bounds course) right (λ way. of (way_includes way)) held (all of)
+
+    barred : list_any (λ way. not (stands_out hits (way_includes way))) ways ≡ list_any (λ way. not (stands_out hits (way_includes way))) rights
+    barred =
+        sym (any_few (λ way. are_few course.beside (way_includes way)) (λ way. not (stands_out hits (way_includes way))) ways (beside_few course (course_out course hits) right few))
+        ∙ told_few (course_out course hits) right (λ way. bars course.beside hits (way_includes way)) held some
+        ∙ any_few (λ way. are_few course.beside (way_includes way)) (λ way. not (stands_out hits (way_includes way))) rights
+        (ap (list_all (λ way. are_few course.beside (way_includes way))) (sym (ways_every course.item right)) ∙ beside_few course (every course.item) right few)
+
+    by_test : (b : Bool) → has_word hits ≡ b → admitted ways hits ≡ admitted rights hits
+    by_test true word =
+        admitted_out hits word ways
+        ∙ all_by_any (λ way. stands_out hits (way_includes way)) ways ∙ ap not barred ∙ sym (all_by_any (λ way. stands_out hits (way_includes way)) rights)
+        ∙ sym (admitted_out hits word rights)
+    by_test false word =
+        ap (λ c. admitted (ways_on c right) hits) (out_wordless course hits word)
+        ∙ (λ i. not (told is_not_empty i)
+        || (all_by_any (λ way. stands_out hits (way_includes way)) (ways_on (without_bounds course) right)
+        ∙ ap not (told (λ includes. not (stands_out hits includes)))
+        ∙ sym (all_by_any (λ way. stands_out hits (way_includes way)) rights)) i)
+
+pub ways_tell : (operator : Operator) (course : Course) (test : Way → Bool) → Narrows course.windows → holds course.extent (extent_inside operator) ≡ true → holds course.beside (extent_beside operator) ≡ true
     → Respects (Asks course.windows) test → Bounded course test → list_any test (ways_on course operator) ≡ list_any test (ways_of course.item operator)
 unfolding ways_on ways_of
-ways_tell (phrase found) course test narrows held respects bounded = hits_within course test bounded found
-ways_tell (either left right) course test narrows held respects bounded =
+ways_tell (phrase found) course test narrows held out respects bounded = hits_within course test bounded found
+ways_tell (either left right) course test narrows held out respects bounded =
     let parts = holds_both course.extent (extent_inside left) (extent_inside right) held in
+    let outs = holds_both course.beside (extent_beside left) (extent_beside right) out in
     list_any-append test (ways_on course left) (ways_on course right)
-    ∙ (λ i. ways_tell left course test narrows parts.0 respects bounded i || ways_tell right course test narrows parts.1 respects bounded i)
+    ∙ (λ i. ways_tell left course test narrows parts.0 outs.0 respects bounded i || ways_tell right course test narrows parts.1 outs.1 respects bounded i)
     ∙ sym (list_any-append test (ways_of course.item left) (ways_of course.item right))
-ways_tell (together left right) course test narrows held respects bounded =
+ways_tell (together left right) course test narrows held out respects bounded =
     let parts = holds_both course.extent (extent_inside left) (extent_inside right) held in
+    let outs = holds_both course.beside (extent_beside left) (extent_beside right) out in
     let asked = Asks course.windows in
     let rights = ways_of course.item right in
     let beside = λ (a : Way). course_beside course (way_includes a) in
@@ -295,43 +263,41 @@ ways_tell (together left right) course test narrows held respects bounded =
     ∙ list_any-alike (λ a. list_any test (map (two_ways a) (ways_on (beside a) right))) (λ a. list_any (λ b. test (two_ways a b)) rights) (ways_on course left)
     (λ a.
     list_any-map test (two_ways a) (ways_on (beside a) right)
-    ∙ ways_tell right (beside a) (λ b. test (two_ways a b)) narrows parts.1
+    ∙ ways_tell right (beside a) (λ b. test (two_ways a b)) narrows parts.1 outs.1
     (λ better way s h. respects (two_ways a better) (two_ways a way) (serves_right asked better way a s) h)
     (λ b h. (sides a b h).1))
-    ∙ ways_tell left course (λ a. list_any (λ b. test (two_ways a b)) rights) narrows parts.0
+    ∙ ways_tell left course (λ a. list_any (λ b. test (two_ways a b)) rights) narrows parts.0 outs.0
     (λ better way s h. any_more (λ b. test (two_ways way b)) (λ b. test (two_ways better b)) (λ b e. respects (two_ways better b) (two_ways way b) (serves_left asked better way b s) e) rights h)
     (λ a h. any_gives (λ b. test (two_ways a b)) (are_within course.bounds course.reach (way_includes a) && few_before course.extent a) (λ b e. (sides a b e).0) rights h)
     ∙ sym (any_pairs test rights (ways_of course.item left))
-ways_tell (apart left right) course test narrows held respects bounded =
+ways_tell (apart left right) course test narrows held out respects bounded =
     let parts = holds_both course.extent (extent_inside left) (extent_inside right) held in
+    let more = holds_both course.beside (extent_of right) (extent_of_either (extent_beside left) (extent_beside right)) out in
+    let outs = holds_both course.beside (extent_beside left) (extent_beside right) more.1 in
     let asked = Asks course.windows in
     let rights = ways_of course.item right in
-    let all = without_bounds course in
-    let told = λ (of : List Hit → Bool).
-    told_few all right (λ way. of (way_includes way)) parts.1
-    (ways_tell right all (few_and course (λ way. of (way_includes way))) narrows parts.1
-    (few_respects asked course (λ way. of (way_includes way)) (of_includes asked of)) (bounded_nowhere course (λ way. of (way_includes way)))) in
-    any_apart test (ways_on course left) (ways_on all right)
-    ∙ list_any-alike (λ a. admitted (ways_on all right) (way_includes a) && test a) (λ a. admitted rights (way_includes a) && test a) (ways_on course left)
+    any_kept test (stands_on course right) (ways_on course left)
+    ∙ list_any-alike (λ a. stands_on course right a && test a) (λ a. admitted rights (way_includes a) && test a) (ways_on course left)
     (λ a i.
-    (not (told is_not_empty i)
-    || (all_by_any (λ b. stands_out (way_includes a) (way_includes b)) (ways_on all right)
-    ∙ ap not (told (λ hits. not (stands_out (way_includes a) hits)))
-    ∙ sym (all_by_any (λ b. stands_out (way_includes a) (way_includes b)) rights)) i)
+    out_told course right (way_includes a) parts.1 more.0
+    (λ of. ways_tell right (without_bounds course) (few_and course (λ way. of (way_includes way))) narrows parts.1 outs.1
+    (few_respects asked course (λ way. of (way_includes way)) (of_includes asked of)) (bounded_nowhere course (λ way. of (way_includes way))))
+    (ways_tell right (course_out course (way_includes a)) (barring course (way_includes a)) narrows parts.1 outs.1
+    (few_respects asked course (λ way. bars course.beside (way_includes a) (way_includes way)) (of_includes asked (bars course.beside (way_includes a)))) (bounded_out course (way_includes a))) i
     && test a)
-    ∙ ways_tell left course (λ a. admitted rights (way_includes a) && test a) narrows parts.0
+    ∙ ways_tell left course (λ a. admitted rights (way_includes a) && test a) narrows parts.0 outs.0
     (λ better way s h.
     let both = and_parts (admitted rights (way_includes way)) (test way) h in
     λ i. (ap (admitted rights) s.same ∙ both.0) i && respects better way s both.1 i)
     (λ a h. bounded a (and_parts (admitted rights (way_includes a)) (test a) h).1)
     ∙ sym (any_apart test (ways_of course.item left) rights)
-ways_tell (negated operand) course test narrows held respects bounded = refl
-ways_tell (through_filter operand kind) course test narrows held respects bounded =
+ways_tell (negated operand) course test narrows held out respects bounded = refl
+ways_tell (through_filter operand kind) course test narrows held out respects bounded =
     let inside = course_inside kind course in
     any_filtered kind course test (ways_on inside operand)
     ∙ list_any-alike (λ way. passes kind (way_includes way) course.item && list_any (λ c. test (by_filter way kind c)) (asked_for course.windows (choices kind (way_includes way)))) (chosen course.item)
     (ways_on inside operand) (λ way. ap (λ b. passes kind (way_includes way) course.item && b) (choices_tell course.windows test respects way kind (way_includes way)))
-    ∙ ways_tell operand inside (chosen course.item) narrows (holds_both course.extent (extent_inside operand) (extent_before kind (extent_of operand)) held).0
+    ∙ ways_tell operand inside (chosen course.item) narrows (holds_both course.extent (extent_inside operand) (extent_before kind (extent_of operand)) held).0 out
     (λ better way s h.
     let parts = and_parts (passes kind (way_includes way) course.item) (list_any (λ c. test (by_filter way kind c)) (choices kind (way_includes way))) h in
     λ i. (ap (λ hits. passes kind hits course.item) s.same ∙ parts.0) i && (ap (λ hits. list_any (λ c. test (by_filter better kind c)) (choices kind hits)) s.same
@@ -351,18 +317,18 @@ ways_tell (through_filter operand kind) course test narrows held respects bounde
 
 -- ---- what a walk asks
 
-pub clean_told : (item : Span) (extent : Option Extent) (operator : Operator) (kept : Hit → Bool) → holds extent (extent_inside operator) ≡ true
-    → list_any (clean_under kept) (ways_on (tellings item extent) operator) ≡ list_any (clean_under kept) (ways_of item operator)
-clean_told item extent operator kept held =
-    let course = tellings item extent in
+pub clean_told : (item : Span) (extent beside : Option Extent) (operator : Operator) (kept : Hit → Bool) → holds extent (extent_inside operator) ≡ true → holds beside (extent_beside operator) ≡ true
+    → list_any (clean_under kept) (ways_on (tellings item extent beside) operator) ≡ list_any (clean_under kept) (ways_of item operator)
+clean_told item extent beside operator kept held out =
+    let course = tellings item extent beside in
     told_few course operator (clean_under kept) held
-    (ways_tell operator course (few_and course (clean_under kept)) tt held (few_respects ⊤ course (clean_under kept) (λ better way s h. s.clean tt kept h)) (bounded_nowhere course (clean_under kept)))
+    (ways_tell operator course (few_and course (clean_under kept)) tt held out (few_respects ⊤ course (clean_under kept) (λ better way s h. s.clean tt kept h)) (bounded_nowhere course (clean_under kept)))
 
 -- those that are kept lie in bounds
 pub kept_told : (item : Span) (bounds : Bounds) (operator : Operator) (kept : Hit → Bool) → ((hit : Hit) → kept hit ≡ true → lies_in bounds hit ≡ true)
     → list_any (all_kept kept) (ways_on (firsts item bounds) operator) ≡ list_any (all_kept kept) (ways_of item operator)
 kept_told item bounds operator kept lie =
-    ways_tell operator (firsts item bounds) (all_kept kept) tt refl (of_includes ⊥ (list_all kept))
+    ways_tell operator (firsts item bounds) (all_kept kept) tt refl refl (of_includes ⊥ (list_all kept))
     (λ way h.
     let hits = way_includes way in
     λ i. (all_more kept (lies_in bounds) lie hits h i && all_pass (λ hit. list_all (λ other. true) hits) (λ hit. all_pass (λ other. true) (λ other. refl) hits) hits i) && few_unsaid way i)

@@ -6,7 +6,6 @@ use Rattle.std.proofs.lemmas.Bool.{and_parts, leb-true, ltb-true, le-leb, lt-ltb
 use Rattle.std.proofs.lemmas.Bool.Decides.{nat_tests}
 use Rattle.std.proofs.lemmas.List.{length-append}
 use Rattle.std.proofs.lemmas.List.Folds.{list_all-append}
-use Rattle.ft_base.specs.Lists.{is_not_empty}
 use Rattle.ft_base.specs.declared.filter.Filter.{Filter}
 use Rattle.ft_base.specs.declared.filter.Filter.TheVariants as F
 use Rattle.ft_base.specs.declared.hit.Hit.{Hit}
@@ -16,14 +15,13 @@ use Rattle.ft_base.specs.declared.unit.TextUnit.TheVariants.{Words, Sentences, P
 use Rattle.all_matches.specs.declared.window.Window.{Window}
 use Rattle.all_matches.specs.Filters.{passes, choices, after}
 use Rattle.all_matches.specs.Join.{join, least, greatest}
-use Rattle.all_matches.specs.MildNot.{stands_out}
 use Rattle.all_matches.specs.Window.{fits_window}
 use Rattle.all_matches.specs.Ways.{Operator, phrase, either, together, apart, negated, through_filter}
-use Rattle.all_matches.specs.Ways.{Way, one_hit, two_ways, turned_about, by_filter, way_includes, standing_out}
+use Rattle.all_matches.specs.Ways.{Way, one_hit, two_ways, turned_about, by_filter, way_includes}
 use Rattle.ft_operators.specs.declared.course.Course.{Course}
 use Rattle.ft_operators.specs.declared.extent.Extent.{Extent}
 use Rattle.ft_operators.specs.Bounds.{lies_in}
-use Rattle.ft_operators.specs.Course.{asked_for, course_beside, course_inside, filtered_on, ways_on, without_bounds}
+use Rattle.ft_operators.specs.Course.{asked_for, course_beside, course_inside, filtered_on, stands_on, ways_on}
 use Rattle.ft_operators.specs.Extents.{small, longer, longest, one_include, extent_of_either, extent_of_both, some_includes, window_words, most_between, spread, extent_behind, extent_of, extent_before, extent_inside, where_limited}
 use Rattle.ft_operators.specs.steps.Measuring.{holds}
 use Rattle.ft_operators.proofs.BoundLemmas.{all_more, all_pass, few_at}
@@ -49,16 +47,6 @@ all_left {X = X} p keep (x ∷ xs) h = let parts = and_parts (p x) (list_all p x
     one : p x ≡ true → (b : Bool) → list_all p (filter keep xs) ≡ true → list_all p (cond b (x ∷ filter keep xs) (filter keep xs)) ≡ true
     one first true rest = λ i. first i && rest i
     one first false rest = rest
-
-all_standing : (p : Way → Bool) (left right : List Way) → list_all p left ≡ true → list_all p (standing_out left right) ≡ true
-all_standing p left right h = by_test (list_any (λ way. is_not_empty (way_includes way)) right)
-  where
-    keep : Way → Bool
-    keep a = list_all (λ b. stands_out (way_includes a) (way_includes b)) right
-
-    by_test : (b : Bool) → list_all p (cond b (filter keep left) left) ≡ true
-    by_test true = all_left p keep left h
-    by_test false = h
 
 -- ---- few includes
 
@@ -240,7 +228,7 @@ few_ways (together left right) course =
     (λ a h. all_mapped (λ way. are_few (extent_of right) (way_includes way)) (λ way. are_few (extent_of (together left right)) (way_includes way)) (two_ways a)
     (λ b k. few_both (extent_of left) (extent_of right) (way_includes a) (way_includes b) h k) _ (few_ways right (course_beside course (way_includes a))))
     (ways_on course left) (few_ways left course)
-few_ways (apart left right) course = all_standing (λ way. are_few (extent_of left) (way_includes way)) (ways_on course left) (ways_on (without_bounds course) right) (few_ways left course)
+few_ways (apart left right) course = all_left (λ way. are_few (extent_of left) (way_includes way)) (stands_on course right) (ways_on course left) (few_ways left course)
 few_ways (negated operand) course = refl
 few_ways (through_filter operand kind) course =
     all_made (λ way. are_few (extent_of operand) (way_includes way)) (λ way. are_few (extent_of (through_filter operand kind)) (way_includes way)) (filtered_on kind course)
@@ -317,8 +305,7 @@ few_inside (together left right) course extent h =
     (λ a k. all_mapped (few_before extent) (few_before extent) (two_ways a) (λ b l i. k i && l i) _ (few_inside right (course_beside course (way_includes a)) extent parts.1))
     (ways_on course left) (few_inside left course extent parts.0)
 few_inside (apart left right) course extent h =
-    all_standing (few_before extent) (ways_on course left) (ways_on (without_bounds course) right)
-    (few_inside left course extent (holds_both extent (extent_inside left) (extent_inside right) h).0)
+    all_left (few_before extent) (stands_on course right) (ways_on course left) (few_inside left course extent (holds_both extent (extent_inside left) (extent_inside right) h).0)
 few_inside (negated operand) course extent h = refl
 few_inside (through_filter operand kind) course extent h =
     let parts = holds_both extent (extent_inside operand) (extent_before kind (extent_of operand)) h in

@@ -11,7 +11,7 @@ use Rattle.all_matches.specs.Filters.{after}
 use Rattle.all_matches.specs.Join.{join}
 use Rattle.all_matches.specs.Ways.{Way, way_includes}
 use Rattle.ft_operators.specs.declared.course.Course.{Course}
-use Rattle.ft_operators.specs.Course.{filtered_on, ways_on, without_bounds}
+use Rattle.ft_operators.specs.Course.{filtered_on, stands_on, ways_on}
 use Rattle.ft_operators.specs.Standing.{Standing, includes_now}
 use Rattle.ft_operators.specs.steps.Forms.{choice_of, first_left, both_of, apart_of, negation_of, sieve_of, sieve_left, chosen_left, choices_at}
 use Rattle.ft_operators.specs.steps.Walking.{Gathered, IsHeld, Replaced}
@@ -65,8 +65,8 @@ gathered_both course left right room mid_room new_room old mid new l r =
 
 pub gathered_apart : (course : Course) (left right : Standing) (room new_room : ℕ) (old new : List Hit) → Gathered left room new_room old new → Gathered (apart_of course left right) room new_room old new
 gathered_apart course left right room new_room old new g =
-    let inner = apart_there left.rest (ways_on (without_bounds course) right.operator) in
-    let includes = apart_includes left.rest (ways_on (without_bounds course) right.operator) in
+    let inner = apart_there (stands_on course right.operator) left.rest in
+    let includes = apart_includes (stands_on course right.operator) left.rest in
     record {
       from = g.from;
       kept_room = g.kept_room;

@@ -21,3 +21,5 @@ pub mod CourseLemmas
 pub mod MeasureLemmas
 pub mod SpreadLemmas
 pub mod ExtentLemmas
+pub mod OutLemmas
+pub mod ServeLemmas

@@ -1,16 +1,18 @@
 -- Walks that are seen on another course that is the same one, and the shape of nodes that moved.
-use Rattle.std.proofs.Common.{◌≡◌, ap, sym, subst, ℕ, ◌+◌, Bool}
+use Rattle.std.proofs.Common.{◌≡◌, ap, sym, ◌∙◌, subst, ℕ, ◌+◌, ◌≤◌, Bool, arith}
 use Rattle.ft_base.specs.declared.filter.Filter.{Filter}
 use Rattle.ft_operators.specs.declared.chain.Chain.{Chain}
 use Rattle.ft_operators.specs.declared.course.Course.{Course}
 use Rattle.ft_operators.specs.declared.node.Node.{Node}
-use Rattle.ft_operators.specs.Course.{without_bounds}
+use Rattle.ft_operators.specs.Course.{stands_on, without_bounds}
 use Rattle.ft_operators.specs.Phrases.{PhraseState}
-use Rattle.ft_operators.specs.Standing.{at_prefix, course_now, frame, one_on}
+use Rattle.ft_operators.specs.Standing.{Frame, Standing, at_prefix, course_now, frame, one_on}
 use Rattle.ft_operators.specs.steps.Cleaning.{Asked}
 use Rattle.ft_operators.specs.steps.Forms.{apart_of, both_of, count_now}
 use Rattle.ft_operators.specs.steps.Nodes.{shape_of, standing}
 use Rattle.ft_operators.specs.steps.Walking.{MayGoOn, Moved}
+use Rattle.ft_operators.proofs.ApartLemmas.{apart_there}
+use Rattle.ft_operators.proofs.FrameLemmas.{frames_same}
 use Rattle.ft_operators.proofs.TupleLemmas.{kept_shape, standing_room}
 
 module _ {P : Type 0} (state : P → PhraseState) where
@@ -44,6 +46,22 @@ module _ {P : Type 0} (state : P → PhraseState) where
 
     pub apart_room : (apart_of course (standing state course left) (standing state (without_bounds course) right)).shape.room ≡ (shape_of left).room + (shape_of right).room
     apart_room = λ i. standing_room state course left left i + standing_room state (without_bounds course) right right i
+
+  -- at a way of a mild not, wherever the walk through the right side is
+  pub seen_apart : (course other : Course) (left right : Node P) (room : ℕ) → MayGoOn (apart_of course (standing state course left) (standing state (without_bounds course) right)) room
+      → MayGoOn (apart_of course (standing state course left) (standing state other right)) room
+  seen_apart course other left right room may =
+      let same = frames_same state (without_bounds course) other right in record {
+        there = apart_there (stands_on course (standing state other right).operator) (standing state course left).rest
+            ∙ sym (apart_there (stands_on course (standing state (without_bounds course) right).operator) (standing state course left).rest) ∙ may.there;
+        fits = subst (λ (f : Frame). (standing state course left).shape.room + f.shape.room ≤ room) same may.fits;
+      }
+
+pub apart_may : (course : Course) (left right : Standing) (room : ℕ) → MayGoOn (apart_of course left right) room → MayGoOn left room
+apart_may course left right room may = record {
+  there = sym (apart_there (stands_on course right.operator) left.rest) ∙ may.there;
+  fits = omega (arith, may.fits);
+}
 
 -- as many choices
 pub counted : {P : Type 0} (state : P → PhraseState) (kind : Filter) (n : Node P) (c d : Course) (count : ℕ) → c ≡ d → count ≡ count_now kind c ((standing state c n).rest)

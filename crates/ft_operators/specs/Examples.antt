@@ -93,7 +93,7 @@ two_hits number first second = phrase (hit_of number first ∷ hit_of number sec
 
 -- the course inside a filter
 abbrev pub inside : Filter → Course
-inside kind = course_inside kind (tellings (span 1 9) None)
+inside kind = course_inside kind (tellings (span 1 9) None None)
 
 -- the ways of an And of two hits each on that course
 abbrev pub pairs_on : Course → List Way
@@ -113,7 +113,11 @@ at_most words = F.Distance (AtMost words) Words
 
 -- the course inside a filter, before which ways have two includes of one word
 abbrev pub inside_few : Filter → Course
-inside_few kind = course_inside kind (tellings (span 1 9) (extent 2 1))
+inside_few kind = course_inside kind (tellings (span 1 9) (extent 2 1) None)
+
+-- the course where the ways of right sides of mild nots have one include of so many words
+abbrev pub beside : ℕ → Course
+beside words = tellings (span 1 9) None (extent 1 words)
 
 -- a phrase that has a hit of two words and one of one; those of one word each
 abbrev pub two_words : Operator

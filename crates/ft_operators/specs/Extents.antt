@@ -1,5 +1,5 @@
 -- How many includes the ways of an operator have at most, and how many words an include has at most.
-use Rattle.std.specs.Prelude.{ℕ, suc, ◌+◌, ◌-◌, ◌*◌, ◌^◌, max, nat_lt, if◌then◌else◌, List, fold, Option, Some, None}
+use Rattle.std.specs.Prelude.{ℕ, suc, ◌+◌, ◌-◌, ◌*◌, ◌^◌, max, nat_le, nat_lt, if◌then◌else◌, List, fold, Option, Some, None}
 use Rattle.ft_base.specs.declared.filter.Filter.{Filter}
 use Rattle.ft_base.specs.declared.filter.Filter.TheVariants as F
 use Rattle.ft_base.specs.declared.hit.Hit.{Hit}
@@ -126,3 +126,17 @@ extent_inside (together left right) = extent_of_either (extent_inside left) (ext
 extent_inside (apart left right) = extent_of_either (extent_inside left) (extent_inside right)
 extent_inside (negated operand) = no_include
 extent_inside (through_filter operand kind) = extent_of_either (extent_inside operand) (extent_before kind (extent_of operand))
+
+-- what the ways of the right side of any mild not of an operator have. Those inside negated selections don't count
+abbrev pub extent_beside : Operator → Option Extent
+extent_beside (phrase found) = no_include
+extent_beside (either left right) = extent_of_either (extent_beside left) (extent_beside right)
+extent_beside (together left right) = extent_of_either (extent_beside left) (extent_beside right)
+extent_beside (apart left right) = extent_of_either (extent_of right) (extent_of_either (extent_beside left) (extent_beside right))
+extent_beside (negated operand) = no_include
+extent_beside (through_filter operand kind) = extent_beside operand
+
+-- the words of the one include that a way has, where it has no more
+abbrev pub lone_words : Option Extent → Option ℕ
+lone_words None = None
+lone_words (Some extent) = if nat_le extent.includes 1 then Some extent.words else None

@@ -2,7 +2,7 @@
 
 ghost use Rattle.std.specs.Prelude.{◌≡◌, None};
 ghost use Rattle.ft_operators.specs.Bounds.{everywhere, no_reach};
-ghost use Rattle.ft_operators.specs.Course.{course_inside, every, firsts, tellings, without_bounds};
+ghost use Rattle.ft_operators.specs.Course.{course_inside, every, firsts, tellings};
 
 use crate::bounds::Bounds;
 use crate::extent::Extent;
@@ -20,6 +20,8 @@ pub(crate) struct Course {
     pub(crate) reach: Reach,
     /// What the ways have before the distances inside, where it is known.
     pub(crate) extent: Option<Extent>,
+    /// What the ways of right sides of mild nots have, where it is known.
+    pub(crate) beside: Option<Extent>,
 }
 
 /// Which windows of a window filter a walk goes through, in each way of the filter's operand.
@@ -38,15 +40,15 @@ pub(crate) enum Windows {
 pub(crate) fn every(item: Span) -> Course
     ensures { result ≡ every item }
 {
-    unbounded(item, Windows::Each, None)
+    unbounded(item, Windows::Each, None, None)
 }
 
 /// The course of a whole node, through the windows that tell whether a way is clean, where the ways have so much before the
-/// distances inside.
-pub(crate) fn tellings(item: Span, extent: Option<Extent>) -> Course
-    ensures { result ≡ tellings item extent }
+/// distances inside, and those of right sides of mild nots so much.
+pub(crate) fn tellings(item: Span, extent: Option<Extent>, beside: Option<Extent>) -> Course
+    ensures { result ≡ tellings item extent beside }
 {
-    unbounded(item, Windows::Telling, extent)
+    unbounded(item, Windows::Telling, extent, beside)
 }
 
 /// The course of a whole node, through the first window of each filter, whose includes lie in the bounds.
@@ -59,18 +61,12 @@ pub(crate) fn firsts(item: Span, bounds: Bounds) -> Course
         bounds,
         reach: no_reach(),
         extent: None,
+        beside: None,
     }
 }
 
-/// The course without bounds and filters round it.
-pub(crate) fn without_bounds(course: Course) -> Course
-    ensures { result ≡ without_bounds course }
-{
-    unbounded(course.item, course.windows, course.extent)
-}
-
-fn unbounded(item: Span, windows: Windows, extent: Option<Extent>) -> Course
-    ensures { result ≡ record { item = item; windows = windows; bounds = everywhere; reach = no_reach; extent = extent } }
+fn unbounded(item: Span, windows: Windows, extent: Option<Extent>, beside: Option<Extent>) -> Course
+    ensures { result ≡ record { item = item; windows = windows; bounds = everywhere; reach = no_reach; extent = extent; beside = beside } }
 {
     Course {
         item,
@@ -78,6 +74,7 @@ fn unbounded(item: Span, windows: Windows, extent: Option<Extent>) -> Course
         bounds: Bounds::everywhere(),
         reach: no_reach(),
         extent,
+        beside,
     }
 }
 
@@ -91,5 +88,6 @@ pub(crate) fn course_inside(course: Course, kind: &Filter) -> Course
         bounds: bounds_inside(course.windows, kind, course.bounds),
         reach: reach_inside(course.windows, course.extent, kind, course.reach),
         extent: course.extent,
+        beside: course.beside,
     }
 }

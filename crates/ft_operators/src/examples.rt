@@ -10,10 +10,10 @@ ghost use Rattle.all_matches.specs.Ways.{apart, either, negated, one_hit, phrase
 ghost use Rattle.ft_operators.specs.Chains.{all_kept, clean_now, first_includes, links_from, outer_window, passes_now, way_window, window_now};
 ghost use Rattle.ft_operators.specs.Bounds.{everywhere, filter_bounds, filter_reach, lies_in, no_reach, order_reach, reach_inside, round_hit, round_hits, window_reach};
 ghost use Rattle.ft_operators.specs.Examples.{a, a_and_b, at, is_after, link, moved, not_a, ordered, put, round_from, span, two_from, unmoved, within};
-ghost use Rattle.ft_operators.specs.Examples.{at_most, between, extent, from_to, hit_of, inside, inside_few, one_word, pair, pairs_on, two_words, words_between};
-ghost use Rattle.ft_operators.specs.Extents.{extent_before, extent_behind, extent_inside, extent_of, extent_of_both, extent_of_either, longest};
+ghost use Rattle.ft_operators.specs.Examples.{at_most, beside, between, extent, from_to, hit_of, inside, inside_few, one_word, pair, pairs_on, two_words, words_between};
+ghost use Rattle.ft_operators.specs.Extents.{extent_before, extent_behind, extent_beside, extent_inside, extent_of, extent_of_both, extent_of_either, lone_words, longest};
 ghost use Rattle.ft_operators.specs.Extents.{most_between, no_include, one_include, small, spread, words_of};
-ghost use Rattle.ft_operators.specs.Course.{asked_for, every, number_among, telling};
+ghost use Rattle.ft_operators.specs.Course.{admitted, asked_for, course_inside, course_out, every, number_among, telling, ways_on};
 ghost use Rattle.ft_operators.specs.KeptBounds.{chain_bounds, kept_bounds};
 ghost use Rattle.ft_operators.specs.declared.course.Windows.TheVariants.{Each, First, Telling};
 ghost use Rattle.ft_operators.specs.Walk.{at_next_way, own_span};
@@ -177,6 +177,7 @@ pub fn extents()
     ensures of_a_phrase { extent_of two_words ≡ extent 1 2 }
     ensures of_a_choice { extent_of (either two_words (together one_word one_word)) ≡ extent 2 2 }
     ensures of_both { extent_of (together two_words one_word) ≡ extent 2 2 }
+    ensures with_more_on_the_right { extent_of_both (extent 1 1) (extent 2 3) ≡ extent 3 3 }
     ensures of_mild_not { extent_of (apart one_word two_words) ≡ extent 1 1 }
     ensures of_negated { extent_of (negated two_words) ≡ extent 0 0 }
     ensures of_a_distance { extent_of (through_filter (together two_words one_word) (at_most 3)) ≡ extent 1 7 }
@@ -197,10 +198,45 @@ pub fn extents_before_distances()
     ensures before_one_without_end { extent_before (F.Distance (AtLeast 3) Words) (extent 2 2) ≡ no_include }
     ensures before_one_in_sentences { extent_before (F.Distance (AtMost 3) Sentences) None ≡ no_include }
     ensures before_two { extent_inside (through_filter (together one_word (through_filter (together two_words one_word) (at_most 3))) (at_most 1)) ≡ extent 2 7 }
-    ensures on_the_right { extent_inside (apart one_word (through_filter two_words (at_most 3))) ≡ extent 1 2 }
+    ensures on_sides_of_mild_not { extent_inside (apart (through_filter (together one_word one_word) (at_most 1)) (through_filter two_words (at_most 3))) ≡ extent 2 2 }
     ensures on_both_sides { extent_inside (together (through_filter two_words (at_most 3)) (through_filter (together one_word one_word) (at_most 1))) ≡ extent 2 2 }
-    ensures on_either_side { extent_inside (either one_word (through_filter one_word (at_most 1))) ≡ extent 1 1 }
+    ensures on_either_side { extent_inside (either (through_filter two_words (at_most 3)) (through_filter (together one_word one_word) (at_most 1))) ≡ extent 2 2 }
+    ensures before_a_window { extent_before (F.Window 2 Words) (extent 2 2) ≡ no_include }
     ensures in_what_is_negated { extent_inside (negated (through_filter one_word (at_most 1))) ≡ extent 0 0 }
+{}
+
+/// What ways of the right sides of mild nots have; where that is no more than one include, it tells where one lies that covers
+/// hits of the left side.
+pub fn right_sides()
+    ensures of_a_mild_not { extent_beside (apart (together one_word one_word) two_words) ≡ extent 1 2 }
+    ensures of_none { extent_beside (together one_word two_words) ≡ extent 0 0 }
+    ensures on_either_side { extent_beside (either (apart one_word two_words) (apart one_word (together one_word one_word))) ≡ extent 2 2 }
+    ensures on_both_sides { extent_beside (together (apart one_word two_words) (apart one_word (together one_word one_word))) ≡ extent 2 2 }
+    ensures of_one_on_the_left { extent_beside (apart (apart one_word two_words) one_word) ≡ extent 1 2 }
+    ensures of_one_on_the_right { extent_beside (apart one_word (apart one_word two_words)) ≡ extent 1 2 }
+    ensures through_a_filter { extent_beside (through_filter (apart one_word two_words) F.Ordered) ≡ extent 1 2 }
+    ensures in_what_is_negated { extent_beside (negated (apart one_word two_words)) ≡ extent 0 0 }
+    ensures words_of_one { lone_words (extent 1 2) ≡ Some 2 }
+    ensures of_two_includes { lone_words (extent 2 2) ≡ None }
+    ensures unknown { lone_words None ≡ None }
+    ensures round_one { (course_out (beside 3) (from_to 5 6 ∷ [])).bounds ≡ words_between 4 8 }
+    ensures round_two { (course_out (beside 3) (at 5 ∷ at 6 ∷ [])).bounds ≡ words_between 4 8 }
+    ensures round_one_without_words { (course_out (beside 3) (from_to 5 4 ∷ [])).bounds ≡ everywhere }
+    ensures round_none { (course_out (beside 3) []).bounds ≡ everywhere }
+    ensures where_nothing_is_known { (course_out (every (span 1 9)) (at 5 ∷ [])).bounds ≡ everywhere }
+    ensures out_of_a_window { (course_out (course_inside (F.Window 2 Words) (beside 3)) (at 5 ∷ [])).reach ≡ no_reach }
+{}
+
+/// Hits of the left side that stand out of each way are those of a mild not, and all are where no way has a hit.
+pub fn ways_that_stand_out()
+    ensures one_covers { admitted (a ∷ one_hit (at 5) ∷ []) (at 5 ∷ []) ≡ false }
+    ensures none_covers { admitted (a ∷ one_hit (at 4) ∷ []) (at 5 ∷ []) ≡ true }
+    ensures one_covers_half { admitted (one_hit (at 5) ∷ []) (from_to 5 6 ∷ []) ≡ true }
+    ensures no_way { admitted [] (at 5 ∷ []) ≡ true }
+    ensures no_word_and_a_hit { admitted (a ∷ []) [] ≡ false }
+    ensures no_word_and_no_hit { admitted (not_a ∷ []) [] ≡ true }
+    ensures on_a_course { ways_on (beside 1) (apart two_words one_word) ≡ one_hit (from_to 1 2) ∷ [] }
+    ensures on_each_course { ways_on (every (span 1 9)) (apart two_words one_word) ≡ one_hit (from_to 1 2) ∷ [] }
 {}
 
 /// Excludes that are kept lie in the chosen window, in the sentence or paragraph of the includes, and behind them in order.

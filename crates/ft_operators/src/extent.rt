@@ -1,5 +1,5 @@
 ghost use Rattle.std.specs.Prelude.{◌≡◌};
-ghost use Rattle.ft_operators.specs.Extents.{extent_before, extent_behind, extent_of_both, extent_of_either, greatest_value, most_between, no_include};
+ghost use Rattle.ft_operators.specs.Extents.{extent_before, extent_behind, extent_of_both, extent_of_either, greatest_value, lone_words, most_between, no_include};
 ghost use Rattle.ft_operators.specs.Extents.{one_include, small, some_includes, spread, where_limited, window_words, words_of};
 
 use ft_base::{Filter, Range, Unit};
@@ -143,4 +143,16 @@ fn words_of(extent: Extent, gap: u32) -> Option<u32>
     let covered = includes.saturating_mul(u64::from(extent.words));
     let between = includes.saturating_sub(1).saturating_mul(u64::from(gap));
     small(covered.saturating_add(between))
+}
+
+/// The words of the one include that a way has, where it has no more.
+pub(crate) fn lone_words(extent: Option<Extent>) -> Option<u32>
+    ensures { result ≡ lone_words extent }
+{
+    let Some(extent) = extent else { return None };
+    if extent.includes <= 1 {
+        Some(extent.words)
+    } else {
+        None
+    }
 }

@@ -10,7 +10,8 @@
 //! Where it is only asked whether some way is clean, a walk seeks each further hit where those that were chosen before, and
 //! the filters round all of them, let it lie (`bounds`, `narrowing`): ways that it leaves out go through no filter. How far
 //! apart the includes before a distance may lie follows from how many they are and how many words they have, which is read
-//! off the hits before (`measuring`).
+//! off the hits before (`measuring`). So does how far from the hits of the left side of a mild not an include of the right
+//! side lies that covers them, where each way of the right side has no more than one.
 #![tactic(auto)]
 
 mod aiming;

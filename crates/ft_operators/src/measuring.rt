@@ -17,34 +17,40 @@ use crate::node::{Fork, Node, Pair, Sieve};
 use ft_base::{Filter, Hit, Steps};
 use std::sync::ledger::Ledger;
 
-/// What the ways of a node have, and what they have before the distances inside.
+/// What the ways of a node have, what they have before the distances inside, and what those of right sides of mild nots
+/// inside have.
 #[derive(Clone, Copy)]
 pub(crate) struct Extents {
     pub(crate) own: Option<Extent>,
     pub(crate) inside: Option<Extent>,
+    pub(crate) beside: Option<Extent>,
 }
 
-/// What the ways of the node have before the distances inside whose words between neighbours are limited. Where there are
-/// none nothing is said, and no hit is looked at.
-pub(crate) fn extent_inside<P: PhraseHits, L: Ledger>(
+/// What the ways of the node have before the distances inside whose words between neighbours are limited, and on right sides
+/// of mild nots. Where there is neither nothing is said, and no hit is looked at.
+pub(crate) fn extents_inside<P: PhraseHits, L: Ledger>(
     node: &mut Node<P>,
     steps: &mut Steps<L>,
-) -> Option<Extent>
+) -> Extents
     ensures { IsTold (frame_of P.state node.old) (frame_of P.state node.new) steps.old steps.new result }
 {
     if !has_limit(node) {
-        return None;
+        return Extents {
+            own: None,
+            inside: None,
+            beside: None,
+        };
     }
-    measure(node, steps).inside
+    measure(node, steps)
 }
 
-/// Whether a distance stands inside whose words between neighbours are limited.
+/// Whether a distance stands inside whose words between neighbours are limited, or a mild not.
 fn has_limit<P: PhraseHits>(node: &Node<P>) -> bool {
     match node {
         Node::Phrase(_) => false,
         Node::Choice(fork) => has_limit(&fork.left) || has_limit(&fork.right),
         Node::Both(pair) => has_limit(&pair.left) || has_limit(&pair.right),
-        Node::MildNot(pair) => has_limit(&pair.left) || has_limit(&pair.right),
+        Node::MildNot(_) => true,
         Node::Negated(_) => false,
         Node::Filtered(sieve) => is_limited(&sieve.kind) || has_limit(&sieve.operand),
     }
@@ -113,6 +119,7 @@ fn extents_of_either(left: Extents, right: Extents) -> Extents
     Extents {
         own: extent_of_either(left.own, right.own),
         inside: extent_of_either(left.inside, right.inside),
+        beside: extent_of_either(left.beside, right.beside),
     }
 }
 
@@ -122,6 +129,7 @@ fn extents_of_both(left: Extents, right: Extents) -> Extents
     Extents {
         own: extent_of_both(left.own, right.own),
         inside: extent_of_either(left.inside, right.inside),
+        beside: extent_of_either(left.beside, right.beside),
     }
 }
 
@@ -131,6 +139,7 @@ fn extents_of_apart(left: Extents, right: Extents) -> Extents
     Extents {
         own: left.own,
         inside: extent_of_either(left.inside, right.inside),
+        beside: extent_of_either(right.own, extent_of_either(left.beside, right.beside)),
     }
 }
 
@@ -140,6 +149,7 @@ fn extents_of_negated() -> Extents
     Extents {
         own: no_include(),
         inside: no_include(),
+        beside: no_include(),
     }
 }
 
@@ -149,6 +159,7 @@ fn extents_behind(kind: &Filter, operand: Extents) -> Extents
     Extents {
         own: extent_behind(kind, operand.own),
         inside: extent_of_either(operand.inside, extent_before(kind, operand.own)),
+        beside: operand.beside,
     }
 }
 
@@ -159,6 +170,7 @@ fn measure_phrase<P: PhraseHits, L: Ledger>(phrase: &mut P, steps: &mut Steps<L>
     Extents {
         own: one_include(small(words)),
         inside: no_include(),
+        beside: no_include(),
     }
 }
 

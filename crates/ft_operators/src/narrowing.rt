@@ -1,16 +1,17 @@
 //! Where the includes of an operand may lie: by the filters round it, and by the includes that were chosen before.
 
-ghost use Rattle.std.specs.Prelude.{◌≡◌, ◌≤◌, vec_capacity};
-ghost use Rattle.ft_operators.specs.Bounds.{bounds_inside, earlier_end, filter_bounds, filter_reach, numbers_round, order_behind};
+ghost use Rattle.std.specs.Prelude.{◌≡◌, ◌≤◌, fold, vec_capacity};
+ghost use Rattle.ft_operators.specs.Bounds.{all_numbers, bounds_inside, earlier_end, filter_bounds, filter_reach, numbers_round, order_behind};
 ghost use Rattle.ft_operators.specs.Bounds.{reach_inside, round_hit, round_hits, smaller, window_reach};
-ghost use Rattle.ft_operators.specs.Standing.{course_now};
+ghost use Rattle.ft_operators.specs.Course.{course_out, round_words};
+ghost use Rattle.ft_operators.specs.Standing.{course_now, includes_now};
 ghost use Rattle.ft_operators.specs.steps.Nodes.{standing};
 ghost use Rattle.ft_operators.specs.steps.Walking.{MayGoOn};
 
 use crate::PhraseHits;
 use crate::bounds::{Bounds, OrderBound, UnitBounds};
 use crate::course::{Course, Windows};
-use crate::extent::{Extent, most_between, spread};
+use crate::extent::{Extent, lone_words, most_between, spread};
 use crate::gathering::gather;
 use crate::node::Node;
 use crate::reach::{Reach, no_reach};
@@ -34,6 +35,52 @@ pub(crate) fn course_now<P: PhraseHits>(
         bounds: round_hits(&course.reach, course.bounds, held),
         reach: course.reach,
         extent: course.extent,
+        beside: course.beside,
+    }
+}
+
+/// The course of the right side of a mild not, at the present way of the left side.
+pub(crate) fn course_out<P: PhraseHits>(
+    course: Course,
+    left: &Node<P>,
+    held: &mut Vec<Hit>,
+) -> Course
+    requires { MayGoOn (standing P.state course left.now) (vec_capacity held.old) }
+    ensures course { result ≡ course_out course (includes_now ((standing P.state course left.now).rest)) }
+    ensures room { vec_capacity held.old ≤ vec_capacity held.new }
+{
+    held.clear();
+    gather(left, held);
+    let bounds = Bounds {
+        words: round_each(lone_words(course.beside), held),
+        ..Bounds::everywhere()
+    };
+    Course {
+        bounds,
+        reach: no_reach(),
+        ..course
+    }
+}
+
+/// The words that an include of so many words lies in which covers each word of the hits.
+fn round_each(words: Option<u32>, hits: &[Hit]) -> UnitBounds
+    ensures { result ≡ fold (round_words words) all_numbers hits.now }
+{
+    let mut bounds = UnitBounds { from: 0, to: None };
+    for hit in hits {
+        bounds = round_words(words, bounds, hit);
+    }
+    bounds
+}
+
+/// The same of one hit. One that ends before it begins has no word.
+fn round_words(words: Option<u32>, bounds: UnitBounds, hit: &Hit) -> UnitBounds
+    ensures { result ≡ round_words words bounds hit.now }
+{
+    if hit.from <= hit.to {
+        numbers_round(words, hit.from, hit.to, bounds)
+    } else {
+        bounds
     }
 }
 

@@ -13,7 +13,7 @@ use crate::cleaning::{is_clean, some_is_clean};
 use crate::course::{every, tellings};
 use crate::gathering::hold;
 use crate::joining::joined_memory;
-use crate::measuring::extent_inside;
+use crate::measuring::extents_inside;
 use crate::node::Node;
 use crate::own_span::own_span;
 use crate::walking::{first, go_on};
@@ -241,7 +241,7 @@ impl<P: PhraseHits + Drop> Tuples<P> {
     ///
     /// However large the windows of a filter are, in a way of its operand it goes through no more of them than the first
     /// number of the joined hit and one: those that begin at a word, and the first one. Where a distance in words with a
-    /// greatest value stands inside, it looks at each hit once before it goes through the ways.
+    /// greatest value stands inside, or a mild not, it looks at each hit once before it goes through the ways.
     pub fn satisfied_at<L: Ledger>(
         &mut self,
         doc: DocId,
@@ -261,8 +261,8 @@ impl<P: PhraseHits + Drop> Tuples<P> {
         ensures grown { steps.old ≤ steps.new }
     {
         self.aim(doc, span, steps);
-        let extent = extent_inside(&mut self.node, steps);
-        let tellings = tellings(self.item, extent);
+        let extents = extents_inside(&mut self.node, steps);
+        let tellings = tellings(self.item, extents.inside, extents.beside);
         some_is_clean(&mut self.node, tellings, chain, &mut self.held, steps)
     }
 }

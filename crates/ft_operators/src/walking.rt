@@ -13,8 +13,8 @@ ghost use Rattle.ft_operators.specs.steps.Walking.{Moved, MayGoOn};
 use crate::PhraseHits;
 use crate::bounds::Bounds;
 use crate::choosing::choice_count;
-use crate::course::{Course, course_inside, without_bounds};
-use crate::narrowing::course_now;
+use crate::course::{Course, course_inside};
+use crate::narrowing::{course_now, course_out};
 use crate::node::{Fork, Node, Pair, Sieve};
 use crate::standing_out::{Tried, admits, is_barred, with_way};
 use ft_base::{Hit, Steps};
@@ -318,7 +318,7 @@ fn is_admitted<P: PhraseHits, L: Ledger>(
     steps: &mut Steps<L>,
 ) -> bool
     requires { MayGoOn (apart_standing P.state course pair.old) (vec_capacity held.old) }
-    ensures { IsTried (without_bounds course) (standing P.state course pair.old.left) (standing P.state (without_bounds course) pair.old.right)
+    ensures { IsTried course (standing P.state course pair.old.left) (standing P.state (without_bounds course) pair.old.right)
         (standing P.state course pair.new.left) (standing P.state (without_bounds course) pair.new.right)
         (vec_capacity held.old) (vec_capacity held.new) steps.old steps.new result }
 {
@@ -326,14 +326,14 @@ fn is_admitted<P: PhraseHits, L: Ledger>(
         some: false,
         all: true,
     };
-    let all = without_bounds(course);
-    let mut there = first(&mut pair.right, all, held, steps);
+    let beside = course_out(course, &pair.left, held);
+    let mut there = first(&mut pair.right, beside, held, steps);
     while there {
         tried = with_way(tried, pair, held);
         if is_barred(tried) {
             return false;
         }
-        there = go_on(&mut pair.right, all, held, steps);
+        there = go_on(&mut pair.right, beside, held, steps);
     }
     admits(tried)
 }

@@ -1,12 +1,11 @@
 -- Mild not, one way of the right side after the other.
-use Rattle.std.specs.Prelude.{◌≡◌, ℕ, ◌+◌, ◌≤◌, Bool, true, false, not, ◌&&◌, ◌||◌, List, fold}
-use Rattle.std.specs.List.{list_any, list_all}
+use Rattle.std.specs.Prelude.{◌≡◌, ℕ, ◌+◌, ◌≤◌, Bool, true, false, ◌&&◌, ◌||◌, List, filter, fold}
 use Rattle.ft_base.specs.Lists.{is_not_empty}
 use Rattle.ft_base.specs.declared.hit.Hit.{Hit}
 use Rattle.all_matches.specs.MildNot.{stands_out}
-use Rattle.all_matches.specs.Ways.{Way, way_includes, standing_out}
+use Rattle.all_matches.specs.Ways.{Way, way_includes}
 use Rattle.ft_operators.specs.declared.course.Course.{Course}
-use Rattle.ft_operators.specs.Course.{ways_on, without_bounds}
+use Rattle.ft_operators.specs.Course.{passes_out, stands_on, ways_on}
 use Rattle.ft_operators.specs.declared.standing_out.Tried.{Tried}
 use Rattle.ft_operators.specs.Standing.{Standing, frame, includes_now}
 
@@ -21,15 +20,11 @@ none_tried = record { some = false; all = true }
 abbrev pub tried_ways : List Hit → Tried → List Way → Tried
 tried_ways left tried ways = fold (λ so_far way. with_includes left (way_includes way) so_far) tried ways
 
--- whether a way of the left side is one of the mild not
-abbrev pub admitted : List Way → List Hit → Bool
-admitted right left = not (list_any (λ way. is_not_empty (way_includes way)) right) || list_all (λ way. stands_out left (way_includes way)) right
-
--- a way of the left side that was tried against each of the right side on a course
+-- a way of the left side that was tried against those of the right side
 pub record IsTried (course : Course) (left right left_now right_now : Standing) (room new_room start end : ℕ) (answer : Bool) : Type 0 where
   pub same_left : left_now ≡ left
   pub same_right : frame right_now ≡ frame right
-  pub tried : answer ≡ admitted (ways_on course right.operator) (includes_now left.rest)
+  pub tried : answer ≡ passes_out course right.operator (includes_now left.rest)
   pub kept_room : room ≤ new_room
   pub grown : start ≤ end
 
@@ -39,7 +34,7 @@ pub record MayTry (left right : Standing) (room : ℕ) : Type 0 where
   pub right_there : is_not_empty right.rest ≡ true
   pub fits : left.shape.room + right.shape.room ≤ room
 
--- what the loop over the right side keeps: the ways that are left make of those tried what all make of none
+-- what the loop over the right side keeps, on a course: the ways that are left make of those tried what all make of none
 pub record Trying (course : Course) (left right left_now right_now : Standing) (room new_room start end : ℕ) (so_far : Tried) (there : Bool) : Type 0 where
   pub same_left : left_now ≡ left
   pub same_right : frame right_now ≡ frame right
@@ -50,7 +45,7 @@ pub record Trying (course : Course) (left right left_now right_now : Standing) (
 
 -- what the loop over the left side keeps: what was passed over doesn't stand out
 pub record Sifting (course : Course) (left right left_now right_now : Standing) (room new_room start end : ℕ) (there : Bool) : Type 0 where
-  pub passed : standing_out left_now.rest (ways_on (without_bounds course) right.operator) ≡ standing_out left.rest (ways_on (without_bounds course) right.operator)
+  pub passed : filter (stands_on course right.operator) left_now.rest ≡ filter (stands_on course right.operator) left.rest
   pub same_left : frame left_now ≡ frame left
   pub same_right : frame right_now ≡ frame right
   pub there_now : there ≡ is_not_empty left_now.rest

@@ -1,15 +1,15 @@
 -- Where a walk through the ways of an operator stands, read off the walks through those of its operands. In each state of
 -- these walks, where nothing is left of the present way of an operand, nothing is left of the operator.
 use Rattle.std.specs.Prelude.{ℕ, ◌+◌, max, Bool, if◌then◌else◌, Option}
-use Rattle.std.specs.Prelude.{List, [], ◌∷◌, ◌++◌, map, flat_map, length, drop}
+use Rattle.std.specs.Prelude.{List, [], ◌∷◌, ◌++◌, map, filter, flat_map, length, drop}
 use Rattle.ft_base.specs.declared.filter.Filter.{Filter}
 use Rattle.ft_base.specs.declared.hit.Hit.{Hit}
 use Rattle.all_matches.specs.declared.window.Window.{Window}
 use Rattle.all_matches.specs.Filters.{passes, choices}
 use Rattle.all_matches.specs.Ways.{Operator, phrase, either, together, apart, negated, through_filter, matches_of}
-use Rattle.all_matches.specs.Ways.{Way, one_hit, two_ways, turned_about, by_filter, way_includes, standing_out}
+use Rattle.all_matches.specs.Ways.{Way, one_hit, two_ways, turned_about, by_filter, way_includes}
 use Rattle.ft_operators.specs.declared.course.Course.{Course}
-use Rattle.ft_operators.specs.Course.{asked_for, filtered_on, pairs_with, ways_on, without_bounds}
+use Rattle.ft_operators.specs.Course.{asked_for, filtered_on, pairs_with, stands_on, ways_on}
 use Rattle.ft_operators.specs.Phrases.{PhraseState}
 use Rattle.ft_operators.specs.Standing.{Shape, Frame, Standing, phrase_aims, one_aims, two_aims}
 
@@ -100,16 +100,16 @@ paired course left right = record {
 }
 
 -- the present way of the left side, and then those further ones that stand out
-abbrev pub apart_left : List Way → List Way → List Way
-apart_left [] all = []
-apart_left (a ∷ more) all = a ∷ standing_out more all
+abbrev pub apart_left : (Way → Bool) → List Way → List Way
+apart_left stands [] = []
+apart_left stands (a ∷ more) = a ∷ filter stands more
 
 abbrev pub apart_of : Course → Standing → Standing → Standing
 apart_of course left right = record {
   aims = two_aims apart left.aims right.aims;
   shape = apart_shape left.shape right.shape;
   operator = apart left.operator right.operator;
-  rest = apart_left left.rest (ways_on (without_bounds course) right.operator);
+  rest = apart_left (stands_on course right.operator) left.rest;
 }
 
 -- before the first of the ways that the left side has left which stand out
@@ -118,7 +118,7 @@ apart_sifted course left right = record {
   aims = two_aims apart left.aims right.aims;
   shape = apart_shape left.shape right.shape;
   operator = apart left.operator right.operator;
-  rest = standing_out left.rest (ways_on (without_bounds course) right.operator);
+  rest = filter (stands_on course right.operator) left.rest;
 }
 
 -- the one way of a negated selection, where it isn't passed. Where a walk through the operand stands doesn't matter

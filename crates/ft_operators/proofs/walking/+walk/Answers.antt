@@ -2,13 +2,12 @@
 use Rattle.std.proofs.Common.{◌≤◌, ◌∙◌, ap, sym, subst, arith, refl, vec_capacity, true, false}
 use Rattle.ft_operators.specs.Course.{course_inside, without_bounds}
 use Rattle.ft_operators.specs.Standing.{at_prefix, course_now, frame, one_on}
-use Rattle.ft_operators.specs.steps.Apart.{IsTried}
 use Rattle.ft_operators.specs.steps.Forms.{apart_of, phrase_of}
 use Rattle.ft_operators.specs.steps.Nodes.{standing, apart_standing, pair_standing, sieve_standing}
 use Rattle.ft_operators.specs.steps.Walking.{MayGoOn}
 use Rattle.ft_operators.proofs.BothLemmas.{both_first, both_next_left, pair_settled, pairing_on}
 use Rattle.ft_operators.proofs.FrameLemmas.{frames_same, shaped_Both, shaped_Choice, shaped_Filtered, shaped_MildNot}
-use Rattle.ft_operators.proofs.SeenLemmas.{apart_room, counted, first_shape, next_shape, pair_room, seen_first, seen_may, seen_next}
+use Rattle.ft_operators.proofs.SeenLemmas.{apart_may, apart_room, counted, first_shape, next_shape, pair_room, seen_apart, seen_first, seen_may, seen_next}
 use Rattle.ft_operators.proofs.TupleLemmas.{kept_shape, standing_room, standing_shape}
 use Rattle.ft_operators.proofs.NodeLemmas.{standing_Phrase, standing_Choice, standing_Both, standing_MildNot, standing_Negated, standing_Filtered, inside_Phrase, inside_Choice, inside_Both, inside_MildNot, inside_Negated, inside_Filtered, moved_inside}
 use Rattle.ft_operators.proofs.SieveLemmas.{lead_below}
@@ -453,52 +452,60 @@ settle_apart-loop-there-preserved g t c =
 pub settle_apart-returns : goal.settle_apart-returns
 settle_apart-returns g t c = apart_end c.args.course _ _ _ _ _ _ _ _ _ c.loop-there.invariant c.loop-there-test.false
 
+pub is_admitted-course_out-beside-requires : goal.is_admitted-course_out-beside-requires
+is_admitted-course_out-beside-requires g t c =
+    let at = standing g.P.PhraseHits.state c.args.course in
+    let pair = c.args.pair.now in
+    apart_may c.args.course (at pair.left) (standing g.P.PhraseHits.state (without_bounds c.args.course) pair.right) _ c.requires
+
+pub is_admitted-first-there-requires : goal.is_admitted-first-there-requires
+is_admitted-first-there-requires g t c κs within =
+    let state = g.P.PhraseHits.state in
+    let pair = c.args.pair.now in
+    let both = apart_room state c.args.course pair.left pair.right in
+    let right = standing_room state c.course_out-beside.result pair.right pair.right in
+    (omega arith, (within.0, (within.1, omega (arith, both, right, c.requires.fits, c.course_out-beside.ensures.room))))
+
 pub is_admitted-go_on-there-requires : goal.is_admitted-go_on-there-requires
 is_admitted-go_on-there-requires g t c κs within =
     let state = g.P.PhraseHits.state in
     let course = c.args.course in
-    let all = c.without_bounds-all.result in
-    let same = ap (λ s. s.weight) (kept_shape state all c.args.pair.now.right c.loop-there.pair.right c.loop-there.invariant.same_right) in
-    let may = trying_may all _ _ _ _ _ _ _ _ _ _ c.loop-there.invariant course _
-    (subst (λ e. MayGoOn (apart_of course (standing state course c.args.pair.now.left) (standing state e c.args.pair.now.right)) (vec_capacity c.args.held.now)) (sym c.without_bounds-all.ensures) c.requires)
-    (omega arith) c.loop-there-test.true in
+    let pair = c.args.pair.now in
+    let beside = c.course_out-beside.result in
+    let same = ap (λ s. s.weight) (kept_shape state beside pair.right c.loop-there.pair.right c.loop-there.invariant.same_right) in
+    let may = trying_may beside _ _ _ _ _ _ _ _ _ _ c.loop-there.invariant course _ (seen_apart state course beside pair.left pair.right _ c.requires) (omega arith) c.loop-there-test.true in
     (omega arith, (within.0, (within.1, record { there = may.right_there; fits = omega (arith, may.fits, c.with_way-tried.ensures.room) })))
 
 pub is_admitted-loop-there-smaller : goal.is_admitted-loop-there-smaller
 is_admitted-loop-there-smaller g t c =
-    trying_fewer c.without_bounds-all.result _ _ _ _ _ _ _ _ _ _ c.loop-there.invariant _ _ _ _ _ c.loop-there-test.true c.go_on-there.ensures
+    trying_fewer c.course_out-beside.result _ _ _ _ _ _ _ _ _ _ c.loop-there.invariant _ _ _ _ _ c.loop-there-test.true c.go_on-there.ensures
 
 pub is_admitted-loop-there-preserved : goal.is_admitted-loop-there-preserved
 is_admitted-loop-there-preserved g t c =
     let state = g.P.PhraseHits.state in
     let course = c.args.course in
-    let all = c.without_bounds-all.result in
-    let may = trying_may all _ _ _ _ _ _ _ _ _ _ c.loop-there.invariant course _
-    (subst (λ e. MayGoOn (apart_of course (standing state course c.args.pair.now.left) (standing state e c.args.pair.now.right)) (vec_capacity c.args.held.now)) (sym c.without_bounds-all.ensures) c.requires)
-    (omega arith) c.loop-there-test.true in
-    trying_on all _ _ _ _ _ _ _ _ _ _ c.loop-there.invariant c.with_way-tried.result _ _ _ _ _ c.loop-there-test.true (c.with_way-tried.ensures.tried course all may) c.with_way-tried.ensures.room c.go_on-there.ensures
+    let pair = c.args.pair.now in
+    let beside = c.course_out-beside.result in
+    let may = trying_may beside _ _ _ _ _ _ _ _ _ _ c.loop-there.invariant course _ (seen_apart state course beside pair.left pair.right _ c.requires) (omega arith) c.loop-there-test.true in
+    trying_on beside _ _ _ _ _ _ _ _ _ _ c.loop-there.invariant c.with_way-tried.result _ _ _ _ _ c.loop-there-test.true (c.with_way-tried.ensures.tried course beside may) c.with_way-tried.ensures.room c.go_on-there.ensures
 
 pub is_admitted-returns-then-is_barred : goal.is_admitted-returns-then-is_barred
 is_admitted-returns-then-is_barred g t c =
     let state = g.P.PhraseHits.state in
     let course = c.args.course in
-    let at = standing state course in
-    let old = c.args.pair.now in
-    let now = c.loop-there.pair in
-    let all = c.without_bounds-all.result in
-    let may = trying_may all _ _ _ _ _ _ _ _ _ _ c.loop-there.invariant course _
-    (subst (λ e. MayGoOn (apart_of course (standing state course c.args.pair.now.left) (standing state e c.args.pair.now.right)) (vec_capacity c.args.held.now)) (sym c.without_bounds-all.ensures) c.requires)
-    (omega arith) c.loop-there-test.true in
-    subst (λ e. IsTried e (at old.left) (standing state e old.right) (at now.left) (standing state e now.right) (vec_capacity c.args.held.now) (vec_capacity c.with_way-tried.new.held) c.args.steps.now c.loop-there.steps false)
-    c.without_bounds-all.ensures
-    (tried_barred all _ _ _ _ _ _ _ _ _ _ c.loop-there.invariant c.with_way-tried.result _ c.loop-there-test.true (c.with_way-tried.ensures.tried course all may) (sym c.is_barred.ensures ∙ c.if-is_barred.true) c.with_way-tried.ensures.room)
+    let pair = c.args.pair.now in
+    let beside = c.course_out-beside.result in
+    let all = without_bounds course in
+    let may = trying_may beside _ _ _ _ _ _ _ _ _ _ c.loop-there.invariant course _ (seen_apart state course beside pair.left pair.right _ c.requires) (omega arith) c.loop-there-test.true in
+    tried_barred beside _ _ _ _ _ _ _ _ _ _ c.loop-there.invariant course c.course_out-beside.ensures.course (standing state all pair.right) (standing state all c.loop-there.pair.right)
+    (frames_same state all beside pair.right) (frames_same state all beside c.loop-there.pair.right)
+    c.with_way-tried.result _ c.loop-there-test.true (c.with_way-tried.ensures.tried course beside may) (sym c.is_barred.ensures ∙ c.if-is_barred.true) c.with_way-tried.ensures.room
 
 pub is_admitted-returns : goal.is_admitted-returns
 is_admitted-returns g t c =
     let state = g.P.PhraseHits.state in
-    let at = standing state c.args.course in
-    let old = c.args.pair.now in
-    let now = c.loop-there.pair in
-    subst (λ e. IsTried e (at old.left) (standing state e old.right) (at now.left) (standing state e now.right) (vec_capacity c.args.held.now) (vec_capacity c.loop-there.held) c.args.steps.now c.loop-there.steps c.admits.result)
-    c.without_bounds-all.ensures
-    (tried_out c.without_bounds-all.result _ _ _ _ _ _ _ _ _ _ c.loop-there.invariant _ c.admits.ensures c.loop-there-test.false)
+    let course = c.args.course in
+    let beside = c.course_out-beside.result in
+    let all = without_bounds course in
+    tried_out beside _ _ _ _ _ _ _ _ _ _ c.loop-there.invariant course c.course_out-beside.ensures.course (standing state all c.args.pair.now.right) (standing state all c.loop-there.pair.right)
+    (frames_same state all beside c.args.pair.now.right) (frames_same state all beside c.loop-there.pair.right) _ c.admits.ensures c.loop-there-test.false

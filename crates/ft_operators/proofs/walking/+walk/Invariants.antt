@@ -75,11 +75,11 @@ decreases-settle_apart-loop-there g l = length ((standing g.P.PhraseHits.state l
 abbrev pub invariant-is_admitted-loop-there : goal.invariant-is_admitted-loop-there
 invariant-is_admitted-loop-there g l =
     let at = standing g.P.PhraseHits.state l.fn.course in
-    let all = standing g.P.PhraseHits.state l.all in
-    Trying l.all (at l.fn.pair.left) (all l.fn.pair.right) (at l.pair.left) (all l.pair.right) (vec_capacity l.fn.held) (vec_capacity l.held) l.fn.steps l.steps l.tried l.there
+    let beside = standing g.P.PhraseHits.state l.beside in
+    Trying l.beside (at l.fn.pair.left) (beside l.fn.pair.right) (at l.pair.left) (beside l.pair.right) (vec_capacity l.fn.held) (vec_capacity l.held) l.fn.steps l.steps l.tried l.there
 
 abbrev pub decreases-is_admitted-loop-there : goal.decreases-is_admitted-loop-there
-decreases-is_admitted-loop-there g l = length ((standing g.P.PhraseHits.state l.all l.pair.right).rest)
+decreases-is_admitted-loop-there g l = length ((standing g.P.PhraseHits.state l.beside l.pair.right).rest)
 
 abbrev pub invariant-settle_pair-loop-there : goal.invariant-settle_pair-loop-there
 invariant-settle_pair-loop-there g l =
