@@ -1,22 +1,17 @@
 -- Some way passes a test exactly where one of those does through which a walk goes.
-use Rattle.std.proofs.Common.{◌≡◌, refl, ap, sym, ◌∙◌, subst, ℕ, suc, ◌+◌, ◌-◌, ◌≤◌, List, [], ◌∷◌, ◌++◌, Bool, true, false, not, ◌&&◌, ◌||◌, cond, map}
-use Rattle.std.specs.Prelude.{flat_map, filter, Option, Some, None, ⊤}
+use Rattle.std.proofs.Common.{◌≡◌, refl, ap, sym, ◌∙◌, List, [], ◌∷◌, ◌++◌, Bool, true, false, not, ◌&&◌, ◌||◌, cond, map}
+use Rattle.std.specs.Prelude.{flat_map, filter, Option, ⊤}
 use Rattle.ft_base.proofs.Truth.{fails_below}
 use Rattle.std.specs.List.{list_any, list_all}
 use Rattle.std.proofs.lemmas.Bool.{and_parts}
 use Rattle.std.proofs.lemmas.List.Folds.{list_any-append}
 use Rattle.ft_base.specs.Lists.{is_not_empty}
 use Rattle.ft_base.specs.declared.filter.Filter.{Filter}
-use Rattle.ft_base.specs.declared.filter.Filter.TheVariants as F
 use Rattle.ft_base.specs.declared.hit.Hit.{Hit}
 use Rattle.ft_base.specs.declared.span.Span.{Span}
-use Rattle.ft_base.specs.declared.unit.TextUnit.{TextUnit}
 use Rattle.all_matches.specs.declared.window.Window.{Window}
-use Rattle.all_matches.specs.Filters.{passes, choices, keeps, after}
-use Rattle.all_matches.specs.Join.{join}
+use Rattle.all_matches.specs.Filters.{passes, choices, after}
 use Rattle.all_matches.specs.MildNot.{stands_out}
-use Rattle.all_matches.specs.Positions.{start_in, end_in}
-use Rattle.all_matches.specs.Window.{windows_round, lies_in_window}
 use Rattle.all_matches.specs.Ways.{Operator, phrase, either, together, apart, negated, through_filter}
 use Rattle.all_matches.specs.Ways.{Way, one_hit, two_ways, by_filter, way_includes, standing_out, filtered_ways, ways_of, clean_under}
 use Rattle.all_matches.proofs.ListTests.{list_any-alike, list_any-map, list_any-flat_map}
@@ -34,10 +29,10 @@ use Rattle.ft_operators.specs.steps.Measuring.{holds}
 use Rattle.ft_operators.proofs.BoundLemmas.{all_lie, all_more, all_pass, few_at, filter_within, sides_within}
 use Rattle.ft_operators.proofs.ApartLemmas.{out_is}
 use Rattle.ft_operators.proofs.ExtentLemmas.{few_before, few_inside, few_more, few_unsaid, few_ways, holds_both}
-use Rattle.ft_operators.proofs.OutLemmas.{admitted_out, has_word, lies_beside_all, out_bounds, out_still, out_wordless}
-use Rattle.ft_operators.proofs.ServeLemmas.{Asks, Respects, Serves, choices_tell, serves_filtered, serves_left, serves_right}
+use Rattle.ft_operators.proofs.OutLemmas.{admitted_out, has_word, lies_beside_all, out_still, out_wordless}
+use Rattle.ft_operators.proofs.ServeLemmas.{Asks, Respects, choices_tell, serves_filtered, serves_left, serves_right}
 use Rattle.ft_operators.proofs.SpreadLemmas.{are_few}
-use Rattle.ft_operators.proofs.TellingLemmas.{any_more, first_decides, tell_windows, nth_window, first_window_gap, lies_in_later, clean_less}
+use Rattle.ft_operators.proofs.TellingLemmas.{any_more}
 
 -- ---- every way
 

@@ -1,8 +1,8 @@
 -- The ways of the right side of a mild not that lie in bounds tell whether hits stand out of each.
-use Rattle.std.proofs.Common.{◌≡◌, refl, ap, sym, ◌∙◌, subst, ℕ, zero, suc, ◌+◌, ◌-◌, ◌<◌, ◌≤◌, List, [], ◌∷◌, Bool, true, false, not, ◌&&◌, ◌||◌, cond, length, arith}
-use Rattle.std.specs.Prelude.{nat_le, nat_lt, fold, Option, Some, None}
+use Rattle.std.proofs.Common.{◌≡◌, refl, ap, sym, ◌∙◌, ℕ, zero, suc, ◌+◌, ◌-◌, ◌≤◌, List, [], ◌∷◌, Bool, true, false, not, ◌&&◌, ◌||◌, cond, length, arith}
+use Rattle.std.specs.Prelude.{nat_le, fold, Option, Some, None}
 use Rattle.std.specs.List.{list_any, list_all, range_with_len}
-use Rattle.std.proofs.lemmas.Bool.{and_parts, leb-true, le-leb}
+use Rattle.std.proofs.lemmas.Bool.{and_parts, leb-true}
 use Rattle.std.proofs.lemmas.Bool.Decides.{nat_tests}
 use Rattle.ft_base.specs.Lists.{is_not_empty}
 use Rattle.ft_base.specs.declared.hit.Hit.{Hit}
@@ -10,7 +10,7 @@ use Rattle.ft_base.specs.declared.span.Span.{Span}
 use Rattle.all_matches.specs.MildNot.{stands_out}
 use Rattle.all_matches.specs.Positions.{covers, places_from_to}
 use Rattle.all_matches.specs.Ways.{Way, way_includes}
-use Rattle.ft_operators.specs.Bounds.{all_numbers, any_order, everywhere, fit_together, is_allowed, lies_between, lies_in, numbers_round}
+use Rattle.ft_operators.specs.Bounds.{all_numbers, everywhere, fit_together, lies_between, lies_in, numbers_round}
 use Rattle.ft_operators.specs.declared.bounds.Bounds.{Bounds}
 use Rattle.ft_operators.specs.declared.bounds.UnitBounds.{UnitBounds}
 use Rattle.ft_operators.specs.declared.course.Course.{Course}

@@ -1,5 +1,5 @@
 -- A way that does for another one in each test that a walk asks.
-use Rattle.std.proofs.Common.{◌≡◌, refl, ap, sym, ◌∙◌, subst, ℕ, suc, ◌+◌, ◌-◌, ◌≤◌, List, [], ◌∷◌, ◌++◌, Bool, true, false, ◌&&◌, map}
+use Rattle.std.proofs.Common.{◌≡◌, refl, ap, sym, ◌∙◌, subst, ℕ, suc, ◌+◌, ◌-◌, ◌≤◌, List, ◌++◌, Bool, true, ◌&&◌, map}
 use Rattle.std.specs.Prelude.{Option, Some, None, ⊤}
 use Rattle.std.specs.List.{list_any}
 use Rattle.std.proofs.lemmas.Bool.{and_parts}
@@ -12,7 +12,7 @@ use Rattle.all_matches.specs.Filters.{choices, keeps, after}
 use Rattle.all_matches.specs.Join.{join}
 use Rattle.all_matches.specs.Positions.{start_in, end_in}
 use Rattle.all_matches.specs.Window.{windows_round, lies_in_window}
-use Rattle.all_matches.specs.Ways.{Way, one_hit, two_ways, by_filter, way_includes, clean_under}
+use Rattle.all_matches.specs.Ways.{Way, two_ways, by_filter, way_includes, clean_under}
 use Rattle.ft_operators.specs.declared.course.Windows.{Windows}
 use Rattle.ft_operators.specs.declared.course.Windows.TheVariants.{Each, Telling, First}
 use Rattle.ft_operators.specs.declared.extent.Extent.{Extent}

@@ -1,8 +1,8 @@
 -- A node moves as its inside does, and that as the operands do.
-use Rattle.std.proofs.Common.{◌≤◌, ◌∙◌, ap, sym, subst, arith, refl, vec_capacity, true, false}
+use Rattle.std.proofs.Common.{◌≤◌, ◌∙◌, ap, sym, subst, arith, refl, vec_capacity, true}
 use Rattle.ft_operators.specs.Course.{course_inside, without_bounds}
 use Rattle.ft_operators.specs.Standing.{at_prefix, course_now, frame, one_on}
-use Rattle.ft_operators.specs.steps.Forms.{apart_of, phrase_of}
+use Rattle.ft_operators.specs.steps.Forms.{phrase_of}
 use Rattle.ft_operators.specs.steps.Nodes.{standing, apart_standing, pair_standing, sieve_standing}
 use Rattle.ft_operators.specs.steps.Walking.{MayGoOn}
 use Rattle.ft_operators.proofs.BothLemmas.{both_first, both_next_left, pair_settled, pairing_on}
