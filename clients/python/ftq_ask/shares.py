@@ -116,7 +116,6 @@ class Shares:
         self._at_end = at_end
         self._another = another
         self._kept = [Kept() for _ in engines] if another else []
-        self._is_given_up = False
         self.moves = 0
         """How often a share was given to another machine."""
         # A session is for one thread: each has a lane of its own, in which what is asked of it stands in a row.
@@ -215,7 +214,6 @@ class Shares:
 
     def interrupt(self) -> None:
         """Ends the programs that are sessions of this machine, from another thread; they are started again when they are asked next."""
-        self._is_given_up = True
         for engine in self._engines:
             if isinstance(engine, Session):
                 engine.interrupt()
@@ -271,7 +269,8 @@ class Shares:
                 if self._another is None or moved > MOST_MOVES:
                     raise NoMachine(str(lost)) from lost
             except ProgramEnded as ended:
-                if ended.status >= 0 or was_ended or self._is_given_up:
+                engine = self._engines[share]
+                if ended.status >= 0 or was_ended or isinstance(engine, Session) and engine.is_interrupted:
                     raise
                 was_ended = True
 
@@ -289,7 +288,6 @@ class Shares:
     def _asked(self, ask: Callable[[Any], Answer]) -> list[Future[Answer]]:
         """Asks all shares at once, and waits for all of them. An interrupt ends their programs, which are started again when they are
         asked next."""
-        self._is_given_up = False
         asked = [lane.submit(self._ask, share, ask) for share, lane in enumerate(self._lanes)]
         try:
             wait(asked)

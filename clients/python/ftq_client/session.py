@@ -193,6 +193,11 @@ class Session:
             process.end()
 
     @property
+    def is_interrupted(self) -> bool:
+        """Whether the process was ended by `interrupt`, or since it took too long, and nothing was asked after that."""
+        return self._interrupted
+
+    @property
     def pid(self) -> int | None:
         """The number of the process that answers now, if there is one."""
         return self._process.pid if self._process else None
