@@ -10,7 +10,7 @@ FORMATS = ("text", "json", "csv", "paths")
 ASK = """Asks a folder of XML: loads its files, and answers the questions of --query, or those that are typed at a prompt.
 
 Exit statuses with --query: 0 where something was found, 1 where nothing was, 2 where something went wrong, be it a question or a
-file that couldn't be taken.
+file that couldn't be taken. `ask serve FOLDER` serves a folder to a browser instead (ask serve --help).
 """
 
 

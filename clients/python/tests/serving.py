@@ -9,6 +9,7 @@ import os
 import re
 import signal
 import subprocess
+import tempfile
 import time
 from pathlib import Path
 from typing import Any, Iterator
@@ -27,11 +28,13 @@ class Server:
 
     def __init__(self, program: Path, *words: object, **variables: str) -> None:
         command = [str(TOP / "tools" / "ask"), "serve", "--program", str(program), "--port", "0", *map(str, words)]
-        self.process = subprocess.Popen(command, stdout=subprocess.PIPE, stderr=subprocess.PIPE, text=True, env={**os.environ, **variables})
-        assert self.process.stdout and self.process.stderr
+        self.said = tempfile.TemporaryFile("w+")
+        self.process = subprocess.Popen(command, stdout=subprocess.PIPE, stderr=self.said, text=True, env={**os.environ, **variables})
+        assert self.process.stdout
         self.url = self.process.stdout.readline().strip()
         if not self.url:
-            raise AssertionError(f"it didn't begin: {self.process.stderr.read()}")
+            self.said.seek(0)
+            raise AssertionError(f"it didn't begin: {self.said.read()}")
         self.port = int(re.fullmatch(r"http://127\.0\.0\.1:(\d+)/", self.url)[1])  # type: ignore[index]
 
     def get(self, path: str, headers: dict[str, str] = {}, method: str = "GET", body: bytes | None = None, **values: Any) -> "Answered":
@@ -84,18 +87,22 @@ class Server:
         return [int(it) for task in path.iterdir() for it in (task / "children").read_text().split()]
 
     def close(self) -> int:
-        """Ends it as an interrupt does; its exit status."""
-        assert self.process.stdout and self.process.stderr
+        """Ends it as an interrupt does; its exit status. Fails where it has told of a fault of its own."""
+        assert self.process.stdout
         if self.process.poll() is None:
             self.process.send_signal(signal.SIGINT)
         try:
-            return self.process.wait(30)
+            status = self.process.wait(60)
         except subprocess.TimeoutExpired:
             self.process.kill()
             raise
         finally:
             self.process.stdout.close()
-            self.process.stderr.close()
+        with self.said:
+            self.said.seek(0)
+            said = self.said.read()
+        assert "Traceback" not in said, said
+        return status
 
 
 class Answered:

@@ -5,6 +5,7 @@ from __future__ import annotations
 import contextlib
 import json
 import socket
+import time
 from pathlib import Path
 from typing import Iterator
 
@@ -16,6 +17,7 @@ for module in ("lxml", "rich", "starlette", "uvicorn", "jinja2"):
 from lxml import html  # noqa: E402
 
 from ftq_ask.serving.desk import MOST_QUESTIONS  # noqa: E402
+from ftq_ask.serving.guard import MOST_REQUESTS  # noqa: E402
 from serving import LONG, LONG_DOCUMENT, Server, served  # noqa: E402
 
 SCRIPT = "<script>alert(1)</script>"
@@ -238,6 +240,20 @@ def test_questions_at_once_are_limited(program: Path, folder: Path) -> None:
             assert json.loads(response.read().splitlines()[-1])["stopped"]
             connection.close()
         assert server.lines('collection()//p[. contains text "storm"]')[-1]["part"] == "end"
+
+
+def test_requests_at_once_are_limited(program: Path, folder: Path) -> None:
+    with served(program, folder) as server, contextlib.ExitStack() as wires:
+        head = f"POST /api/query HTTP/1.1\r\nHost: 127.0.0.1:{server.port}\r\nContent-Type: application/json\r\nContent-Length: 9\r\n\r\n{{"
+        for _ in range(MOST_REQUESTS):
+            wires.enter_context(socket.create_connection(("127.0.0.1", server.port), timeout=30)).sendall(head.encode())
+        end = time.monotonic() + 20
+        while server.get("/api/status").status != 503:
+            assert time.monotonic() < end
+        assert server.get("/").headers["x-content-type-options"] == "nosniff"
+        wires.close()
+        while server.get("/api/status").status != 200:
+            assert time.monotonic() < end
 
 
 def test_it_listens_on_this_machine_alone(server: Server) -> None:

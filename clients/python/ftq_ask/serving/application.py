@@ -11,7 +11,7 @@ from urllib.parse import parse_qsl
 
 from starlette.applications import Starlette
 from starlette.exceptions import HTTPException
-from starlette.requests import Request
+from starlette.requests import ClientDisconnect, Request
 from starlette.responses import JSONResponse, PlainTextResponse, Response, StreamingResponse
 from starlette.routing import Route
 
@@ -168,7 +168,7 @@ class Served:
         return self._page("document.html", question, wish, parts, name=name, hit=hit)
 
     async def _stop_form(self, request: Request) -> Response:
-        form = once(parse_qsl((await _body(request, "application/x-www-form-urlencoded")).decode("utf-8", errors="replace")))
+        form = once(parse_qsl((await body_of(request, "application/x-www-form-urlencoded")).decode("utf-8", errors="replace")))
         self._desk.stop(form.get("id", ""))
         said = Over("the question was stopped", True)
         return self._page("query.html", None, Wish(""), iter([said]), examples=examples_of(self._desk))
@@ -183,7 +183,7 @@ class Served:
 
     async def _api_query(self, request: Request) -> Response:
         if request.method == "POST":
-            values = json_object(await _body(request, "application/json"))
+            values = json_object(await body_of(request, "application/json"))
         else:
             values = _values(request)
         wish = wish_of(values)
@@ -195,7 +195,7 @@ class Served:
         return StreamingResponse(_lines(begin, parts), media_type="application/x-ndjson")
 
     async def _api_stop(self, request: Request) -> Response:
-        values = json_object(await _body(request, "application/json"))
+        values = json_object(await body_of(request, "application/json"))
         name = values.get("id")
         if list(values) != ["id"] or not isinstance(name, str):
             raise Unwanted(400, "id is the question's, a text")
@@ -251,10 +251,14 @@ def _values(request: Request) -> dict[str, str]:
     return once(pairs)
 
 
-async def _body(request: Request, media: str) -> bytes:
+async def body_of(request: Request, media: str) -> bytes:
+    """The body of a request, of that kind."""
     if request.headers.get("content-type", "").split(";")[0].strip().lower() != media:
         raise Unwanted(415, f"the request's body is {media}")
-    return await request.body()
+    try:
+        return await request.body()
+    except ClientDisconnect:
+        raise Unwanted(400, "the rest of the request didn't come") from None
 
 
 def json_object(data: bytes) -> dict[str, Any]:

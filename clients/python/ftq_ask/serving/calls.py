@@ -25,7 +25,7 @@ from ..commands import FAULT, answer_all, tell
 from ..lists import NoList
 from ..locating import Located
 from ..trees import Untaken
-from .application import in_turn, json_object
+from .application import body_of, in_turn, json_object
 from .desk import Desk
 from .guard import Unwanted
 from .questions import Question
@@ -112,7 +112,7 @@ class Calls:
 
     async def answer(self, request: Request) -> Response:
         """The answer to a call, as lines of JSON: what is written where, and the status."""
-        body = await request.body()
+        body = await body_of(request, "application/json")
         nonce, _, told = request.headers.get("authorization", "").partition(" ")
         if not hmac.compare_digest(told.encode("utf-8"), proof(self._secret, b"ask", nonce.encode("utf-8"), body).encode("ascii")):
             raise Unwanted(403, "this is for the user's own calls")

@@ -38,7 +38,7 @@ from .watching import Files
 
 USUAL_PORT = 8317
 USUAL_SECONDS = 60.0
-MOST_CONNECTIONS = 100
+MOST_CONNECTIONS = 250
 
 
 def parser() -> argparse.ArgumentParser:

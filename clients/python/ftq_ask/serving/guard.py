@@ -16,8 +16,11 @@ MOST_BODY = 131_072
 MOST_TARGET = 16_384
 """How many bytes the body of a request may have, and its path and query together."""
 
+MOST_REQUESTS = 64
+"""How many requests are answered at once."""
+
 SECONDS_TO_SEND = 30.0
-"""How long a part of an answer waits for whoever reads it."""
+"""How long a part of an answer waits for whoever reads it, and a request for the rest of its body."""
 
 HEADERS = {
     "content-security-policy": "default-src 'none'; script-src 'self'; style-src 'self'; img-src 'self'; connect-src 'self'; form-action 'self'; "
@@ -48,6 +51,7 @@ class Guard:
     def __init__(self, application: Application, port: int) -> None:
         """The application is reached at this port of this machine, and at no other name."""
         self._application = application
+        self._open = 0
         self._hosts = {f"{name}:{port}" for name in ("127.0.0.1", "localhost", "[::1]")}
         if port == 80:
             self._hosts |= {"127.0.0.1", "localhost", "[::1]"}
@@ -67,6 +71,7 @@ class Guard:
                 message["headers"] = [*message.get("headers", []), *((name.encode(), value.encode()) for name, value in HEADERS.items())]
             await asyncio.wait_for(send(message), SECONDS_TO_SEND)
 
+        self._open += 1
         try:
             self._check(scope)
             await self._application(scope, _measured(receive), sent)
@@ -76,10 +81,14 @@ class Guard:
         except asyncio.TimeoutError:
             # Whoever asked doesn't read on; the connection goes with the answer's end.
             return
+        finally:
+            self._open -= 1
 
     def _check(self, scope: Scope) -> None:
         """Raises `Unwanted` for a request that isn't let in."""
         headers = Headers(scope)
+        if self._open > MOST_REQUESTS:
+            raise Unwanted(503, "as many requests are being answered as are let in at once; ask again")
         if len(scope.get("raw_path") or b"") + len(scope.get("query_string") or b"") > MOST_TARGET:
             raise Unwanted(414, f"an address has at most {MOST_TARGET:,} bytes; a longer question is sent by POST")
         host = headers.one("host")
@@ -118,12 +127,16 @@ class Headers:
 
 
 def _measured(receive: Receive) -> Receive:
-    """Raises `Unwanted` where a body is longer than it may be, whatever was said of it before."""
-    size = 0
+    """Raises `Unwanted` where a body is longer than it may be, whatever was said of it before, or doesn't come."""
+    size, whole = 0, False
 
     async def received() -> Message:
-        nonlocal size
-        message = await receive()
+        nonlocal size, whole
+        try:
+            message = await (receive() if whole else asyncio.wait_for(receive(), SECONDS_TO_SEND))
+        except asyncio.TimeoutError:
+            raise Unwanted(408, "the rest of the request didn't come") from None
+        whole = not message.get("more_body", False)
         size += len(message.get("body", b""))
         if size > MOST_BODY:
             raise Unwanted(413, f"a request has at most {MOST_BODY:,} bytes")

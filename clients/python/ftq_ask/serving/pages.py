@@ -28,6 +28,7 @@ FILES = {"page.css": "text/css; charset=utf-8", "page.js": "text/javascript; cha
 def _environment() -> Environment:
     it = Environment(loader=FileSystemLoader(ASSETS), autoescape=True, undefined=StrictUndefined, trim_blocks=True, lstrip_blocks=True)
     it.filters["shown_path"] = shown_path
+    it.filters["beneath"] = lambda path, folder: path.removeprefix(folder.rstrip("/") + "/")
     it.filters["number"] = lambda count: f"{count:,}"
     it.tests["part"] = lambda part, name: type(part).__name__ == name
     it.globals.update(flush=FLUSH, SHORT=SHORT, LONG=LONG)
