@@ -3,6 +3,7 @@
 from __future__ import annotations
 
 import argparse
+import os
 import re
 from collections import Counter
 from pathlib import Path
@@ -63,10 +64,12 @@ class Choice:
                 yield Path(argument.name), argument
                 continue
             some = False
-            for path in sorted(argument.rglob("*")):
-                if path.is_file() and not _leads_inside(path, argument) and self._takes(path, path.relative_to(argument)):
+            for parts, is_link in sorted(_files_in(os.fspath(argument), ())):
+                shown = Path(*parts)
+                path = argument / shown
+                if not (is_link and _leads_inside(path, argument)) and self._takes(path, shown):
                     some = True
-                    yield path.relative_to(argument), path
+                    yield shown, path
             if not some:
                 yield argument, Untaken(argument, None, "no file in this folder begins as an XML document does, or is named by --glob")
 
@@ -132,8 +135,21 @@ def _behind_prolog(text: str) -> str:
     return text[told.end() :] if told else text
 
 
+def _files_in(folder: str, parts: tuple[str, ...]) -> Iterator[tuple[tuple[str, ...], bool]]:
+    """The files in a folder and those in it, each as the parts of its path from there, and whether it is a link."""
+    try:
+        entries = list(os.scandir(folder))
+    except OSError:
+        return
+    for entry in entries:
+        if entry.is_dir(follow_symlinks=False):
+            yield from _files_in(entry.path, (*parts, entry.name))
+        elif entry.is_file():
+            yield (*parts, entry.name), entry.is_symlink()
+
+
 def _leads_inside(path: Path, folder: Path) -> bool:
-    return path.is_symlink() and path.resolve().is_relative_to(folder.resolve())
+    return path.resolve().is_relative_to(folder.resolve())
 
 
 def _listed(endings: Counter[str]) -> str:

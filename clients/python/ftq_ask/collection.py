@@ -75,8 +75,9 @@ class Collection:
                 self.untaken.append(path)
             else:
                 found.append((shown, path))
-        sizes = [path.stat().st_size if path.exists() else 0 for _, path in found]
-        shares = divided(sizes, self.engine.count if isinstance(self.engine, Shares) else 1)
+        count = self.engine.count if isinstance(self.engine, Shares) else 1
+        sizes = [path.stat().st_size if count > 1 and path.exists() else 0 for _, path in found]
+        shares = divided(sizes, count)
         return [Planned(shown, path, self._names.name_for(shown), share, path in named) for (shown, path), share in zip(found, shares)]
 
     def load(self, planned: list[Planned], step: Callable[[Path], None]) -> None:

@@ -26,10 +26,10 @@ LONG_DOCUMENT = "<long>" + " ".join(["xa"] * 900 + ["xb"] * 900 + ["xc"] * 900 +
 class Server:
     """`ask serve`, and what it is asked."""
 
-    def __init__(self, program: Path, *words: object, **variables: str) -> None:
+    def __init__(self, program: Path, *words: object, where: Path | None = None, **variables: str) -> None:
         command = [str(TOP / "tools" / "ask"), "serve", "--program", str(program), "--port", "0", *map(str, words)]
         self.said = tempfile.TemporaryFile("w+")
-        self.process = subprocess.Popen(command, stdout=subprocess.PIPE, stderr=self.said, text=True, env={**os.environ, **variables})
+        self.process = subprocess.Popen(command, stdout=subprocess.PIPE, stderr=self.said, text=True, cwd=where, env={**os.environ, **variables})
         assert self.process.stdout
         self.url = self.process.stdout.readline().strip()
         if not self.url:
@@ -124,9 +124,9 @@ class Answered:
 
 
 @contextlib.contextmanager
-def served(program: Path, *words: object, **variables: str) -> Iterator[Server]:
-    """A server while this lasts."""
-    server = Server(program, *words, **variables)
+def served(program: Path, *words: object, where: Path | None = None, **variables: str) -> Iterator[Server]:
+    """A server while this lasts, started in that folder."""
+    server = Server(program, *words, where=where, **variables)
     try:
         yield server
     finally:

@@ -3,6 +3,8 @@
 from __future__ import annotations
 
 import json
+import re
+import shlex
 from pathlib import Path
 from typing import Any, Iterator
 
@@ -12,6 +14,7 @@ for module in ("lxml", "rich", "starlette", "uvicorn", "jinja2"):
     pytest.importorskip(module)
 jsonschema = pytest.importorskip("jsonschema", reason="python3-jsonschema is not installed")
 
+from conftest import TOP  # noqa: E402
 from ftq_ask.serving.addresses import NAMES  # noqa: E402
 from ftq_ask.serving.answering import MOST_SHOWN, USUAL_LIMIT  # noqa: E402
 from serving import LONG, LONG_DOCUMENT, Server, served  # noqa: E402
@@ -125,3 +128,19 @@ def test_a_form_that_is_otherwise_would_be_noticed(described: dict[str, Any]) ->
     for wrong in ({**good, "more": 1}, {"part": "end", "hints": []}, {**good, "seconds": "1"}, {**good, "part": "End"}):
         with pytest.raises(jsonschema.ValidationError):
             check(described, line, wrong)
+
+
+def test_the_page_shows_what_is_answered(program: Path, described: dict[str, Any]) -> None:
+    page = (TOP / "docs" / "ASKING.md").read_text()
+    ((command, shown),) = re.findall(r"```\n(curl [^\n]*)\n```\n\n```\n(.*?)```\n", page, re.DOTALL)
+    words = [it.partition("=")[::2] for it in shlex.split(command) if re.match(r"\w+=", it)]
+    assert [name for name, _ in words] == ["q", "limit"]
+    with served(program, "docs/library", where=TOP) as it:
+        rows = it.get("/api/query", **dict(words)).lines()
+    wanted = [json.loads(line) for line in shown.splitlines()]
+    for row in (*rows, *wanted):
+        check(described, described["components"]["schemas"]["Line"], row)
+        row.pop("id", None), row.pop("seconds", None)
+    assert rows == wanted
+    listed = set(re.findall(r"/api/[a-z.]+", page)) - {"/api/"}
+    assert listed == set(described["paths"])
