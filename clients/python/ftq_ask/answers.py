@@ -45,8 +45,8 @@ def _row(located: Located, asked: Asked, whole: bool) -> dict[str, Any]:
 
 
 class Output:
-    """The answers to questions on standard output or another console. Where there are many, each is told apart: as text by a line with its question, in CSV by
-    a column, in JSON by an array."""
+    """The answers to questions on standard output or another console. Where there are many, each is told apart: as text by a line with its
+    question, in CSV by a column, in JSON by an array."""
 
     def __init__(self, collection: Collection, form: str, count: bool, whole: bool, many: bool, console: Console | None = None) -> None:
         """In this form, or the number alone, with whole texts or shortened ones; on that console, or on standard output."""

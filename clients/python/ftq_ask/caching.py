@@ -28,6 +28,8 @@ BYTES_AT_ONCE = 16_000_000
 RECENT = 60.0
 """For how many seconds a file beside another one has to have been as it is, so that what was read can't be older than it."""
 
+_TABLE = "CREATE TABLE IF NOT EXISTS readings (key BLOB PRIMARY KEY, told TEXT, content BLOB, digest BLOB, day INTEGER)"
+
 State = tuple[int, int] | None
 """A file's size and time, by which a change shows; None where there is none."""
 
@@ -130,7 +132,7 @@ class Cache:
                     self._database = sqlite3.connect(self._path, timeout=2.0, check_same_thread=False)
                     self._database.execute("PRAGMA journal_mode = WAL")
                     self._database.execute("PRAGMA synchronous = NORMAL")
-                    self._database.execute("CREATE TABLE IF NOT EXISTS readings (key BLOB PRIMARY KEY, told TEXT, content BLOB, digest BLOB, day INTEGER)")
+                    self._database.execute(_TABLE)
                     return
                 except sqlite3.OperationalError:
                     break

@@ -56,8 +56,8 @@ def called(words: list[object], runtime: Path, program: Path | None, cwd: Path, 
     return subprocess.run(command, capture_output=True, cwd=cwd, env=environment, timeout=60)
 
 
-QUESTIONS = [STORM, "collection()//para", "collection()//p[", 'collection()//p[. contains text "storm" and "ship"]', 'collection()//p[. contains text "don\'t"]']
-QUESTIONS += ["collection()//*", 'collection()//p[. contains text "storms"]', 'doc("absent")//p', "# none", ""]
+QUESTIONS = [STORM, "collection()//para", "collection()//p[", 'collection()//p[. contains text "storm" and "ship"]']
+QUESTIONS += ['collection()//p[. contains text "don\'t"]', "collection()//*", 'collection()//p[. contains text "storms"]', 'doc("absent")//p', "# none", ""]
 ALL = [word for it in QUESTIONS for word in ("--query", it)]
 CALLS: list[list[str]] = [["--query", it] for it in QUESTIONS[:4]]
 CALLS += [["--query", "collection()//*", "--format", form] for form in ("json", "csv", "paths")]

@@ -29,7 +29,8 @@ QUESTION = 'collection()//p[. contains text "storm"]'
 def server(program: Path, tmp_path_factory: pytest.TempPathFactory) -> Iterator[Server]:
     top = tmp_path_factory.mktemp("pages")
     long_name = "a-very-long-name-of-an-element-that-no-narrow-page-has-the-room-for-without-breaking-it-somewhere"
-    (top / "a.xml").write_text(f"<r>{''.join(f'<s><p>storm number {it} <script>alert(1)</script></p></s>' for it in range(300))}<{long_name}>x</{long_name}></r>")
+    rows = "".join(f"<s><p>storm number {it} <script>alert(1)</script></p></s>" for it in range(300))
+    (top / "a.xml").write_text(f"<r>{rows}<{long_name}>x</{long_name}></r>")
     (top / "b.xml").write_text(f"<r><p>{'storm' * 60} &lt;img src=x onerror=alert(1)&gt; storm</p><p>a <i>storm</i></p></r>")
     (top / "long.xml").write_text(LONG_DOCUMENT)
     with served(program, top) as it:
@@ -236,8 +237,9 @@ CONTRAST = """(() => {
 def test_pages_fit_and_are_legible(browser: Browser, width: int, scheme: str) -> None:
     browser.size(width, 800)
     browser.scheme(scheme)
-    pages: list[tuple[str, dict[str, Any]]] = [("/", {}), ("/", {"q": QUESTION}), ("/", {"q": "collection()//p["}), ("/document", {"name": "a", "q": QUESTION})]
-    pages += [("/", {"q": "collection()//*", "limit": 1000}), ("/document", {"name": "b", "q": QUESTION}), ("/", {"q": f"collection()//{'x' * 300}"})]
+    pages: list[tuple[str, dict[str, Any]]] = [("/", {}), ("/", {"q": QUESTION}), ("/", {"q": "collection()//p["})]
+    pages += [("/document", {"name": name, "q": QUESTION}) for name in "ab"]
+    pages += [("/", {"q": "collection()//*", "limit": 1000}), ("/", {"q": f"collection()//{'x' * 300}"})]
     for path, values in pages:
         browser.open(path, **values)
         assert browser.script("document.documentElement.scrollWidth <= innerWidth"), (path, values)
@@ -261,7 +263,11 @@ def test_markup_in_documents_and_questions_does_nothing(browser: Browser) -> Non
 
 
 def test_an_inline_script_is_not_run(browser: Browser) -> None:
-    code = "(() => { const it = document.createElement('script'); try { it.text = 'document.title = \"hit\"'; document.head.append(it); } catch {} return document.title; })()"
+    code = """(() => {
+      const it = document.createElement("script");
+      try { it.text = "document.title = 'hit'"; document.head.append(it); } catch {}
+      return document.title;
+    })()"""
     browser.open("/")
     assert browser.script(code) != "hit"
     refused = [it["message"] for it in browser.driver.get_log("browser")]

@@ -37,7 +37,8 @@ def folder(tmp_path: Path) -> Path:
     (top / "007.xml").write_text("<r><p></r>")
     (top / "typed.xml").write_text("<!DOCTYPE r SYSTEM 'r.dtd'><r>&name;</r>")
     (top / "r.dtd").write_text("<!ENTITY name 'Bergen'>")
-    (top / "with.xml").write_text("<r xmlns:i='http://www.w3.org/2001/XInclude'><i:include href='001.xml'/><i:include href='gone.xml'><i:fallback>none</i:fallback></i:include></r>")
+    either = "<i:include href='001.xml'/><i:include href='gone.xml'><i:fallback>none</i:fallback></i:include>"
+    (top / "with.xml").write_text(f"<r xmlns:i='http://www.w3.org/2001/XInclude'>{either}</r>")
     for path in top.iterdir():
         os.utime(path, (1_000_000_000, 1_000_000_000))
     return top

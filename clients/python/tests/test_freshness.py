@@ -40,7 +40,8 @@ def check_same(server: Server, program: Path, folder: Path, runtime: Path) -> by
     ran = []
     for name in (runtime, runtime / "absent"):
         environment = {**os.environ, "XDG_RUNTIME_DIR": str(name), "XDG_CACHE_HOME": str(runtime / "absent")}
-        command = [TOP / "tools" / "ask", folder, "--program", program, "--query", STORM, "--format", "json", "--query", "collection()//p", "--query", "collection()//q"]
+        asked = ["--query", STORM, "--query", "collection()//p", "--query", "collection()//q"]
+        command = [TOP / "tools" / "ask", folder, "--program", program, "--format", "json", *asked]
         ran.append(subprocess.run(command, capture_output=True, env=environment, timeout=60))
     assert server.status()["calls"] == calls + 1
     assert (ran[0].stdout, ran[0].stderr, ran[0].returncode) == (ran[1].stdout, ran[1].stderr, ran[1].returncode)

@@ -21,7 +21,8 @@ from ftq_ask.serving.guard import MOST_REQUESTS  # noqa: E402
 from serving import LONG, LONG_DOCUMENT, Server, served  # noqa: E402
 
 SCRIPT = "<script>alert(1)</script>"
-HOSTILE = [SCRIPT, "\"><img src=x onerror=alert(1)>", "' onmouseover='alert(1)", "</textarea><svg onload=alert(1)>", "{{ 7*7 }}{% raw %}", "javascript:alert(1)", "&lt;b&gt;"]
+HOSTILE = [SCRIPT, "\"><img src=x onerror=alert(1)>", "' onmouseover='alert(1)", "</textarea><svg onload=alert(1)>"]
+HOSTILE += ["{{ 7*7 }}{% raw %}", "javascript:alert(1)", "&lt;b&gt;"]
 
 
 @pytest.fixture(scope="module")
@@ -29,7 +30,8 @@ def folder(tmp_path_factory: pytest.TempPathFactory) -> Path:
     """A folder of documents whose texts, attributes, names and files are what a page mustn't take for markup."""
     top = tmp_path_factory.mktemp("hostile")
     texts = "".join(f"<p t={attribute(it)}>storm {it.replace('&', '&amp;').replace('<', '&lt;')}</p>" for it in HOSTILE)
-    (top / "texts.xml").write_text(f"<r>{texts}<empty a={attribute(SCRIPT)}/><script>storm alert(1)</script><img>storm</img><onload>storm</onload></r>")
+    named = "<script>storm alert(1)</script><img>storm</img><onload>storm</onload>"
+    (top / "texts.xml").write_text(f"<r>{texts}<empty a={attribute(SCRIPT)}/>{named}</r>")
     (top / "<script>alert(2)<").mkdir()
     (top / "<script>alert(2)<" / "script>.xml").write_text("<r><p>storm in a file</p></r>")
     (top / '"><img src=x onerror=alert(3)>.xml').write_text("<r><p>storm in another</p></r>")
@@ -49,9 +51,10 @@ def server(program: Path, folder: Path) -> Iterator[Server]:
         yield it
 
 
-ALLOWED = {"html", "head", "meta", "title", "link", "body", "header", "a", "form", "label", "textarea", "input", "button", "p", "span", "main", "aside"}
-ALLOWED |= {"section", "h1", "h2", "ul", "ol", "li", "code", "mark", "small", "pre", "details", "summary", "nav", "article", "div", "output", "dialog"}
-ALLOWED |= {"table", "tr", "th", "td", "kbd", "tbody"}
+ALLOWED = set(
+    "html head meta title link body header a form label textarea input button p span main aside section h1 h2 ul ol li code mark small pre"
+    " details summary nav article div output dialog table tbody tr th td kbd".split()
+)
 LINKS = ("/?", "/document?", "/page.", "/icon.svg")
 
 
@@ -95,7 +98,8 @@ def test_no_other_value_of_an_address_is_markup(server: Server, text: str) -> No
 
 def test_texts_attributes_names_and_files_are_no_markup(server: Server, folder: Path) -> None:
     page = harmless(server.get("/", q="collection()//*", limit=1000).text)
-    for text in (*HOSTILE, f'@a="{SCRIPT}"', "storm alert(1)", f"{folder}/<script>alert(2)</script>.xml:1", f'{folder}/"><img src=x onerror=alert(3)>.xml:1'):
+    files = [f"{folder}/<script>alert(2)</script>.xml:1", f'{folder}/"><img src=x onerror=alert(3)>.xml:1']
+    for text in (*HOSTILE, f'@a="{SCRIPT}"', "storm alert(1)", *files):
         assert text in shown(page)
     assert {"script", "img", "onload"} <= {it.text_content() for it in page.xpath("//aside//*[@class='name']")}
     assert f"{folder}/faulty <svg onload=alert(4)>.xml:1" in shown(harmless(server.get("/").text))
@@ -115,8 +119,8 @@ def test_lines_of_json_are_no_markup_to_a_browser(server: Server) -> None:
     assert refused.status == 404 and refused.headers["content-type"] == "application/json" and SCRIPT not in refused.text
 
 
-EVERYWHERE = ["/", "/?q=collection()//p", "/?q=%5B", "/document?name=texts", "/page.css", "/page.js", "/icon.svg", "/api/query?q=collection()//p", "/api/status"]
-EVERYWHERE += ["/absent", "/api/absent", "/api/query", "/?limit=x"]
+EVERYWHERE = ["/", "/?q=collection()//p", "/?q=%5B", "/document?name=texts", "/page.css", "/page.js", "/icon.svg", "/absent"]
+EVERYWHERE += ["/api/query?q=collection()//p", "/api/status", "/api/absent", "/api/query", "/?limit=x"]
 
 
 @pytest.mark.parametrize("path", EVERYWHERE)
@@ -132,12 +136,15 @@ def test_every_answer_says_what_a_browser_may_do(server: Server, path: str) -> N
 def test_pages_load_nothing_from_elsewhere(server: Server) -> None:
     for name in ("page.css", "page.js", "icon.svg"):
         text = server.get(f"/{name}").text.replace("http://www.w3.org/2000/svg", "")
-        assert "http:" not in text and "https:" not in text and "//" not in text.replace("// ", "") and "@import" not in text and "url(" not in text
+        assert not any(it in text.replace("// ", "") for it in ("http:", "https:", "//", "@import", "url("))
     script = server.get("/page.js").text
     assert not any(it in script for it in ("innerHTML", "outerHTML", "insertAdjacentHTML", "document.write", "eval(", "Function("))
 
 
-@pytest.mark.parametrize("host", ["evil.example", "evil.example:{port}", "127.0.0.1", "127.0.0.1:1", "localhost.evil:{port}", "127.0.0.1:{port}.evil", "0.0.0.0:{port}", ""])
+HOSTS = ["evil.example", "evil.example:{port}", "127.0.0.1", "127.0.0.1:1", "localhost.evil:{port}", "127.0.0.1:{port}.evil", "0.0.0.0:{port}", ""]
+
+
+@pytest.mark.parametrize("host", HOSTS)
 def test_a_foreign_host_is_refused(server: Server, host: str) -> None:
     for path in ("/", "/api/status", "/page.js"):
         answered = server.get(path, {"Host": host.format(port=server.port)})
@@ -151,7 +158,8 @@ def test_own_hosts_are_let_in(server: Server) -> None:
 
 
 FOREIGN = [{"Sec-Fetch-Site": "cross-site"}, {"Sec-Fetch-Site": "same-site"}, {"Origin": "http://evil.example"}, {"Origin": "null"}]
-FOREIGN += [{"Origin": "http://localhost:{port}"}, {"Origin": "https://127.0.0.1:{port}"}, {"Origin": "null", "Sec-Fetch-Site": "cross-site"}, {"Sec-Fetch-Site": ""}]
+FOREIGN += [{"Origin": "http://localhost:{port}"}, {"Origin": "https://127.0.0.1:{port}"}, {"Sec-Fetch-Site": ""}]
+FOREIGN += [{"Origin": "null", "Sec-Fetch-Site": "cross-site"}]
 
 
 @pytest.mark.parametrize("headers", FOREIGN, ids=str)
@@ -201,7 +209,10 @@ def test_sizes_are_limited(server: Server) -> None:
         assert wire.recv(100).startswith(b"HTTP/1.1 413")
 
 
-@pytest.mark.parametrize("address", ["q=a&q=b", "q=%00", "q=%ff", "q=a%08b", "limit=-1", "limit=1001", "from=0", "from=1e3", "whole=2", "name=x", "q=" + "&a=1" * 30])
+MEANINGLESS = ["q=a&q=b", "q=%00", "q=%ff", "q=a%08b", "limit=-1", "limit=1001", "from=0", "from=1e3", "whole=2", "name=x", "q=" + "&a=1" * 30]
+
+
+@pytest.mark.parametrize("address", MEANINGLESS)
 def test_what_has_no_meaning_is_refused(server: Server, address: str) -> None:
     assert server.get(f"/?{address}").status == 400
     answered = server.get(f"/api/query?{address}")
@@ -213,7 +224,8 @@ def test_objects_of_another_form_are_refused(server: Server, body: object) -> No
     assert server.post("/api/query", body).status == 400
 
 
-PATHS = ["/etc/passwd", "/../../etc/passwd", "/page.css/../../command.py", "/%2e%2e/%2e%2e/etc/passwd", "/page.css%00.js", "/assets/page.css", "//etc/passwd", "/..%5c..%5cetc"]
+PATHS = ["/etc/passwd", "/../../etc/passwd", "/page.css/../../command.py", "/%2e%2e/%2e%2e/etc/passwd", "/page.css%00.js"]
+PATHS += ["/assets/page.css", "//etc/passwd", "/..%5c..%5cetc"]
 
 
 @pytest.mark.parametrize("path", PATHS)

@@ -118,9 +118,9 @@ class Freshness:
 
     def _change(self, old: Collection, wanted: list[Planned], rows: dict[Path, Read], contents: dict[Path, Reading]) -> dict[Path, Untaken]:
         """Drops and loads what is another one than the programs have; what they refuse, by its file."""
-        names = {it.name: it for it in wanted}
         held = self._desk.held
-        gone = [name for name, (path, digest) in held.items() if name not in names or (names[name].path, _digest(rows[names[name].path])) != (path, digest)]
+        now = {it.name: (it.path, _digest(rows[it.path])) for it in wanted}
+        gone = [name for name, as_it_was in held.items() if now.get(name) != as_it_was]
         coming = [it for it in wanted if it.name in gone or it.name not in held]
         self._read(old, [it for it in coming if it.path not in contents], contents)
         documents = [(it, contents[it.path]) for it in coming if it.path in contents]
