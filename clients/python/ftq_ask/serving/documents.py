@@ -30,6 +30,14 @@ class Edge:
     number: int = 0
 
 
+@dataclass(frozen=True)
+class Text:
+    """A text, and whether it stands in an element that was found."""
+
+    text: str
+    inside: bool
+
+
 @dataclass
 class Block:
     """A part of a document that is shown by itself: an element's own text, or, where it holds elements alone, its name."""
@@ -42,7 +50,10 @@ class Block:
     """The numbers of the elements that were found and begin with this block."""
     inside: bool = False
     """Whether the block stands in an element that was found."""
+    texts: list[Text | Edge] = field(default_factory=list)
+    """What stands in it, before words are marked."""
     parts: list[Piece | Edge] = field(default_factory=list)
+    """The same with marks, where it is shown."""
 
 
 class Sheets:
@@ -70,8 +81,17 @@ class Sheets:
         return max(1, -(-len(self.blocks) // SHEET))
 
     def sheet(self, number: int) -> list[Block]:
-        """The blocks of a sheet, which are counted from 1."""
-        return self.blocks[(number - 1) * SHEET : number * SHEET]
+        """The blocks of a sheet, which are counted from 1, with their marks."""
+        blocks = self.blocks[(number - 1) * SHEET : number * SHEET]
+        for block in blocks:
+            block.parts = [part for it in block.texts for part in self._parts_of(it)]
+        return blocks
+
+    def _parts_of(self, it: Text | Edge) -> Iterator[Piece | Edge]:
+        if isinstance(it, Edge):
+            yield it
+        else:
+            yield from marked(it.text, self._asked if it.inside else None)
 
     def sheet_of(self, hit: int) -> int:
         """The sheet on which an element that was found begins."""
@@ -115,17 +135,18 @@ class Sheets:
             if number is not None:
                 self._open += 1
                 self.homes[number] = len(self.blocks) - 1
-                block.parts.append(Edge(number))
+                block.texts.append(Edge(number))
             first = block
             block = self._inline(child, block, depth)
             if number is not None:
                 self._open -= 1
-                first.parts.append(Edge())
+                first.texts.append(Edge())
             self._text(child.tail, block)
         return block
 
     def _text(self, text: str | None, block: Block) -> None:
-        block.parts += marked(text or "", self._asked if self._open else None)
+        if text:
+            block.texts.append(Text(text, self._open > 0))
 
 
 def marked(text: str, asked: Asked | None) -> Iterator[Piece]:

@@ -60,7 +60,7 @@ class Freshness:
                 changed = {it for it in looked.keys() | self._looked.keys() if looked.get(it) != self._looked.get(it)}
                 self._take_in(collection, changed | {os.path.realpath(it) for it in changed})
                 self._looked, self._failed = looked, False
-            except ClientError as error:
+            except (ClientError, OSError) as error:
                 LOG.warning("what has changed couldn't be taken in: %s", error)
 
     def close(self) -> None:
