@@ -59,7 +59,7 @@ def test_a_call_that_is_cancelled_or_late_leaves_a_session_that_goes_on(program:
 
 
 def test_it_has_all_calls_of_a_session() -> None:
-    own = {"interrupt", "give_up_after", "pid"}
+    own = {"interrupt", "is_interrupted", "give_up_after", "pid"}
     calls = {name for name in vars(Session) if not name.startswith("_")} - own
     assert calls == {name for name, it in vars(AsyncSession).items() if inspect.iscoroutinefunction(it) and not name.startswith("_")}
     for name in calls:
