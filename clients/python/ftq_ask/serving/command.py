@@ -82,8 +82,8 @@ def serve(arguments: list[str]) -> int:
         load(collection, options, errors)
         tell(collection, errors)
         answers.say(errors, loaded(collection, start))
-    except (ClientError, NoList, OSError, ValueError) as error:
-        answers.say(errors, f"ask: {error}")
+    except (ClientError, NoList, OSError, ValueError, KeyboardInterrupt) as error:
+        answers.say(errors, f"ask: {str(error) or 'interrupted'}")
         if collection is not None:
             collection.engine.close()
         return FAULT
@@ -145,5 +145,8 @@ def run(desk: Desk, listening: socket.socket, further: dict[str, Any]) -> None:
     print(f"http://127.0.0.1:{port}/", flush=True)
     try:
         server.run(sockets=[listening])
+    except KeyboardInterrupt:
+        # It came before the server was there to take it.
+        pass
     finally:
         desk.close()
