@@ -2,6 +2,7 @@
 
 from __future__ import annotations
 
+import os
 import subprocess
 import sys
 from pathlib import Path
@@ -30,6 +31,13 @@ FILES = {
     "more/empty.xml": "",
     "more/malformed.xml": "<book>\n<p>\n</book>",
 }
+
+
+@pytest.fixture(scope="session", autouse=True)
+def own_folders(tmp_path_factory: pytest.TempPathFactory) -> None:
+    """What the tools keep, and what they note of what is running, stands apart from the user's own."""
+    for name in ("XDG_CACHE_HOME", "XDG_RUNTIME_DIR"):
+        os.environ[name] = str(tmp_path_factory.mktemp("own"))
 
 
 @pytest.fixture(scope="session")

@@ -91,8 +91,14 @@ def serve(arguments: list[str]) -> int:
     desk = Desk(collection, collection.engine, ", ".join(map(str, options.paths)), options.timeout)
     freshness = Freshness(desk, files, looked, options.paths)
     desk.freshen = freshness.freshen
-    with listening, closing(freshness), beside(desk, program, options, listening.getsockname()[1]) as further:
-        run(desk, listening, further)
+    try:
+        with listening, closing(freshness), beside(desk, program, options, listening.getsockname()[1]) as further:
+            run(desk, listening, further)
+    except KeyboardInterrupt:
+        # It came before the server was there to take it.
+        pass
+    finally:
+        desk.close()
     return 0
 
 
@@ -143,10 +149,4 @@ def run(desk: Desk, listening: socket.socket, further: dict[str, Any]) -> None:
     server.desk = desk
     listening.listen()
     print(f"http://127.0.0.1:{port}/", flush=True)
-    try:
-        server.run(sockets=[listening])
-    except KeyboardInterrupt:
-        # It came before the server was there to take it.
-        pass
-    finally:
-        desk.close()
+    server.run(sockets=[listening])
