@@ -75,8 +75,8 @@ def _engine(options: argparse.Namespace) -> Any:
 
 
 def reader_of(options: argparse.Namespace) -> Reader:
-    """What reads the files, as the words of a call say."""
-    return Reader(rules_of(options), None if options.no_cache else Cache(cache_file()))
+    """What reads the files, as the words of a call say. A scheduler's client has threads, beside which no processes are begun."""
+    return Reader(rules_of(options), None if options.no_cache else Cache(cache_file()), 0 if options.scheduler else None)
 
 
 def load(collection: Collection, options: argparse.Namespace, errors: Console) -> None:

@@ -44,6 +44,10 @@ class Reader:
         self._processes = min(MOST_PROCESSES, len(os.sched_getaffinity(0))) if processes is None else processes
         self._pool: ProcessPoolExecutor | None = None
 
+    def stay_alone(self) -> None:
+        """Reads in this process alone from now on: others can't be begun once it has threads."""
+        self._processes = 0
+
     def __enter__(self) -> "Reader":
         return self
 

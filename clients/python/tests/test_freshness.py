@@ -104,6 +104,17 @@ def test_many_changes_one_after_the_other(server: Server, program: Path, folder:
     assert [it["document"] for it in server.lines("collection()/r") if it["part"] == "element"] == ["a", "b", "c", "more.book", "more.typed"]
 
 
+def test_many_changes_at_once(server: Server, folder: Path) -> None:
+    for number in range(60):
+        (folder / f"new{number:02}.xml").write_text(f"<r><p>storm {'and more ' * 8_000}{number}</p></r>")
+    rows = server.lines('collection()/r[. contains text "and more"]', limit=100)
+    assert [it["document"] for it in rows if it["part"] == "element"] == [f"new{number:02}" for number in range(60)]
+    assert len(server.children()) == 2
+    for number in range(60):
+        (folder / f"new{number:02}.xml").unlink()
+    assert server.lines('collection()/r[. contains text "and more"]')[1]["count"] == 0
+
+
 def test_changes_are_taken_in_before_they_are_asked_for(server: Server, folder: Path) -> None:
     if not Watch().tells:
         pytest.skip("this system doesn't tell of changes")

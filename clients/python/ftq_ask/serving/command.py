@@ -47,6 +47,7 @@ def parser() -> argparse.ArgumentParser:
     add_collection(it)
     it.add_argument("--port", type=number, default=USUAL_PORT, metavar="N", help=f"the port, {USUAL_PORT} otherwise; 0 takes any that is free")
     it.add_argument("--programs", type=number, default=2, metavar="N", help="how many programs hold the collection, 2 otherwise")
+    it.set_defaults(scheduler=None)
     it.add_argument("--timeout", type=seconds, default=USUAL_SECONDS, metavar="SECONDS", help="how long a question may take, 60 otherwise")
     return it
 
@@ -80,6 +81,7 @@ def serve(arguments: list[str]) -> int:
         files = Files([str(it) for it in options.paths])
         looked = files.look(time.time_ns(), set())
         load(collection, options, errors)
+        collection.reader.stay_alone()
         tell(collection, errors)
         answers.say(errors, loaded(collection, start))
     except (ClientError, NoList, OSError, ValueError, KeyboardInterrupt) as error:

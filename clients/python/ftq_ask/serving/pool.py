@@ -30,7 +30,9 @@ class Member:
         self.behind: list[Change] = []
 
     def catch_up(self) -> None:
-        """Does what this engine is behind with. What one of them refuses the first one refused too."""
+        """Does what this engine is behind with, however long it takes. What one of them refuses the first one refused too."""
+        if self.behind:
+            self.engine.give_up_after(None)
         while self.behind:
             try:
                 self.behind[0](self.engine)
