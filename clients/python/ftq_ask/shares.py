@@ -224,18 +224,6 @@ class Shares:
         other._homes = dict(self._homes)
         return other
 
-    def interrupt(self) -> None:
-        """Ends the programs that are sessions of this machine, from another thread; they are started again when they are asked next."""
-        for engine in self._engines:
-            if isinstance(engine, Session):
-                engine.interrupt()
-
-    def twin(self) -> "Shares":
-        """The same shares anew, each over an engine that is made like this one's."""
-        other = Shares([it.twin() for it in self._engines])
-        other._homes = dict(self._homes)
-        return other
-
     def close(self) -> int:
         """Ends all programs; the greatest of their statuses."""
         closing = [lane.submit(self._close, share) for share, lane in enumerate(self._lanes)]
