@@ -17,8 +17,8 @@ from urllib.parse import urlencode
 
 from conftest import TOP
 
-LONG = 'collection()/long[. contains text "xa" ftand "xb" ftand "xc" ftand "xd" distance exactly 3 words]'
-"""A question that takes minutes where a document has many of these words and they never stand so."""
+LONG = 'collection()/long[. contains text "xa" ftand "xb" ftand "xc" ftand "xd" different sentence]'
+"""A question that takes minutes where a document has many of these words, all in one sentence."""
 
 LONG_DOCUMENT = "<long>" + " ".join(["xa"] * 900 + ["xb"] * 900 + ["xc"] * 900 + ["xd"] * 900) + "</long>"
 
