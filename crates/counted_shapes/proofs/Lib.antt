@@ -1,1 +1,3 @@
 pub mod FieldLaws
+pub mod FormLemmas
+pub mod HitLemmas
