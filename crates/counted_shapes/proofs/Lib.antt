@@ -1,3 +1,4 @@
 pub mod FieldLaws
 pub mod FormLemmas
 pub mod HitLemmas
+pub mod WindowLemmas

@@ -2,6 +2,8 @@
 
 mod field;
 mod form;
+mod window;
 
 pub use field::field_law;
 pub use form::{form_law, needs_hit_law};
+pub use window::window_law;
