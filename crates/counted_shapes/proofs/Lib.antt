@@ -2,3 +2,5 @@ pub mod FieldLaws
 pub mod FormLemmas
 pub mod HitLemmas
 pub mod WindowLemmas
+pub mod ScopeLemmas
+pub mod FitsLemmas

@@ -2,7 +2,7 @@
 use Rattle.std.proofs.Common.{◌≡◌, refl, ap, sym, ◌∙◌, ℕ, zero, suc, ◌+◌, ◌-◌, List, [], ◌∷◌, Bool, true, false, not, ◌&&◌, ◌||◌, length, arith, zero-add}
 use Rattle.std.specs.Prelude.{◌<◌, ◌↔◌, map, filter, cond, min, max, nat_le, nat_lt, pos, ◌+ℤ◌, ◌-ℤ◌, int_le, Option, Some, None, option_to_list}
 use Rattle.std.specs.List.{list_any, list_all, range_with_len}
-use Rattle.std.proofs.lemmas.Bool.{and_parts}
+use Rattle.std.proofs.lemmas.Bool.{and_parts, or_right}
 use Rattle.std.proofs.lemmas.Bool.Decides.{nat_tests}
 use Rattle.std.proofs.lemmas.Int.{ints}
 use Rattle.std.proofs.Math.Bool.{and_assoc, and-true}
@@ -50,11 +50,7 @@ any_of_range p from (suc count) zero less h = let same : from + 0 ≡ from = ome
 any_of_range p from (suc count) (suc n) less h =
     let same : from + suc n ≡ (from + 1) + n = omega arith in
     let fewer : n < count = omega (arith, less) in
-    or_second (p from) (list_any p (range_with_len (from + 1) count)) (any_of_range p (from + 1) count n fewer (sym (ap p same) ∙ h))
-  where
-    or_second : (a b : Bool) → b ≡ true → (a || b) ≡ true
-    or_second true b h = refl
-    or_second false b h = h
+    or_right (p from) (list_any p (range_with_len (from + 1) count)) (any_of_range p (from + 1) count n fewer (sym (ap p same) ∙ h))
 
 one_of_range : (p : ℕ → Bool) (from count : ℕ) → list_any p (range_with_len from count) ≡ true → (n : ℕ) × (n < count) × (p (from + n) ≡ true)
 one_of_range p from zero h = cc

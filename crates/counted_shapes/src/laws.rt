@@ -1,9 +1,11 @@
 //! What holds in one field, and of windows and scopes by it.
 
 mod field;
+mod fits;
 mod form;
 mod window;
 
 pub use field::field_law;
+pub use fits::fits_law;
 pub use form::{form_law, needs_hit_law};
-pub use window::window_law;
+pub use window::{scope_law, window_law};
