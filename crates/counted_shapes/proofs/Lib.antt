@@ -4,3 +4,4 @@ pub mod HitLemmas
 pub mod WindowLemmas
 pub mod ScopeLemmas
 pub mod FitsLemmas
+pub mod ItemLemmas

@@ -1,10 +1,12 @@
 //! What holds in one field, and of windows and scopes by it.
 
+mod counted;
 mod field;
 mod fits;
 mod form;
 mod window;
 
+pub use counted::items_law;
 pub use field::field_law;
 pub use fits::fits_law;
 pub use form::{form_law, needs_hit_law};
