@@ -20,7 +20,7 @@ crosswise : (a b c d : Bool) → ((a && b) && (c && d)) ≡ ((a && c) && (b && d
 crosswise true b c d = and_swap b c d
 crosswise false b c d = refl
 
-pub some_fails : {X : Type 0} (test : X → Bool) (xs : List X) → list_any (λ x. not (test x)) xs ≡ not (list_all test xs)
+some_fails : {X : Type 0} (test : X → Bool) (xs : List X) → list_any (λ x. not (test x)) xs ≡ not (list_all test xs)
 some_fails test [] = refl
 some_fails test (x ∷ rest) = ap (λ b. not (test x) || b) (some_fails test rest) ∙ not_both (test x) (list_all test rest)
   where
@@ -28,13 +28,26 @@ some_fails test (x ∷ rest) = ap (λ b. not (test x) || b) (some_fails test res
     not_both true b = refl
     not_both false b = refl
 
-pub some_passes : {X : Type 0} (test : X → Bool) (xs : List X) → list_any test xs ≡ not (list_all (λ x. not (test x)) xs)
+some_passes : {X : Type 0} (test : X → Bool) (xs : List X) → list_any test xs ≡ not (list_all (λ x. not (test x)) xs)
 some_passes test [] = refl
 some_passes test (x ∷ rest) = ap (λ b. test x || b) (some_passes test rest) ∙ not_neither (test x) (list_all (λ y. not (test y)) rest)
   where
     not_neither : (a b : Bool) → (a || not b) ≡ not (not a && b)
     not_neither true b = refl
     not_neither false b = refl
+
+-- some element passes where those that do are more than none
+pub some_count : {X : Type 0} (test : X → Bool) (xs : List X) → list_any test xs ≡ nat_lt 0 (length (filter test xs))
+some_count test [] = refl
+some_count {X = X} test (x ∷ rest) = one (test x) (some_count test rest)
+  where
+    some_length : (n : ℕ) → true ≡ nat_lt 0 (suc n)
+    some_length n = grind (arith, nat_tests)
+
+    one : (b : Bool) → list_any test rest ≡ nat_lt 0 (length (filter test rest))
+        → (b || list_any test rest) ≡ nat_lt 0 (length (cond b (x ∷ filter test rest) (filter test rest)))
+    one true e = some_length (length (filter test rest))
+    one false e = e
 
 -- one of two parts fails
 either_fails : (a b c : Bool) → ((not a && c) || (not b && c)) ≡ (not (a && b) && c)

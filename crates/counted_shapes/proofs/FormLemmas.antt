@@ -20,23 +20,11 @@ use Rattle.all_matches.proofs.Numbering.{all_matches-shifted}
 use Rattle.all_matches.proofs.Shifted.{all-shifted}
 use Rattle.counted_shapes.specs.Fields.{made_in}
 use Rattle.counted_shapes.specs.Held.{holds_in, some_holds_in, each_holds_in, is_boolean, are_boolean}
-use Rattle.counted_shapes.proofs.FieldLaws.{made, made_count, made-not, made-times, made-or_of, made-and_of}
+use Rattle.counted_shapes.proofs.FieldLaws.{some_count, made, made_count, made-not, made-times, made-or_of, made-and_of}
 
 module _ (field : Hit → Bool) where
-  some_made : (ms : List Match) → made field ms ≡ nat_lt 0 (made_count field ms)
-  some_made [] = refl
-  some_made (m ∷ rest) = one (made_in field m) (some_made rest)
-    where
-      some_length : (n : ℕ) → true ≡ nat_lt 0 (suc n)
-      some_length n = grind (arith, nat_tests)
-
-      one : (b : Bool) → made field rest ≡ nat_lt 0 (made_count field rest)
-          → (b || made field rest) ≡ nat_lt 0 (length (cond b (m ∷ filter (made_in field) rest) (filter (made_in field) rest)))
-      one true e = some_length (made_count field rest)
-      one false e = e
-
   enough_made : (times : Option Range) (ms : List Match) → made field (occurring times ms) ≡ enough times (made_count field ms)
-  enough_made None ms = some_made ms
+  enough_made None ms = some_count (made_in field) ms
   enough_made (Some range) ms = made-times field range ms
 
   module _ (same : (by : ℕ) (hit : Hit) → field (shifted_hit by hit) ≡ field hit) where

@@ -5,3 +5,4 @@ pub mod WindowLemmas
 pub mod ScopeLemmas
 pub mod FitsLemmas
 pub mod ItemLemmas
+pub mod CountedLemmas

@@ -6,7 +6,7 @@ mod fits;
 mod form;
 mod window;
 
-pub use counted::items_law;
+pub use counted::{counted_law, items_law};
 pub use field::field_law;
 pub use fits::fits_law;
 pub use form::{form_law, needs_hit_law};
