@@ -1,6 +1,6 @@
 -- Some window has enough of each item exactly where one does that ends at an event, some sentence or paragraph where one does in which a hit begins.
-use Rattle.std.proofs.Common.{◌≡◌, refl, ap, sym, ◌∙◌, ℕ, zero, suc, ◌+◌, List, [], ◌∷◌, ◌++◌, Bool, true, false, ◌&&◌, ◌||◌, ◌⊎◌, inl, inr, length, arith}
-use Rattle.std.specs.Prelude.{◌↔◌, ◌==◌, map, filter, flat_map, cond, nat_le, nat_lt}
+use Rattle.std.proofs.Common.{◌≡◌, refl, ap, sym, ◌∙◌, ℕ, zero, suc, ◌+◌, List, [], ◌∷◌, Bool, true, false, ◌&&◌, ◌||◌, ◌⊎◌, inl, inr, length, arith}
+use Rattle.std.specs.Prelude.{◌↔◌, ◌==◌, map, filter, cond, nat_le, nat_lt}
 use Rattle.std.specs.List.{list_any, list_all}
 use Rattle.std.proofs.lemmas.Bool.{and_parts, or_cases, or_left, or_right, or_parts, eqb-true}
 use Rattle.std.proofs.lemmas.Bool.Decides.{nat_tests}
@@ -19,7 +19,7 @@ use Rattle.all_matches.specs.Positions.{start_in, end_in}
 use Rattle.all_matches.specs.Variants.{Lexicon}
 use Rattle.all_matches.proofs.ListTests.{list_any-map, list_any-flat_map}
 use Rattle.counted_shapes.specs.Fields.{in_window, in_unit}
-use Rattle.counted_shapes.specs.Held.{holds_in, needs_hit, HoldsInWindow, HoldsInUnit}
+use Rattle.counted_shapes.specs.Held.{needs_hit, HoldsInWindow, HoldsInUnit}
 use Rattle.counted_shapes.specs.Shapes.{Counted, is_at_most, has_enough, is_shape, items_of, all_hits, events, fit_in_window, fit_in_unit}
 use Rattle.counted_shapes.proofs.FieldLaws.{some_count}
 use Rattle.counted_shapes.proofs.FitsLemmas.{fits-window, fits-sentence, fits-paragraph}
@@ -130,15 +130,30 @@ unit_at_start kind items one_asks number h =
     (λ hit inside. (and_parts (start_in kind hit == number) (end_in kind hit == number) inside).0)
     (some_hit (in_unit kind number) items one_asks h))
 
+-- some window, some sentence or paragraph has enough of each item
+pub some-window : (size : ℕ) (kind : TextUnit) (items : List Counted) → list_any (λ item. nat_lt 0 item.least) items ≡ true
+    → (fit_in_window size kind items ≡ true) ↔ ((last : ℕ) × (list_all (has_enough (in_window size kind last)) items ≡ true))
+some-window size kind items one_asks = (
+  one_of_list (λ last. list_all (has_enough (in_window size kind last)) items) (events size kind (all_hits items)),
+  λ there. window_at_event size kind items one_asks there.0 there.1,
+)
+
+pub some-unit : (kind : TextUnit) (items : List Counted) → list_any (λ item. nat_lt 0 item.least) items ≡ true
+    → (fit_in_unit kind items ≡ true) ↔ ((number : ℕ) × (list_all (has_enough (in_unit kind number)) items ≡ true))
+some-unit kind items one_asks = (
+  one_of_list (λ number. list_all (has_enough (in_unit kind number)) items) (map (start_in kind) (all_hits items)),
+  λ there. unit_at_start kind items one_asks there.0 there.1,
+)
+
 -- ---- counted shapes
 
 pub counted-window : (lexicon : Lexicon) (options : Options) (size : ℕ) (kind : TextUnit) (form : Form) (tokens : List Token) → is_shape form ≡ true → needs_hit form ≡ true
     → sat_under lexicon options (filtered form (F.Window size kind)) tokens ≡ fit_in_window size kind (items_of lexicon options tokens form)
 counted-window lexicon options size kind form tokens shape needs =
     same_tests (sat_under lexicon options (filtered form (F.Window size kind)) tokens) (fit_in_window size kind items)
-    (λ left. let there = whole.0 left in window_at_event size kind items one_asks there.0 (sym (items_hold (in_window size kind there.0) lexicon options tokens form shape) ∙ there.1))
-    (λ fit. let one = one_of_list (λ last. list_all (has_enough (in_window size kind last)) items) (events size kind (all_hits items)) fit in
-    whole.1 (one.0, items_hold (in_window size kind one.0) lexicon options tokens form shape ∙ one.1))
+    (λ left. let there = whole.0 left in
+    (some-window size kind items one_asks).1 (there.0, sym (items_hold (in_window size kind there.0) lexicon options tokens form shape) ∙ there.1))
+    (λ fit. let one = (some-window size kind items one_asks).0 fit in whole.1 (one.0, items_hold (in_window size kind one.0) lexicon options tokens form shape ∙ one.1))
   where
     items : List Counted
     items = items_of lexicon options tokens form
@@ -155,9 +170,9 @@ counted_unit : (lexicon : Lexicon) (options : Options) (kind : TextUnit) (filter
     → sat_under lexicon options (filtered form filter_of) tokens ≡ fit_in_unit kind (items_of lexicon options tokens form)
 counted_unit lexicon options kind filter_of form tokens shape needs whole =
     same_tests (sat_under lexicon options (filtered form filter_of) tokens) (fit_in_unit kind items)
-    (λ left. let there = whole.0 left in unit_at_start kind items one_asks there.0 (sym (items_hold (in_unit kind there.0) lexicon options tokens form shape) ∙ there.1))
-    (λ fit. let one = one_of_list (λ number. list_all (has_enough (in_unit kind number)) items) (map (start_in kind) (all_hits items)) fit in
-    whole.1 (one.0, items_hold (in_unit kind one.0) lexicon options tokens form shape ∙ one.1))
+    (λ left. let there = whole.0 left in
+    (some-unit kind items one_asks).1 (there.0, sym (items_hold (in_unit kind there.0) lexicon options tokens form shape) ∙ there.1))
+    (λ fit. let one = (some-unit kind items one_asks).0 fit in whole.1 (one.0, items_hold (in_unit kind one.0) lexicon options tokens form shape ∙ one.1))
   where
     items : List Counted
     items = items_of lexicon options tokens form

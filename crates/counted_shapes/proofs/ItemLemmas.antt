@@ -1,6 +1,6 @@
 -- A counted shape holds in a field exactly where each of its items has enough there.
 use Rattle.std.proofs.Common.{◌≡◌, refl, ap, sym, ◌∙◌, ℕ, suc, ◌+◌, List, [], ◌∷◌, ◌++◌, Bool, true, false, not, ◌&&◌, ◌||◌, length, arith, append_assoc}
-use Rattle.std.specs.Prelude.{◌==◌, map, filter, fold, cond, nat_le, nat_lt, Option, Some, None}
+use Rattle.std.specs.Prelude.{map, filter, fold, cond, nat_le, nat_lt, Option, Some, None}
 use Rattle.std.specs.List.{list_any, list_all}
 use Rattle.std.proofs.lemmas.Bool.{and_parts}
 use Rattle.std.proofs.lemmas.Bool.Decides.{nat_tests}
@@ -26,7 +26,7 @@ use Rattle.all_matches.specs.Compositional.{enough}
 use Rattle.all_matches.specs.Meaning.{inside, phrases_by, strings_of, each_phrase, joined_by, value_matches}
 use Rattle.counted_shapes.specs.Fields.{made_in}
 use Rattle.counted_shapes.specs.Held.{count_in, holds_in, each_holds_in, is_boolean, are_boolean, takes_one, needs_one, needs_hit, some_needs_hit}
-use Rattle.counted_shapes.specs.Shapes.{Counted, is_at_most, has_enough, phrase_hits, value_hits, least_times, most_times, is_bare, bare_hits, is_shape, are_shapes, items_of, items_of_each}
+use Rattle.counted_shapes.specs.Shapes.{is_at_most, has_enough, phrase_hits, value_hits, least_times, most_times, is_bare, bare_hits, is_shape, are_shapes, items_of, items_of_each}
 
 -- ---- the Matches of a value are those of its hits
 

@@ -6,3 +6,4 @@ pub mod ScopeLemmas
 pub mod FitsLemmas
 pub mod ItemLemmas
 pub mod CountedLemmas
+pub mod ToldLemmas

@@ -18,3 +18,7 @@ in_window size kind last hit = nat_le (end_in kind hit) last && nat_lt last (sta
 -- the hits in the sentence or the paragraph of a number
 abbrev pub in_unit : TextUnit → ℕ → Hit → Bool
 in_unit kind number hit = (start_in kind hit == number) && (end_in kind hit == number)
+
+-- the numbers of such a window
+abbrev pub is_in_window : ℕ → ℕ → ℕ → Bool
+is_in_window size last number = nat_le number last && nat_lt last (number + size)

@@ -1,4 +1,5 @@
 pub mod Fields
 pub mod Held
 pub mod Shapes
+pub mod Told
 pub mod Examples

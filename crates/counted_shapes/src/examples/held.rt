@@ -49,6 +49,7 @@ pub fn forms_that_need_a_hit()
     ensures a_word { needs_hit word_a ≡ true }
     ensures so_often { needs_hit (a_occurs (R.AtMost 1)) ≡ false }
     ensures all_of_a_value { needs_hit (value M.All None (codes "a" ∷ [])) ≡ false }
+    ensures all_words { needs_hit (value M.AllWords None (codes "a" ∷ [])) ≡ false }
     ensures each_word { needs_hit (value M.AnyWord None (codes "a b" ∷ [])) ≡ true }
     ensures a_phrase { needs_hit (value M.Phrase None (codes "a b" ∷ [])) ≡ true }
     ensures both { needs_hit (two_or word_a word_b) ≡ true }
@@ -59,5 +60,6 @@ pub fn forms_that_need_a_hit()
     ensures with_its_options { needs_hit (with_options word_a no_options) ≡ true }
     ensures under_a_filter { is_boolean (filtered word_a F.Ordered) ≡ false }
     ensures beside_mild_not { is_boolean (two_and word_a (mild_not word_a word_b)) ≡ false }
+    ensures with_options_alone { is_boolean (with_options word_a no_options) ≡ true }
     ensures without_filters { is_boolean (two_and word_a (not_of (two_or word_b (quoted (codes "x"))))) ≡ true }
 {}
