@@ -1,15 +1,18 @@
 //! Counts under windows and scopes on small texts: what the selection means, and what fits, by computation. A period ends a sentence.
-#![tactic(auto, unfolding(all_matches::specs::Meaning::sat_under, all_matches::specs::Meaning::all_matches, all_matches::specs::Meaning::phrase_count, crate::specs::Shapes::items_of, crate::specs::Shapes::bare_hits))]
+#![tactic(auto, unfolding(all_matches::specs::Meaning::sat_under, all_matches::specs::Meaning::all_matches, all_matches::specs::Meaning::phrase_count, crate::specs::Held::holds_in, crate::specs::Shapes::items_of, crate::specs::Shapes::bare_hits))]
 
 ghost use Rattle.std.specs.Prelude.{◌≡◌, ◌++◌, ◌∷◌, [], true, false, codes, None, Some};
 ghost use Rattle.ft_base.specs.declared.filter.Filter.TheVariants as F;
 ghost use Rattle.ft_base.specs.declared.range.Range.TheVariants as R;
 ghost use Rattle.ft_base.specs.declared.unit.TextUnit.TheVariants as U;
+ghost use Rattle.ft_base.specs.declared.words.Mode.TheVariants as M;
 ghost use Rattle.ft_base.specs.HitExamples.{phrase, word};
-ghost use Rattle.ft_base.specs.Selection.{filtered};
-ghost use Rattle.all_matches.specs.Examples.{paragraph, plain, quoted, sentence, text, two_and, word_b, word_x};
+ghost use Rattle.ft_base.specs.Selection.{filtered, no_options};
+ghost use Rattle.all_matches.specs.Examples.{paragraph, plain, quoted, sentence, text, two_and, value, word_a, word_b};
 ghost use Rattle.all_matches.specs.Meaning.{sat};
 ghost use Rattle.counted_shapes.specs.Examples.{a_occurs, asked, items};
+ghost use Rattle.counted_shapes.specs.Fields.{in_window};
+ghost use Rattle.counted_shapes.specs.Held.{holds_in};
 ghost use Rattle.counted_shapes.specs.Shapes.{events, fit_in_unit, fit_in_window};
 
 /// A window has enough hits and not too many, whatever stands outside it.
@@ -31,6 +34,25 @@ pub fn counts_in_windows()
     ensures no_number_fits { fit_in_window 3 U.Words (items (a_occurs (R.FromTo 3 2)) (text (codes "a a a"))) ≡ false }
     ensures in_two_paragraphs { sat plain (filtered (a_occurs (R.Exactly 2)) (F.Window 2 U.Paragraphs)) (paragraph 1 (codes "a") ++ paragraph 2 (codes "a")) ≡ true }
     ensures two_paragraphs_fit { fit_in_window 2 U.Paragraphs (items (a_occurs (R.Exactly 2)) (paragraph 1 (codes "a") ++ paragraph 2 (codes "a"))) ≡ true }
+{}
+
+/// Two phrases at one place count twice. A hit that is longer than the window or lies partly outside doesn't count.
+pub fn hits_that_count()
+    ensures two_phrases { sat plain (filtered (value M.Any (Some (R.Exactly 2)) (codes "a" ∷ codes "a" ∷ [])) (F.Window 1 U.Words)) (text (codes "a")) ≡ true }
+    ensures two_fit { fit_in_window 1 U.Words (items (value M.Any (Some (R.Exactly 2)) (codes "a" ∷ codes "a" ∷ [])) (text (codes "a"))) ≡ true }
+    ensures longer { sat plain (filtered (value M.Any (Some (R.Exactly 1)) (codes "x a" ∷ [])) (F.Window 1 U.Words)) (text (codes "x a")) ≡ false }
+    ensures longer_does_not_fit { fit_in_window 1 U.Words (items (value M.Any (Some (R.Exactly 1)) (codes "x a" ∷ [])) (text (codes "x a"))) ≡ false }
+    ensures partly_outside { sat plain (filtered (two_and word_a (value M.Any (Some (R.AtMost 0)) (codes "x a" ∷ []))) (F.Window 1 U.Words))
+        (text (codes "x a")) ≡ true }
+    ensures fits_beside_it { fit_in_window 1 U.Words (items (two_and word_a (value M.Any (Some (R.AtMost 0)) (codes "x a" ∷ []))) (text (codes "x a"))) ≡ true }
+{}
+
+/// Where nothing asks for a hit, a window has nothing to stand round, and a scope needs nothing: so the laws ask for one.
+pub fn counts_that_need_no_hit()
+    ensures no_window { sat plain (filtered (a_occurs (R.AtMost 1)) (F.Window 2 U.Words)) (text (codes "x")) ≡ false }
+    ensures holds_in_one { holds_in (in_window 2 U.Words 1) plain no_options (text (codes "x")) (a_occurs (R.AtMost 1)) ≡ true }
+    ensures a_scope { sat plain (filtered (a_occurs (R.AtMost 1)) F.SameSentence) (text (codes "x")) ≡ true }
+    ensures a_scope_does_not_fit { fit_in_unit U.Sentences (items (a_occurs (R.AtMost 1)) (text (codes "x"))) ≡ false }
 {}
 
 /// All of a count lie in one sentence, one paragraph, and what else lies there counts too.
