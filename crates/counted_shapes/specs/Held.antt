@@ -19,7 +19,7 @@ use Rattle.counted_shapes.specs.Fields.{made_in, in_window, in_unit}
 abbrev pub count_in : (Hit → Bool) → Lexicon → Options → Words → List Token → ℕ
 count_in field lexicon options value tokens = length (filter (made_in field) (value_matches lexicon options 1 value tokens))
 
--- whether a selection holds in a field, as if nothing else were in the text. One with a filter or mild not is asked nothing here
+-- whether a selection without filters and mild not holds in a field, as if nothing else were in the text
 unfoldable mutual
   pub holds_in : (Hit → Bool) → Lexicon → Options → List Token → Form → Bool
   holds_in field lexicon options tokens (words value) = enough value.times (count_in field lexicon (inside value.options options) value tokens)
