@@ -4,6 +4,7 @@ pub mod MarkLemmas
 pub mod NamedLemmas
 pub mod PathLemmas
 pub mod QueryLemmas
+pub mod RefusedLemmas
 pub mod SelectionNumbers
 pub mod SelectionTestLemmas
 pub mod StateLemmas

@@ -1,6 +1,6 @@
-//! What a query selects, said aloud, whatever the judge of a session says.
+//! What a query selects, and that a refused command changes nothing, said aloud, whatever the judge of a session says.
 
-ghost use Rattle.std.specs.Prelude.{◌≡◌, ℕ, Bool, List, map, filter, flat_map, Ok, AllPairs};
+ghost use Rattle.std.specs.Prelude.{◌≡◌, ℕ, Bool, true, List, map, filter, flat_map, Ok, AllPairs};
 ghost use Rattle.element_lines.specs.Lines.{element_line};
 ghost use Rattle.path_meaning.specs.Collection.{Named, documents};
 ghost use Rattle.path_meaning.specs.Elements.{Element, elements};
@@ -8,6 +8,8 @@ ghost use Rattle.path_meaning.specs.Order.{Before};
 ghost use Rattle.path_subset.specs.Answer.{path_read};
 ghost use Rattle.path_subset.specs.Paths.{PathForm};
 ghost use Rattle.plan_runs.specs.Judgement.{Judgement};
+ghost use Rattle.session_text.specs.Replies.{is_refusal};
+ghost use Rattle.session_text.specs.declared.command.Command.{Command};
 ghost use Rattle.session_text.specs.declared.command.Command.TheVariants.{Query};
 ghost use Rattle.session_text.specs.declared.reply.Reply.TheVariants.{Nodes};
 ghost use Rattle.session_state.specs.Paths.{selected_in, IsAnswered};
@@ -28,4 +30,9 @@ pub fn selected_law()
     ensures members { (says : Judgement) (state : State) (p : PathForm) (d : Named)
         → (q : Element → Bool) × (selected_in says state.lists p d.root ≡ filter q (elements d.root)) }
     ensures order { (says : Judgement) (state : State) (p : PathForm) (d : Named) → AllPairs Before (selected_in says state.lists p d.root) }
+{}
+
+/// A command that is refused leaves the state as it is, whatever the judge says.
+pub fn refused_law()
+    ensures { (says : Judgement) (state : State) (command : Command) → is_refusal (step says state command).1 ≡ true → (step says state command).0 ≡ state }
 {}

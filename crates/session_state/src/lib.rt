@@ -6,6 +6,7 @@ mod edit;
 mod editing;
 pub mod examples;
 mod explaining;
+mod holding;
 mod keeping;
 pub mod laws;
 mod lists;

@@ -1,10 +1,11 @@
 //! Marks: the collection as it was when each was set, by their names.
 
-ghost use Rattle.std.specs.Prelude.{◌≡◌, ◌++◌, ◌∷◌, [], bytes_eq, length, IfOk, None, OnErr, OnOk};
+ghost use Rattle.std.specs.Prelude.{◌≡◌, ◌++◌, ◌∷◌, [], bytes_eq, length, true, IfOk, None, OnErr, OnOk};
 ghost use Rattle.std.specs.Map.{lookup};
 ghost use Rattle.std.specs.Option.{option_copied};
 ghost use Rattle.session_state.specs.KeptMarks.{marks_of, versions_of};
 ghost use Rattle.session_state.specs.Marks.{mark_put, mark_taken, AreIndexesOf};
+ghost use Rattle.session_text.specs.Replies.{is_refusal};
 
 use collections::Collection;
 use ft_base::{Line, MAX_MARKS, Memory};
@@ -65,6 +66,7 @@ impl Marks {
     pub(crate) fn put(&mut self, name: &Line, collection: &Collection) -> Result<Reply, Memory>
         ensures answer { IfOk result (λ reply. (marks_of self.new, reply) ≡ mark_put (marks_of self.old) name.now collection.now.documents) }
         ensures err { OnErr result (self.new ≡ self.old) }
+        ensures refused { IfOk result (λ reply. is_refusal reply ≡ true → self.new ≡ self.old) }
     {
         let name = Line::read(self.alloc, name.as_str())?;
         if self.kept.contains_key(&name) {
@@ -101,6 +103,7 @@ impl Marks {
     pub(crate) fn remove(&mut self, name: &Line) -> Result<Reply, Memory>
         ensures answer { IfOk result (λ reply. (marks_of self.new, reply) ≡ mark_taken (marks_of self.old) name.now) }
         ensures err { OnErr result (self.new ≡ self.old) }
+        ensures refused { IfOk result (λ reply. is_refusal reply ≡ true → self.new ≡ self.old) }
     {
         let Some(collection) = self.kept.shift_remove(name) else {
             return no_such_name(self.alloc, name);

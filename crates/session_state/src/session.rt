@@ -1,35 +1,28 @@
 ghost use Rattle.std.specs.Prelude.{◌≡◌, ◌≤◌, ◌+◌, false, None, Some, IfOk, OnErr, true};
-ghost use Rattle.collections.specs.Documents.{dropped, loadable, loaded, tokens_loaded, tokens_named};
 ghost use Rattle.collections.specs.Indexed.{IsIndexOf};
 ghost use Rattle.doc_profile.specs.Readings.{fragment_of};
 ghost use Rattle.session_state.specs.Edits as edits;
 ghost use Rattle.session_state.specs.Edits.{edit_path, touched_path, touched_with};
 ghost use Rattle.session_state.specs.Held.{nothing_held};
 ghost use Rattle.session_state.specs.KeptTexts.{keep_plans};
-ghost use Rattle.session_state.specs.Marks.{mark_named, marked, unmarked, AreIndexesOf};
+ghost use Rattle.session_state.specs.Marks.{mark_named, AreIndexesOf};
 ghost use Rattle.session_state.specs.PathPrices.{asks_cheaply, is_cheap_path, moves_for, price_at, read_price};
 ghost use Rattle.path_subset.specs.Answer.{path_read};
 ghost use Rattle.session_state.specs.ReadyPaths.{IsReadyPath};
-ghost use Rattle.session_state.specs.State.{with_documents};
+ghost use Rattle.session_state.specs.Refused.{changes_marks, is_refused_early, loads_or_drops, refuses_early, with_version};
 ghost use Rattle.session_state.specs.StateView.{prepared_of};
-ghost use Rattle.session_state.specs.Stats as held;
-ghost use Rattle.session_state.specs.Step.{changes_documents, has_path, rows_for, shown as shown_by, shown_at, step, with_lists};
-ghost use Rattle.session_state.specs.Lists.{stems_put, stop_list_put, thesaurus_put};
+ghost use Rattle.session_state.specs.Step.{changes_documents, has_path, rows_for, shown as shown_by, shown_at, step};
 ghost use Rattle.session_state.specs.steps.Chosen.{edit_of};
-ghost use Rattle.thesaurus_file.specs.Lines.{thesaurus_of};
-ghost use Rattle.word_lists.specs.Stems.{stems_of};
-ghost use Rattle.word_lists.specs.StopLists.{stop_list_of};
+ghost use Rattle.session_text.specs.Replies.{is_refusal};
 
 use crate::edit::{Edit, Targets};
 use crate::editing::edit_along;
 use crate::explaining::explain;
 use crate::keeping::keep_accepted;
-use crate::lists::{put_stems, put_stop_list, put_thesaurus};
 use crate::marks::{Marks, no_such_name};
 use crate::paths::{Ready, ReadyPath, answer_path, ready_path};
 use crate::refusing::refuse_block;
 use crate::shown::Shown;
-use crate::stats::counts;
 use collections::Collection;
 use doc_profile::read_fragment;
 use ft_base::{Line, Memory, Steps};
@@ -46,11 +39,11 @@ use std::sync::ledger::Ledger;
 /// satisfy a selection.
 #[derive(Drop)]
 pub struct Session<J: Judge + Drop> {
-    alloc: Global,
-    collection: Collection,
-    prepared: Prepared,
-    marks: Marks,
-    judge: J,
+    pub(crate) alloc: Global,
+    pub(crate) collection: Collection,
+    pub(crate) prepared: Prepared,
+    pub(crate) marks: Marks,
+    pub(crate) judge: J,
 }
 
 impl<J: Judge + Drop> Model for Session<J> {
@@ -96,7 +89,8 @@ impl<J: Judge + Drop> Session<J> {
 
     /// Does what the command says, and answers it; of each `contains text` of a path the judge is asked. A refused command
     /// changes nothing, nor does one for which memory runs out. Whatever the answer, the version that the session holds is
-    /// then the index of its documents, and that of each mark the index of the mark's.
+    /// then the index of its documents, and that of each mark the index of the mark's. That it is the same version after a refusal
+    /// is said of all but commands that load a document or take one out, and edits by which a document would exceed a limit.
     ///
     /// `moves` counts the steps of the cursors by which commands with a path answer `contains text`: where all selections of the path are
     /// cheap, no more than what the tests for which it asks cost. `rows` counts the rows of the index that are put and taken.
@@ -108,6 +102,8 @@ impl<J: Judge + Drop> Session<J> {
     ) -> Result<Reply, Memory>
         ensures answer { IfOk result (λ reply. (self.new.state, reply) ≡ step J.says self.old.state command.now) }
         ensures err { OnErr result (self.new ≡ self.old) }
+        ensures refused { IfOk result (λ reply. is_refusal reply ≡ true → self.new ≡ with_version self.new.version self.old) }
+        ensures refused_early { IfOk result (λ reply. is_refused_early command.now reply ≡ true → self.new ≡ self.old) }
         ensures indexed { IsIndexOf self.new.state.documents self.new.version }
         ensures marked { AreIndexesOf self.new.state.marks self.new.mark_versions }
         ensures moves { moves.old ≤ moves.new }
@@ -134,6 +130,12 @@ impl<J: Judge + Drop> Session<J> {
     ) -> Result<Reply, Memory>
         ensures answer { IfOk result (λ reply. (self.new.state, reply) ≡ step J.says self.old.state command.now) }
         ensures err { OnErr result (self.new ≡ self.old) }
+        ensures version { changes_documents command.now ≡ false → self.new.version ≡ self.old.version }
+        ensures version_refused { changes_documents command.now ≡ true → loads_or_drops command.now ≡ false
+            → IfOk result (λ reply. refuses_early reply ≡ true → self.new.version ≡ self.old.version) }
+        ensures mark_versions { changes_marks command.now ≡ false → self.new.mark_versions ≡ self.old.mark_versions }
+        ensures mark_versions_refused { changes_marks command.now ≡ true
+            → IfOk result (λ reply. is_refusal reply ≡ true → self.new.mark_versions ≡ self.old.mark_versions) }
         ensures moves { moves.old ≤ moves.new }
         ensures moves_most { asks_cheaply self.old.state.lists command.now ≡ true
             → moves.new ≤ moves.old + moves_for J.says self.old command.now }
@@ -170,30 +172,6 @@ impl<J: Judge + Drop> Session<J> {
         }
     }
 
-    /// Loads the block as a document under the name.
-    fn load<L: Ledger>(
-        &mut self,
-        name: &Line,
-        block: &[u8],
-        rows: &mut Steps<L>,
-    ) -> Result<Reply, Memory>
-        ensures answer { IfOk result (λ reply. (self.new.state, reply)
-            ≡ with_documents self.old.state (loaded self.old.state.documents name.now (loadable block.now))) }
-        ensures err { OnErr result (self.new ≡ self.old) }
-        ensures rows { rows.new ≤ rows.old + tokens_loaded self.old.state.documents name.now (loadable block.now) }
-    {
-        self.collection.load(name, block, rows)
-    }
-
-    /// Takes the document of the name out.
-    fn remove<L: Ledger>(&mut self, name: &Line, rows: &mut Steps<L>) -> Result<Reply, Memory>
-        ensures answer { IfOk result (λ reply. (self.new.state, reply) ≡ with_documents self.old.state (dropped self.old.state.documents name.now)) }
-        ensures err { OnErr result (self.new ≡ self.old) }
-        ensures rows { rows.new ≤ rows.old + tokens_named self.old.state.documents name.now }
-    {
-        self.collection.remove(name, rows)
-    }
-
     /// Edits the element that the path selects with the fragment in the block.
     fn edit_with<L: Ledger, M: Ledger>(
         &mut self,
@@ -206,6 +184,8 @@ impl<J: Judge + Drop> Session<J> {
         ensures answer { IfOk result (λ reply. (self.new.state, reply)
             ≡ keep_plans path.now (edits.edit_with J.says self.old.state how path.now (fragment_of block.now))) }
         ensures err { OnErr result (self.new ≡ self.old) }
+        ensures version_refused { IfOk result (λ reply. refuses_early reply ≡ true → self.new.version ≡ self.old.version) }
+        ensures mark_versions { self.new.mark_versions ≡ self.old.mark_versions }
         ensures moves { moves.old ≤ moves.new }
         ensures price { is_cheap_path self.old.state.lists (path_read path.now) ≡ true
             → moves.new ≤ moves.old + read_price J.says self.old (path_read path.now) }
@@ -235,6 +215,8 @@ impl<J: Judge + Drop> Session<J> {
     ) -> Result<Reply, Memory>
         ensures answer { IfOk result (λ reply. (self.new.state, reply) ≡ keep_plans path.now (edits.deleted J.says self.old.state path.now)) }
         ensures err { OnErr result (self.new ≡ self.old) }
+        ensures version_refused { IfOk result (λ reply. refuses_early reply ≡ true → self.new.version ≡ self.old.version) }
+        ensures mark_versions { self.new.mark_versions ≡ self.old.mark_versions }
         ensures moves { moves.old ≤ moves.new }
         ensures price { is_cheap_path self.old.state.lists (path_read path.now) ≡ true
             → moves.new ≤ moves.old + read_price J.says self.old (path_read path.now) }
@@ -262,6 +244,8 @@ impl<J: Judge + Drop> Session<J> {
         ensures answer { IfOk result (λ reply. (self.new.state, reply)
             ≡ keep_plans path.now (edit_path J.says self.old.state edit.now.targets (edit_of edit.now) path.now)) }
         ensures err { OnErr result (self.new ≡ self.old) }
+        ensures version_refused { IfOk result (λ reply. refuses_early reply ≡ true → self.new.version ≡ self.old.version) }
+        ensures mark_versions { self.new.mark_versions ≡ self.old.mark_versions }
         ensures moves { moves.old ≤ moves.new }
         ensures price { is_cheap_path self.old.state.lists (path_read path.now) ≡ true
             → moves.new ≤ moves.old + read_price J.says self.old (path_read path.now) }
@@ -287,6 +271,8 @@ impl<J: Judge + Drop> Session<J> {
         ensures answer { IfOk result (λ reply. (self.new.state, reply)
             ≡ keep_plans path.now (edit_path J.says self.old.state edit.now.targets (edit_of edit.now) path.now)) }
         ensures err { OnErr result (self.new ≡ self.old) }
+        ensures version_refused { IfOk result (λ reply. refuses_early reply ≡ true → self.new.version ≡ self.old.version) }
+        ensures mark_versions { self.new.mark_versions ≡ self.old.mark_versions }
         ensures moves { moves.old ≤ moves.new }
         ensures price { is_cheap_path self.old.state.lists (path_read path.now) ≡ true
             → moves.new ≤ moves.old + read_price J.says self.old (path_read path.now) }
@@ -304,33 +290,6 @@ impl<J: Judge + Drop> Session<J> {
         keep_accepted(&mut self.prepared, ready, edited)
     }
 
-    /// Puts the stop list that the block is under the name.
-    fn put_stops(&mut self, name: &str, block: &[u8]) -> Result<Reply, Memory>
-        ensures answer { IfOk result (λ reply. (self.new.state, reply)
-            ≡ with_lists self.old.state (stop_list_put self.old.state.lists name.now (stop_list_of block.now))) }
-        ensures err { OnErr result (self.new ≡ self.old) }
-    {
-        put_stop_list(self.alloc, &mut self.prepared, name, block)
-    }
-
-    /// Puts the dictionary of stems that the block is in the place of the one that is there.
-    fn put_stems(&mut self, block: &[u8]) -> Result<Reply, Memory>
-        ensures answer { IfOk result (λ reply. (self.new.state, reply)
-            ≡ with_lists self.old.state (stems_put self.old.state.lists (stems_of block.now))) }
-        ensures err { OnErr result (self.new ≡ self.old) }
-    {
-        put_stems(self.alloc, &mut self.prepared, block)
-    }
-
-    /// Puts the thesaurus that the block is under the name.
-    fn put_thesaurus(&mut self, name: &str, block: &[u8]) -> Result<Reply, Memory>
-        ensures answer { IfOk result (λ reply. (self.new.state, reply)
-            ≡ with_lists self.old.state (thesaurus_put self.old.state.lists name.now (thesaurus_of block.now))) }
-        ensures err { OnErr result (self.new ≡ self.old) }
-    {
-        put_thesaurus(self.alloc, &mut self.prepared, name, block)
-    }
-
     /// The reply to a path, of whose elements this is shown.
     fn show<M: Ledger>(
         &mut self,
@@ -340,6 +299,8 @@ impl<J: Judge + Drop> Session<J> {
     ) -> Result<Reply, Memory>
         ensures answer { IfOk result (λ reply. (self.new.state, reply) ≡ shown_by J.says shown self.old.state path.now) }
         ensures err { OnErr result (self.new ≡ self.old) }
+        ensures version { self.new.version ≡ self.old.version }
+        ensures mark_versions { self.new.mark_versions ≡ self.old.mark_versions }
         ensures moves { moves.old ≤ moves.new }
         ensures price { is_cheap_path self.old.state.lists (path_read path.now) ≡ true
             → moves.new ≤ moves.old + read_price J.says self.old (path_read path.now) }
@@ -365,6 +326,8 @@ impl<J: Judge + Drop> Session<J> {
         ensures answer { IfOk result (λ reply. (self.new.state, reply)
             ≡ shown_at J.says self.old.state name.now path.now (mark_named name.now self.old.state.marks)) }
         ensures err { OnErr result (self.new ≡ self.old) }
+        ensures version { self.new.version ≡ self.old.version }
+        ensures mark_versions { self.new.mark_versions ≡ self.old.mark_versions }
         ensures moves { moves.old ≤ moves.new }
         ensures price { is_cheap_path self.old.state.lists (path_read path.now) ≡ true
             → moves.new ≤ moves.old + price_at J.says self.old name.now path.now (mark_named name.now self.old.state.marks) }
@@ -381,28 +344,5 @@ impl<J: Judge + Drop> Session<J> {
             ),
             None => no_such_name(self.alloc, name),
         }
-    }
-
-    /// Keeps the collection as it is under the name.
-    fn mark(&mut self, name: &Line) -> Result<Reply, Memory>
-        ensures answer { IfOk result (λ reply. (self.new.state, reply) ≡ marked self.old.state name.now) }
-        ensures err { OnErr result (self.new ≡ self.old) }
-    {
-        self.marks.put(name, &self.collection)
-    }
-
-    /// Gives the mark of the name up.
-    fn unmark(&mut self, name: &Line) -> Result<Reply, Memory>
-        ensures answer { IfOk result (λ reply. (self.new.state, reply) ≡ unmarked self.old.state name.now) }
-        ensures err { OnErr result (self.new ≡ self.old) }
-    {
-        self.marks.remove(name)
-    }
-
-    /// How much the session holds.
-    fn stats(&self) -> Reply
-        ensures { result ≡ held.counts self.now.state }
-    {
-        Reply::Counts(counts(&self.collection, &self.marks, &self.prepared))
     }
 }
