@@ -1,4 +1,5 @@
-//! Small cases of the definitions, by computation: what commands do, and the prices of paths.
+//! Small cases of the definitions, by computation: what commands do, the prices of paths, and the rows of commands.
 
 pub mod commands;
 pub mod prices;
+pub mod rows;
