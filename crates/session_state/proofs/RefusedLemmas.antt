@@ -1,5 +1,5 @@
 -- A command that is refused leaves what is held as it is.
-use Rattle.std.proofs.Common.{◌≡◌, ◌∙◌, sym, ap, refl, ℕ, Bool, true, false, cond, not, ◌&&◌, ◌++◌, ◌∷◌, List, [], map}
+use Rattle.std.proofs.Common.{◌≡◌, ◌∙◌, sym, ap, refl, ℕ, Bool, true, false, cond, not, ◌&&◌, ◌++◌, ◌∷◌, List, []}
 use Rattle.std.specs.Prelude.{nat_le, length, Option, Some, None, Result, Ok, Err, IfOk}
 use Rattle.collections.specs.Documents.{added, changed_roots, dropped, edited_documents, edited_within, has_name, limit_of, loadable, loaded, or_limited, without, Edit}
 use Rattle.doc_profile.specs.Readings.{fragment_of}
