@@ -20,6 +20,8 @@ mod document_texts;
 #[cfg(test)]
 mod documents;
 #[cfg(test)]
+mod edit_limits;
+#[cfg(test)]
 mod edits;
 #[cfg(test)]
 mod elements;

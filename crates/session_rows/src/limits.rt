@@ -1,5 +1,5 @@
 // Limits: how much a session, a document, a selection and a collection may have.
-use crate::rows::{NEVER, expect_output, is_answered};
+use crate::rows::{NEVER, RepeatedRow, expect_output, expect_repeated, is_answered};
 use call_rows::texts::repeated;
 use ft_session::Status;
 use std::alloc::{AllocError, Global};
@@ -84,16 +84,6 @@ fn a_session_that_is_too_long_is_answered_so_far(rt: HostRuntime) -> Result<(), 
     }
     Ok(())
 }
-
-/// A text with a piece that stands so many times, what is written of it as a session, and how it ends.
-type RepeatedRow = (
-    &'static str,
-    usize,
-    &'static str,
-    &'static str,
-    &'static str,
-    Status,
-);
 
 // A document has 1,000,000 tokens at most.
 const TOKENS: [RepeatedRow; 2] = [
@@ -208,53 +198,9 @@ const REPEATED: [RepeatedRow; 11] = [
     ),
 ];
 
-fn expect_repeated(rt: &impl Abort, alloc: Global, row: RepeatedRow) -> Result<(), Fail> {
-    let (before, count, piece, suffix, output, status) = row;
-    let session = repeated(alloc, before, count, piece, suffix)?;
-    let answered = is_answered(alloc, session.as_bytes(), NEVER, NEVER, &[output], status)?;
-    assert!(rt; answered, "{before} {count}");
-    Ok(())
-}
-
 #[test]
 fn lines_names_and_selections_have_a_longest(rt: HostRuntime) -> Result<(), Fail> {
     for row in &REPEATED {
-        expect_repeated(&rt, rt.alloc(), *row)?;
-    }
-    Ok(())
-}
-
-// The limits hold for what an edit makes, and a refused one leaves all as it was.
-const EDITED: [RepeatedRow; 3] = [
-    (
-        "load x\n<a>",
-        999_999,
-        "<b/>",
-        "</a>\n.\ninsert last collection()/a\n<c/>\n.\nquery collection()//c\n",
-        "ok\n! 13 limit: nodes\n= 0\n",
-        Status::SomeRefused,
-    ),
-    (
-        "load x\n<a>",
-        1_000_000,
-        "x ",
-        "</a>\n.\ninsert last collection()/a\n<b>y</b>\n.\nquery collection()//b\n",
-        "ok\n! 13 limit: tokens\n= 0\n",
-        Status::SomeRefused,
-    ),
-    (
-        "load x\n<a><b/>",
-        999_999,
-        "x ",
-        "</a>\n.\ninsert last collection()/a/b\ny\n.\nquery collection()/a[b contains text \"y\"]\n",
-        "ok\nok\n= 1\ndoc(\"x\")/a[1]\n",
-        Status::Done,
-    ),
-];
-
-#[test]
-fn an_edit_stays_within_the_limits_of_a_document(rt: HostRuntime) -> Result<(), Fail> {
-    for row in &EDITED {
         expect_repeated(&rt, rt.alloc(), *row)?;
     }
     Ok(())

@@ -1,7 +1,7 @@
 // Rows of tables, and how each is tried.
 ghost use Rattle.std.specs.Prelude.{◌<◌, ◌^◌};
 
-use call_rows::texts::joined;
+use call_rows::texts::{joined, repeated};
 use ft_io::{MemoryShelf, MemorySink};
 use ft_session::{Status, run};
 use plan_runs::{Direct, Judge};
@@ -15,6 +15,16 @@ pub(crate) type Row = (&'static str, &'static str, Status);
 
 /// A text, a selection, and whether the text satisfies it.
 pub(crate) type TruthRow = (&'static str, &'static str, bool);
+
+/// A text with a piece that stands so many times, what is written of it as a session, and how it ends.
+pub(crate) type RepeatedRow = (
+    &'static str,
+    usize,
+    &'static str,
+    &'static str,
+    &'static str,
+    Status,
+);
 
 /// The number of a call, or a count of bytes, that is never reached.
 pub(crate) const NEVER: u64 = u64::MAX;
@@ -154,4 +164,17 @@ pub(crate) fn numbered_lines(
         lines.push('\n')?;
     }
     Ok(lines)
+}
+
+/// Runs a session in which a piece stands so many times, and compares what it writes and how it ends.
+pub(crate) fn expect_repeated(
+    rt: &impl Abort,
+    alloc: Global,
+    row: RepeatedRow,
+) -> Result<(), Fail> {
+    let (before, count, piece, suffix, output, status) = row;
+    let session = repeated(alloc, before, count, piece, suffix)?;
+    let answered = is_answered(alloc, session.as_bytes(), NEVER, NEVER, &[output], status)?;
+    assert!(rt; answered, "{before} {count}");
+    Ok(())
 }
