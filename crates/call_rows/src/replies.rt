@@ -1,6 +1,6 @@
 // Replies that no command is given yet, and their texts.
+use command_replies::{Counts, FullOf, LimitOf, Refusal, Reply, print_reply};
 use ft_base::Line;
-use session_text::{Counts, FullOf, LimitOf, Refusal, Reply, print_reply};
 use std::alloc::Global;
 use std::process::Abort;
 use std::test::Fail;

@@ -1,7 +1,7 @@
 //! Texts that rows are made of.
 
+use command_replies::{Refusal, Reply, print_reply};
 use ft_base::{Line, Memory, QueryFault};
-use session_text::{Refusal, Reply, print_reply};
 use std::alloc::{AllocError, Global};
 
 /// The texts, one after the other.

@@ -21,8 +21,8 @@ use Rattle.ordered_tree.specs.RefView.{ref_node}
 use Rattle.ordered_tree.specs.Stored.{Stored}
 use Rattle.path_meaning.specs.Collection.{Named}
 use Rattle.plain_tree.specs.Document.{Node}
-use Rattle.session_text.specs.declared.reply.LimitOf.{LimitOf}
-use Rattle.session_text.specs.declared.reply.LimitOf.TheVariants as limit
+use Rattle.command_replies.specs.declared.reply.LimitOf.{LimitOf}
+use Rattle.command_replies.specs.declared.reply.LimitOf.TheVariants as limit
 use Rattle.tokenizer.specs.Tokens.{tokens}
 use Rattle.collections.specs.Documents.{Edit, changed_roots, edited_documents, edited_root, limit_of, token_total, touched_in}
 use Rattle.collections.specs.Indexed.{FollowsEach}

@@ -1,7 +1,7 @@
 -- What an edit answers: the limit that is exceeded, or the documents after it.
 use Rattle.std.proofs.Common.{◌≡◌, ◌∙◌, sym, ap, ℕ, List, Some, None}
 use Rattle.path_meaning.specs.Collection.{Named}
-use Rattle.session_text.specs.declared.reply.LimitOf.{LimitOf}
+use Rattle.command_replies.specs.declared.reply.LimitOf.{LimitOf}
 use Rattle.collections.specs.Documents.{Edit, changed_roots, edited_documents, edited_within, limit_of, or_limited}
 
 module _ (edit : Edit) (places : List (List (List ℕ))) (documents : List Named) where

@@ -14,12 +14,12 @@ use Rattle.ordered_tree.specs.Stored.{Stored}
 use Rattle.ordered_tree.proofs.BuildingLemmas.{plain-numbered}
 use Rattle.path_meaning.specs.Collection.{Named}
 use Rattle.plain_tree.specs.Document.{Node}
-use Rattle.session_text.specs.declared.reply.FullOf.TheVariants.{Documents}
-use Rattle.session_text.specs.declared.reply.Refusal.{Refusal}
-use Rattle.session_text.specs.declared.reply.Refusal.TheVariants as refusal
-use Rattle.session_text.specs.declared.reply.Refusal.TheVariants.{Full, NameTaken, NoSuchName, TooManyTokens}
-use Rattle.session_text.specs.declared.reply.Reply.{Reply}
-use Rattle.session_text.specs.declared.reply.Reply.TheVariants.{Refused, Done}
+use Rattle.command_replies.specs.declared.reply.FullOf.TheVariants.{Documents}
+use Rattle.command_replies.specs.declared.reply.Refusal.{Refusal}
+use Rattle.command_replies.specs.declared.reply.Refusal.TheVariants as refusal
+use Rattle.command_replies.specs.declared.reply.Refusal.TheVariants.{Full, NameTaken, NoSuchName, TooManyTokens}
+use Rattle.command_replies.specs.declared.reply.Reply.{Reply}
+use Rattle.command_replies.specs.declared.reply.Reply.TheVariants.{Refused, Done}
 use Rattle.tokenizer.specs.Tokens.{tokens}
 use Rattle.doc_profile.specs.Readings.{Faults, document_of}
 use Rattle.collections.specs.Loaded.{LoadedTree, to_document}

@@ -12,13 +12,13 @@ use Rattle.ft_base.specs.Limits.{max_depth, max_documents, max_nodes, max_tokens
 use Rattle.path_meaning.specs.Collection.{Named}
 use Rattle.plain_tree.specs.Document.{Node, Nodes}
 use Rattle.plain_tree.specs.declared.place.How.{How}
-use Rattle.session_text.specs.declared.reply.FullOf.TheVariants as full
-use Rattle.session_text.specs.declared.reply.LimitOf.{LimitOf}
-use Rattle.session_text.specs.declared.reply.LimitOf.TheVariants as limit
-use Rattle.session_text.specs.declared.reply.Refusal.{Refusal}
-use Rattle.session_text.specs.declared.reply.Refusal.TheVariants as refusal
-use Rattle.session_text.specs.declared.reply.Reply.{Reply}
-use Rattle.session_text.specs.declared.reply.Reply.TheVariants.{Done, Refused}
+use Rattle.command_replies.specs.declared.reply.FullOf.TheVariants as full
+use Rattle.command_replies.specs.declared.reply.LimitOf.{LimitOf}
+use Rattle.command_replies.specs.declared.reply.LimitOf.TheVariants as limit
+use Rattle.command_replies.specs.declared.reply.Refusal.{Refusal}
+use Rattle.command_replies.specs.declared.reply.Refusal.TheVariants as refusal
+use Rattle.command_replies.specs.declared.reply.Reply.{Reply}
+use Rattle.command_replies.specs.declared.reply.Reply.TheVariants.{Done, Refused}
 use Rattle.text_forms.specs.Forms.{key_of}
 use Rattle.tokenizer.specs.Tokens.{tokens}
 

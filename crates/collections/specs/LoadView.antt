@@ -2,7 +2,7 @@
 use Rattle.std.specs.Prelude.{Result, Ok, Err}
 use Rattle.ordered_tree.specs.Numbered.{plain}
 use Rattle.plain_tree.specs.Document.{Node}
-use Rattle.session_text.specs.declared.reply.Refusal.{Refusal}
+use Rattle.command_replies.specs.declared.reply.Refusal.{Refusal}
 use Rattle.collections.specs.declared.loading.Outcome.{Outcome}
 use Rattle.collections.specs.declared.loading.Outcome.TheVariants as outcomes
 

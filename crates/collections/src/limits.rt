@@ -9,8 +9,8 @@ ghost use Rattle.collections.specs.Documents.{limit_of};
 ghost use Rattle.collections.specs.steps.Planning.{root_after};
 
 use crate::planning::Planned;
+use command_replies::LimitOf;
 use ft_base::{MAX_DEPTH, MAX_NODES, MAX_TOKENS};
-use session_text::LimitOf;
 
 /// The limit that some of the documents exceed that an edit makes.
 pub(crate) fn exceeded(planned: &[Planned]) -> Option<LimitOf>

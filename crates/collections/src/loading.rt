@@ -4,11 +4,11 @@ ghost use Rattle.collections.specs.Documents.{loadable, with_few_tokens};
 ghost use Rattle.collections.specs.LoadView.{outcome};
 
 use crate::loaded::Loadable;
+use command_replies::Refusal;
 use doc_profile::{DocFault, read_doc};
 use ft_base::Memory;
 use ordered_tree::load_doc;
 use plain_tree::PlainDoc;
-use session_text::Refusal;
 use std::alloc::Global;
 use tokenizer::TokenFault;
 

@@ -9,9 +9,9 @@ use Rattle.path_subset.specs.Answer.{path_read}
 use Rattle.path_subset.specs.Paths.{PathForm}
 use Rattle.plan_runs.specs.Judgement.{Judgement}
 use Rattle.session_text.specs.Commands.{commands}
-use Rattle.session_text.specs.declared.command.Command.{Command}
-use Rattle.session_text.specs.declared.command.Command.TheVariants.{Query}
-use Rattle.session_text.specs.declared.reply.Reply.TheVariants.{Nodes}
+use Rattle.command_replies.specs.declared.command.Command.{Command}
+use Rattle.command_replies.specs.declared.command.Command.TheVariants.{Query}
+use Rattle.command_replies.specs.declared.reply.Reply.TheVariants.{Nodes}
 use Rattle.session_state.specs.Paths.{selected_in, IsAnswered}
 use Rattle.session_state.specs.State.{State, opening}
 use Rattle.session_state.specs.Step.{replies, state_after, step}

@@ -15,7 +15,7 @@ use Rattle.ordered_tree.specs.Numbered.{Numbered, plain, reference}
 use Rattle.path_nodes.specs.References.{element_of, IsElement}
 use Rattle.plain_tree.specs.declared.place.How.{How}
 use Rattle.plain_tree.specs.declared.tree.Tree.{Tree}
-use Rattle.session_text.specs.declared.reply.Refusal.TheVariants as refusal
+use Rattle.command_replies.specs.declared.reply.Refusal.TheVariants as refusal
 use Rattle.tree_edits.specs.Edits.{is_among}
 use Rattle.tree_edits.specs.steps.Acts.{stays}
 use Rattle.ft_base.specs.declared.memory.Memory.{Memory}

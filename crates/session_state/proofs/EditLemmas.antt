@@ -9,8 +9,8 @@ use Rattle.path_meaning.specs.Collection.{Named}
 use Rattle.path_subset.specs.Answer.{path_read}
 use Rattle.path_subset.specs.Paths.{PathForm}
 use Rattle.plan_runs.specs.Judgement.{Judgement}
-use Rattle.session_text.specs.Replies.{is_refusal}
-use Rattle.session_text.specs.declared.reply.Reply.{Reply}
+use Rattle.command_replies.specs.Replies.{is_refusal}
+use Rattle.command_replies.specs.declared.reply.Reply.{Reply}
 use Rattle.session_state.specs.declared.edit.Targets.{Targets}
 use Rattle.session_state.specs.declared.planned.PlannedPath.{PlannedPath}
 use Rattle.session_state.specs.Edits.{edit_path, edit_placed, edit_read, edit_selected, stays_if_refused, target_refusal, touched_path, touched_placed, touched_read}

@@ -3,8 +3,8 @@ use Rattle.std.proofs.Common.{◌≡◌, sym, ap, ◌∙◌, ℕ, List, Ok}
 use Rattle.path_subset.specs.Answer.{path_read}
 use Rattle.path_subset.specs.Paths.{PathForm}
 use Rattle.plan_runs.specs.Judgement.{Judgement}
-use Rattle.session_text.specs.declared.command.Command.TheVariants.{Query}
-use Rattle.session_text.specs.declared.reply.Reply.TheVariants.{Nodes}
+use Rattle.command_replies.specs.declared.command.Command.TheVariants.{Query}
+use Rattle.command_replies.specs.declared.reply.Reply.TheVariants.{Nodes}
 use Rattle.session_state.specs.declared.shown.Shown.TheVariants.{Names}
 use Rattle.session_state.specs.Paths.{answer_read, lines_for, IsAnswered}
 use Rattle.session_state.specs.State.{State}

@@ -14,16 +14,16 @@ use Rattle.plain_tree.specs.Document.{Node, nodes}
 use Rattle.plain_tree.specs.declared.place.How.{How}
 use Rattle.plan_compiler.specs.NamedLists.{NamedLists}
 use Rattle.plan_runs.specs.Judgement.{Judgement}
-use Rattle.session_text.specs.Replies.{is_refusal}
-use Rattle.session_text.specs.declared.command.Command.{Command}
-use Rattle.session_text.specs.declared.command.Command.TheVariants as command
-use Rattle.session_text.specs.declared.reply.FullOf.TheVariants as full
-use Rattle.session_text.specs.declared.reply.LimitOf.{LimitOf}
-use Rattle.session_text.specs.declared.reply.Refusal.{Refusal}
-use Rattle.session_text.specs.declared.reply.Refusal.TheVariants as refusal
-use Rattle.session_text.specs.declared.reply.Reply.{Reply}
-use Rattle.session_text.specs.declared.reply.Reply.TheVariants as reply
-use Rattle.session_text.specs.declared.reply.Reply.TheVariants.{Done, Refused}
+use Rattle.command_replies.specs.Replies.{is_refusal}
+use Rattle.command_replies.specs.declared.command.Command.{Command}
+use Rattle.command_replies.specs.declared.command.Command.TheVariants as command
+use Rattle.command_replies.specs.declared.reply.FullOf.TheVariants as full
+use Rattle.command_replies.specs.declared.reply.LimitOf.{LimitOf}
+use Rattle.command_replies.specs.declared.reply.Refusal.{Refusal}
+use Rattle.command_replies.specs.declared.reply.Refusal.TheVariants as refusal
+use Rattle.command_replies.specs.declared.reply.Reply.{Reply}
+use Rattle.command_replies.specs.declared.reply.Reply.TheVariants as reply
+use Rattle.command_replies.specs.declared.reply.Reply.TheVariants.{Done, Refused}
 use Rattle.session_state.specs.declared.edit.Targets.{Targets}
 use Rattle.session_state.specs.declared.edit.Targets.TheVariants.{One, Any}
 use Rattle.session_state.specs.declared.shown.Shown.TheVariants.{Names, Texts}

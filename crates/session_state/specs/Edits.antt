@@ -15,11 +15,11 @@ use Rattle.path_subset.specs.Paths.{PathForm}
 use Rattle.plain_tree.specs.Document.{Node, nodes, no_nodes}
 use Rattle.plain_tree.specs.declared.place.How.{How}
 use Rattle.plan_runs.specs.Judgement.{Judgement}
-use Rattle.session_text.specs.declared.reply.LimitOf.{LimitOf}
-use Rattle.session_text.specs.declared.reply.Refusal.{Refusal}
-use Rattle.session_text.specs.declared.reply.Refusal.TheVariants as refusal
-use Rattle.session_text.specs.declared.reply.Reply.{Reply}
-use Rattle.session_text.specs.declared.reply.Reply.TheVariants.{Done, Refused}
+use Rattle.command_replies.specs.declared.reply.LimitOf.{LimitOf}
+use Rattle.command_replies.specs.declared.reply.Refusal.{Refusal}
+use Rattle.command_replies.specs.declared.reply.Refusal.TheVariants as refusal
+use Rattle.command_replies.specs.declared.reply.Reply.{Reply}
+use Rattle.command_replies.specs.declared.reply.Reply.TheVariants.{Done, Refused}
 use Rattle.tree_edits.specs.steps.Acts.{stays}
 use Rattle.session_state.specs.declared.edit.Targets.{Targets}
 use Rattle.session_state.specs.declared.edit.Targets.TheVariants.{One, Any}

@@ -6,10 +6,10 @@ use Rattle.collections.specs.Indexed.{IsIndexOf}
 use Rattle.ft_base.specs.Limits.{max_marks}
 use Rattle.index_meaning.specs.Documents.{Numbered}
 use Rattle.path_meaning.specs.Collection.{Named}
-use Rattle.session_text.specs.declared.reply.FullOf.TheVariants as full
-use Rattle.session_text.specs.declared.reply.Refusal.TheVariants as refusal
-use Rattle.session_text.specs.declared.reply.Reply.{Reply}
-use Rattle.session_text.specs.declared.reply.Reply.TheVariants.{Done, Refused}
+use Rattle.command_replies.specs.declared.reply.FullOf.TheVariants as full
+use Rattle.command_replies.specs.declared.reply.Refusal.TheVariants as refusal
+use Rattle.command_replies.specs.declared.reply.Reply.{Reply}
+use Rattle.command_replies.specs.declared.reply.Reply.TheVariants.{Done, Refused}
 use Rattle.session_state.specs.State.{State, Mark}
 
 abbrev pub has_mark : List ℕ → List Mark → Bool

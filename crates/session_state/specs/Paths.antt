@@ -14,11 +14,11 @@ use Rattle.plain_tree.specs.Document.{Node}
 use Rattle.plan_runs.specs.Judgement.{Judgement}
 use Rattle.plan_compiler.specs.Missing.{missing_among, names}
 use Rattle.plan_compiler.specs.NamedLists.{NamedLists}
-use Rattle.session_text.specs.declared.reply.Refusal.{Refusal}
-use Rattle.session_text.specs.declared.reply.Refusal.TheVariants as refusal
-use Rattle.session_text.specs.declared.reply.Reply.{Reply}
-use Rattle.session_text.specs.declared.reply.Reply.TheVariants as reply
-use Rattle.session_text.specs.declared.reply.Reply.TheVariants.{Refused}
+use Rattle.command_replies.specs.declared.reply.Refusal.{Refusal}
+use Rattle.command_replies.specs.declared.reply.Refusal.TheVariants as refusal
+use Rattle.command_replies.specs.declared.reply.Reply.{Reply}
+use Rattle.command_replies.specs.declared.reply.Reply.TheVariants as reply
+use Rattle.command_replies.specs.declared.reply.Reply.TheVariants.{Refused}
 use Rattle.tokenizer.specs.Tokens.{tokens}
 use Rattle.session_state.specs.declared.shown.Shown.{Shown}
 use Rattle.session_state.specs.declared.shown.Shown.TheVariants.{Names, Texts}

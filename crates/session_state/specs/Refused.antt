@@ -1,12 +1,12 @@
 -- What a command leaves that is refused.
 use Rattle.std.specs.Prelude.{Bool, true, false, ◌&&◌, not, List}
 use Rattle.index_meaning.specs.Documents.{Numbered}
-use Rattle.session_text.specs.declared.command.Command.{Command}
-use Rattle.session_text.specs.declared.command.Command.TheVariants as command
-use Rattle.session_text.specs.declared.reply.Refusal.{Refusal}
-use Rattle.session_text.specs.declared.reply.Refusal.TheVariants as refusal
-use Rattle.session_text.specs.declared.reply.Reply.{Reply}
-use Rattle.session_text.specs.declared.reply.Reply.TheVariants as reply
+use Rattle.command_replies.specs.declared.command.Command.{Command}
+use Rattle.command_replies.specs.declared.command.Command.TheVariants as command
+use Rattle.command_replies.specs.declared.reply.Refusal.{Refusal}
+use Rattle.command_replies.specs.declared.reply.Refusal.TheVariants as refusal
+use Rattle.command_replies.specs.declared.reply.Reply.{Reply}
+use Rattle.command_replies.specs.declared.reply.Reply.TheVariants as reply
 use Rattle.session_state.specs.Held.{Held}
 
 -- whether a document would exceed a limit

@@ -5,12 +5,12 @@ use Rattle.doc_profile.specs.Readings.{fragment_of}
 use Rattle.kept_plans.specs.Kept.{emptied}
 use Rattle.plan_runs.specs.Judgement.{Judgement}
 use Rattle.plan_compiler.specs.NamedLists.{NamedLists}
-use Rattle.session_text.specs.Replies.{is_refusal}
-use Rattle.session_text.specs.declared.command.Command.{Command}
-use Rattle.session_text.specs.declared.command.Command.TheVariants as command
-use Rattle.session_text.specs.declared.reply.Refusal.TheVariants as refusal
-use Rattle.session_text.specs.declared.reply.Reply.{Reply}
-use Rattle.session_text.specs.declared.reply.Reply.TheVariants.{Refused}
+use Rattle.command_replies.specs.Replies.{is_refusal}
+use Rattle.command_replies.specs.declared.command.Command.{Command}
+use Rattle.command_replies.specs.declared.command.Command.TheVariants as command
+use Rattle.command_replies.specs.declared.reply.Refusal.TheVariants as refusal
+use Rattle.command_replies.specs.declared.reply.Reply.{Reply}
+use Rattle.command_replies.specs.declared.reply.Reply.TheVariants.{Refused}
 use Rattle.thesaurus_file.specs.Lines.{thesaurus_of}
 use Rattle.word_lists.specs.Stems.{stems_of}
 use Rattle.word_lists.specs.StopLists.{stop_list_of}

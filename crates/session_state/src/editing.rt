@@ -14,10 +14,10 @@ use crate::edit::{Edit, Targets};
 use crate::planned::{PlannedPath, open_runs};
 use crate::targets::{Chosen, choose};
 use collections::Collection;
+use command_replies::{Refusal, Reply};
 use ft_base::{Memory, Steps};
 use plain_tree::How;
 use plan_runs::Judge;
-use session_text::{Refusal, Reply};
 use std::sync::ledger::Ledger;
 
 /// Edits the elements to which a path leads, unless they are none or too many, or it can't be of a root that is among them, or a document

@@ -7,7 +7,7 @@ ghost use Rattle.session_state.specs.Marks.{marked, unmarked};
 ghost use Rattle.session_state.specs.State.{with_documents};
 ghost use Rattle.session_state.specs.Stats as held;
 ghost use Rattle.session_state.specs.Step.{with_lists};
-ghost use Rattle.session_text.specs.Replies.{is_refusal};
+ghost use Rattle.command_replies.specs.Replies.{is_refusal};
 ghost use Rattle.thesaurus_file.specs.Lines.{thesaurus_of};
 ghost use Rattle.word_lists.specs.Stems.{stems_of};
 ghost use Rattle.word_lists.specs.StopLists.{stop_list_of};
@@ -15,9 +15,9 @@ ghost use Rattle.word_lists.specs.StopLists.{stop_list_of};
 use crate::lists::{put_stems, put_stop_list, put_thesaurus};
 use crate::session::Session;
 use crate::stats::counts;
+use command_replies::Reply;
 use ft_base::{Line, Memory, Steps};
 use plan_runs::Judge;
-use session_text::Reply;
 use std::sync::ledger::Ledger;
 
 impl<J: Judge + Drop> Session<J> {

@@ -5,12 +5,12 @@ ghost use Rattle.std.specs.Map.{lookup};
 ghost use Rattle.std.specs.Option.{option_copied};
 ghost use Rattle.session_state.specs.KeptMarks.{marks_of, versions_of};
 ghost use Rattle.session_state.specs.Marks.{mark_put, mark_taken, AreIndexesOf};
-ghost use Rattle.session_text.specs.Replies.{is_refusal};
+ghost use Rattle.command_replies.specs.Replies.{is_refusal};
 
 use collections::Collection;
+use command_replies::{FullOf, Refusal, Reply};
 use ft_base::{Line, MAX_MARKS, Memory};
 use indexmap::IndexMap;
-use session_text::{FullOf, Refusal, Reply};
 use std::alloc::Global;
 use std::marker::Model;
 

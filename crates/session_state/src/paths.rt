@@ -23,13 +23,13 @@ use crate::planned::{PlannedPath, open_runs, plan_selections};
 use crate::selected::collect_lines;
 use crate::shown::{Shown, reply_with};
 use collections::{Collection, Documents};
+use command_replies::{Refusal, Reply};
 use ft_base::{Line, Memory, QueryFault, Steps};
 use kept_plans::{KeptPlan, NextPlans, Prepared};
 use path_grammar::PathRoot;
 use path_subset::{ReadPath, read_path};
 use plan_compiler::CompileFault;
 use plan_runs::Judge;
-use session_text::{Refusal, Reply};
 use std::alloc::Global;
 use std::sync::ledger::Ledger;
 

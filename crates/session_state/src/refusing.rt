@@ -1,8 +1,8 @@
 ghost use Rattle.std.specs.Prelude.{◌≡◌, ◌≢◌, IfOk, OnOk};
 
+use command_replies::{Refusal, Reply};
 use doc_profile::DocFault;
 use ft_base::Memory;
-use session_text::{Refusal, Reply};
 
 /// The refusal of a block with that fault. Want of memory is none.
 pub(crate) fn refuse_block(fault: DocFault) -> Result<Reply, Memory>

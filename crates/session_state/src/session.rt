@@ -13,7 +13,7 @@ ghost use Rattle.session_state.specs.Refused.{changes_marks, is_refused_early, l
 ghost use Rattle.session_state.specs.StateView.{prepared_of};
 ghost use Rattle.session_state.specs.Step.{changes_documents, has_path, rows_for, shown as shown_by, shown_at, step};
 ghost use Rattle.session_state.specs.steps.Chosen.{edit_of};
-ghost use Rattle.session_text.specs.Replies.{is_refusal};
+ghost use Rattle.command_replies.specs.Replies.{is_refusal};
 
 use crate::edit::{Edit, Targets};
 use crate::editing::edit_along;
@@ -24,12 +24,12 @@ use crate::paths::{Ready, ReadyPath, answer_path, ready_path};
 use crate::refusing::refuse_block;
 use crate::shown::Shown;
 use collections::Collection;
+use command_replies::{Command, Refusal, Reply};
 use doc_profile::read_fragment;
 use ft_base::{Line, Memory, Steps};
 use kept_plans::Prepared;
 use plain_tree::{How, Kids};
 use plan_runs::Judge;
-use session_text::{Command, Refusal, Reply};
 use std::alloc::Global;
 use std::marker::Model;
 use std::sync::ledger::Ledger;

@@ -3,8 +3,8 @@ ghost use Rattle.collections.specs.Documents.{key_total, token_total};
 
 use crate::marks::Marks;
 use collections::Collection;
+use command_replies::Counts;
 use kept_plans::Prepared;
-use session_text::Counts;
 
 /// How much a session holds.
 pub(crate) fn counts(collection: &Collection, marks: &Marks, prepared: &Prepared) -> Counts

@@ -2,12 +2,13 @@
 use Rattle.std.proofs.Common.{◌≡◌, refl, ℕ, Bool, true, false, not, cond, List}
 use Rattle.std.specs.Prelude.{Option, Some, None, Ok, Err, codes}
 use Rattle.ft_base.specs.Lists.{is_empty}
-use Rattle.session_text.specs.declared.command.Command.{Command}
-use Rattle.session_text.specs.declared.command.Command.TheVariants as command
+use Rattle.command_replies.specs.declared.command.Command.{Command}
+use Rattle.command_replies.specs.declared.command.Command.TheVariants as command
 use Rattle.plain_tree.specs.declared.place.How.{How}
 use Rattle.session_text.specs.Commands.{made, named, with_text, how_of, insertion, query_at, command_of_line, command_of_block}
 use Rattle.text_lines.specs.Lines.{trimmed_line, first_word, after_first_word}
-use Rattle.session_text.specs.Words.{is_text, is_name, is_one_word, is_command_line}
+use Rattle.command_replies.specs.Names.{is_name}
+use Rattle.session_text.specs.Words.{is_text, is_one_word, is_command_line}
 
 -- what holds of both holds of the one that is chosen
 chosen : (P : Command → Type 0) (t : Bool) (a b : Command) → P a → P b → P (cond t a b)

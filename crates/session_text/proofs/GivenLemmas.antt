@@ -6,11 +6,11 @@ use Rattle.std.specs.List.{list_all, starts_with}
 use Rattle.std.proofs.lemmas.List.Folds.{list_all-append}
 use Rattle.std.proofs.lemmas.List.Sums.{sum_by-append}
 use Rattle.std.proofs.lemmas.Bool.{and_from}
-use Rattle.session_text.specs.declared.command.Command.{Command}
+use Rattle.command_replies.specs.declared.command.Command.{Command}
 use Rattle.session_text.specs.steps.Blocks.{without_last}
 use Rattle.session_text.specs.Commands.{opens_block, closes_block, unquoted, command_of_line, command_of_block}
 use Rattle.text_lines.specs.Lines.{is_skipped}
-use Rattle.session_text.specs.Given.{block_length, block_lengths, is_readable}
+use Rattle.command_replies.specs.Given.{block_length, block_lengths, is_readable}
 use Rattle.session_text.specs.steps.Reading.{Opened, Place, after_lines, ended_at, held_length, line_ended, opened_length, place_after}
 use Rattle.session_text.proofs.CommandLemmas.{holds_of_line, holds_of_block}
 

@@ -2,13 +2,14 @@
 use Rattle.std.specs.Prelude.{ℕ, ◌+◌, Bool, true, false, not, if◌then◌else◌, nat_eq, List, [], ◌∷◌, ◌++◌, drop, map, codes, Option, Some, None, Result, Ok, Err}
 use Rattle.std.specs.List.{starts_with, take_while, list_any, join_with_byte}
 use Rattle.ft_base.specs.Lists.{is_empty}
-use Rattle.session_text.specs.declared.command.Command.{Command}
-use Rattle.session_text.specs.declared.command.Command.TheVariants as command
+use Rattle.command_replies.specs.declared.command.Command.{Command}
+use Rattle.command_replies.specs.declared.command.Command.TheVariants as command
 use Rattle.plain_tree.specs.declared.place.How.{How}
 use Rattle.plain_tree.specs.declared.place.How.TheVariants as how
 use Rattle.text_lines.specs.Lines.{after_first_word, first_word, is_skipped, lines, trimmed_line, without_return}
 use Rattle.session_text.specs.Lines.{lines_of, without_mark}
-use Rattle.session_text.specs.Words.{is_text, is_name, is_command_line, is_one_word}
+use Rattle.command_replies.specs.Names.{is_name}
+use Rattle.session_text.specs.Words.{is_text, is_command_line, is_one_word}
 
 -- a line whose command is followed by a block, whatever else it holds
 abbrev pub opens_block : List ℕ → Bool

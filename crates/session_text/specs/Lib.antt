@@ -1,6 +1,4 @@
 pub mod Commands
-pub mod Given
 pub mod Lines
-pub mod Replies
 pub mod Words
 pub mod steps

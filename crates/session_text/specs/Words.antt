@@ -1,23 +1,14 @@
 -- What the words of a command line may be.
-use Rattle.std.specs.Prelude.{ℕ, Bool, not, ◌==◌, ◌&&◌, ◌||◌, nat_le, nat_eq, List, length}
-use Rattle.std.specs.List.{list_all}
+use Rattle.std.specs.Prelude.{ℕ, Bool, not, ◌&&◌, nat_le, nat_eq, List, length}
 use Rattle.std.specs.Cmp.Lexicographic.{pointwise}
-use Rattle.std.specs.Char.{is_ascii_alphanumeric}
 use Rattle.std.specs.Str.{is_utf8}
 use Rattle.ft_base.specs.Lists.{is_empty}
-use Rattle.ft_base.specs.Limits.{max_line_bytes, max_name_bytes}
+use Rattle.ft_base.specs.Limits.{max_line_bytes}
 use Rattle.text_lines.specs.Lines.{without_return, trimmed_line, after_first_word}
 
 -- whether two texts have the same bytes
 abbrev pub is_text : List ℕ → List ℕ → Bool
 is_text a b = pointwise nat_eq a b
-
--- a name: letters, digits, periods, low lines and hyphens, at least one and no more than a name may have
-abbrev pub is_name_byte : ℕ → Bool
-is_name_byte byte = is_ascii_alphanumeric byte || byte == 46 || byte == 95 || byte == 45
-
-abbrev pub is_name : List ℕ → Bool
-is_name text = not (is_empty text) && nat_le (length text) max_name_bytes && list_all is_name_byte text
 
 -- a command line has no more bytes than it may have, the blanks at both ends counted, and is UTF-8
 abbrev pub is_command_line : List ℕ → Bool

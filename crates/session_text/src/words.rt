@@ -1,7 +1,8 @@
 ghost use Rattle.std.specs.Prelude.{◌≡◌, ◌≤◌, length, drop};
 ghost use Rattle.std.specs.List.{list_all};
 ghost use Rattle.text_lines.specs.Lines.{trimmed_line, first_word, after_first_word};
-ghost use Rattle.session_text.specs.Words.{is_name, is_name_byte, is_one_word};
+ghost use Rattle.command_replies.specs.Names.{is_name, is_name_byte};
+ghost use Rattle.session_text.specs.Words.{is_one_word};
 
 use ft_base::MAX_NAME_BYTES;
 use text_lines::{skip_blanks, word_end};

@@ -2,7 +2,7 @@
 use Rattle.std.proofs.Common.{◌≡◌, subst}
 use Rattle.std.specs.Prelude.{IfOk, Result}
 use Rattle.plain_tree.specs.Document.{Node}
-use Rattle.session_text.specs.declared.reply.Refusal.{Refusal}
+use Rattle.command_replies.specs.declared.reply.Refusal.{Refusal}
 use Rattle.collections.specs.LoadView.{outcome}
 use Rattle.collections.proofs.LoadingLemmas.{loadable-read, loadable-refused}
 use Rattle.collections.proofs.loading.read_document.Goals as goal

@@ -4,8 +4,8 @@ use Rattle.std.specs.Prelude.{nat_le}
 use Rattle.std.proofs.lemmas.Bool.Decides.{nat_tests}
 use Rattle.ft_base.specs.Limits.{max_documents}
 use Rattle.ordered_tree.specs.Numbered.{plain}
-use Rattle.session_text.specs.declared.reply.Reply.TheVariants.{Done, Refused}
-use Rattle.session_text.specs.declared.reply.Refusal.TheVariants.{NameTaken}
+use Rattle.command_replies.specs.declared.reply.Reply.TheVariants.{Done, Refused}
+use Rattle.command_replies.specs.declared.reply.Refusal.TheVariants.{NameTaken}
 use Rattle.collections.specs.Indexed.{Indexed}
 use Rattle.collections.specs.LoadView.{outcome}
 use Rattle.collections.specs.Documents.{has_name}

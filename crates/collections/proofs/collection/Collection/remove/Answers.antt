@@ -7,8 +7,8 @@ use Rattle.index_meaning.specs.Documents.{has_document, without_document}
 use Rattle.index_updates.specs.Follows.{Follows}
 use Rattle.ordered_tree.specs.Numbered.{plain}
 use Rattle.ordered_tree.specs.Stored.{Stored}
-use Rattle.session_text.specs.declared.reply.Refusal.TheVariants.{NoSuchName}
-use Rattle.session_text.specs.declared.reply.Reply.TheVariants.{Done, Refused}
+use Rattle.command_replies.specs.declared.reply.Refusal.TheVariants.{NoSuchName}
+use Rattle.command_replies.specs.declared.reply.Reply.TheVariants.{Done, Refused}
 use Rattle.tokenizer.specs.Tokens.{tokens}
 use Rattle.collections.specs.Indexed.{Indexed}
 use Rattle.collections.specs.Loaded.{to_document}

@@ -5,7 +5,7 @@ use Rattle.ft_base.specs.declared.memory.Memory.{Memory}
 use Rattle.kept_plans.specs.Preparation.{texts_of}
 use Rattle.path_subset.specs.Answer.{path_read}
 use Rattle.path_subset.specs.Paths.{read_form}
-use Rattle.session_text.specs.declared.reply.Reply.{Reply}
+use Rattle.command_replies.specs.declared.reply.Reply.{Reply}
 use Rattle.session_state.specs.Edits.{edit_path, touched_path}
 use Rattle.session_state.specs.Held.{Held}
 use Rattle.session_state.specs.KeptTexts.{keep_plans}

@@ -2,8 +2,8 @@
 use Rattle.std.proofs.Common.{◌≡◌, ◌≤◌, ◌++◌, drop, length}
 use Rattle.std.specs.Prelude.{string_bytes}
 use Rattle.std.specs.List.{flat_map}
-use Rattle.session_text.specs.Replies.{ended_line, counted_lines}
-use Rattle.session_text.proofs.print.print_lines.Given as goal
+use Rattle.command_replies.specs.Replies.{ended_line, counted_lines}
+use Rattle.command_replies.proofs.print.print_lines.Given as goal
 
 abbrev pub invariant-loop-number : goal.invariant-loop-number
 invariant-loop-number l = record {

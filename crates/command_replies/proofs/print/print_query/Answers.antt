@@ -1,5 +1,5 @@
 -- The words of the later faults.
-use Rattle.session_text.proofs.print.print_query.Goals as goal
+use Rattle.command_replies.proofs.print.print_query.Goals as goal
 
 pub returns-in-Phrases : goal.returns-in-Phrases
 returns-in-Phrases c = rw c.in-Phrases.is c.print_numbered-in-Phrases.ensures

@@ -1,5 +1,5 @@
 ghost use Rattle.std.specs.Prelude.{◌≡◌};
-ghost use Rattle.session_text.specs.Replies.{is_refusal};
+ghost use Rattle.command_replies.specs.Replies.{is_refusal};
 
 use doc_profile::DocFault;
 use ft_base::{Line, QueryFault};

@@ -1,9 +1,9 @@
 -- What holds of each command that is read.
 use Rattle.std.specs.Prelude.{ℕ, Bool, true, not, ◌&&◌, List, length, sum_by}
 use Rattle.ft_base.specs.Lists.{is_empty}
-use Rattle.session_text.specs.declared.command.Command.{Command}
-use Rattle.session_text.specs.declared.command.Command.TheVariants as command
-use Rattle.session_text.specs.Words.{is_name}
+use Rattle.command_replies.specs.declared.command.Command.{Command}
+use Rattle.command_replies.specs.declared.command.Command.TheVariants as command
+use Rattle.command_replies.specs.Names.{is_name}
 
 -- how many bytes a command's block has
 abbrev pub block_length : Command → ℕ

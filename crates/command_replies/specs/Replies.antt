@@ -7,15 +7,15 @@ use Rattle.doc_profile.specs.declared.fault.DocFault.TheVariants as fault
 use Rattle.ft_base.specs.Limits.{max_documents, max_lists, max_marks}
 use Rattle.ft_base.specs.declared.fault.QueryFault.{QueryFault}
 use Rattle.ft_base.specs.declared.fault.QueryFault.TheVariants as query
-use Rattle.session_text.specs.declared.reply.Counts.{Counts}
-use Rattle.session_text.specs.declared.reply.FullOf.{FullOf}
-use Rattle.session_text.specs.declared.reply.FullOf.TheVariants as full
-use Rattle.session_text.specs.declared.reply.LimitOf.{LimitOf}
-use Rattle.session_text.specs.declared.reply.LimitOf.TheVariants as limit
-use Rattle.session_text.specs.declared.reply.Refusal.{Refusal}
-use Rattle.session_text.specs.declared.reply.Refusal.TheVariants as refusal
-use Rattle.session_text.specs.declared.reply.Reply.{Reply}
-use Rattle.session_text.specs.declared.reply.Reply.TheVariants as reply
+use Rattle.command_replies.specs.declared.reply.Counts.{Counts}
+use Rattle.command_replies.specs.declared.reply.FullOf.{FullOf}
+use Rattle.command_replies.specs.declared.reply.FullOf.TheVariants as full
+use Rattle.command_replies.specs.declared.reply.LimitOf.{LimitOf}
+use Rattle.command_replies.specs.declared.reply.LimitOf.TheVariants as limit
+use Rattle.command_replies.specs.declared.reply.Refusal.{Refusal}
+use Rattle.command_replies.specs.declared.reply.Refusal.TheVariants as refusal
+use Rattle.command_replies.specs.declared.reply.Reply.{Reply}
+use Rattle.command_replies.specs.declared.reply.Reply.TheVariants as reply
 
 -- a line, and the line feed that ends it
 abbrev pub ended_line : List ℕ → List ℕ

@@ -1,7 +1,7 @@
 ghost use Rattle.std.specs.Prelude.{◌≡◌, ◌++◌, codes, length, string_bytes, IfOk, OnOk};
 ghost use Rattle.std.specs.Fmt.{decimal};
-ghost use Rattle.session_text.specs.Replies.{counted_lines, counts_line, document_words, ended_line, full_words};
-ghost use Rattle.session_text.specs.Replies.{limit_words, query_words, refusal_line, reply_text};
+ghost use Rattle.command_replies.specs.Replies.{counted_lines, counts_line, document_words, ended_line, full_words};
+ghost use Rattle.command_replies.specs.Replies.{limit_words, query_words, refusal_line, reply_text};
 
 use crate::{Counts, FullOf, LimitOf, Refusal, Reply};
 use doc_profile::DocFault;
