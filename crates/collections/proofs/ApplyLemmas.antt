@@ -21,13 +21,13 @@ use Rattle.ordered_tree.specs.RefView.{ref_node}
 use Rattle.ordered_tree.specs.Stored.{Stored}
 use Rattle.path_meaning.specs.Collection.{Named}
 use Rattle.plain_tree.specs.Document.{Node}
-use Rattle.command_replies.specs.declared.reply.LimitOf.{LimitOf}
-use Rattle.command_replies.specs.declared.reply.LimitOf.TheVariants as limit
 use Rattle.tokenizer.specs.Tokens.{tokens}
 use Rattle.collections.specs.Documents.{Edit, changed_roots, edited_documents, edited_root, limit_of, token_total, touched_in}
 use Rattle.collections.specs.Indexed.{FollowsEach}
 use Rattle.collections.specs.Loaded.{LoadedTree, to_document, tree_of, trees_of}
 use Rattle.collections.specs.Targets.{places_of_targets}
+use Rattle.collections.specs.declared.fault.NotEdited.{NotEdited}
+use Rattle.collections.specs.declared.fault.NotEdited.TheVariants as unedited
 use Rattle.collections.specs.declared.planning.Planned.{Planned}
 use Rattle.collections.specs.steps.Numbering.{Ascend, IsNumbered}
 use Rattle.collections.specs.steps.Planning.{root_after, ArePlanned, IsDrafted, IsPutAt}
@@ -94,8 +94,8 @@ follows-at es name loaded rest version next held =
 
 -- ---- limits
 
-abbrev pub by_tests : Bool → Bool → Bool → Option LimitOf
-by_tests deep many long = cond deep (Some limit.Depth) (cond many (Some limit.Nodes) (cond long (Some limit.Tokens) None))
+abbrev pub by_tests : Bool → Bool → Bool → Option NotEdited
+by_tests deep many long = cond deep (Some unedited.TooDeep) (cond many (Some unedited.TooManyNodes) (cond long (Some unedited.TooManyTokens) None))
 
 within-tests : (deep many long : Bool) → by_tests deep many long ≡ None → (deep ≡ false) × ((many ≡ false) × (long ≡ false))
 within-tests true many long is = let no : ⊥ = cc in absurd no
@@ -146,13 +146,13 @@ module _ (ps : List Planned) where
       ap (λ t. by_tests t (list_any many (map root_after ps)) (list_any long (map root_after ps))) (any-after deep ps)
       ∙ (ap (λ t. by_tests is_deep t (list_any long (map root_after ps))) (any-after many ps) ∙ ap (by_tests is_deep has_many) (any-after long ps))
 
-  pub limit-deep : is_deep ≡ true → limit_of (map root_after ps) ≡ Some limit.Depth
+  pub limit-deep : is_deep ≡ true → limit_of (map root_after ps) ≡ Some unedited.TooDeep
   limit-deep d = limit-by ∙ ap (λ t. by_tests t has_many is_long) d
 
-  pub limit-nodes : is_deep ≡ false → has_many ≡ true → limit_of (map root_after ps) ≡ Some limit.Nodes
+  pub limit-nodes : is_deep ≡ false → has_many ≡ true → limit_of (map root_after ps) ≡ Some unedited.TooManyNodes
   limit-nodes d m = limit-by ∙ (ap (λ t. by_tests t has_many is_long) d ∙ ap (λ t. by_tests false t is_long) m)
 
-  pub limit-tokens : is_deep ≡ false → has_many ≡ false → is_long ≡ true → limit_of (map root_after ps) ≡ Some limit.Tokens
+  pub limit-tokens : is_deep ≡ false → has_many ≡ false → is_long ≡ true → limit_of (map root_after ps) ≡ Some unedited.TooManyTokens
   limit-tokens d m l = limit-by ∙ (ap (λ t. by_tests t has_many is_long) d ∙ (ap (λ t. by_tests false t is_long) m ∙ ap (λ t. by_tests false false t) l))
 
   pub limit-none : is_deep ≡ false → has_many ≡ false → is_long ≡ false → limit_of (map root_after ps) ≡ None

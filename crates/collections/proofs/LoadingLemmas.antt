@@ -1,6 +1,6 @@
 -- When a document is loaded or taken out, and when that is refused.
 use Rattle.std.proofs.Common.{◌≡◌, ◌≢◌, ◌∙◌, sym, ap, refl, ℕ, ◌<◌, ◌≤◌, Bool, true, false, cond, ◌||◌, List, [], ◌∷◌, length, map}
-use Rattle.std.specs.Prelude.{Some, Result, Ok, Err, is_some, nat_le}
+use Rattle.std.specs.Prelude.{Some, Result, Ok, Err, is_some, nat_le, ⊤}
 use Rattle.std.specs.Map.{lookup, remove_entry}
 use Rattle.std.specs.Str.{bytes_eq}
 use Rattle.std.proofs.lemmas.Bool.{lt-ltb, le-ltb}
@@ -14,14 +14,12 @@ use Rattle.ordered_tree.specs.Stored.{Stored}
 use Rattle.ordered_tree.proofs.BuildingLemmas.{plain-numbered}
 use Rattle.path_meaning.specs.Collection.{Named}
 use Rattle.plain_tree.specs.Document.{Node}
-use Rattle.command_replies.specs.declared.reply.FullOf.TheVariants.{Documents}
-use Rattle.command_replies.specs.declared.reply.Refusal.{Refusal}
-use Rattle.command_replies.specs.declared.reply.Refusal.TheVariants as refusal
-use Rattle.command_replies.specs.declared.reply.Refusal.TheVariants.{Full, NameTaken, NoSuchName, TooManyTokens}
-use Rattle.command_replies.specs.declared.reply.Reply.{Reply}
-use Rattle.command_replies.specs.declared.reply.Reply.TheVariants.{Refused, Done}
 use Rattle.tokenizer.specs.Tokens.{tokens}
 use Rattle.doc_profile.specs.Readings.{Faults, document_of}
+use Rattle.collections.specs.declared.fault.NotLoaded.{NotLoaded}
+use Rattle.collections.specs.declared.fault.NotLoaded.TheVariants as unloaded
+use Rattle.collections.specs.declared.fault.NotLoaded.TheVariants.{Full, NameTaken, TooManyTokens}
+use Rattle.collections.specs.declared.fault.NotRemoved.TheVariants.{NoSuchName}
 use Rattle.collections.specs.Loaded.{LoadedTree, to_document}
 use Rattle.ft_base.specs.Limits.{max_documents, max_tokens}
 use Rattle.collections.specs.Documents.{added, has_name, dropped, loadable, loaded, tokens_loaded, with_few_tokens, without}
@@ -48,11 +46,11 @@ module _ (entries : List (List ℕ × LoadedTree)) (documents : List Named) (nam
   count = ap (λ ds. nat_le max_documents (length ds)) (sym there) ∙ (ap (nat_le max_documents) (length-map entries to_document) ∙ long)
 
   -- the two tests decide, before the block is looked at
-  pub loaded-by : (read : Result Node Refusal)
-      → loaded documents asked read ≡ cond taken (documents, Refused (NameTaken asked)) (cond full (documents, Refused (Full Documents)) (added documents asked read))
+  pub loaded-by : (read : Result Node NotLoaded)
+      → loaded documents asked read ≡ cond taken (documents, Err NameTaken) (cond full (documents, Err Full) (added documents asked read))
   loaded-by read =
-      ap (λ t. cond t (documents, Refused (NameTaken asked)) (cond (nat_le max_documents (length documents)) (documents, Refused (Full Documents)) (added documents asked read))) has
-      ∙ ap (λ t. cond taken (documents, Refused (NameTaken asked)) (cond t (documents, Refused (Full Documents)) (added documents asked read))) count
+      ap (λ t. cond t (documents, Err NameTaken) (cond (nat_le max_documents (length documents)) (documents, Err Full) (added documents asked read))) has
+      ∙ ap (λ t. cond taken (documents, Err NameTaken) (cond t (documents, Err Full) (added documents asked read))) count
 
   -- the tokens of a document that comes
   pub tokens-come : (root : Node) → tokens_loaded documents asked (Ok root) ≡ cond (taken || full) 0 (length (tokens root))
@@ -60,8 +58,8 @@ module _ (entries : List (List ℕ × LoadedTree)) (documents : List Named) (nam
       ap (λ t. cond (t || nat_le max_documents (length documents)) 0 (length (tokens root))) has ∙ ap (λ t. cond (taken || t) 0 (length (tokens root))) count
 
 pub dropped-test : (documents : List Named) (name : List ℕ) (there : Bool) → has_name name documents ≡ there
-    → dropped documents name ≡ cond there (without name documents, Done) (documents, Refused (NoSuchName name))
-dropped-test documents name there has = ap (λ t. cond t (without name documents, Done) (documents, Refused (NoSuchName name))) has
+    → dropped documents name ≡ cond there (without name documents, Ok tt) (documents, Err NoSuchName)
+dropped-test documents name there has = ap (λ t. cond t (without name documents, Ok tt) (documents, Err NoSuchName)) has
 
 -- the entries without the first of the name
 pub without-removed : (name : List ℕ) (entries : List (List ℕ × LoadedTree)) → map to_document (remove_entry (bytes_eq name) entries) ≡ without name (map to_document entries)
@@ -70,8 +68,9 @@ without-removed name (e ∷ es) =
     elim (bytes_eq name e.0) as (λ t. map to_document (cond t es (e ∷ remove_entry (bytes_eq name) es)) ≡ cond t (map to_document es) (to_document e ∷ without name (map to_document es)))
     [ true ↦ refl | false ↦ ap (λ ds. to_document e ∷ ds) (without-removed name es) ]
 
-abbrev pub with_reply : List Named → Reply → List Named × Reply
-with_reply state reply = (state, reply)
+-- documents that became others
+abbrev pub changed_to : {E : Type 0} → List Named → List Named × Result ⊤ E
+changed_to documents = (documents, Ok tt)
 
 -- a document that was read, and too many tokens
 pub with_few_tokens-many : (root : Node) → max_tokens < length (tokens root) → with_few_tokens (Ok root) ≡ Err TooManyTokens
@@ -82,7 +81,7 @@ with_few_tokens-few root few = ap (λ t. cond t (Err TooManyTokens) (Ok root)) (
 
 -- a block's fault, or its document
 module _ (block : List ℕ) where
-  pub loadable-fault : (fault : DocFault) → document_of block ≡ Err fault → loadable block ≡ Err (refusal.Document fault)
+  pub loadable-fault : (fault : DocFault) → document_of block ≡ Err fault → loadable block ≡ Err (unloaded.Document fault)
   unfolding loadable
   loadable-fault fault is = ap with_few_tokens is
 
@@ -91,7 +90,7 @@ module _ (block : List ℕ) where
   loadable-read root is = sym (ap with_few_tokens is)
 
   -- a fault that isn't want of memory is the block's
-  pub loadable-refused : (fault : DocFault) (why : Refusal) → Faults (document_of block) fault → fault ≢ faults.Memory → why ≡ refusal.Document fault → Err why ≡ loadable block
+  pub loadable-refused : (fault : DocFault) (why : NotLoaded) → Faults (document_of block) fault → fault ≢ faults.Memory → why ≡ unloaded.Document fault → Err why ≡ loadable block
   loadable-refused (faults.NotUtf8 at) why h other is = ap Err is ∙ sym (loadable-fault (faults.NotUtf8 at) h)
   loadable-refused (faults.Syntax at) why h other is = ap Err is ∙ sym (loadable-fault (faults.Syntax at) h)
   loadable-refused (faults.Depth at) why h other is = ap Err is ∙ sym (loadable-fault (faults.Depth at) h)

@@ -1,5 +1,5 @@
 -- The documents of a collection, and what loading, dropping and editing do to them.
-use Rattle.std.specs.Prelude.{ℕ, Bool, nat_le, nat_lt, ◌+◌, ◌||◌, if◌then◌else◌, List, [], ◌∷◌, ◌++◌, length, map, Option, Some, None, Result, Ok, Err}
+use Rattle.std.specs.Prelude.{ℕ, Bool, nat_le, nat_lt, ◌+◌, ◌||◌, if◌then◌else◌, List, [], ◌∷◌, ◌++◌, length, map, Option, Some, None, Result, Ok, Err, ⊤}
 use Rattle.std.specs.List.{flat_map, list_any, sum_by}
 use Rattle.std.specs.Set.{distinct_count}
 use Rattle.std.specs.Str.{bytes_eq}
@@ -12,15 +12,14 @@ use Rattle.ft_base.specs.Limits.{max_depth, max_documents, max_nodes, max_tokens
 use Rattle.path_meaning.specs.Collection.{Named}
 use Rattle.plain_tree.specs.Document.{Node, Nodes}
 use Rattle.plain_tree.specs.declared.place.How.{How}
-use Rattle.command_replies.specs.declared.reply.FullOf.TheVariants as full
-use Rattle.command_replies.specs.declared.reply.LimitOf.{LimitOf}
-use Rattle.command_replies.specs.declared.reply.LimitOf.TheVariants as limit
-use Rattle.command_replies.specs.declared.reply.Refusal.{Refusal}
-use Rattle.command_replies.specs.declared.reply.Refusal.TheVariants as refusal
-use Rattle.command_replies.specs.declared.reply.Reply.{Reply}
-use Rattle.command_replies.specs.declared.reply.Reply.TheVariants.{Done, Refused}
 use Rattle.text_forms.specs.Forms.{key_of}
 use Rattle.tokenizer.specs.Tokens.{tokens}
+use Rattle.collections.specs.declared.fault.NotEdited.{NotEdited}
+use Rattle.collections.specs.declared.fault.NotEdited.TheVariants as unedited
+use Rattle.collections.specs.declared.fault.NotLoaded.{NotLoaded}
+use Rattle.collections.specs.declared.fault.NotLoaded.TheVariants as unloaded
+use Rattle.collections.specs.declared.fault.NotRemoved.{NotRemoved}
+use Rattle.collections.specs.declared.fault.NotRemoved.TheVariants as unremoved
 
 abbrev pub has_name : List ℕ → List Named → Bool
 has_name name documents = list_any (λ d. bytes_eq name d.name) documents
@@ -28,24 +27,24 @@ has_name name documents = list_any (λ d. bytes_eq name d.name) documents
 -- ---- loading and dropping
 
 -- a document that was read, unless it has too many tokens
-abbrev pub with_few_tokens : Result Node DocFault → Result Node Refusal
-with_few_tokens (Err fault) = Err (refusal.Document fault)
-with_few_tokens (Ok root) = if nat_lt max_tokens (length (tokens root)) then Err refusal.TooManyTokens else Ok root
+abbrev pub with_few_tokens : Result Node DocFault → Result Node NotLoaded
+with_few_tokens (Err fault) = Err (unloaded.Document fault)
+with_few_tokens (Ok root) = if nat_lt max_tokens (length (tokens root)) then Err unloaded.TooManyTokens else Ok root
 
 -- the document that a block is, or why it can't be loaded
-unfoldable pub loadable : List ℕ → Result Node Refusal
+unfoldable pub loadable : List ℕ → Result Node NotLoaded
 loadable block = with_few_tokens (document_of block)
 
--- the documents with one more after them
-abbrev pub added : List Named → List ℕ → Result Node Refusal → List Named × Reply
-added documents name (Err why) = (documents, Refused why)
-added documents name (Ok root) = (documents ++ record { name = name; root = root } ∷ [], Done)
+-- the documents with one more after them, and the answer
+abbrev pub added : List Named → List ℕ → Result Node NotLoaded → List Named × Result ⊤ NotLoaded
+added documents name (Err why) = (documents, Err why)
+added documents name (Ok root) = (documents ++ record { name = name; root = root } ∷ [], Ok tt)
 
 -- a document is loaded, unless its name is taken, the collection is full, or the block is no such document
-abbrev pub loaded : List Named → List ℕ → Result Node Refusal → List Named × Reply
+abbrev pub loaded : List Named → List ℕ → Result Node NotLoaded → List Named × Result ⊤ NotLoaded
 loaded documents name document =
-    if has_name name documents then (documents, Refused (refusal.NameTaken name))
-    else if nat_le max_documents (length documents) then (documents, Refused (refusal.Full full.Documents))
+    if has_name name documents then (documents, Err unloaded.NameTaken)
+    else if nat_le max_documents (length documents) then (documents, Err unloaded.Full)
     else added documents name document
 
 -- the documents without the one of that name
@@ -54,12 +53,12 @@ without name [] = []
 without name (d ∷ ds) = if bytes_eq name d.name then ds else d ∷ without name ds
 
 -- a document is taken out, where there is one of that name
-abbrev pub dropped : List Named → List ℕ → List Named × Reply
+abbrev pub dropped : List Named → List ℕ → List Named × Result ⊤ NotRemoved
 dropped documents name =
-    if has_name name documents then (without name documents, Done) else (documents, Refused (refusal.NoSuchName name))
+    if has_name name documents then (without name documents, Ok tt) else (documents, Err unremoved.NoSuchName)
 
 -- how many tokens the document has that a load puts in; none, where it is refused
-abbrev pub tokens_loaded : List Named → List ℕ → Result Node Refusal → ℕ
+abbrev pub tokens_loaded : List Named → List ℕ → Result Node NotLoaded → ℕ
 tokens_loaded documents name (Err why) = 0
 tokens_loaded documents name (Ok root) =
     if has_name name documents || nat_le max_documents (length documents) then 0 else length (tokens root)
@@ -97,20 +96,20 @@ changed_roots edit [] documents = []
 changed_roots edit (places ∷ rest) [] = []
 changed_roots edit (places ∷ rest) (d ∷ ds) = changed_root edit places d.root ++ changed_roots edit rest ds
 
--- the limit that some of these documents exceed: levels of elements are looked at first, then nodes, then tokens
-abbrev pub limit_of : List Node → Option LimitOf
+-- what some of these documents have too much of: levels of elements are looked at first, then nodes, then tokens
+abbrev pub limit_of : List Node → Option NotEdited
 limit_of roots =
-    if list_any (λ root. nat_lt max_depth (height root)) roots then Some limit.Depth
-    else if list_any (λ root. nat_lt max_nodes (node_count root)) roots then Some limit.Nodes
-    else if list_any (λ root. nat_lt max_tokens (length (tokens root))) roots then Some limit.Tokens
+    if list_any (λ root. nat_lt max_depth (height root)) roots then Some unedited.TooDeep
+    else if list_any (λ root. nat_lt max_nodes (node_count root)) roots then Some unedited.TooManyNodes
+    else if list_any (λ root. nat_lt max_tokens (length (tokens root))) roots then Some unedited.TooManyTokens
     else None
 
-abbrev pub or_limited : List Named → Option LimitOf → List Named → List Named × Option LimitOf
-or_limited before (Some what) after = (before, Some what)
-or_limited before None after = (after, None)
+abbrev pub or_limited : List Named → Option NotEdited → List Named → List Named × Result ⊤ NotEdited
+or_limited before (Some why) after = (before, Err why)
+or_limited before None after = (after, Ok tt)
 
 -- documents after an edit, unless one would exceed a limit; then they stay as they are
-unfoldable pub edited_within : Edit → List (List (List ℕ)) → List Named → List Named × Option LimitOf
+unfoldable pub edited_within : Edit → List (List (List ℕ)) → List Named → List Named × Result ⊤ NotEdited
 edited_within edit places documents = or_limited documents (limit_of (changed_roots edit places documents)) (edited_documents edit places documents)
 
 -- how many words of texts that don't stay an edit has in documents

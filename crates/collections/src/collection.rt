@@ -17,6 +17,7 @@ ghost use Rattle.collections.specs.Targets.{edit_of, places_of_targets, AreTarge
 
 use crate::applying::{Edited, apply_all};
 use crate::documents::Documents;
+use crate::fault::{NotEdited, NotLoaded, NotRemoved};
 use crate::limits::exceeded;
 use crate::loaded::Loadable;
 use crate::loading::{Outcome, read_document};
@@ -145,29 +146,29 @@ impl Collection {
     }
 
     /// Puts the document that the block is after those that are there, unless its name is taken, there are as many as
-    /// there may be, or the block is none that can be loaded.
+    /// there may be, or the block is none that can be loaded. Then the collection stays as it was.
     pub fn load<L: Ledger>(
         &mut self,
         name: &Line,
         block: &[u8],
         rows: &mut Steps<L>,
-    ) -> Result<Reply, Memory>
-        ensures answer { IfOk result (λ reply. (self.new.documents, reply) ≡ loaded self.old.documents name.now (loadable block.now)) }
+    ) -> Result<Result<(), NotLoaded>, Memory>
+        ensures answer { IfOk result (λ answer. (self.new.documents, answer) ≡ loaded self.old.documents name.now (loadable block.now)) }
         ensures err { OnErr result (self.new ≡ self.old) }
+        ensures refused { IfOk result (λ answer. OnErr answer (self.new ≡ self.old)) }
         ensures rows { rows.new ≤ rows.old + tokens_loaded self.old.documents name.now (loadable block.now) }
     {
         let name = Line::read(self.alloc, name.as_str())?;
         if self.documents.contains_key(&name) {
-            return Ok(Reply::Refused(Refusal::NameTaken { name }));
+            return Ok(Err(NotLoaded::NameTaken));
         }
         if self.documents.len() >= MAX_DOCUMENTS {
-            let what = FullOf::Documents;
-            return Ok(Reply::Refused(Refusal::Full { what }));
+            return Ok(Err(NotLoaded::Full));
         }
         match read_document(self.alloc, block)? {
-            Outcome::Refused(refusal) => Ok(Reply::Refused(refusal)),
+            Outcome::NotLoaded(why) => Ok(Err(why)),
             Outcome::Document(document) => match self.add(name, document, rows) {
-                Ok(()) => Ok(Reply::Done),
+                Ok(()) => Ok(Ok(())),
                 Err(memory) => Err(memory),
             },
         }
@@ -214,29 +215,28 @@ impl Collection {
         }
     }
 
-    /// Takes the document of the name out, unless there is none.
-    pub fn remove<L: Ledger>(&mut self, name: &Line, rows: &mut Steps<L>) -> Result<Reply, Memory>
-        ensures answer { IfOk result (λ reply. (self.new.documents, reply) ≡ dropped self.old.documents name.now) }
+    /// Takes the document of the name out. Where there is none the collection stays as it was.
+    pub fn remove<L: Ledger>(
+        &mut self,
+        name: &Line,
+        rows: &mut Steps<L>,
+    ) -> Result<Result<(), NotRemoved>, Memory>
+        ensures answer { IfOk result (λ answer. (self.new.documents, answer) ≡ dropped self.old.documents name.now) }
         ensures err { OnErr result (self.new ≡ self.old) }
+        ensures refused { IfOk result (λ answer. OnErr answer (self.new ≡ self.old)) }
         ensures rows { rows.new ≤ rows.old + tokens_named self.old.documents name.now }
     {
-        let name = Line::read(self.alloc, name.as_str())?;
-        let Some(document) = self.documents.get(&name) else {
-            return Ok(Reply::Refused(Refusal::NoSuchName { name }));
+        let Some(document) = self.documents.get(name) else {
+            return Ok(Err(NotRemoved::NoSuchName));
         };
         let doc = document.doc();
         let tokens = token_count(document.tree());
-        let Ok(version) = drop_doc(&self.version, doc, rows) else {
-            drop(name);
-            return Err(Memory);
-        };
-        let removed = self.documents.remove(self.alloc, &name);
-        drop(name);
-        match removed {
+        let version = drop_doc(&self.version, doc, rows)?;
+        match self.documents.remove(self.alloc, name) {
             Ok(()) => {
                 drop(std::mem::replace(&mut self.version, version));
                 self.tokens -= tokens;
-                Ok(Reply::Done)
+                Ok(Ok(()))
             }
             Err(memory) => {
                 drop(version);
@@ -246,28 +246,29 @@ impl Collection {
     }
 
     /// Edits elements of the documents: of each document in order, those of these references. What comes into or beside an
-    /// element, or into its place, is the content. All documents stay as they are where one of them would exceed a limit. A
-    /// document without such elements is not looked at.
+    /// element, or into its place, is the content. A document without such elements is not looked at. Where one of them would
+    /// exceed a limit the collection stays as it was.
     pub fn edit<L: Ledger>(
         &mut self,
         targets: &[NodeRefs],
         how: Option<How>,
         content: &Kids,
         rows: &mut Steps<L>,
-    ) -> Result<Option<LimitOf>, Memory>
+    ) -> Result<Result<(), NotEdited>, Memory>
         requires there { AreTargets self.old.trees targets.now }
         requires once { (nat_le (sum_by length targets.now) 1 || is_empty content.now) ≡ true }
         requires inner { (stays how || not (list_any (list_any is_empty) (places_of_targets self.old.trees targets.now))) ≡ true }
         requires few_nodes { AreWithin (nodes (map node content.now)) }
-        ensures edited { IfOk result (λ limit. (self.new.documents, limit)
+        ensures edited { IfOk result (λ answer. (self.new.documents, answer)
             ≡ edited_within (edit_of how content.now) (places_of_targets self.old.trees targets.now) self.old.documents) }
         ensures err { OnErr result (self.new ≡ self.old) }
+        ensures refused { IfOk result (λ answer. OnErr answer (self.new ≡ self.old)) }
         ensures rows { rows.new ≤ rows.old + touched_in (edit_of how content.now) (places_of_targets self.old.trees targets.now) self.old.documents }
     {
         let planned = plan_all(self.alloc, &self.documents, targets, how, content)?;
-        if let Some(limit) = exceeded(planned.as_slice()) {
+        if let Some(why) = exceeded(planned.as_slice()) {
             drop(planned);
-            return Ok(Some(limit));
+            return Ok(Err(why));
         }
         let Edited {
             documents,
@@ -284,6 +285,6 @@ impl Collection {
         drop(std::mem::replace(&mut self.documents, documents));
         drop(std::mem::replace(&mut self.version, version));
         self.tokens = tokens;
-        Ok(None)
+        Ok(Ok(()))
     }
 }

@@ -5,6 +5,7 @@ mod applying;
 mod collection;
 mod documents;
 pub mod examples;
+mod fault;
 mod limits;
 mod loaded;
 mod loading;
@@ -15,4 +16,5 @@ mod tokens;
 
 pub use collection::Collection;
 pub use documents::{Documents, Iter};
+pub use fault::{NotEdited, NotLoaded, NotRemoved};
 pub use loaded::Loaded;

@@ -8,20 +8,21 @@ ghost use Rattle.tokenizer.specs.Tokens.{tokens};
 ghost use Rattle.collections.specs.Documents.{limit_of};
 ghost use Rattle.collections.specs.steps.Planning.{root_after};
 
+use crate::fault::NotEdited;
 use crate::planning::Planned;
 use command_replies::LimitOf;
 use ft_base::{MAX_DEPTH, MAX_NODES, MAX_TOKENS};
 
 /// The limit that some of the documents exceed that an edit makes.
-pub(crate) fn exceeded(planned: &[Planned]) -> Option<LimitOf>
+pub(crate) fn exceeded(planned: &[Planned]) -> Option<NotEdited>
     ensures { result ≡ limit_of (map root_after planned.now) }
 {
     if any_too_deep(planned) {
-        Some(LimitOf::Depth)
+        Some(NotEdited::TooDeep)
     } else if any_with_too_many_nodes(planned) {
-        Some(LimitOf::Nodes)
+        Some(NotEdited::TooManyNodes)
     } else if any_with_too_many_tokens(planned) {
-        Some(LimitOf::Tokens)
+        Some(NotEdited::TooManyTokens)
     } else {
         None
     }

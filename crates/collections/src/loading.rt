@@ -3,6 +3,7 @@ ghost use Rattle.doc_profile.specs.Faults.{IsWithin};
 ghost use Rattle.collections.specs.Documents.{loadable, with_few_tokens};
 ghost use Rattle.collections.specs.LoadView.{outcome};
 
+use crate::fault::NotLoaded;
 use crate::loaded::Loadable;
 use command_replies::Refusal;
 use doc_profile::{DocFault, read_doc};
@@ -16,17 +17,17 @@ use tokenizer::TokenFault;
 #[derive(Drop)]
 pub(crate) enum Outcome {
     Document(Loadable),
-    Refused(Refusal),
+    NotLoaded(NotLoaded),
 }
 
-/// The refusal of a block with that fault. Want of memory is none.
-fn refuse(fault: DocFault) -> Result<Refusal, Memory>
-    ensures refusal { IfOk result (λ refusal. refusal ≡ Refusal.Document fault) }
+/// That a block has that fault. Want of memory is none of it.
+fn refuse(fault: DocFault) -> Result<NotLoaded, Memory>
+    ensures fault { IfOk result (λ why. why ≡ NotLoaded.Document fault) }
     ensures known { OnOk result (fault ≢ DocFault.Memory) }
 {
     match fault {
         DocFault::Memory => Err(Memory),
-        _ => Ok(Refusal::Document(fault)),
+        _ => Ok(NotLoaded::Document(fault)),
     }
 }
 
@@ -36,7 +37,7 @@ pub(crate) fn read_document(alloc: Global, block: &[u8]) -> Result<Outcome, Memo
 {
     match read_doc(alloc, block) {
         Ok(document) => load(alloc, document),
-        Err(fault) => Ok(Outcome::Refused(refuse(fault)?)),
+        Err(fault) => Ok(Outcome::NotLoaded(refuse(fault)?)),
     }
 }
 
@@ -47,7 +48,7 @@ fn load(alloc: Global, document: PlainDoc) -> Result<Outcome, Memory>
 {
     match load_doc(alloc, document) {
         Ok(read) => Ok(Outcome::Document(Loadable { read })),
-        Err(TokenFault::Tokens) => Ok(Outcome::Refused(Refusal::TooManyTokens)),
+        Err(TokenFault::Tokens) => Ok(Outcome::NotLoaded(NotLoaded::TooManyTokens)),
         Err(TokenFault::Memory) => Err(Memory),
     }
 }

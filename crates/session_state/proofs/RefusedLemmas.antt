@@ -1,6 +1,10 @@
 -- A command that is refused leaves what is held as it is.
-use Rattle.std.proofs.Common.{◌≡◌, ◌∙◌, sym, ap, refl, ℕ, Bool, true, false, cond, not, ◌&&◌, ◌++◌, ◌∷◌, List, []}
-use Rattle.std.specs.Prelude.{nat_le, length, Option, Some, None, Result, Ok, Err, IfOk}
+use Rattle.std.proofs.Common.{◌≡◌, ◌∙◌, sym, ap, refl, ℕ, Bool, true, false, cond, ◌++◌, ◌∷◌, List, []}
+use Rattle.std.specs.Prelude.{nat_le, length, Option, Some, None, Result, Ok, Err, IfOk, ⊤}
+use Rattle.collections.specs.declared.fault.NotEdited.{NotEdited}
+use Rattle.collections.specs.declared.fault.NotLoaded.{NotLoaded}
+use Rattle.collections.specs.declared.fault.NotLoaded.TheVariants as unloaded
+use Rattle.collections.specs.declared.fault.NotRemoved.TheVariants.{NoSuchName}
 use Rattle.collections.specs.Documents.{added, changed_roots, dropped, edited_documents, edited_within, has_name, limit_of, loadable, loaded, or_limited, without, Edit}
 use Rattle.doc_profile.specs.Readings.{fragment_of}
 use Rattle.doc_profile.specs.declared.fault.DocFault.{DocFault}
@@ -18,7 +22,6 @@ use Rattle.command_replies.specs.Replies.{is_refusal}
 use Rattle.command_replies.specs.declared.command.Command.{Command}
 use Rattle.command_replies.specs.declared.command.Command.TheVariants as command
 use Rattle.command_replies.specs.declared.reply.FullOf.TheVariants as full
-use Rattle.command_replies.specs.declared.reply.LimitOf.{LimitOf}
 use Rattle.command_replies.specs.declared.reply.Refusal.{Refusal}
 use Rattle.command_replies.specs.declared.reply.Refusal.TheVariants as refusal
 use Rattle.command_replies.specs.declared.reply.Reply.{Reply}
@@ -27,14 +30,14 @@ use Rattle.command_replies.specs.declared.reply.Reply.TheVariants.{Done, Refused
 use Rattle.session_state.specs.declared.edit.Targets.{Targets}
 use Rattle.session_state.specs.declared.edit.Targets.TheVariants.{One, Any}
 use Rattle.session_state.specs.declared.shown.Shown.TheVariants.{Names, Texts}
-use Rattle.session_state.specs.Edits.{deletion, edit_placed, edit_read, edit_selected, edit_with, if_within, places_selected, stays_if_refused, target_refusal}
+use Rattle.session_state.specs.DocumentReplies.{edit_refusal, load_refusal, removal_refusal, replied_by}
+use Rattle.session_state.specs.Edits.{deletion, edit_placed, edit_read, edit_selected, edit_with, places_selected, stays_if_refused, target_refusal}
 use Rattle.session_state.specs.Held.{Held}
 use Rattle.session_state.specs.KeptTexts.{keep_plans}
 use Rattle.session_state.specs.Marks.{at_mark, has_mark, mark_named, mark_put, mark_taken, with_marks, without_mark}
 use Rattle.session_state.specs.Paths.{answer, missing_refusal}
-use Rattle.session_state.specs.Refused.{changes_marks, is_refused_early, loads_or_drops, refuses_early, with_version}
 use Rattle.session_state.specs.State.{Mark, State, with_documents}
-use Rattle.session_state.specs.Step.{changes_documents, shown_at, step, with_lists}
+use Rattle.session_state.specs.Step.{changes_documents, changes_marks, shown_at, step, with_lists}
 
 -- Where the reply is a refusal, what comes with it is what was there.
 abbrev pub Stays : {X : Type 0} → X → X × Reply → Type 0
@@ -55,19 +58,36 @@ done old new refused = let no : ⊥ = cc in absurd no
 
 -- ---- documents, marks and lists
 
-stays-added : (documents : List Named) (name : List ℕ) (document : Result Node Refusal) → Stays documents (added documents name document)
-stays-added documents name (Err why) refused = refl
-stays-added documents name (Ok root) refused = let no : ⊥ = cc in absurd no
+-- Where the collection answers that all stays, the documents are what was there.
+abbrev pub Keeps : {E : Type 0} → List Named → List Named × Result ⊤ E → Type 0
+Keeps old (documents, Ok done) = ⊤
+Keeps old (documents, Err why) = documents ≡ old
 
-stays-loaded : (documents : List Named) (name : List ℕ) (document : Result Node Refusal) → Stays documents (loaded documents name document)
+keeps-if : {E : Type 0} (test : Bool) (old : List Named) (why : E) (more : List Named × Result ⊤ E) → Keeps old more → Keeps old (cond test (old, Err why) more)
+keeps-if true old why more h = refl
+keeps-if false old why more h = h
+
+keeps-replied : {E : Type 0} (refuse : E → Refusal) (old : List Named) (answered : List Named × Result ⊤ E) → Keeps old answered → Stays old (replied_by refuse answered)
+keeps-replied refuse old (documents, Ok done) h refused = let no : ⊥ = cc in absurd no
+keeps-replied refuse old (documents, Err why) h refused = h
+
+keeps-added : (documents : List Named) (name : List ℕ) (document : Result Node NotLoaded) → Keeps documents (added documents name document)
+keeps-added documents name (Err why) = refl
+keeps-added documents name (Ok root) = tt
+
+stays-loaded : (documents : List Named) (name : List ℕ) (document : Result Node NotLoaded) → Stays documents (replied_by (load_refusal name) (loaded documents name document))
 stays-loaded documents name document =
-    refused-if (has_name name documents) documents (refusal.NameTaken name)
-    (cond (nat_le max_documents (length documents)) (documents, Refused (refusal.Full full.Documents)) (added documents name document))
-    (refused-if (nat_le max_documents (length documents)) documents (refusal.Full full.Documents) (added documents name document) (stays-added documents name document))
+    let room = cond (nat_le max_documents (length documents)) (documents, Err unloaded.Full) (added documents name document) in
+    keeps-replied (load_refusal name) documents (loaded documents name document)
+    (keeps-if (has_name name documents) documents unloaded.NameTaken room
+    (keeps-if (nat_le max_documents (length documents)) documents unloaded.Full (added documents name document) (keeps-added documents name document)))
 
-stays-dropped : (documents : List Named) (name : List ℕ) → Stays documents (dropped documents name)
-stays-dropped documents name =
-    refused-else (has_name name documents) documents (refusal.NoSuchName name) (without name documents, Done) (done documents (without name documents))
+keeps-dropped : (documents : List Named) (name : List ℕ) (there : Bool) → Keeps documents (cond there (without name documents, Ok tt) (documents, Err NoSuchName))
+keeps-dropped documents name true = tt
+keeps-dropped documents name false = refl
+
+stays-dropped : (documents : List Named) (name : List ℕ) → Stays documents (replied_by (removal_refusal name) (dropped documents name))
+stays-dropped documents name = keeps-replied (removal_refusal name) documents (dropped documents name) (keeps-dropped documents name (has_name name documents))
 
 stays-marked : (marks : List Mark) (name : List ℕ) (documents : List Named) → Stays marks (mark_put marks name documents)
 stays-marked marks name documents =
@@ -98,13 +118,15 @@ in-plans path state (after, reply) h refused = first (is_refusal reply) after _ 
 
 -- ---- edits
 
-limited : (documents after : List Named) (limit : Option LimitOf) → Stays documents (if_within (or_limited documents limit after))
-limited documents after (Some what) refused = refl
-limited documents after None refused = let no : ⊥ = cc in absurd no
+limited : (documents after : List Named) (limit : Option NotEdited) → Keeps documents (or_limited documents limit after)
+limited documents after (Some why) = refl
+limited documents after None = tt
 
-stays-within : (documents : List Named) (edit : Edit) (places : List (List (List ℕ))) → Stays documents (if_within (edited_within edit places documents))
+stays-within : (documents : List Named) (edit : Edit) (places : List (List (List ℕ))) → Stays documents (replied_by edit_refusal (edited_within edit places documents))
 unfolding edited_within
-stays-within documents edit places = limited documents (edited_documents edit places documents) (limit_of (changed_roots edit places documents))
+stays-within documents edit places =
+    keeps-replied edit_refusal documents (or_limited documents (limit_of (changed_roots edit places documents)) (edited_documents edit places documents))
+    (limited documents (edited_documents edit places documents) (limit_of (changed_roots edit places documents)))
 
 stays-placed : (documents : List Named) (edit : Edit) (places : List (List (List ℕ))) (why : Option Refusal) → Stays documents (edit_placed documents edit places why)
 stays-placed documents edit places (Some why) refused = refl
@@ -133,8 +155,8 @@ module _ (says : Judgement) (state : State) where
   -- a refused command leaves the state
   pub stays : (c : Command) → Stays state (step says state c)
   unfolding step
-  stays (command.Load name block) = in-documents state (loaded state.documents name (loadable block)) (stays-loaded state.documents name (loadable block))
-  stays (command.Drop name) = in-documents state (dropped state.documents name) (stays-dropped state.documents name)
+  stays (command.Load name block) = in-documents state (replied_by (load_refusal name) (loaded state.documents name (loadable block))) (stays-loaded state.documents name (loadable block))
+  stays (command.Drop name) = in-documents state (replied_by (removal_refusal name) (dropped state.documents name)) (stays-dropped state.documents name)
   stays (command.Insert how path block) = in-plans path state (edit_with says state (Some how) path (fragment_of block)) (stays-with (Some how) path (fragment_of block))
   stays (command.Replace path block) = in-plans path state (edit_with says state None path (fragment_of block)) (stays-with None path (fragment_of block))
   stays (command.Delete path) = in-plans path state (edit_read says state Any deletion (path_read path)) (stays-read Any deletion (path_read path))
@@ -153,20 +175,7 @@ module _ (says : Judgement) (state : State) where
 
 -- ---- all that is held
 
--- what is refused early is refused, and no command that loads a document or takes one out
-early-refused : (reply : Reply) → refuses_early reply ≡ true → is_refusal reply ≡ true
-early-refused (reply.Refused why) h = refl
-early-refused reply.Done h = let no : ⊥ = cc in absurd no
-early-refused (reply.Nodes lines) h = let no : ⊥ = cc in absurd no
-early-refused (reply.Texts lines) h = let no : ⊥ = cc in absurd no
-early-refused (reply.Explained line) h = let no : ⊥ = cc in absurd no
-early-refused (reply.Counts counts) h = let no : ⊥ = cc in absurd no
-
-both-of : (a b : Bool) → (not a && b) ≡ true → (a ≡ false) × (b ≡ true)
-both-of true b h = let no : ⊥ = cc in absurd no
-both-of false b h = (refl, h)
-
--- a command was answered, and the versions are the same as before, as far as these facts say
+-- A command was answered, and what is held is the same as before, as far as these facts say.
 module _ (says : Judgement) (before after : Held) (c : Command)
     (version : changes_documents c ≡ false → after.version ≡ before.version)
     (marks : changes_marks c ≡ false → after.mark_versions ≡ before.mark_versions) where
@@ -178,12 +187,12 @@ module _ (says : Judgement) (before after : Held) (c : Command)
       by true is = set is refused
       by false is = marks is
 
-  early-version : (reply : Reply) → (changes_documents c ≡ true → loads_or_drops c ≡ false → refuses_early reply ≡ true → after.version ≡ before.version)
-      → is_refused_early c reply ≡ true → after.version ≡ before.version
-  early-version reply changed early = by (changes_documents c) refl
+  same-version : (reply : Reply) → (changes_documents c ≡ true → is_refusal reply ≡ true → after.version ≡ before.version)
+      → is_refusal reply ≡ true → after.version ≡ before.version
+  same-version reply changed refused = by (changes_documents c) refl
     where
       by : (test : Bool) → changes_documents c ≡ test → after.version ≡ before.version
-      by true is = changed is (both-of (loads_or_drops c) (refuses_early reply) early).0 (both-of (loads_or_drops c) (refuses_early reply) early).1
+      by true is = changed is refused
       by false is = version is
 
   same-state : (reply : Reply) → (after.state, reply) ≡ step says before.state c → is_refusal reply ≡ true → after.state ≡ before.state
@@ -192,18 +201,10 @@ module _ (says : Judgement) (before after : Held) (c : Command)
       ap (λ (x : State × Reply). x.0) answered ∙ stays says before.state c (ap is_refusal (sym told) ∙ refused)
 
   pub refused-held : (result : Result Reply Memory) → IfOk result (λ reply. (after.state, reply) ≡ step says before.state c)
+      → (changes_documents c ≡ true → IfOk result (λ reply. is_refusal reply ≡ true → after.version ≡ before.version))
       → (changes_marks c ≡ true → IfOk result (λ reply. is_refusal reply ≡ true → after.mark_versions ≡ before.mark_versions))
-      → IfOk result (λ reply. is_refusal reply ≡ true → after ≡ with_version after.version before)
-  refused-held (Ok reply) answered set =
-      λ refused i. record { state = same-state reply answered refused i; version = after.version; mark_versions = mark-versions reply set refused i }
-  refused-held (Err e) answered set = tt
-
-  pub early-held : (result : Result Reply Memory) → IfOk result (λ reply. (after.state, reply) ≡ step says before.state c)
-      → (changes_marks c ≡ true → IfOk result (λ reply. is_refusal reply ≡ true → after.mark_versions ≡ before.mark_versions))
-      → (changes_documents c ≡ true → loads_or_drops c ≡ false → IfOk result (λ reply. refuses_early reply ≡ true → after.version ≡ before.version))
-      → IfOk result (λ reply. is_refused_early c reply ≡ true → after ≡ before)
-  early-held (Ok reply) answered set changed =
-      λ early i.
-      let refused = early-refused reply (both-of (loads_or_drops c) (refuses_early reply) early).1 in
-      record { state = same-state reply answered refused i; version = early-version reply changed early i; mark_versions = mark-versions reply set refused i }
-  early-held (Err e) answered set changed = tt
+      → IfOk result (λ reply. is_refusal reply ≡ true → after ≡ before)
+  refused-held (Ok reply) answered changed set =
+      λ refused i.
+      record { state = same-state reply answered refused i; version = same-version reply changed refused i; mark_versions = mark-versions reply set refused i }
+  refused-held (Err e) answered changed set = tt

@@ -15,14 +15,14 @@ use Rattle.path_subset.specs.Paths.{PathForm}
 use Rattle.plain_tree.specs.Document.{Node, nodes, no_nodes}
 use Rattle.plain_tree.specs.declared.place.How.{How}
 use Rattle.plan_runs.specs.Judgement.{Judgement}
-use Rattle.command_replies.specs.declared.reply.LimitOf.{LimitOf}
 use Rattle.command_replies.specs.declared.reply.Refusal.{Refusal}
 use Rattle.command_replies.specs.declared.reply.Refusal.TheVariants as refusal
 use Rattle.command_replies.specs.declared.reply.Reply.{Reply}
-use Rattle.command_replies.specs.declared.reply.Reply.TheVariants.{Done, Refused}
+use Rattle.command_replies.specs.declared.reply.Reply.TheVariants.{Refused}
 use Rattle.tree_edits.specs.steps.Acts.{stays}
 use Rattle.session_state.specs.declared.edit.Targets.{Targets}
 use Rattle.session_state.specs.declared.edit.Targets.TheVariants.{One, Any}
+use Rattle.session_state.specs.DocumentReplies.{edit_refusal, replied_by}
 use Rattle.session_state.specs.Paths.{missing_refusal, selected_in}
 use Rattle.session_state.specs.State.{State, with_documents}
 
@@ -61,14 +61,10 @@ targets_refused targets how count rooted =
 abbrev pub target_refusal : Targets → Edit → List (List (List ℕ)) → Option Refusal
 target_refusal targets edit places = targets_refused targets edit.how (target_count places) (has_root places)
 
--- the documents after an edit, or a limit that one of them would exceed
-abbrev pub if_within : List Named × Option LimitOf → List Named × Reply
-if_within (documents, Some what) = (documents, Refused (refusal.Limit what))
-if_within (documents, None) = (documents, Done)
-
+-- the documents after an edit, unless one of them would exceed a limit
 abbrev pub edit_placed : List Named → Edit → List (List (List ℕ)) → Option Refusal → List Named × Reply
 edit_placed documents edit places (Some why) = (documents, Refused why)
-edit_placed documents edit places None = if_within (edited_within edit places documents)
+edit_placed documents edit places None = replied_by edit_refusal (edited_within edit places documents)
 
 -- ---- what is refused before, in the order in which it is tried
 

@@ -14,7 +14,7 @@ pub mod KeptMarks
 pub mod Edits
 pub mod Stats
 pub mod Step
-pub mod Refused
+pub mod DocumentReplies
 pub mod StoredState
 pub mod steps
 pub mod PriceExamples

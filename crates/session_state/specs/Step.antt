@@ -17,6 +17,7 @@ use Rattle.word_lists.specs.StopLists.{stop_list_of}
 use Rattle.session_state.specs.declared.edit.Targets.TheVariants.{Any}
 use Rattle.session_state.specs.declared.shown.Shown.{Shown}
 use Rattle.session_state.specs.declared.shown.Shown.TheVariants.{Names, Texts}
+use Rattle.session_state.specs.DocumentReplies.{load_refusal, removal_refusal, replied_by}
 use Rattle.session_state.specs.Edits.{deleted, deletion, inserted_into, replaced, touched_path, touched_with}
 use Rattle.session_state.specs.Explained.{explained}
 use Rattle.session_state.specs.KeptTexts.{keep_plans}
@@ -42,8 +43,8 @@ shown_at says state name path (Some mark) = keep_plans path (state, answer says 
 
 -- the state that a command leaves, and its reply, by what is said of selections
 unfoldable pub step : Judgement → State → Command → State × Reply
-step says state (command.Load name block) = with_documents state (loaded state.documents name (loadable block))
-step says state (command.Drop name) = with_documents state (dropped state.documents name)
+step says state (command.Load name block) = with_documents state (replied_by (load_refusal name) (loaded state.documents name (loadable block)))
+step says state (command.Drop name) = with_documents state (replied_by (removal_refusal name) (dropped state.documents name))
 step says state (command.Insert how path block) = keep_plans path (inserted_into says state how path block)
 step says state (command.Replace path block) = keep_plans path (replaced says state path block)
 step says state (command.Delete path) = keep_plans path (deleted says state path)
@@ -60,7 +61,7 @@ step says state command.Stats = (state, counts state)
 step says state (command.BadCommand line) = (state, Refused (refusal.BadCommand line))
 step says state (command.BadName line) = (state, Refused (refusal.BadName line))
 
--- ---- the rows of the index, and the steps of its cursors
+-- ---- what commands change, the rows of the index, and the steps of its cursors
 
 -- whether a command loads a document, takes one out or edits some; no other puts or takes rows
 abbrev pub changes_documents : Command → Bool
@@ -70,6 +71,12 @@ changes_documents (command.Insert how path block) = true
 changes_documents (command.Replace path block) = true
 changes_documents (command.Delete path) = true
 changes_documents _ = false
+
+-- whether a command sets a mark or gives one up
+abbrev pub changes_marks : Command → Bool
+changes_marks (command.Mark name) = true
+changes_marks (command.Unmark name) = true
+changes_marks _ = false
 
 -- whether a command has a path, by which elements are selected; no other moves cursors
 abbrev pub has_path : Command → Bool

@@ -4,14 +4,16 @@ ghost use Rattle.std.specs.Prelude.{◌≡◌, ◌≤◌, ◌+◌, IfOk, None, O
 ghost use Rattle.collections.specs.Documents.{edited_within, touched_in};
 ghost use Rattle.collections.specs.Targets.{places_of_targets, AreTargets};
 ghost use Rattle.path_meaning.specs.Collection.{documents as documents_of};
-ghost use Rattle.session_state.specs.Edits.{edit_placed, has_root, if_within, is_one, target_count, target_refusal, targets_refused, touched_placed};
+ghost use Rattle.session_state.specs.DocumentReplies.{edit_refusal, replied_by};
+ghost use Rattle.session_state.specs.Edits.{edit_placed, has_root, is_one, target_count, target_refusal, targets_refused, touched_placed};
 ghost use Rattle.session_state.specs.PlannedPaths.{prices_in, run_over, HasItsPlans, has_cheap_plans};
-ghost use Rattle.session_state.specs.Refused.{refuses_early};
 ghost use Rattle.session_state.specs.steps.Chosen.{edit_of, planned_places};
+ghost use Rattle.command_replies.specs.Replies.{is_refusal};
 ghost use Rattle.tree_edits.specs.steps.Acts.{stays as does_stay};
 
 use crate::edit::{Edit, Targets};
 use crate::planned::{PlannedPath, open_runs};
+use crate::refusing::refuse_edit;
 use crate::targets::{Chosen, choose};
 use collections::Collection;
 use command_replies::{Refusal, Reply};
@@ -35,7 +37,7 @@ pub(crate) fn edit_along<J: Judge, L: Ledger, M: Ledger>(
         ≡ edit_placed collection.old.documents (edit_of edit.now) (map (planned_places J.says path.now) collection.old.documents)
         (target_refusal edit.now.targets (edit_of edit.now) (map (planned_places J.says path.now) collection.old.documents))) }
     ensures err { OnErr result (collection.new ≡ collection.old) }
-    ensures refused { IfOk result (λ reply. refuses_early reply ≡ true → collection.new ≡ collection.old) }
+    ensures refused { IfOk result (λ reply. is_refusal reply ≡ true → collection.new ≡ collection.old) }
     ensures moves { moves.old ≤ moves.new }
     ensures price { has_cheap_plans path.now ≡ true → moves.new
         ≤ moves.old
@@ -94,7 +96,7 @@ fn edit_chosen<L: Ledger>(
         ≡ edit_placed collection.old.documents (edit_of edit.now) (places_of_targets collection.old.trees chosen.now.refs)
         (target_refusal edit.now.targets (edit_of edit.now) (places_of_targets collection.old.trees chosen.now.refs))) }
     ensures err { OnErr result (collection.new ≡ collection.old) }
-    ensures refused { IfOk result (λ reply. refuses_early reply ≡ true → collection.new ≡ collection.old) }
+    ensures refused { IfOk result (λ reply. is_refusal reply ≡ true → collection.new ≡ collection.old) }
     ensures rows { rows.new
         ≤ rows.old
         + touched_placed collection.old.documents (edit_of edit.now) (places_of_targets collection.old.trees chosen.now.refs)
@@ -118,15 +120,15 @@ fn edit_within<L: Ledger>(
     requires rooted { chosen.now.has_root ≡ has_root (places_of_targets collection.old.trees chosen.now.refs) }
     requires accepted { targets_refused edit.now.targets edit.now.how chosen.now.count chosen.now.has_root ≡ None }
     ensures answer { IfOk result (λ reply. (collection.new.documents, reply)
-        ≡ if_within (edited_within (edit_of edit.now) (places_of_targets collection.old.trees chosen.now.refs) collection.old.documents)) }
+        ≡ replied_by edit_refusal (edited_within (edit_of edit.now) (places_of_targets collection.old.trees chosen.now.refs) collection.old.documents)) }
     ensures err { OnErr result (collection.new ≡ collection.old) }
-    ensures refused { IfOk result (λ reply. refuses_early reply ≡ true → collection.new ≡ collection.old) }
+    ensures refused { IfOk result (λ reply. is_refusal reply ≡ true → collection.new ≡ collection.old) }
     ensures rows { rows.new
         ≤ rows.old + touched_in (edit_of edit.now) (places_of_targets collection.old.trees chosen.now.refs) collection.old.documents }
 {
     match collection.edit(chosen.refs.as_slice(), edit.how, edit.content, rows) {
-        Ok(None) => Ok(Reply::Done),
-        Ok(Some(what)) => Ok(Reply::Refused(Refusal::Limit { what })),
+        Ok(Ok(())) => Ok(Reply::Done),
+        Ok(Err(why)) => Ok(Reply::Refused(refuse_edit(why))),
         Err(memory) => Err(memory),
     }
 }

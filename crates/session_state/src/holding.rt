@@ -2,6 +2,7 @@
 
 ghost use Rattle.std.specs.Prelude.{◌≡◌, ◌≤◌, ◌+◌, IfOk, OnErr, true};
 ghost use Rattle.collections.specs.Documents.{dropped, loadable, loaded, tokens_loaded, tokens_named};
+ghost use Rattle.session_state.specs.DocumentReplies.{load_refusal, removal_refusal, replied_by};
 ghost use Rattle.session_state.specs.Lists.{stems_put, stop_list_put, thesaurus_put};
 ghost use Rattle.session_state.specs.Marks.{marked, unmarked};
 ghost use Rattle.session_state.specs.State.{with_documents};
@@ -13,6 +14,7 @@ ghost use Rattle.word_lists.specs.Stems.{stems_of};
 ghost use Rattle.word_lists.specs.StopLists.{stop_list_of};
 
 use crate::lists::{put_stems, put_stop_list, put_thesaurus};
+use crate::refusing::{refuse_load, refuse_removal};
 use crate::session::Session;
 use crate::stats::counts;
 use command_replies::Reply;
@@ -29,12 +31,17 @@ impl<J: Judge + Drop> Session<J> {
         rows: &mut Steps<L>,
     ) -> Result<Reply, Memory>
         ensures answer { IfOk result (λ reply. (self.new.state, reply)
-            ≡ with_documents self.old.state (loaded self.old.state.documents name.now (loadable block.now))) }
+            ≡ with_documents self.old.state (replied_by (load_refusal name.now) (loaded self.old.state.documents name.now (loadable block.now)))) }
         ensures err { OnErr result (self.new ≡ self.old) }
+        ensures version_refused { IfOk result (λ reply. is_refusal reply ≡ true → self.new.version ≡ self.old.version) }
         ensures mark_versions { self.new.mark_versions ≡ self.old.mark_versions }
         ensures rows { rows.new ≤ rows.old + tokens_loaded self.old.state.documents name.now (loadable block.now) }
     {
-        self.collection.load(name, block, rows)
+        match self.collection.load(name, block, rows) {
+            Ok(Ok(())) => Ok(Reply::Done),
+            Ok(Err(why)) => Ok(Reply::Refused(refuse_load(self.alloc, name, why)?)),
+            Err(memory) => Err(memory),
+        }
     }
 
     /// Takes the document of the name out.
@@ -43,12 +50,18 @@ impl<J: Judge + Drop> Session<J> {
         name: &Line,
         rows: &mut Steps<L>,
     ) -> Result<Reply, Memory>
-        ensures answer { IfOk result (λ reply. (self.new.state, reply) ≡ with_documents self.old.state (dropped self.old.state.documents name.now)) }
+        ensures answer { IfOk result (λ reply. (self.new.state, reply)
+            ≡ with_documents self.old.state (replied_by (removal_refusal name.now) (dropped self.old.state.documents name.now))) }
         ensures err { OnErr result (self.new ≡ self.old) }
+        ensures version_refused { IfOk result (λ reply. is_refusal reply ≡ true → self.new.version ≡ self.old.version) }
         ensures mark_versions { self.new.mark_versions ≡ self.old.mark_versions }
         ensures rows { rows.new ≤ rows.old + tokens_named self.old.state.documents name.now }
     {
-        self.collection.remove(name, rows)
+        match self.collection.remove(name, rows) {
+            Ok(Ok(())) => Ok(Reply::Done),
+            Ok(Err(why)) => Ok(Reply::Refused(refuse_removal(self.alloc, name, why)?)),
+            Err(memory) => Err(memory),
+        }
     }
 
     /// Puts the stop list that the block is under the name.

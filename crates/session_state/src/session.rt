@@ -9,9 +9,8 @@ ghost use Rattle.session_state.specs.Marks.{mark_named, AreIndexesOf};
 ghost use Rattle.session_state.specs.PathPrices.{asks_cheaply, is_cheap_path, moves_for, price_at, read_price};
 ghost use Rattle.path_subset.specs.Answer.{path_read};
 ghost use Rattle.session_state.specs.ReadyPaths.{IsReadyPath};
-ghost use Rattle.session_state.specs.Refused.{changes_marks, is_refused_early, loads_or_drops, refuses_early, with_version};
 ghost use Rattle.session_state.specs.StateView.{prepared_of};
-ghost use Rattle.session_state.specs.Step.{changes_documents, has_path, rows_for, shown as shown_by, shown_at, step};
+ghost use Rattle.session_state.specs.Step.{changes_documents, changes_marks, has_path, rows_for, shown as shown_by, shown_at, step};
 ghost use Rattle.session_state.specs.steps.Chosen.{edit_of};
 ghost use Rattle.command_replies.specs.Replies.{is_refusal};
 
@@ -89,8 +88,7 @@ impl<J: Judge + Drop> Session<J> {
 
     /// Does what the command says, and answers it; of each `contains text` of a path the judge is asked. A refused command
     /// changes nothing, nor does one for which memory runs out. Whatever the answer, the version that the session holds is
-    /// then the index of its documents, and that of each mark the index of the mark's. That it is the same version after a refusal
-    /// is said of all but commands that load a document or take one out, and edits by which a document would exceed a limit.
+    /// then the index of its documents, and that of each mark the index of the mark's.
     ///
     /// `moves` counts the steps of the cursors by which commands with a path answer `contains text`: where all selections of the path are
     /// cheap, no more than what the tests for which it asks cost. `rows` counts the rows of the index that are put and taken.
@@ -102,8 +100,7 @@ impl<J: Judge + Drop> Session<J> {
     ) -> Result<Reply, Memory>
         ensures answer { IfOk result (λ reply. (self.new.state, reply) ≡ step J.says self.old.state command.now) }
         ensures err { OnErr result (self.new ≡ self.old) }
-        ensures refused { IfOk result (λ reply. is_refusal reply ≡ true → self.new ≡ with_version self.new.version self.old) }
-        ensures refused_early { IfOk result (λ reply. is_refused_early command.now reply ≡ true → self.new ≡ self.old) }
+        ensures refused { IfOk result (λ reply. is_refusal reply ≡ true → self.new ≡ self.old) }
         ensures indexed { IsIndexOf self.new.state.documents self.new.version }
         ensures marked { AreIndexesOf self.new.state.marks self.new.mark_versions }
         ensures moves { moves.old ≤ moves.new }
@@ -131,8 +128,8 @@ impl<J: Judge + Drop> Session<J> {
         ensures answer { IfOk result (λ reply. (self.new.state, reply) ≡ step J.says self.old.state command.now) }
         ensures err { OnErr result (self.new ≡ self.old) }
         ensures version { changes_documents command.now ≡ false → self.new.version ≡ self.old.version }
-        ensures version_refused { changes_documents command.now ≡ true → loads_or_drops command.now ≡ false
-            → IfOk result (λ reply. refuses_early reply ≡ true → self.new.version ≡ self.old.version) }
+        ensures version_refused { changes_documents command.now ≡ true
+            → IfOk result (λ reply. is_refusal reply ≡ true → self.new.version ≡ self.old.version) }
         ensures mark_versions { changes_marks command.now ≡ false → self.new.mark_versions ≡ self.old.mark_versions }
         ensures mark_versions_refused { changes_marks command.now ≡ true
             → IfOk result (λ reply. is_refusal reply ≡ true → self.new.mark_versions ≡ self.old.mark_versions) }
@@ -184,7 +181,7 @@ impl<J: Judge + Drop> Session<J> {
         ensures answer { IfOk result (λ reply. (self.new.state, reply)
             ≡ keep_plans path.now (edits.edit_with J.says self.old.state how path.now (fragment_of block.now))) }
         ensures err { OnErr result (self.new ≡ self.old) }
-        ensures version_refused { IfOk result (λ reply. refuses_early reply ≡ true → self.new.version ≡ self.old.version) }
+        ensures version_refused { IfOk result (λ reply. is_refusal reply ≡ true → self.new.version ≡ self.old.version) }
         ensures mark_versions { self.new.mark_versions ≡ self.old.mark_versions }
         ensures moves { moves.old ≤ moves.new }
         ensures price { is_cheap_path self.old.state.lists (path_read path.now) ≡ true
@@ -215,7 +212,7 @@ impl<J: Judge + Drop> Session<J> {
     ) -> Result<Reply, Memory>
         ensures answer { IfOk result (λ reply. (self.new.state, reply) ≡ keep_plans path.now (edits.deleted J.says self.old.state path.now)) }
         ensures err { OnErr result (self.new ≡ self.old) }
-        ensures version_refused { IfOk result (λ reply. refuses_early reply ≡ true → self.new.version ≡ self.old.version) }
+        ensures version_refused { IfOk result (λ reply. is_refusal reply ≡ true → self.new.version ≡ self.old.version) }
         ensures mark_versions { self.new.mark_versions ≡ self.old.mark_versions }
         ensures moves { moves.old ≤ moves.new }
         ensures price { is_cheap_path self.old.state.lists (path_read path.now) ≡ true
@@ -244,7 +241,7 @@ impl<J: Judge + Drop> Session<J> {
         ensures answer { IfOk result (λ reply. (self.new.state, reply)
             ≡ keep_plans path.now (edit_path J.says self.old.state edit.now.targets (edit_of edit.now) path.now)) }
         ensures err { OnErr result (self.new ≡ self.old) }
-        ensures version_refused { IfOk result (λ reply. refuses_early reply ≡ true → self.new.version ≡ self.old.version) }
+        ensures version_refused { IfOk result (λ reply. is_refusal reply ≡ true → self.new.version ≡ self.old.version) }
         ensures mark_versions { self.new.mark_versions ≡ self.old.mark_versions }
         ensures moves { moves.old ≤ moves.new }
         ensures price { is_cheap_path self.old.state.lists (path_read path.now) ≡ true
@@ -271,7 +268,7 @@ impl<J: Judge + Drop> Session<J> {
         ensures answer { IfOk result (λ reply. (self.new.state, reply)
             ≡ keep_plans path.now (edit_path J.says self.old.state edit.now.targets (edit_of edit.now) path.now)) }
         ensures err { OnErr result (self.new ≡ self.old) }
-        ensures version_refused { IfOk result (λ reply. refuses_early reply ≡ true → self.new.version ≡ self.old.version) }
+        ensures version_refused { IfOk result (λ reply. is_refusal reply ≡ true → self.new.version ≡ self.old.version) }
         ensures mark_versions { self.new.mark_versions ≡ self.old.mark_versions }
         ensures moves { moves.old ≤ moves.new }
         ensures price { is_cheap_path self.old.state.lists (path_read path.now) ≡ true

@@ -6,6 +6,7 @@ path_meaning::specs::Meaning::stepped, path_meaning::specs::Meaning::led, path_m
 path_meaning::specs::Meaning::selected))]
 
 ghost use Rattle.std.specs.Prelude.{◌≡◌, ◌∷◌, [], ℕ, List, codes, length, None, Some, Ok, Err};
+ghost use Rattle.collections.specs.declared.fault.NotLoaded.{NotLoaded};
 ghost use Rattle.collections.specs.Documents.{loadable, tokens_loaded, tokens_named, touched_in};
 ghost use Rattle.doc_profile.specs.Readings.{fragment_of};
 ghost use Rattle.doc_profile.specs.declared.fault.DocFault.{DocFault};
@@ -20,7 +21,6 @@ ghost use Rattle.plain_tree.specs.declared.place.How.TheVariants as ways;
 ghost use Rattle.plan_compiler.specs.NamedLists.{NamedLists};
 ghost use Rattle.plan_runs.specs.Judgement.{Judgement};
 ghost use Rattle.command_replies.specs.declared.command.Command.TheVariants as command;
-ghost use Rattle.command_replies.specs.declared.reply.Refusal.{Refusal};
 ghost use Rattle.tokenizer.specs.Tokens.{tokens};
 ghost use Rattle.session_state.specs.declared.edit.Targets.TheVariants as many;
 ghost use Rattle.session_state.specs.Edits.{deletion, touched_read, touched_with};
@@ -32,7 +32,7 @@ ghost use Rattle.session_state.specs.Step.{rows_for};
 pub fn rows_of_documents()
     ensures loaded { (root : Node) → tokens_loaded [] (codes "n") (Ok root) ≡ length (tokens root) }
     ensures name_taken { (root other : Node) → tokens_loaded (record { name = codes "n"; root = other } ∷ []) (codes "n") (Ok root) ≡ 0 }
-    ensures no_document { (why : Refusal) → tokens_loaded [] (codes "n") (Err why) ≡ 0 }
+    ensures no_document { (why : NotLoaded) → tokens_loaded [] (codes "n") (Err why) ≡ 0 }
     ensures second { (a b : Node) → tokens_named (record { name = codes "m"; root = a } ∷ record { name = codes "n"; root = b } ∷ []) (codes "n")
         ≡ length (tokens b) }
     ensures not_there { (a : Node) → tokens_named (record { name = codes "m"; root = a } ∷ []) (codes "n") ≡ 0 }

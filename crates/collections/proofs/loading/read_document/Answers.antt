@@ -2,15 +2,15 @@
 use Rattle.std.proofs.Common.{◌≡◌, subst}
 use Rattle.std.specs.Prelude.{IfOk, Result}
 use Rattle.plain_tree.specs.Document.{Node}
-use Rattle.command_replies.specs.declared.reply.Refusal.{Refusal}
+use Rattle.collections.specs.declared.fault.NotLoaded.{NotLoaded}
 use Rattle.collections.specs.LoadView.{outcome}
 use Rattle.collections.proofs.LoadingLemmas.{loadable-read, loadable-refused}
 use Rattle.collections.proofs.loading.read_document.Goals as goal
 
 pub returns-in_ok-refuse-in-Err : goal.returns-in_ok-refuse-in-Err
 returns-in_ok-refuse-in-Err c =
-    loadable-refused c.args.block.now c.in-Err.fault c.in_ok-refuse-in-Err.field-0 c.in-Err.ensures.answer_err c.in_ok-refuse-in-Err.ensures.known c.in_ok-refuse-in-Err.ensures.refusal
+    loadable-refused c.args.block.now c.in-Err.fault c.in_ok-refuse-in-Err.field-0 c.in-Err.ensures.answer_err c.in_ok-refuse-in-Err.ensures.known c.in_ok-refuse-in-Err.ensures.fault
 
 pub returns-in-Ok : goal.returns-in-Ok
 returns-in-Ok c =
-    subst (λ (said : Result Node Refusal). IfOk c.load.result (λ read. outcome read ≡ said)) (loadable-read c.args.block.now c.in-Ok.document c.in-Ok.ensures.answer_ok) c.load.ensures
+    subst (λ (said : Result Node NotLoaded). IfOk c.load.result (λ read. outcome read ≡ said)) (loadable-read c.args.block.now c.in-Ok.document c.in-Ok.ensures.answer_ok) c.load.ensures

@@ -1,5 +1,6 @@
--- The limit that is exceeded, or the documents after the edit.
+-- The documents after the edit, unless one would exceed a limit.
 use Rattle.std.proofs.Common.{◌≡◌, ◌∙◌, subst, sym, ap, map, None, Some}
+use Rattle.std.specs.Prelude.{Ok, Err}
 use Rattle.collections.specs.Documents.{edited_within, limit_of}
 use Rattle.collections.specs.Indexed.{Indexed}
 use Rattle.collections.specs.Loaded.{to_document, trees_of}
@@ -16,10 +17,10 @@ returns-in-Some-clause-edited g c =
     let places = places_of_targets (trees_of entries) c.args.targets.now in
     let ps = c.in_ok-planned.planned.items in
     let roots = roots-planned edit 0 entries c.args.targets.now ps c.in_ok-planned.ensures in
-    let found : limit_of (map root_after ps) ≡ Some c.in-Some.limit =
+    let found : limit_of (map root_after ps) ≡ Some c.in-Some.why =
     ap (λ qs. limit_of (map root_after qs)) (sym c.as_slice.ensures.value) ∙ (sym c.exceeded.ensures ∙ c.in-Some.is) in
-    subst (λ (i : Indexed). (i.documents, Some c.in-Some.limit) ≡ edited_within edit (places_of_targets i.trees c.args.targets.now) i.documents) c.self.view_is
-    (edited-limited edit places (map to_document entries) c.in-Some.limit (sym (ap limit_of roots) ∙ found))
+    subst (λ (i : Indexed). (i.documents, Err c.in-Some.why) ≡ edited_within edit (places_of_targets i.trees c.args.targets.now) i.documents) c.self.view_is
+    (edited-limited edit places (map to_document entries) c.in-Some.why (sym (ap limit_of roots) ∙ found))
 
 pub apply_all-requires-clause-numbered : goal.apply_all-requires-clause-numbered
 apply_all-requires-clause-numbered g c = (c.self.inside.next, c.self.invariant.numbered)
@@ -38,5 +39,5 @@ returns-clause-edited g c =
     ap (λ qs. limit_of (map root_after qs)) (sym c.as_slice.ensures.value) ∙ (sym c.exceeded.ensures ∙ c.in_default.is) in
     let moved : map to_document c.replace.new.dest ≡ map to_document c.in_ok-documents.field-0.documents = ap (map to_document) c.replace.ensures.after in
     let after = moved ∙ c.in_ok-documents.ensures.documents edit c.args.targets.now c.in_ok-planned.ensures in
-    subst (λ (i : Indexed). (map to_document c.replace.new.dest, None) ≡ edited_within edit (places_of_targets i.trees c.args.targets.now) i.documents) c.self.view_is
+    subst (λ (i : Indexed). (map to_document c.replace.new.dest, Ok tt) ≡ edited_within edit (places_of_targets i.trees c.args.targets.now) i.documents) c.self.view_is
     (edited-all edit places (map to_document entries) (map to_document c.replace.new.dest) (sym (ap limit_of roots) ∙ none) after)

@@ -4,24 +4,21 @@ use Rattle.std.specs.Prelude.{nat_le}
 use Rattle.std.proofs.lemmas.Bool.Decides.{nat_tests}
 use Rattle.ft_base.specs.Limits.{max_documents}
 use Rattle.ordered_tree.specs.Numbered.{plain}
-use Rattle.command_replies.specs.declared.reply.Reply.TheVariants.{Done, Refused}
-use Rattle.command_replies.specs.declared.reply.Refusal.TheVariants.{NameTaken}
+use Rattle.collections.specs.declared.fault.NotLoaded.{NotLoaded}
 use Rattle.collections.specs.Indexed.{Indexed}
 use Rattle.collections.specs.LoadView.{outcome}
 use Rattle.collections.specs.Documents.{has_name}
 use Rattle.collections.specs.Documents.{added, loadable, tokens_loaded}
-use Rattle.collections.proofs.LoadingLemmas.{has_name-lookup, loaded-by, tokens-come, with_reply}
+use Rattle.collections.proofs.LoadingLemmas.{has_name-lookup, changed_to, loaded-by, tokens-come}
 use Rattle.collections.proofs.collection.Collection.load.Goals as goal
 
 pub returns-then-contains_key-clause-answer : goal.returns-then-contains_key-clause-answer
 returns-then-contains_key-clause-answer g c =
     let entries = c.self.inside.documents in
-    let documents = c.args.self.now.documents in
     let there = ap (λ (i : Indexed). i.documents) c.self.view_is in
     let same = c.in_ok-name.ensures ∙ c.as_str.ensures in
     let taken = sym c.contains_key.ensures ∙ c.if-contains_key.true in
-    ap (λ n. with_reply documents (Refused (NameTaken n))) same
-    ∙ sym (loaded-by entries documents c.in_ok-name.name c.args.name.now there same true (nat_le max_documents (length entries)) taken refl (loadable c.args.block.now))
+    sym (loaded-by entries c.args.self.now.documents c.in_ok-name.name c.args.name.now there same true (nat_le max_documents (length entries)) taken refl (loadable c.args.block.now))
 
 pub returns-then-len-ge-MAX_DOCUMENTS-clause-answer : goal.returns-then-len-ge-MAX_DOCUMENTS-clause-answer
 returns-then-len-ge-MAX_DOCUMENTS-clause-answer g c =
@@ -31,14 +28,14 @@ returns-then-len-ge-MAX_DOCUMENTS-clause-answer g c =
     let full = ap (nat_le max_documents) (sym c.len.ensures.len) ∙ grind (arith, nat_tests) in
     sym (loaded-by c.self.inside.documents c.args.self.now.documents c.in_ok-name.name c.args.name.now there same false true absent full (loadable c.args.block.now))
 
-pub returns-in-Refused-clause-answer : goal.returns-in-Refused-clause-answer
-returns-in-Refused-clause-answer g c =
+pub returns-in-NotLoaded-clause-answer : goal.returns-in-NotLoaded-clause-answer
+returns-in-NotLoaded-clause-answer g c =
     let documents = c.args.self.now.documents in
     let there = ap (λ (i : Indexed). i.documents) c.self.view_is in
     let same = c.in_ok-name.ensures ∙ c.as_str.ensures in
     let absent = sym c.contains_key.ensures ∙ c.if-contains_key.false in
     let room = ap (nat_le max_documents) (sym c.len.ensures.len) ∙ grind (arith, nat_tests) in
-    let read = sym c.in_ok-refusal.ensures ∙ ap outcome c.in-Refused.is in
+    let read = sym c.in_ok-why.ensures ∙ ap outcome c.in-NotLoaded.is in
     sym (loaded-by c.self.inside.documents documents c.in_ok-name.name c.args.name.now there same false false absent room (loadable c.args.block.now)
     ∙ ap (added documents c.args.name.now) read)
 
@@ -55,9 +52,9 @@ returns-in-Ok-clause-answer g c =
     let same = c.in_ok-name.ensures ∙ c.as_str.ensures in
     let absent = sym c.contains_key.ensures ∙ c.if-contains_key.false in
     let room = ap (nat_le max_documents) (sym c.len.ensures.len) ∙ grind (arith, nat_tests) in
-    let read = sym c.in_ok-refusal.ensures ∙ ap outcome c.in-Document.is in
-    ap (λ ds. with_reply ds Done) c.in-Ok.ensures.documents
-    ∙ (ap (λ n. with_reply (documents ++ record { name = n; root = root } ∷ []) Done) same
+    let read = sym c.in_ok-why.ensures ∙ ap outcome c.in-Document.is in
+    ap (changed_to {NotLoaded}) c.in-Ok.ensures.documents
+    ∙ (ap (λ n. changed_to {NotLoaded} (documents ++ record { name = n; root = root } ∷ [])) same
     ∙ sym (loaded-by c.self.inside.documents documents c.in_ok-name.name c.args.name.now there same false false absent room (loadable c.args.block.now)
     ∙ ap (added documents c.args.name.now) read))
 
@@ -66,7 +63,7 @@ returns-in-Ok-clause-rows g c =
     let there = ap (λ (i : Indexed). i.documents) c.self.view_is in
     let absent = sym c.contains_key.ensures ∙ c.if-contains_key.false in
     let room = ap (nat_le max_documents) (sym c.len.ensures.len) ∙ grind (arith, nat_tests) in
-    let most = ap (tokens_loaded c.args.self.now.documents c.args.name.now) (sym c.in_ok-refusal.ensures ∙ ap outcome c.in-Document.is)
+    let most = ap (tokens_loaded c.args.self.now.documents c.args.name.now) (sym c.in_ok-why.ensures ∙ ap outcome c.in-Document.is)
     ∙ tokens-come c.self.inside.documents c.args.self.now.documents c.in_ok-name.name c.args.name.now there (c.in_ok-name.ensures ∙ c.as_str.ensures)
     false false absent room (plain c.in-Document.document.read.tree.root) in
     omega (arith, most, c.add.ensures.rows)
@@ -76,7 +73,7 @@ returns-in-Err-clause-rows g c =
     let there = ap (λ (i : Indexed). i.documents) c.self.view_is in
     let absent = sym c.contains_key.ensures ∙ c.if-contains_key.false in
     let room = ap (nat_le max_documents) (sym c.len.ensures.len) ∙ grind (arith, nat_tests) in
-    let most = ap (tokens_loaded c.args.self.now.documents c.args.name.now) (sym c.in_ok-refusal.ensures ∙ ap outcome c.in-Document.is)
+    let most = ap (tokens_loaded c.args.self.now.documents c.args.name.now) (sym c.in_ok-why.ensures ∙ ap outcome c.in-Document.is)
     ∙ tokens-come c.self.inside.documents c.args.self.now.documents c.in_ok-name.name c.args.name.now there (c.in_ok-name.ensures ∙ c.as_str.ensures)
     false false absent room (plain c.in-Document.document.read.tree.root) in
     omega (arith, most, c.add.ensures.rows)
