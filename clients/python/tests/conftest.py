@@ -11,7 +11,7 @@ from typing import Callable, Iterator
 import pytest
 
 TOP = Path(__file__).resolve().parents[3]
-sys.path.insert(0, str(TOP / "clients" / "python"))
+sys.path.insert(0, str(TOP / "clients" / "python" / "src"))
 
 from ftq_client import ProgramMissing, Session, find_program  # noqa: E402
 

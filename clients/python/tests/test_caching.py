@@ -155,7 +155,7 @@ def test_a_changed_row_isnt_taken(folder: Path, tmp_path: Path) -> None:
 def test_a_writer_that_is_killed_spoils_nothing(folder: Path, tmp_path: Path) -> None:
     path = tmp_path / "c.sqlite"
     code = f"""
-import sys; sys.path.insert(0, {str(TOP / "clients" / "python")!r})
+import sys; sys.path.insert(0, {str(TOP / "clients" / "python" / "src")!r})
 from pathlib import Path
 from ftq_ask.caching import Cache
 from ftq_ask.reading import Rules, read_file

@@ -93,8 +93,7 @@ def test_the_package_holds_what_the_wheel_holds_and_runs_unpacked(packed: Path, 
     words = [str(top / "usr/bin/ftq-ask"), "letter.xml", "--query", STORM, "--format", "paths"]
     ran = subprocess.run(words, cwd=tmp_path, env=environment, capture_output=True, text=True, timeout=120)
     assert (ran.returncode, ran.stdout, ran.stderr) == (0, 'doc("letter")/letter[1]/p[1]\n', "")
-    source = TOP / "clients" / "python"
-    source = source / "src" if (source / "src").is_dir() else source
+    source = TOP / "clients" / "python" / "src"
     files = [it.relative_to(source) for package in ("ftq_client", "ftq_ask") for it in (source / package).rglob("*") if it.is_file() and "__pycache__" not in it.parts]
     assert files and [it for it in files if not (packages / it).is_file()] == []
 

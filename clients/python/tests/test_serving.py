@@ -267,7 +267,7 @@ def test_a_port_that_is_taken_is_told(program: Path, library: Path, server: Serv
 
 @pytest.mark.parametrize("module", ["starlette", "uvicorn", "jinja2"])
 def test_what_is_missing_is_named(module: str, library: Path) -> None:
-    code = f"import sys; sys.path.insert(0, {str(TOP / 'clients/python')!r}); sys.modules[{module!r}] = None\n"
+    code = f"import sys; sys.path.insert(0, {str(TOP / 'clients/python/src')!r}); sys.modules[{module!r}] = None\n"
     code += f"sys.argv = ['ask', 'serve', {str(library)!r}]\n"
     code += "from ftq_ask.needs import run; sys.exit(run('ftq_ask.commands'))"
     ran = subprocess.run([sys.executable, "-c", code], capture_output=True, text=True, timeout=60)
