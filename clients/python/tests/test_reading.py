@@ -8,7 +8,7 @@ import pytest
 
 pytest.importorskip("lxml")
 
-from ftq_ask.naming import Names  # noqa: E402
+from ftq_client import Names  # noqa: E402
 from ftq_ask.reading import Rules, Vocabulary, names_of, read_file  # noqa: E402
 from ftq_ask.trees import Untaken  # noqa: E402
 

@@ -6,22 +6,21 @@ from dataclasses import dataclass, replace
 from pathlib import Path
 from typing import Any, Callable, Iterator
 
-from ftq_client import BadLine, ClientError, DocumentFault, Element, Full, QueryFault, Refusal, Reply, SessionFull
+from ftq_client import LATEST_FORMAT, BadLine, ClientError, DocumentFault, Element, Full, Names, QueryFault, Refusal, Reply, SessionFull, command_words
 
 from .choosing import PART, Choice
 from .engines import Loading
 from .lists import Stems, stop_words, usual_stem
 from .locating import Locator, Source
 from .mistakes import Fault
-from .naming import Names
-from .paths import DOCUMENTS, is_said, path_in, with_apostrophes
+from .paths import DOCUMENTS, is_said, path_in, quoted, symbols, with_apostrophes
 from .loading import Reader
 from .reading import Reading, Rules, Vocabulary, names_of, read_file, read_tree, without_empty_lines
 from .shares import Shares, divided
 from .spellings import Spellings
 from .trees import Untaken
 
-NOWHERE = 'doc("/")'
+NOWHERE = 'doc("")'
 """The beginning of a path into a document that can't be there, since no document has that name."""
 
 EDITS = ("insert", "replace", "delete")
@@ -61,7 +60,11 @@ class Collection:
         self.reader = Reader(rules)
         self.locator = Locator(self.sources, rules)
         self.spellings = Spellings(self._texts, stems.stem_of if stems else usual_stem())
-        self._names = Names()
+        self.session_format: int = getattr(engine, "session_format", LATEST_FORMAT)
+        """The format of the sessions with the program, which says how documents are named."""
+        self._names = Names(self.session_format)
+        self._by_bare_names: dict[str, str] = {}
+        """The names of documents by those that they have in sessions of format 1, where these are others."""
         self._reading: dict[str, Reading] = {}
         self.known: dict[Path, Reading | Untaken] = {}
         """What came of each file that was read, without its bytes."""
@@ -78,7 +81,11 @@ class Collection:
         count = self.engine.count if isinstance(self.engine, Shares) else 1
         sizes = [path.stat().st_size if count > 1 and path.exists() else 0 for _, path in found]
         shares = divided(sizes, count)
-        return [Planned(shown, path, self._names.name_for(shown), share, path in named) for (shown, path), share in zip(found, shares)]
+        planned = [Planned(shown, path, self._names.name_for(shown), share, path in named) for (shown, path), share in zip(found, shares)]
+        if self.session_format > 1:
+            bare = Names()
+            self._by_bare_names = {bare.name_for(it.shown): it.name for it in planned}
+        return planned
 
     def load(self, planned: list[Planned], step: Callable[[Path], None]) -> None:
         """Reads and loads files; `step` is told of each. What isn't taken is noted with the reason, and the rest goes on."""
@@ -152,17 +159,25 @@ class Collection:
         """A path as the program is asked for it: an apostrophe that is typed is looked for as it is printed too."""
         return path if self.as_typed else with_apostrophes(path)
 
+    def _of_file(self, path: str) -> str:
+        """A path that names a document as sessions of format 1 do, with the name that it has; another path as it is."""
+        front = DOCUMENTS.match(path) if self._by_bare_names and not self.as_typed else None
+        named = next((it.value for it in symbols(front[0]) if it.kind == "string"), "") if front else ""
+        name = self._by_bare_names.get(named) if named not in self.sources else None
+        return path if front is None or name is None else f"doc({quoted(name)}){path[front.end() :]}"
+
     def _lines(self, front: str, path: str) -> list[str]:
         """The lines of the reply to a command. The stems of the words that its path asks for are sent before, where they are new. A path that
         is only faulty as it is sent is asked for as it is typed."""
         sent = self.sent(path)
         if self.stems and is_said(path, "using", "stemming") and self.stems.add_asked(sent):
             self.send_stems()
-        if sent != path:
-            try:
-                return list(self.engine.command(front + sent).lines)
-            except QueryFault:
-                pass
+        for asked in dict.fromkeys((self._of_file(sent), self._of_file(path))):
+            if asked != path:
+                try:
+                    return list(self.engine.command(front + asked).lines)
+                except QueryFault:
+                    pass
         return list(self.engine.command(front + path).lines)
 
     def fault_of(self, path: str) -> Fault | None:
@@ -191,7 +206,7 @@ class Collection:
 
     def command(self, line: str, block: bytes | None) -> Reply:
         """The reply to any command. What is known of the documents is kept up with what it loads, drops and edits."""
-        kind, *names = line.split()
+        kind, *names = command_words(line, self.session_format)
         edited = self._documents_of(path_in(line)) if kind in EDITS else set()
         reply = self.engine.command(line, block)
         for name in edited & self.sources.keys():

@@ -46,7 +46,7 @@ class PathCompleter(Completer):
         known = collection.vocabulary
         self._rules: list[tuple[re.Pattern[str], Callable[[], Iterable[str]]]] = [
             (re.compile(rf"@({_NAME})$"), lambda: sorted(known.attributes)),
-            (re.compile(rf"(?:^|\s)doc\s*\(\s*[\"']({_NAME})$"), lambda: collection.sources),
+            (re.compile(r"(?:^|\s)doc\s*\(\s*[\"']([^\"']*)$"), lambda: [it.replace('"', '""') for it in collection.sources]),
             (re.compile(r"\busing\s+([\w ]*)$"), lambda: OPTIONS),
             (re.compile(r"\boccurs\s+([\w ]*)$"), lambda: TIMES),
             (re.compile(r"\bcontains\s+(\w*)$"), lambda: ["text "]),

@@ -28,7 +28,7 @@ class Loading(Session):
         process = self._process
         try:
             for _, name, content in documents:
-                command = command_bytes(f"load {name}", content)
+                command = command_bytes(f"load {self._word(name)}", content, self.session_format)
                 if process is None or self._interrupted or process.sent + len(command) > self.limit:
                     self._take_replies(process, sent, 0, done)
                     try:
@@ -52,14 +52,14 @@ class Loading(Session):
             fault = None
             try:
                 process.reply()
-                self._history.add(f"load {name}", command)
+                self._history.add(f"load {self._word(name)}", command, self.session_format)
             except Refusal as refusal:
                 fault = refusal
             done(name, fault)
 
     def twin(self) -> "Loading":
         """A session with the same documents and lists, once it is asked something. What was sent to this one is kept once for both."""
-        other = Loading(self.program, limit=self.limit)
+        other = Loading(self.program, limit=self.limit, session_format=self.session_format)
         other._history = copy.deepcopy(self._history)
         other.interrupt()
         return other

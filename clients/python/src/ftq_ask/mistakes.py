@@ -8,7 +8,7 @@ from typing import Callable, Iterator
 
 from .paths import missing_end
 
-_STRING = r"(?:\"[^\"]*\"|'[^']*')"
+_STRING = r"(?:\"(?:[^\"]|\"\")*\"|'(?:[^']|'')*')"
 _NAME = r"[\w:][\w:.-]*"
 _OPTION = r"(?:case|diacritics)\s+(?:in)?sensitive|lowercase|uppercase|stemming|wildcards|stop\s+words|thesaurus"
 _KEYWORDS = "CONTAINS|TEXT|FTAND|FTOR|FTNOT|USING|OCCURS|TIMES|ANY|ALL|WORDS?|PHRASE|STEMMING|WILDCARDS|COLLECTION|DOC"
@@ -67,7 +67,7 @@ MISTAKES: list[Mistake] = [
         r"doc(\1)",
         'collection("moby")//p',
     ),
-    _mistake("a document's name is a string", r"^\s*doc\s*\(\s*([A-Za-z0-9._-]+)\s*\)", r'doc("\1")', "doc(moby)//p"),
+    _mistake("a document's name is a string", r"^\s*doc\s*\(\s*([A-Za-z0-9._/-]+)\s*\)", r'doc("\1")', "doc(moby)//p"),
     _mistake("the first line of an answer is its count", r"^\s*count\s*\(\s*(.*)\)\s*$", r"\1", "count(collection()//p)"),
     _mistake(
         "a question is one path, without variables and return",

@@ -10,13 +10,13 @@ from __future__ import annotations
 import argparse
 import sys
 from pathlib import Path
-from typing import BinaryIO
+from typing import BinaryIO, Iterable
 
-from ftq_client import command_bytes
+from ftq_client import LATEST_FORMAT, Names, command_bytes, name_word
+from ftq_client.names import OPENINGS, is_bare
 
 from .calls import add_arguments
 from .choosing import Choice, rules_of
-from .naming import Names
 from .reading import MOST_BYTES, Reading, read_file
 from .trees import Untaken
 
@@ -26,17 +26,23 @@ MOST_DOCUMENTS = 4_096
 class Packing:
     """A session that is being written."""
 
-    def __init__(self, out: BinaryIO) -> None:
+    def __init__(self, out: BinaryIO, session_format: int) -> None:
+        """Begins a session of that format."""
         self.out = out
-        self.names = Names()
+        self.session_format = session_format
         self.documents = 0
         self.bytes = 0
+        self.write(OPENINGS[session_format])
 
-    def document(self, path: Path, reading: Reading) -> None:
+    def document(self, name: str, reading: Reading) -> None:
         """Writes a document after a comment with its file."""
         comment = f"# {reading.path}".replace("\n", " ").encode("utf-8", errors="replace") + b"\n"
-        self.write(comment + command_bytes(f"load {self.names.name_for(path)}", reading.content))
+        self.write(comment + self.command(f"load {name_word(name, self.session_format)}", reading.content))
         self.documents += 1
+
+    def command(self, line: str, block: bytes | None = None) -> bytes:
+        """A command as this session has it."""
+        return command_bytes(line, block, self.session_format)
 
     def write(self, part: bytes) -> None:
         """Writes a part of the session, and counts its bytes."""
@@ -53,24 +59,34 @@ class Packing:
         return found
 
 
+def _least_format(names: Iterable[str]) -> int:
+    """The first format of sessions in which documents may have these names."""
+    return 1 if all(map(is_bare, names)) else 2
+
+
 def main(arguments: list[str]) -> int:
     """The tool: 0, or 1 where something was left out or is too much."""
     parser = argparse.ArgumentParser(prog="pack", description=__doc__, formatter_class=argparse.RawDescriptionHelpFormatter)
     parser.add_argument("paths", nargs="+", type=Path, metavar="FILE|FOLDER")
+    parser.add_argument(
+        "--session-format", type=int, choices=sorted(OPENINGS), metavar="1|2", help="writes a session of this format, whatever the names of its documents are"
+    )
     parser.add_argument("--query", action="append", default=[], metavar="PATH", help="adds a query after the documents; may be given again")
     add_arguments(parser)
     options = parser.parse_args(arguments)
-    packing, status, choice = Packing(sys.stdout.buffer), 0, Choice(options.glob)
-    for shown, path in choice.files_of(options.paths):
+    choice, names, status = Choice(options.glob), Names(options.session_format or LATEST_FORMAT), 0
+    files = [("" if isinstance(path, Untaken) else names.name_for(shown), path) for shown, path in choice.files_of(options.paths)]
+    packing = Packing(sys.stdout.buffer, options.session_format or _least_format(name for name, _ in files if name))
+    for name, path in files:
         try:
             if isinstance(path, Untaken):
                 raise path
-            packing.document(shown, read_file(path, rules_of(options)))
+            packing.document(name, read_file(path, rules_of(options)))
         except Untaken as untaken:
             print(f"pack: {untaken}", file=sys.stderr)
             status = 1
     for query in options.query:
-        packing.write(command_bytes(f"query {query}"))
+        packing.write(packing.command(f"query {query}"))
     packing.out.flush()
     passed = choice.said()
     if passed:

@@ -61,7 +61,7 @@ def path_in(line: str) -> str:
     return told[1] if told else ""
 
 
-DOCUMENTS = re.compile(r"\s*(?:collection\s*\(\s*\)|doc\s*\(\s*(?:\"[^\"]*\"|'[^']*')\s*\))")
+DOCUMENTS = re.compile(r"\s*(?:collection\s*\(\s*\)|doc\s*\(\s*(?:\"(?:[^\"]|\"\")*\"|'(?:[^']|'')*')\s*\))")
 """What a path begins with."""
 
 

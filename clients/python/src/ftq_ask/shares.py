@@ -18,7 +18,7 @@ from pathlib import Path
 from typing import Any, Callable, Iterable, TypeVar
 
 import ftq_client
-from ftq_client import ClientError, Done, Element, Found, NameTaken, NoSuchDocument, NoSuchName, ProgramEnded, Reply, Session
+from ftq_client import LATEST_FORMAT, ClientError, Done, Element, Found, NameTaken, NoSuchDocument, NoSuchName, ProgramEnded, Reply, Session, command_words
 
 Answer = TypeVar("Answer")
 Part = TypeVar("Part")
@@ -121,6 +121,8 @@ class Shares:
         # A session is for one thread: each has a lane of its own, in which what is asked of it stands in a row.
         self._lanes = [ThreadPoolExecutor(max_workers=1) for _ in engines]
         self._homes: dict[str, int] = {}
+        self.session_format = engines[0].session_format if engines and isinstance(engines[0], Session) else LATEST_FORMAT
+        """The format of the sessions of all of them."""
         self.share = len(engines) - 1
         """The share, from 0, that gets what is loaded next."""
 
@@ -193,7 +195,7 @@ class Shares:
     def command(self, line: str, block: bytes | None = None) -> Reply:
         """The reply to a command. Queries go to all shares, lists too, documents to the share that is theirs; a `ValueError` tells of
         a command that isn't divided."""
-        words = line.split()
+        words = command_words(line, self.session_format)
         kind, names = (words[0] if words else ""), words[1:]
         if kind in ("query", "print"):
             return Found(tuple(self._joined(line.strip()[len(kind) :], lambda it: list(it.command(line).lines))))

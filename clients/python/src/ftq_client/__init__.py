@@ -37,6 +37,7 @@ from .faults import (
     refusal_of,
 )
 from .folders import Folder
+from .names import LATEST_FORMAT, Names, command_words, name_word
 from .program import find_program
 from .replies import Counts, Done, Element, Found, Reply, Said, Step
 from .session import Engine, Position, Session
@@ -57,8 +58,10 @@ __all__ = [
     "Folder",
     "Found",
     "Full",
+    "LATEST_FORMAT",
     "ManyTargets",
     "NameTaken",
+    "Names",
     "NoSuchDocument",
     "NoSuchList",
     "NoSuchName",
@@ -79,6 +82,8 @@ __all__ = [
     "TimedOut",
     "block_bytes",
     "command_bytes",
+    "command_words",
     "find_program",
+    "name_word",
     "refusal_of",
 ]

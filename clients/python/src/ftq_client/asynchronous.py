@@ -10,6 +10,7 @@ from typing import Callable, TypeVar
 
 from .blocks import Content
 from .folders import Folder
+from .names import LATEST_FORMAT
 from .program import MOST_BYTES
 from .replies import Counts, Element, Reply
 from .session import Position, Session
@@ -21,9 +22,11 @@ class AsyncSession:
     """A `Session` whose calls are awaited. What is asked while another call waits is asked after it. A call that is cancelled ends the program,
     as an interrupt does: the next one starts another with the same documents."""
 
-    def __init__(self, program: str | Path | None = None, *, limit: int = MOST_BYTES, timeout: float | None = None) -> None:
+    def __init__(
+        self, program: str | Path | None = None, *, limit: int = MOST_BYTES, timeout: float | None = None, session_format: int = LATEST_FORMAT
+    ) -> None:
         """Starts the program, as `Session` does."""
-        self.session = Session(program, limit=limit, timeout=timeout)
+        self.session = Session(program, limit=limit, timeout=timeout, session_format=session_format)
         self._thread = ThreadPoolExecutor(max_workers=1, thread_name_prefix="ftq")
         self._turn = asyncio.Lock()
 

@@ -4,15 +4,21 @@ from __future__ import annotations
 
 from typing import Union
 
+from .names import LATEST_FORMAT
+
 BLOCK_WORDS = frozenset({"load", "insert", "replace", "stop", "stems", "thesaurus"})
 """The first words of the lines that a block follows."""
+
+MOST_LINE_BYTES = 65_536
+MOST_BLOCK_BYTES = 67_108_864
+"""How many bytes a line may have, and the greatest length of a block in format 2. A line beyond them is refused, and takes no block there."""
 
 Content = Union[bytes, str]
 """What a block holds: bytes as they are, or a text, which is sent as UTF-8."""
 
 
 def block_bytes(content: bytes) -> bytes:
-    """The lines of a block that holds `content`, and the line that ends it.
+    """The lines of a block of format 1 that holds `content`, and the line that ends it.
 
     A line that begins with a period gets one more before it, so that any bytes can stand in a block.
     """
@@ -21,8 +27,9 @@ def block_bytes(content: bytes) -> bytes:
     return b"\n".join(quoted) + b"\n.\n"
 
 
-def command_bytes(line: str, block: Content | None = None) -> bytes:
-    """One command as a session has it. A block that is neither bytes nor a text is a `TypeError`.
+def command_bytes(line: str, block: Content | None = None, session_format: int = LATEST_FORMAT) -> bytes:
+    """One command as a session of that format has it. The line is the same in both: in format 2 the length of the block is put behind its first
+    word here, and the block follows as it is. A block that is neither bytes nor a text is a `TypeError`.
 
     A `ValueError` tells of a line that the program would not answer, or for whose block it would wait: one that holds a line
     feed, is empty or a comment, one whose first word wants a block that isn't given, and one with a block that it doesn't take.
@@ -43,4 +50,12 @@ def command_bytes(line: str, block: Content | None = None) -> bytes:
     content = block.encode("utf-8") if isinstance(block, str) else block
     if not isinstance(content, (bytes, bytearray)):
         raise TypeError(f"a block is bytes or a text, and no {type(block).__name__}")
-    return head + block_bytes(bytes(content))
+    return head + block_bytes(bytes(content)) if session_format == 1 else _counted(words, first, bytes(content))
+
+
+def _counted(words: str, first: str, content: bytes) -> bytes:
+    """A command of format 2 with its block. Where the program takes none, since the line is too long or the length none, none is sent: its bytes
+    would be read as commands."""
+    head = f"{first} {len(content)}{words[len(first) :]}".encode("utf-8")
+    takes = len(head) <= MOST_LINE_BYTES and len(content) <= MOST_BLOCK_BYTES
+    return head + b"\n" + (content + b"\n" if takes else b"")

@@ -174,7 +174,7 @@ _FORMS: list[tuple[type[Refusal], re.Pattern[str]]] = [
     (DocumentFault, re.compile(r"! 6 document: (?P<kind>tokens)")),
     (BadLine, re.compile(r"! 6 list: bad line (?P<line>\d+)")),
     (QueryFault, re.compile(r"! 7 query: (?P<kind>.+) at (?P<place>\d+)")),
-    (NoSuchDocument, re.compile(r"! 8 no such document: (?P<name>.+)")),
+    (NoSuchDocument, re.compile(r"! 8 no such document: (?P<name>.*)")),
     (NoSuchList, re.compile(r"! 9 no such list: (?P<name>.*)")),
     (NoTarget, re.compile(r"! 10 no target")),
     (ManyTargets, re.compile(r"! 11 many targets: (?P<count>\d+)")),

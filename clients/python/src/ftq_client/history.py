@@ -4,6 +4,8 @@ from __future__ import annotations
 
 from dataclasses import dataclass
 
+from .names import command_words
+
 LOOKS_BACK = frozenset({"insert", "replace", "delete", "mark", "unmark"})
 """The commands whose effect depends on all that came before them."""
 
@@ -34,13 +36,13 @@ class History:
         """The commands in the order in which they have to be sent."""
         return [it.command for it in self._kept]
 
-    def add(self, line: str, command: bytes) -> None:
-        """Takes note of an accepted command that was answered by `ok`.
+    def add(self, line: str, command: bytes, session_format: int) -> None:
+        """Takes note of an accepted command of a session of that format that was answered by `ok`.
 
         A document that was dropped and a list that was replaced are forgotten, unless an edit or a mark stands between that
         may have looked at them.
         """
-        words = line.replace("\t", " ").split()
+        words = command_words(line, session_format)
         kind, name = words[0], words[1] if len(words) > 1 else ""
         if self._plain and kind == "drop":
             self._forget("load", name)

@@ -43,8 +43,9 @@ def find_program() -> Path:
 class Process:
     """One run of the program, and one session with it."""
 
-    def __init__(self, program: Path) -> None:
-        """Starts it. It gets a process group of its own, so that an interrupt at the terminal doesn't end it."""
+    def __init__(self, program: Path, opening: bytes = b"") -> None:
+        """Starts it. It gets a process group of its own, so that an interrupt at the terminal doesn't end it. The opening, to which there is no
+        reply, is sent with the first command."""
         try:
             self._child = subprocess.Popen(
                 [os.fspath(program), "/dev/stdin"],
@@ -56,8 +57,9 @@ class Process:
             )
         except OSError as error:
             raise ProgramMissing(f"{program} can't be started: {error.strerror}") from error
-        self.sent = 0
-        """How many bytes of its session were sent."""
+        self._opening = opening
+        self.sent = len(opening)
+        """How many bytes its session has up to now."""
 
     @property
     def pid(self) -> int:
@@ -73,8 +75,9 @@ class Process:
         """Sends a command, whose reply is the next one after those of the commands before it."""
         assert self._child.stdin
         self.sent += len(command)
+        opening, self._opening = self._opening, b""
         try:
-            self._child.stdin.write(command)
+            self._child.stdin.write(opening + command if opening else command)
             self._child.stdin.flush()
         except BrokenPipeError:
             raise self._ended() from None

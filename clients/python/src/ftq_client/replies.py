@@ -19,14 +19,14 @@ class Step(NamedTuple):
 class Element:
     """An element that a query found: its document's name and the steps from the document to it.
 
-    `line` is the program's line for it, which is a path that selects just this element.
+    `line` is the program's line for it, which is a path that selects just this element; a quote in the name is doubled there.
     """
 
     document: str
     steps: tuple[Step, ...]
     line: str
 
-    LINE = re.compile(r'doc\("([A-Za-z0-9._-]+)"\)((?:/[^/\[\]]+\[[0-9]+\])+)')
+    LINE = re.compile(r'doc\("((?:[^"]|"")+)"\)((?:/[^/\[\]]+\[[0-9]+\])+)')
     STEP = re.compile(r"/([^/\[\]]+)\[([0-9]+)\]")
 
     @classmethod
@@ -36,7 +36,7 @@ class Element:
         if not parts:
             raise ValueError(f"no line that names an element: {line!r}")
         steps = tuple(Step(name, int(number)) for name, number in cls.STEP.findall(parts[2]))
-        return cls(parts[1], steps, line)
+        return cls(parts[1].replace('""', '"'), steps, line)
 
 
 def text_of(printed: str) -> str:

@@ -13,6 +13,7 @@ from .blocks import Content, command_bytes
 from .faults import ClientError, ProgramEnded, Refusal, SessionClosed, SessionFull, TimedOut
 from .folders import Folder, named_files
 from .history import History
+from .names import LATEST_FORMAT, OPENINGS, name_word
 from .program import MOST_BYTES, Process, find_program
 from .replies import Counts, Done, Element, Found, Reply, Said, text_of
 
@@ -51,11 +52,17 @@ class Session:
     with the same documents, lists and edits; so documents and lists together may take 64 MiB less the longest command. An
     interrupt (Ctrl-C) while an answer is awaited ends the process, and the next command starts a new one likewise.
 
-    Where `limit` is less than 64 MiB the session moves on earlier.
+    Where `limit` is less than 64 MiB the session moves on earlier. In a session of format 2 (docs/SESSIONS.md) names of documents, lists and marks are
+    any texts of 1 to 64 characters without control characters, and blocks are sent as they are.
     """
 
-    def __init__(self, program: str | Path | None = None, *, limit: int = MOST_BYTES, timeout: float | None = None) -> None:
-        """Starts the program: the one that is given, or what `find_program` finds."""
+    def __init__(
+        self, program: str | Path | None = None, *, limit: int = MOST_BYTES, timeout: float | None = None, session_format: int = LATEST_FORMAT
+    ) -> None:
+        """Starts the program: the one that is given, or what `find_program` finds. It is talked to in the format of sessions that is given, 1 or 2."""
+        if session_format not in OPENINGS:
+            raise ValueError(f"there are sessions of format 1 and 2, and none of {session_format!r}")
+        self.session_format = session_format
         self.timeout = timeout
         """The seconds within which each command has to be answered, or `TimedOut` is raised; None for as long as it takes. It may be set anew."""
         self.program = Path(program) if program else find_program()
@@ -77,7 +84,7 @@ class Session:
 
     def load(self, name: str, content: Content) -> None:
         """Reads `content` as a document and puts it last in the collection. Any bytes may be given, or a text."""
-        self._said(self.command(f"load {name}", content), Done)
+        self._said(self.command(f"load {self._word(name)}", content), Done)
 
     def load_folder(self, folder: str | Path, pattern: str = "**/*.xml") -> Folder:
         """Loads the files of a folder whose paths match, in their order, each under its path's name. One that the program refuses, as it does one
@@ -93,11 +100,11 @@ class Session:
 
     def drop(self, name: str) -> None:
         """Takes the document out of the collection."""
-        self._said(self.command(f"drop {name}"), Done)
+        self._said(self.command(f"drop {self._word(name)}"), Done)
 
     def stop(self, name: str, words: Content) -> None:
         """Reads `words`, one in a line, as a stop list, in the place of the one of that name."""
-        self._said(self.command(f"stop {name}", words), Done)
+        self._said(self.command(f"stop {self._word(name)}", words), Done)
 
     def stems(self, lines: Content) -> None:
         """Reads `lines`, a word and its stem in each, as the dictionary of stems, in the place of the one before."""
@@ -105,7 +112,7 @@ class Session:
 
     def thesaurus(self, name: str, lines: Content) -> None:
         """Reads `lines`, each `RELATION | PHRASE | PHRASE`, as a thesaurus, in the place of the one of that name."""
-        self._said(self.command(f"thesaurus {name}", lines), Done)
+        self._said(self.command(f"thesaurus {self._word(name)}", lines), Done)
 
     def query(self, path: str) -> list[Element]:
         """The elements that the path selects, documents in order of loading, elements of one document in its order."""
@@ -140,15 +147,15 @@ class Session:
 
     def mark(self, name: str) -> None:
         """Keeps the collection as it is, under a name, for `query_at`."""
-        self._said(self.command(f"mark {name}"), Done)
+        self._said(self.command(f"mark {self._word(name)}"), Done)
 
     def unmark(self, name: str) -> None:
         """Gives the mark up."""
-        self._said(self.command(f"unmark {name}"), Done)
+        self._said(self.command(f"unmark {self._word(name)}"), Done)
 
     def query_at(self, mark: str, path: str) -> list[Element]:
         """The elements that the path selects in the collection as the mark has it; lists are those of now."""
-        found = self._said(self.command(f"query at {mark} {path}"), Found)
+        found = self._said(self.command(f"query at {self._word(mark)} {path}"), Found)
         return [Element.read(line) for line in found.lines]
 
     def stats(self) -> Counts:
@@ -166,7 +173,7 @@ class Session:
         program ends, `TimedOut` where it takes too long, `SessionClosed` behind `close`, and a `ValueError` where the line is none that the
         program would answer.
         """
-        command = command_bytes(line, block)
+        command = command_bytes(line, block, self.session_format)
         process = self._ready(len(command))
         try:
             with self._in_time(process):
@@ -178,7 +185,7 @@ class Session:
             self._process = None
             raise
         if isinstance(reply, Done):
-            self._history.add(line, command)
+            self._history.add(line, command, self.session_format)
         return reply
 
     def give_up_after(self, seconds: float | None) -> None:
@@ -208,9 +215,13 @@ class Session:
         process, self._process = self._process, None
         return process.close() if process else 0
 
+    def _word(self, name: str) -> str:
+        """A name as a command of this session has it."""
+        return name_word(name, self.session_format)
+
     def _start(self) -> Process:
         self.processes += 1
-        process = Process(self.program)
+        process = Process(self.program, OPENINGS[self.session_format])
         LOG.debug("%s was started as process %d", self.program, process.pid)
         return process
 
@@ -224,7 +235,7 @@ class Session:
         self._interrupted = False
         if self._process and self._process.sent + size <= self.limit:
             return self._process
-        again = self._history.size
+        again = len(OPENINGS[self.session_format]) + self._history.size
         if again + size > self.limit:
             raise SessionFull(f"documents and lists of {again:,} bytes and a command of {size:,} are more than the {self.limit:,} of one session")
         if self._process:

@@ -26,7 +26,10 @@ PATIENCE = 2.0
 
 def document_of(line: str) -> str:
     """The name of the document in the line of an element."""
-    return line[5 : line.index('"', 5)]
+    end = line.index('"', 5)
+    while line.startswith('""', end):
+        end = line.index('"', end + 2)
+    return line[5:end].replace('""', '"')
 
 
 def name_of(line: str) -> str:

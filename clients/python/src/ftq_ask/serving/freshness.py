@@ -11,13 +11,12 @@ from dataclasses import replace
 from pathlib import Path
 from typing import Any
 
-from ftq_client import ClientError, DocumentFault, Full, NameTaken, NoSuchName, SessionFull
+from ftq_client import ClientError, DocumentFault, Full, Names, NameTaken, NoSuchName, SessionFull
 
 from ..choosing import PART
 from ..collection import Collection, Planned
 from ..loading import Read
 from ..locating import Source
-from ..naming import Names
 from ..reading import Reading, Vocabulary
 from ..trees import Untaken
 from .desk import Desk
@@ -88,7 +87,7 @@ class Freshness:
     def _take_in(self, old: Collection, changed: set[str]) -> None:
         """Makes the collection anew, from what is known of files that haven't changed, and those that have."""
         new = copy.copy(old)
-        new.choice, new._names, new.untaken, new.known = old.choice.again(), Names(), [], {}
+        new.choice, new._names, new.untaken, new.known = old.choice.again(), Names(old.session_format), [], {}
         planned = new.plan(self._paths)
         again = [it for it in planned if _is_to_read(it, old.known.get(it.path), changed)]
         contents: dict[Path, Reading] = {}
