@@ -27,7 +27,7 @@ use Rattle.ft_operators.specs.Course.{every, filtered_on, tellings, ways_on}
 use Rattle.ft_operators.specs.Phrases.{PhraseState}
 use Rattle.ft_operators.specs.Standing.{frame, includes_now}
 use Rattle.ft_operators.specs.Walk.{tuple_of}
-use Rattle.ft_operators.specs.steps.Cleaning.{Asked, MayAsk}
+use Rattle.ft_operators.specs.steps.Cleaning.{tells, Asked, MayAsk}
 use Rattle.ft_operators.specs.steps.Measuring.{holds}
 use Rattle.ft_operators.specs.steps.Forms.{sieve_left, chosen_left, choices_at}
 use Rattle.ft_operators.specs.steps.Nodes.{standing, frame_of, shape_of}
@@ -63,10 +63,10 @@ module _ {P : Type 0} (state : P → PhraseState) (course : Course) (old new : N
       }
 
   pub asked_answer : (there : Bool) (before after : Chain) (room new_room start end : ℕ) (answer : Bool) → is_not_empty (cond there (standing state course old).rest []) ≡ true
-      → Asked (standing state course old) (standing state course new) before after room new_room start end answer → is_plain (frame_of state old).operator ≡ true
+      → Asked course (standing state course old) (standing state course new) before after room new_room start end answer → tells course (frame_of state old).operator ≡ true
       → answer ≡ clean_now (kept_by (links_of before)) (cond there (standing state course old).rest [])
-  asked_answer true before after room new_room start end answer way a plain = a.clean (ap (λ f. is_plain f.operator) (frame_same state course old) ∙ plain)
-  asked_answer false before after room new_room start end answer way a plain = cc
+  asked_answer true before after room new_room start end answer way a told = a.clean (ap (λ f. tells course f.operator) (frame_same state course old) ∙ told)
+  asked_answer false before after room new_room start end answer way a told = cc
 
   pub asked_shown : (there : Bool) (mid_room new_room : ℕ) (held : List Hit) → is_not_empty (cond there (standing state course old).rest []) ≡ true → standing state course new ≡ standing state course old
       → IsHeld there (standing state course new) mid_room new_room held → (shape_of old).room ≤ mid_room

@@ -1,5 +1,5 @@
 -- Looking for a way that passes a test, and whether the present way is clean, kind by kind.
-use Rattle.std.proofs.Common.{◌≡◌, refl, ap, sym, ◌∙◌, subst, ℕ, ◌<◌, ◌≤◌, List, [], ◌∷◌, ◌++◌, Bool, true, false, not, ◌||◌, cond, drop, length, get_or, arith}
+use Rattle.std.proofs.Common.{◌≡◌, refl, ap, sym, ◌∙◌, subst, ℕ, ◌<◌, ◌≤◌, List, [], ◌∷◌, ◌++◌, Bool, true, false, not, ◌&&◌, ◌||◌, cond, drop, length, get_or, arith}
 use Rattle.std.specs.Prelude.{map, flat_map, Option, None, ⊤}
 use Rattle.std.specs.List.{list_any, list_all}
 use Rattle.std.proofs.lemmas.Bool.{and_parts}
@@ -11,24 +11,27 @@ use Rattle.ft_base.specs.declared.span.Span.{Span}
 use Rattle.all_matches.specs.declared.window.Window.{Window}
 use Rattle.all_matches.specs.Chain.{Link, kept_by}
 use Rattle.all_matches.specs.Filters.{passes, choices}
-use Rattle.all_matches.specs.Ways.{Operator, negated, matches_of, ways_of, Way, one_hit, turned_about, by_filter, way_includes, clean_under, without_negation, is_plain, bare_match}
+use Rattle.all_matches.specs.Ways.{Operator, either, apart, negated, through_filter, matches_of, ways_of, Way, one_hit, turned_about, by_filter, way_includes, clean_under, without_negation, is_plain, bare_match}
 use Rattle.all_matches.proofs.BareWays.{bare_matches}
 use Rattle.all_matches.proofs.ListTests.{list_any-map}
 use Rattle.all_matches.proofs.PlainOperators.{plain-positive}
 use Rattle.ft_operators.specs.declared.course.Course.{Course}
 use Rattle.ft_operators.specs.declared.course.Windows.{Windows}
-use Rattle.ft_operators.specs.Course.{asked_for, firsts, filtered_on, stands_on, ways_on}
+use Rattle.ft_operators.specs.Course.{asked_for, course_inside, firsts, filtered_on, stands_on, ways_on}
 use Rattle.ft_operators.specs.Bounds.{everywhere}
 use Rattle.ft_operators.specs.KeptBounds.{chain_bounds}
 use Rattle.ft_operators.specs.declared.chain.Chain.{Chain}
 use Rattle.ft_operators.specs.Chains.{all_kept, passes_now, clean_now, links_of, spare_filters, spare_hits, IsKept}
 use Rattle.ft_operators.specs.Phrases.{PhraseState}
 use Rattle.ft_operators.specs.Standing.{Frame, Standing, frame, at_prefix, one_on, includes_now, one_aims}
-use Rattle.ft_operators.specs.steps.Cleaning.{Searched, Searching, MayAsk, Asked, Deciding, Decided}
+use Rattle.ft_operators.specs.steps.Cleaning.{tells, Searched, Searching, MayAsk, Asked, Deciding, Decided}
+use Rattle.ft_operators.specs.Extents.{extent_before, extent_beside, extent_inside, extent_of, extent_of_either}
+use Rattle.ft_operators.specs.steps.Measuring.{holds}
 use Rattle.ft_operators.specs.steps.Forms.{phrase_of, apart_of, apart_left, negation_of, negated_shape, sieve_of, sieve_left, chosen_left, choices_of, choices_at}
 use Rattle.ft_operators.specs.steps.Walking.{Gathered, IsHeld, Moved, MayGoOn}
 use Rattle.ft_operators.proofs.ChainLemmas.{kept_refl, kept_trans}
 use Rattle.ft_operators.proofs.CourseLemmas.{kept_told}
+use Rattle.ft_operators.proofs.ExtentLemmas.{holds_both}
 use Rattle.ft_operators.proofs.KeptLemmas.{kept_lies}
 use Rattle.ft_operators.proofs.SieveLemmas.{fewer, lead_below, sieve_operand_there}
 
@@ -113,11 +116,11 @@ kept_verdict kept now there mid_room new_room held may h is = held_kept kept hel
 pub may_inside : (inside node : Standing) (room filters hits : ℕ) → node ≡ inside → MayAsk node room filters hits → MayAsk inside room filters hits
 may_inside inside node room filters hits is may = subst (λ s. MayAsk s room filters hits) is may
 
-pub asked_inside : (inside inside_now node node_now : Standing) (before after : Chain) (room new_room start end : ℕ) (answer : Bool) → node ≡ inside → node_now ≡ inside_now
-    → Asked inside inside_now before after room new_room start end answer → Asked node node_now before after room new_room start end answer
-asked_inside inside inside_now node node_now before after room new_room start end answer old new a = record {
+pub asked_inside : (course : Course) (inside inside_now node node_now : Standing) (before after : Chain) (room new_room start end : ℕ) (answer : Bool) → node ≡ inside → node_now ≡ inside_now
+    → Asked course inside inside_now before after room new_room start end answer → Asked course node node_now before after room new_room start end answer
+asked_inside course inside inside_now node node_now before after room new_room start end answer old new a = record {
   same = new ∙ a.same ∙ sym old;
-  clean = λ plain. a.clean (ap (λ s. is_plain s.operator) (sym old) ∙ plain) ∙ ap (λ s. clean_now (kept_by (links_of before)) s.rest) (sym old);
+  clean = λ told. a.clean (ap (λ s. tells course s.operator) (sym old) ∙ told) ∙ ap (λ s. clean_now (kept_by (links_of before)) s.rest) (sym old);
   kept = a.kept;
   kept_room = a.kept_room;
   grown = a.grown;
@@ -127,25 +130,49 @@ found_clean : (kept : Hit → Bool) (found : List Hit) → true ≡ clean_now ke
 found_clean kept [] = refl
 found_clean kept (hit ∷ rest) = refl
 
-pub asked_phrase : (s : PhraseState) (node : Standing) (chain : Chain) (room start : ℕ) → node ≡ phrase_of s → Asked node node chain chain room room start start true
-asked_phrase s node chain room start is = record {
+pub asked_phrase : (course : Course) (s : PhraseState) (node : Standing) (chain : Chain) (room start : ℕ) → node ≡ phrase_of s → Asked course node node chain chain room room start start true
+asked_phrase course s node chain room start is = record {
   same = refl;
-  clean = λ plain. found_clean (kept_by (links_of chain)) s.rest ∙ ap (λ n. clean_now (kept_by (links_of chain)) n.rest) (sym is);
+  clean = λ told. found_clean (kept_by (links_of chain)) s.rest ∙ ap (λ n. clean_now (kept_by (links_of chain)) n.rest) (sym is);
   kept = kept_refl chain;
   kept_room = omega arith;
   grown = omega arith;
 }
 
+-- what is told of an operator is told of its operands
+pub tells_both : (course : Course) (left right : Operator) → tells course (either left right) ≡ true → (tells course left ≡ true) × (tells course right ≡ true)
+tells_both course left right h =
+    let parts = and_parts (is_plain left && is_plain right) (holds course.extent (extent_inside (either left right)) && holds course.beside (extent_beside (either left right))) h in
+    let plain = and_parts (is_plain left) (is_plain right) parts.0 in
+    let said = and_parts (holds course.extent (extent_inside (either left right))) (holds course.beside (extent_beside (either left right))) parts.1 in
+    let held = holds_both course.extent (extent_inside left) (extent_inside right) said.0 in
+    let out = holds_both course.beside (extent_beside left) (extent_beside right) said.1 in
+    (λ i. plain.0 i && (held.0 i && out.0 i), λ i. plain.1 i && (held.1 i && out.1 i))
+
+tells_apart : (course : Course) (left right : Operator) → tells course (apart left right) ≡ true → tells course left ≡ true
+tells_apart course left right h =
+    let parts = and_parts (without_negation left && without_negation right) (holds course.extent (extent_inside (apart left right)) && holds course.beside (extent_beside (apart left right))) h in
+    let said = and_parts (holds course.extent (extent_inside (apart left right))) (holds course.beside (extent_beside (apart left right))) parts.1 in
+    let out = (holds_both course.beside (extent_of right) (extent_of_either (extent_beside left) (extent_beside right)) said.1).1 in
+    λ i. plain-positive left (and_parts (without_negation left) (without_negation right) parts.0).0 i
+    && ((holds_both course.extent (extent_inside left) (extent_inside right) said.0).0 i && (holds_both course.beside (extent_beside left) (extent_beside right) out).0 i)
+
+tells_inside : (course : Course) (kind : Filter) (operand : Operator) → tells course (through_filter operand kind) ≡ true → tells course operand ≡ true
+tells_inside course kind operand h =
+    let parts = and_parts (is_plain operand) (holds course.extent (extent_inside (through_filter operand kind)) && holds course.beside (extent_beside operand)) h in
+    let said = and_parts (holds course.extent (extent_inside (through_filter operand kind))) (holds course.beside (extent_beside operand)) parts.1 in
+    λ i. parts.0 i && ((holds_both course.extent (extent_inside operand) (extent_before kind (extent_of operand)) said.0).0 i && said.1 i)
+
 apart_clean : (kept : Hit → Bool) (stands : Way → Bool) (xs : List Way) → clean_now kept xs ≡ clean_now kept (apart_left stands xs)
 apart_clean kept stands [] = refl
 apart_clean kept stands (x ∷ xs) = refl
 
-pub asked_apart : (course : Course) (left right left_now : Standing) (before after : Chain) (room new_room start end : ℕ) (answer : Bool) → Asked left left_now before after room new_room start end answer
-    → Asked (apart_of course left right) (apart_of course left_now right) before after room new_room start end answer
+pub asked_apart : (course : Course) (left right left_now : Standing) (before after : Chain) (room new_room start end : ℕ) (answer : Bool) → Asked course left left_now before after room new_room start end answer
+    → Asked course (apart_of course left right) (apart_of course left_now right) before after room new_room start end answer
 asked_apart course left right left_now before after room new_room start end answer a = record {
   same = ap (λ s. apart_of course s right) a.same;
-  clean = λ plain.
-      a.clean (plain-positive left.operator (and_parts (without_negation left.operator) (without_negation right.operator) plain).0)
+  clean = λ told.
+      a.clean (tells_apart course left.operator right.operator told)
       ∙ apart_clean (kept_by (links_of before)) (stands_on course right.operator) left.rest;
   kept = a.kept;
   kept_room = a.kept_room;
@@ -162,29 +189,31 @@ negation_by course there f = record {
 }
 
 -- the course of what is asked under a chain
-abbrev pub excludes_course : Span → List Link → Course
-excludes_course item links = firsts item (chain_bounds links everywhere)
+abbrev pub excludes_course : Course → List Link → Course
+excludes_course course links = firsts course.item (chain_bounds links everywhere) course.extent course.beside
 
 -- some Match has all its hits kept exactly where some way has
-pub some_kept : (item : Span) (operator : Operator) (links : List Link) → without_negation operator ≡ true
-    → list_any (all_kept (kept_by links)) (ways_on (excludes_course item links) operator) ≡ list_any (λ m. list_all (kept_by links) m.includes) (matches_of item operator)
-some_kept item operator links bare =
-    kept_told item (chain_bounds links everywhere) operator (kept_by links) (kept_lies links)
-    ∙ sym (list_any-map (λ m. list_all (kept_by links) m.includes) bare_match (ways_of item operator))
-    ∙ ap (list_any (λ m. list_all (kept_by links) m.includes)) (sym (bare_matches item operator bare))
+pub some_kept : (course : Course) (operator : Operator) (links : List Link) → tells course (negated operator) ≡ true
+    → list_any (all_kept (kept_by links)) (ways_on (excludes_course course links) operator) ≡ list_any (λ m. list_all (kept_by links) m.includes) (matches_of course.item operator)
+some_kept course operator links told =
+    let parts = and_parts (without_negation operator) (holds course.extent (extent_inside operator) && holds course.beside (extent_beside operator)) told in
+    let said = and_parts (holds course.extent (extent_inside operator)) (holds course.beside (extent_beside operator)) parts.1 in
+    kept_told course.item (chain_bounds links everywhere) course.extent course.beside operator (kept_by links) (kept_lies links) said.0 said.1
+    ∙ sym (list_any-map (λ m. list_all (kept_by links) m.includes) bare_match (ways_of course.item operator))
+    ∙ ap (list_any (λ m. list_all (kept_by links) m.includes)) (sym (bare_matches course.item operator parts.0))
 
 -- the walk that was gone through may be on another course
 pub asked_negated : (course : Course) (there : Bool) (operand now begun ended : Standing) (chain : Chain) (room new_room start end : ℕ) (answer : Bool) → is_not_empty ((negation_of course there operand).rest) ≡ true
-    → frame begun ≡ frame operand → frame ended ≡ frame now → Searched (excludes_course course.item (links_of chain)) ⊤ (all_kept (kept_by (links_of chain))) begun ended room new_room start end answer
-    → Asked (negation_of course there operand) (negation_of course there now) chain chain room new_room start end (not answer)
+    → frame begun ≡ frame operand → frame ended ≡ frame now → Searched (excludes_course course (links_of chain)) ⊤ (all_kept (kept_by (links_of chain))) begun ended room new_room start end answer
+    → Asked course (negation_of course there operand) (negation_of course there now) chain chain room new_room start end (not answer)
 unfolding negation_by
 asked_negated course true operand now begun ended chain room new_room start end answer way first last s = record {
   same = ap (negation_by course true) (sym last ∙ s.same ∙ first);
-  clean = λ bare.
+  clean = λ told.
       ap not
       (s.found tt
-      ∙ ap (λ f. list_any (all_kept (kept_by (links_of chain))) (ways_on (excludes_course course.item (links_of chain)) f.operator)) first
-      ∙ some_kept course.item operand.operator (links_of chain) bare);
+      ∙ ap (λ f. list_any (all_kept (kept_by (links_of chain))) (ways_on (excludes_course course (links_of chain)) f.operator)) first
+      ∙ some_kept course operand.operator (links_of chain) told);
   kept = kept_refl chain;
   kept_room = s.kept_room;
   grown = s.grown;
@@ -239,12 +268,12 @@ module _ (course : Course) (kind : Filter) (lead : ℕ) (operand : Standing) (ro
 pub asked_filtered : (course : Course) (kind : Filter) (lead : ℕ) (operand now : Standing) (old pushed asked new : Chain) (held : List Hit) (room mid_room new_room start end : ℕ) (answer : Bool)
     → is_not_empty ((sieve_of course kind lead operand).rest) ≡ true → held ≡ includes_now operand.rest → room ≤ mid_room
     → links_of pushed ≡ link_with course.windows kind lead held ∷ links_of old
-    → Asked operand now pushed asked mid_room new_room start end answer → IsKept old new
-    → Asked (sieve_of course kind lead operand) (sieve_of course kind lead now) old new room new_room start end answer
+    → Asked (course_inside kind course) operand now pushed asked mid_room new_room start end answer → IsKept old new
+    → Asked course (sieve_of course kind lead operand) (sieve_of course kind lead now) old new room new_room start end answer
 asked_filtered course kind lead operand now old pushed asked new held room mid_room new_room start end answer there is grew put a kept = record {
   same = ap (sieve_of course kind lead) a.same;
-  clean = λ plain.
-      a.clean plain
+  clean = λ told.
+      a.clean (tells_inside course kind operand.operator told)
       ∙ ap (λ ls. clean_now (kept_by ls) operand.rest) (put ∙ ap (λ hits. link_with course.windows kind lead hits ∷ links_of old) is)
       ∙ sieve_clean (links_of old) kind course lead operand.rest there;
   kept = kept;
@@ -254,15 +283,15 @@ asked_filtered course kind lead operand now old pushed asked new held room mid_r
 
 -- ---- the first way that is clean
 
-pub may_go_on : (now tried : Standing) (before after : Chain) (room filters hits new_room start end : ℕ) (verdict : Bool) → MayAsk now room filters hits
-    → Asked now tried before after room new_room start end verdict → MayGoOn tried new_room
-may_go_on now tried before after room filters hits new_room start end verdict may a =
+pub may_go_on : (course : Course) (now tried : Standing) (before after : Chain) (room filters hits new_room start end : ℕ) (verdict : Bool) → MayAsk now room filters hits
+    → Asked course now tried before after room new_room start end verdict → MayGoOn tried new_room
+may_go_on course now tried before after room filters hits new_room start end verdict may a =
     subst (λ s. MayGoOn s new_room) (sym a.same) record { there = may.there; fits = omega (arith, may.fits, a.kept_room) }
 
 pub deciding_starts : (course : Course) (test : Way → Bool) (old now : Standing) (chain : Chain) (room now_room start end : ℕ) (answer : Bool) → Moved (at_prefix course old) now room now_room start end answer
     → Deciding course test old now chain chain room now_room start end answer
 deciding_starts course test old now chain room now_room start end answer m = record {
-  search = search_starts course (is_plain old.operator ≡ true) test old now room now_room start end answer m;
+  search = search_starts course (tells course old.operator ≡ true) test old now room now_room start end answer m;
   kept = kept_refl chain;
 }
 
@@ -275,39 +304,39 @@ module _ (course : Course) (old now : Standing) (before after : Chain) (room now
       let hits = ap (λ s. s.hits) same in
       record {
         there = sym l.search.there_now ∙ is;
-        fits = (search_may course (is_plain old.operator ≡ true) (clean_under (kept_by (links_of before))) old now room now_room start end there l.search room fits (omega arith) is).fits;
+        fits = (search_may course (tells course old.operator ≡ true) (clean_under (kept_by (links_of before))) old now room now_room start end there l.search room fits (omega arith) is).fits;
         filters = omega (arith, filters, few_filters, l.kept.filters);
         hits = omega (arith, hits, few_hits, l.kept.hits);
       }
 
   pub decided_none : there ≡ false → Decided course (clean_under (kept_by (links_of before))) old now before after room now_room start end false
   decided_none none = record {
-    search = search_none course (is_plain old.operator ≡ true) (clean_under (kept_by (links_of before))) old now room now_room start end there l.search none;
+    search = search_none course (tells course old.operator ≡ true) (clean_under (kept_by (links_of before))) old now room now_room start end there l.search none;
     kept = l.kept;
   }
 
   -- the present way was asked
-  module _ (tried : Standing) (asked : Chain) (tried_room tried_end : ℕ) (verdict : Bool) (a : Asked now tried after asked now_room tried_room end tried_end verdict) where
-    verdict_is : is_plain old.operator ≡ true → passes_now (clean_under (kept_by (links_of before))) now.rest ≡ verdict
-    verdict_is plain =
-        ap (λ ls. clean_now (kept_by ls) now.rest) (sym l.kept.links) ∙ sym (a.clean (ap (λ f. is_plain f.operator) l.search.same ∙ plain))
+  module _ (tried : Standing) (asked : Chain) (tried_room tried_end : ℕ) (verdict : Bool) (a : Asked course now tried after asked now_room tried_room end tried_end verdict) where
+    verdict_is : tells course old.operator ≡ true → passes_now (clean_under (kept_by (links_of before))) now.rest ≡ verdict
+    verdict_is told =
+        ap (λ ls. clean_now (kept_by ls) now.rest) (sym l.kept.links) ∙ sym (a.clean (ap (λ f. tells course f.operator) l.search.same ∙ told))
 
     pub decided_here : there ≡ true → verdict ≡ true → Decided course (clean_under (kept_by (links_of before))) old tried before asked room tried_room start tried_end true
     decided_here is holds = record {
-      search = search_found course (is_plain old.operator ≡ true) (clean_under (kept_by (links_of before))) old now room now_room start end there l.search tried tried_room tried_end a.same a.kept_room a.grown is
-          (λ plain. verdict_is plain ∙ holds);
+      search = search_found course (tells course old.operator ≡ true) (clean_under (kept_by (links_of before))) old now room now_room start end there l.search tried tried_room tried_end a.same a.kept_room a.grown is
+          (λ told. verdict_is told ∙ holds);
       kept = kept_trans before after asked l.kept a.kept;
     }
 
     module _ (next : Standing) (next_room next_end : ℕ) (answer : Bool) (m : Moved (one_on tried) next tried_room next_room tried_end next_end answer) where
       pub deciding_on : there ≡ true → verdict ≡ false → Deciding course (clean_under (kept_by (links_of before))) old next before asked room next_room start next_end answer
       deciding_on is fails = record {
-        search = search_on course (is_plain old.operator ≡ true) (clean_under (kept_by (links_of before))) old now room now_room start end there l.search tried tried_room tried_end a.same a.kept_room a.grown
-            next next_room next_end answer m is (λ plain. verdict_is plain ∙ fails);
+        search = search_on course (tells course old.operator ≡ true) (clean_under (kept_by (links_of before))) old now room now_room start end there l.search tried tried_room tried_end a.same a.kept_room a.grown
+            next next_room next_end answer m is (λ told. verdict_is told ∙ fails);
         kept = kept_trans before after asked l.kept a.kept;
       }
 
       pub deciding_fewer : there ≡ true → length next.rest < length now.rest
       deciding_fewer is =
-          search_fewer course (is_plain old.operator ≡ true) (clean_under (kept_by (links_of before))) old now room now_room start end there l.search tried tried_room tried_end a.same a.kept_room a.grown
+          search_fewer course (tells course old.operator ≡ true) (clean_under (kept_by (links_of before))) old now room now_room start end there l.search tried tried_room tried_end a.same a.kept_room a.grown
           next next_room next_end answer m is

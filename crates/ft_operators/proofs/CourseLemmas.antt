@@ -28,7 +28,7 @@ use Rattle.ft_operators.specs.declared.reach.Reach.{Reach}
 use Rattle.ft_operators.specs.steps.Measuring.{holds}
 use Rattle.ft_operators.proofs.BoundLemmas.{all_lie, all_more, all_pass, few_at, filter_within, sides_within}
 use Rattle.ft_operators.proofs.ApartLemmas.{out_is}
-use Rattle.ft_operators.proofs.ExtentLemmas.{few_before, few_inside, few_more, few_unsaid, few_ways, holds_both}
+use Rattle.ft_operators.proofs.ExtentLemmas.{few_before, few_inside, few_more, few_ways, holds_both}
 use Rattle.ft_operators.proofs.OutLemmas.{admitted_out, has_word, lies_beside_all, out_still, out_wordless}
 use Rattle.ft_operators.proofs.ServeLemmas.{Asks, Respects, choices_tell, serves_filtered, serves_left, serves_right}
 use Rattle.ft_operators.proofs.SpreadLemmas.{are_few}
@@ -320,10 +320,14 @@ clean_told item extent beside operator kept held out =
     (ways_tell operator course (few_and course (clean_under kept)) tt held out (few_respects ⊤ course (clean_under kept) (λ better way s h. s.clean tt kept h)) (bounded_nowhere course (clean_under kept)))
 
 -- those that are kept lie in bounds
-pub kept_told : (item : Span) (bounds : Bounds) (operator : Operator) (kept : Hit → Bool) → ((hit : Hit) → kept hit ≡ true → lies_in bounds hit ≡ true)
-    → list_any (all_kept kept) (ways_on (firsts item bounds) operator) ≡ list_any (all_kept kept) (ways_of item operator)
-kept_told item bounds operator kept lie =
-    ways_tell operator (firsts item bounds) (all_kept kept) tt refl refl (of_includes ⊥ (list_all kept))
+pub kept_told : (item : Span) (bounds : Bounds) (extent beside : Option Extent) (operator : Operator) (kept : Hit → Bool) → ((hit : Hit) → kept hit ≡ true → lies_in bounds hit ≡ true)
+    → holds extent (extent_inside operator) ≡ true → holds beside (extent_beside operator) ≡ true
+    → list_any (all_kept kept) (ways_on (firsts item bounds extent beside) operator) ≡ list_any (all_kept kept) (ways_of item operator)
+kept_told item bounds extent beside operator kept lie held out =
+    let course = firsts item bounds extent beside in
+    told_few course operator (all_kept kept) held
+    (ways_tell operator course (few_and course (all_kept kept)) tt held out (few_respects ⊥ course (all_kept kept) (of_includes ⊥ (list_all kept)))
     (λ way h.
     let hits = way_includes way in
-    λ i. (all_more kept (lies_in bounds) lie hits h i && all_pass (λ hit. list_all (λ other. true) hits) (λ hit. all_pass (λ other. true) (λ other. refl) hits) hits i) && few_unsaid way i)
+    let parts = and_parts (few_before extent way) (all_kept kept way) h in
+    λ i. (all_more kept (lies_in bounds) lie hits parts.1 i && all_pass (λ hit. list_all (λ other. true) hits) (λ hit. all_pass (λ other. true) (λ other. refl) hits) hits i) && parts.0 i))

@@ -245,28 +245,6 @@ few_before extent (two_ways left right) = few_before extent left && few_before e
 few_before extent (turned_about matches) = true
 few_before extent (by_filter way kind choice) = few_at extent kind (way_includes way) && few_before extent way
 
-pub few_unsaid : (way : Way) → few_before None way ≡ true
-few_unsaid (one_hit hit) = refl
-few_unsaid (two_ways left right) = λ i. few_unsaid left i && few_unsaid right i
-few_unsaid (turned_about matches) = refl
-few_unsaid (by_filter way kind choice) = λ i. unsaid kind i && few_unsaid way i
-  where
-    nowhere : (limit : Option ℕ) (hits : List Hit) → few_where limit None hits ≡ true
-    nowhere None hits = refl
-    nowhere (Some gap) hits = refl
-
-    unsaid : (kind : Filter) → few_at None kind (way_includes way) ≡ true
-    unsaid F.Ordered = refl
-    unsaid (F.Window size kind) = refl
-    unsaid (F.Distance range kind) = nowhere (most_between range kind) (way_includes way)
-    unsaid F.SameSentence = refl
-    unsaid F.SameParagraph = refl
-    unsaid F.DifferentSentence = refl
-    unsaid F.DifferentParagraph = refl
-    unsaid F.AtStart = refl
-    unsaid F.AtEnd = refl
-    unsaid F.EntireContent = refl
-
 few_limited : (limit : Option ℕ) (extent other : Option Extent) (hits : List Hit) → holds extent (where_limited limit other) ≡ true → are_few other hits ≡ true → few_where limit extent hits ≡ true
 few_limited None extent other hits h few = refl
 few_limited (Some gap) extent other hits h few = few_more extent other hits h few

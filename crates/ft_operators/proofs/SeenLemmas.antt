@@ -28,9 +28,9 @@ module _ {P : Type 0} (state : P → PhraseState) where
         → Moved (one_on (standing state d a)) (standing state d b) room new_room start end answer
     seen_next a b room new_room start end answer m = subst (λ e. Moved (one_on (standing state e a)) (standing state e b) room new_room start end answer) same m
 
-    pub seen_asked : (a b : Node P) (before after : Chain) (room new_room start end : ℕ) (answer : Bool) → Asked (standing state c a) (standing state c b) before after room new_room start end answer
-        → Asked (standing state d a) (standing state d b) before after room new_room start end answer
-    seen_asked a b before after room new_room start end answer asked = subst (λ e. Asked (standing state e a) (standing state e b) before after room new_room start end answer) same asked
+    pub seen_asked : (a b : Node P) (before after : Chain) (room new_room start end : ℕ) (answer : Bool) → Asked c (standing state c a) (standing state c b) before after room new_room start end answer
+        → Asked d (standing state d a) (standing state d b) before after room new_room start end answer
+    seen_asked a b before after room new_room start end answer asked = subst (λ e. Asked e (standing state e a) (standing state e b) before after room new_room start end answer) same asked
 
   module _ (course : Course) (a b : Node P) (room new_room start end : ℕ) (answer : Bool) where
     pub first_shape : Moved (at_prefix course (standing state course a)) (standing state course b) room new_room start end answer → shape_of b ≡ shape_of a

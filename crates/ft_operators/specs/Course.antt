@@ -118,8 +118,8 @@ abbrev pub tellings : Span → Option Extent → Option Extent → Course
 tellings item extent beside = record { item = item; windows = Telling; bounds = everywhere; reach = no_reach; extent = extent; beside = beside }
 
 -- that of a negated selection, whose includes lie in bounds
-abbrev pub firsts : Span → Bounds → Course
-firsts item bounds = record { item = item; windows = First; bounds = bounds; reach = no_reach; extent = None; beside = None }
+abbrev pub firsts : Span → Bounds → Option Extent → Option Extent → Course
+firsts item bounds extent beside = record { item = item; windows = First; bounds = bounds; reach = no_reach; extent = extent; beside = beside }
 
 -- the number, among all windows of a size round a hit that ends there, of that one among those that are asked for
 abbrev pub number_among : Windows → ℕ → ℕ → ℕ → ℕ

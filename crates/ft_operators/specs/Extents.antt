@@ -118,22 +118,22 @@ extent_before F.AtStart extent = no_include
 extent_before F.AtEnd extent = no_include
 extent_before F.EntireContent extent = no_include
 
--- what the ways have before any such distance of an operator. Those inside negated selections don't count
+-- what the ways have before any such distance of an operator
 abbrev pub extent_inside : Operator → Option Extent
 extent_inside (phrase found) = no_include
 extent_inside (either left right) = extent_of_either (extent_inside left) (extent_inside right)
 extent_inside (together left right) = extent_of_either (extent_inside left) (extent_inside right)
 extent_inside (apart left right) = extent_of_either (extent_inside left) (extent_inside right)
-extent_inside (negated operand) = no_include
+extent_inside (negated operand) = extent_inside operand
 extent_inside (through_filter operand kind) = extent_of_either (extent_inside operand) (extent_before kind (extent_of operand))
 
--- what the ways of the right side of any mild not of an operator have. Those inside negated selections don't count
+-- what the ways of the right side of any mild not of an operator have
 abbrev pub extent_beside : Operator → Option Extent
 extent_beside (phrase found) = no_include
 extent_beside (either left right) = extent_of_either (extent_beside left) (extent_beside right)
 extent_beside (together left right) = extent_of_either (extent_beside left) (extent_beside right)
 extent_beside (apart left right) = extent_of_either (extent_of right) (extent_of_either (extent_beside left) (extent_beside right))
-extent_beside (negated operand) = no_include
+extent_beside (negated operand) = extent_beside operand
 extent_beside (through_filter operand kind) = extent_beside operand
 
 -- the words of the one include that a way has, where it has no more

@@ -87,7 +87,7 @@ pub(crate) fn is_clean<P: PhraseHits, L: Ledger>(
     steps: &mut Steps<L>,
 ) -> bool
     requires { MayAsk (standing P.state course node.old) (vec_capacity held.old) (spare_filters chain.old) (spare_hits chain.old) }
-    ensures { Asked (standing P.state course node.old) (standing P.state course node.new) chain.old chain.new
+    ensures { Asked course (standing P.state course node.old) (standing P.state course node.new) chain.old chain.new
         (vec_capacity held.old) (vec_capacity held.new) steps.old steps.new result }
 {
     match node {
@@ -109,7 +109,7 @@ fn fork_is_clean<P: PhraseHits, L: Ledger>(
     steps: &mut Steps<L>,
 ) -> bool
     requires { MayAsk (fork_standing P.state course fork.old) (vec_capacity held.old) (spare_filters chain.old) (spare_hits chain.old) }
-    ensures { Asked (fork_standing P.state course fork.old) (fork_standing P.state course fork.new) chain.old chain.new
+    ensures { Asked course (fork_standing P.state course fork.old) (fork_standing P.state course fork.new) chain.old chain.new
         (vec_capacity held.old) (vec_capacity held.new) steps.old steps.new result }
 {
     if fork.second {
@@ -128,7 +128,7 @@ fn pair_is_clean<P: PhraseHits, L: Ledger>(
     steps: &mut Steps<L>,
 ) -> bool
     requires { MayAsk (pair_standing P.state course pair.old) (vec_capacity held.old) (spare_filters chain.old) (spare_hits chain.old) }
-    ensures { Asked (pair_standing P.state course pair.old) (pair_standing P.state course pair.new) chain.old chain.new
+    ensures { Asked course (pair_standing P.state course pair.old) (pair_standing P.state course pair.new) chain.old chain.new
         (vec_capacity held.old) (vec_capacity held.new) steps.old steps.new result }
 {
     if !is_clean(&mut pair.left, course, chain, held, steps) {
@@ -147,7 +147,7 @@ fn apart_is_clean<P: PhraseHits, L: Ledger>(
     steps: &mut Steps<L>,
 ) -> bool
     requires { MayAsk (apart_standing P.state course pair.old) (vec_capacity held.old) (spare_filters chain.old) (spare_hits chain.old) }
-    ensures { Asked (apart_standing P.state course pair.old) (apart_standing P.state course pair.new) chain.old chain.new
+    ensures { Asked course (apart_standing P.state course pair.old) (apart_standing P.state course pair.new) chain.old chain.new
         (vec_capacity held.old) (vec_capacity held.new) steps.old steps.new result }
 {
     is_clean(&mut pair.left, course, chain, held, steps)
@@ -162,10 +162,10 @@ fn negation_is_clean<P: PhraseHits, L: Ledger>(
     steps: &mut Steps<L>,
 ) -> bool
     requires { MayAsk (negation_standing P.state course negation.old) (vec_capacity held.old) (spare_filters chain.old) (spare_hits chain.old) }
-    ensures { Asked (negation_standing P.state course negation.old) (negation_standing P.state course negation.new) chain.old chain.new
+    ensures { Asked course (negation_standing P.state course negation.old) (negation_standing P.state course negation.new) chain.old chain.new
         (vec_capacity held.old) (vec_capacity held.new) steps.old steps.new result }
 {
-    let firsts = firsts(course.item, chain.bounds());
+    let firsts = firsts(course.item, chain.bounds(), course.extent, course.beside);
     !some_is_kept(&mut negation.operand, firsts, chain, held, steps)
 }
 
@@ -179,7 +179,7 @@ fn sieve_is_clean<P: PhraseHits, L: Ledger>(
     steps: &mut Steps<L>,
 ) -> bool
     requires { MayAsk (sieve_standing P.state course sieve.old) (vec_capacity held.old) (spare_filters chain.old) (spare_hits chain.old) }
-    ensures { Asked (sieve_standing P.state course sieve.old) (sieve_standing P.state course sieve.new) chain.old chain.new
+    ensures { Asked course (sieve_standing P.state course sieve.old) (sieve_standing P.state course sieve.new) chain.old chain.new
         (vec_capacity held.old) (vec_capacity held.new) steps.old steps.new result }
 {
     held.clear();

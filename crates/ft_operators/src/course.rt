@@ -51,17 +51,23 @@ pub(crate) fn tellings(item: Span, extent: Option<Extent>, beside: Option<Extent
     unbounded(item, Windows::Telling, extent, beside)
 }
 
-/// The course of a whole node, through the first window of each filter, whose includes lie in the bounds.
-pub(crate) fn firsts(item: Span, bounds: Bounds) -> Course
-    ensures { result ≡ firsts item bounds }
+/// The course of the operand of a negated selection, through the first window of each filter, whose includes lie in the
+/// bounds.
+pub(crate) fn firsts(
+    item: Span,
+    bounds: Bounds,
+    extent: Option<Extent>,
+    beside: Option<Extent>,
+) -> Course
+    ensures { result ≡ firsts item bounds extent beside }
 {
     Course {
         item,
         windows: Windows::First,
         bounds,
         reach: no_reach(),
-        extent: None,
-        beside: None,
+        extent,
+        beside,
     }
 }
 

@@ -202,7 +202,7 @@ pub fn extents_before_distances()
     ensures on_both_sides { extent_inside (together (through_filter two_words (at_most 3)) (through_filter (together one_word one_word) (at_most 1))) ≡ extent 2 2 }
     ensures on_either_side { extent_inside (either (through_filter two_words (at_most 3)) (through_filter (together one_word one_word) (at_most 1))) ≡ extent 2 2 }
     ensures before_a_window { extent_before (F.Window 2 Words) (extent 2 2) ≡ no_include }
-    ensures in_what_is_negated { extent_inside (negated (through_filter one_word (at_most 1))) ≡ extent 0 0 }
+    ensures in_what_is_negated { extent_inside (negated (through_filter one_word (at_most 1))) ≡ extent 1 1 }
 {}
 
 /// What ways of the right sides of mild nots have; where that is no more than one include, it tells where one lies that covers
@@ -215,7 +215,7 @@ pub fn right_sides()
     ensures of_one_on_the_left { extent_beside (apart (apart one_word two_words) one_word) ≡ extent 1 2 }
     ensures of_one_on_the_right { extent_beside (apart one_word (apart one_word two_words)) ≡ extent 1 2 }
     ensures through_a_filter { extent_beside (through_filter (apart one_word two_words) F.Ordered) ≡ extent 1 2 }
-    ensures in_what_is_negated { extent_beside (negated (apart one_word two_words)) ≡ extent 0 0 }
+    ensures in_what_is_negated { extent_beside (negated (apart one_word two_words)) ≡ extent 1 2 }
     ensures words_of_one { lone_words (extent 1 2) ≡ Some 2 }
     ensures of_two_includes { lone_words (extent 2 2) ≡ None }
     ensures unknown { lone_words None ≡ None }

@@ -6,14 +6,14 @@ ghost use Rattle.ft_operators.specs.Extents.{longer};
 ghost use Rattle.ft_operators.specs.Standing.{frame};
 ghost use Rattle.ft_operators.specs.steps.Forms.{phrase_of};
 ghost use Rattle.ft_operators.specs.steps.Measuring.{AreMeasured, IsMeasured, IsPassed, IsTold, extents_behind, extents_of_apart, extents_of_both, extents_of_either, extents_of_negated};
-ghost use Rattle.ft_operators.specs.steps.Nodes.{frame_of, fork_frame, sieve_frame};
+ghost use Rattle.ft_operators.specs.steps.Nodes.{frame_of, fork_frame, negation_frame, sieve_frame};
 
 use crate::PhraseHits;
 use crate::extent::{
     Extent, extent_before, extent_behind, extent_of_both, extent_of_either, most_between,
     no_include, one_include, small,
 };
-use crate::node::{Fork, Node, Pair, Sieve};
+use crate::node::{Fork, Negation, Node, Pair, Sieve};
 use ft_base::{Filter, Hit, Steps};
 use std::sync::ledger::Ledger;
 
@@ -51,7 +51,7 @@ fn has_limit<P: PhraseHits>(node: &Node<P>) -> bool {
         Node::Choice(fork) => has_limit(&fork.left) || has_limit(&fork.right),
         Node::Both(pair) => has_limit(&pair.left) || has_limit(&pair.right),
         Node::MildNot(_) => true,
-        Node::Negated(_) => false,
+        Node::Negated(negation) => has_limit(&negation.operand),
         Node::Filtered(sieve) => is_limited(&sieve.kind) || has_limit(&sieve.operand),
     }
 }
@@ -78,7 +78,7 @@ fn measure<P: PhraseHits, L: Ledger>(node: &mut Node<P>, steps: &mut Steps<L>) -
             let (left, right) = measure_pair(pair, steps);
             extents_of_apart(left, right)
         }
-        Node::Negated(_) => extents_of_negated(),
+        Node::Negated(negation) => measure_negation(negation, steps),
         Node::Filtered(sieve) => measure_sieve(sieve, steps),
     }
 }
@@ -103,6 +103,17 @@ fn measure_pair<P: PhraseHits, L: Ledger>(
     let left = measure(&mut pair.left, steps);
     let right = measure(&mut pair.right, steps);
     (left, right)
+}
+
+#[cycle(measure)]
+fn measure_negation<P: PhraseHits, L: Ledger>(
+    negation: &mut Negation<P>,
+    steps: &mut Steps<L>,
+) -> Extents
+    ensures { IsMeasured (negation_frame P.state negation.old) (negation_frame P.state negation.new) steps.old steps.new result }
+{
+    let operand = measure(&mut negation.operand, steps);
+    extents_of_negated(operand)
 }
 
 #[cycle(measure)]
@@ -143,13 +154,12 @@ fn extents_of_apart(left: Extents, right: Extents) -> Extents
     }
 }
 
-fn extents_of_negated() -> Extents
-    ensures { result ≡ extents_of_negated }
+fn extents_of_negated(operand: Extents) -> Extents
+    ensures { result ≡ extents_of_negated operand }
 {
     Extents {
         own: no_include(),
-        inside: no_include(),
-        beside: no_include(),
+        ..operand
     }
 }
 

@@ -29,6 +29,6 @@ pub fn probe<P: PhraseHits + Drop, L: Ledger>(
     ensures grown { steps.old ≤ steps.new }
 {
     negated.there = false;
-    let firsts = firsts(negated.item, chain.bounds());
+    let firsts = firsts(negated.item, chain.bounds(), None, None);
     some_is_kept(&mut negated.node, firsts, chain, &mut negated.held, steps)
 }

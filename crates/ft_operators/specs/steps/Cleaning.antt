@@ -1,11 +1,13 @@
 -- Looking for a way that passes a test, and whether the present way is clean.
-use Rattle.std.specs.Prelude.{◌≡◌, ℕ, ◌≤◌, Bool, true}
+use Rattle.std.specs.Prelude.{◌≡◌, ℕ, ◌≤◌, Bool, true, ◌&&◌}
 use Rattle.std.specs.List.{list_any}
 use Rattle.ft_base.specs.Lists.{is_not_empty}
 use Rattle.all_matches.specs.Chain.{kept_by}
-use Rattle.all_matches.specs.Ways.{Way, is_plain}
+use Rattle.all_matches.specs.Ways.{Operator, Way, is_plain}
 use Rattle.ft_operators.specs.declared.course.Course.{Course}
 use Rattle.ft_operators.specs.Course.{ways_on}
+use Rattle.ft_operators.specs.Extents.{extent_beside, extent_inside}
+use Rattle.ft_operators.specs.steps.Measuring.{holds}
 use Rattle.ft_operators.specs.declared.chain.Chain.{Chain}
 use Rattle.ft_operators.specs.Chains.{clean_now, links_of, IsKept}
 use Rattle.ft_operators.specs.Standing.{Standing, frame}
@@ -32,10 +34,15 @@ pub record MayAsk (now : Standing) (room more_filters more_hits : ℕ) : Type 0 
   pub filters : now.shape.filters ≤ more_filters
   pub hits : now.shape.hits ≤ more_hits
 
+-- whether a course tells which ways of an operator are clean: negated selections stand neither inside one another nor inside mild
+-- not, and what the course says of includes holds
+abbrev pub tells : Course → Operator → Bool
+tells course operator = is_plain operator && (holds course.extent (extent_inside operator) && holds course.beside (extent_beside operator))
+
 -- a walk of which it was asked whether its present way is clean under a chain
-pub record Asked (old now : Standing) (before after : Chain) (room new_room start end : ℕ) (answer : Bool) : Type 0 where
+pub record Asked (course : Course) (old now : Standing) (before after : Chain) (room new_room start end : ℕ) (answer : Bool) : Type 0 where
   pub same : now ≡ old
-  pub clean : is_plain old.operator ≡ true → answer ≡ clean_now (kept_by (links_of before)) old.rest
+  pub clean : tells course old.operator ≡ true → answer ≡ clean_now (kept_by (links_of before)) old.rest
   pub kept : IsKept before after
   pub kept_room : room ≤ new_room
   pub grown : start ≤ end
@@ -43,11 +50,11 @@ pub record Asked (old now : Standing) (before after : Chain) (room new_room star
 -- what the loop over the ways keeps: those that were passed over are not clean
 pub record Deciding (course : Course) (test : Way → Bool) (old now : Standing) (before after : Chain)
     (room new_room start end : ℕ) (there : Bool) : Type 0 where
-  pub search : Searching course (is_plain old.operator ≡ true) test old now room new_room start end there
+  pub search : Searching course (tells course old.operator ≡ true) test old now room new_room start end there
   pub kept : IsKept before after
 
 -- the answer of that loop
 pub record Decided (course : Course) (test : Way → Bool) (old now : Standing) (before after : Chain)
     (room new_room start end : ℕ) (answer : Bool) : Type 0 where
-  pub search : Searched course (is_plain old.operator ≡ true) test old now room new_room start end answer
+  pub search : Searched course (tells course old.operator ≡ true) test old now room new_room start end answer
   pub kept : IsKept before after

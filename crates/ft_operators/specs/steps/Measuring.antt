@@ -33,8 +33,8 @@ extents_of_apart left right = record {
   beside = extent_of_either right.own (extent_of_either left.beside right.beside);
 }
 
-abbrev pub extents_of_negated : Extents
-extents_of_negated = record { own = no_include; inside = no_include; beside = no_include }
+abbrev pub extents_of_negated : Extents → Extents
+extents_of_negated operand = record { own = no_include; inside = operand.inside; beside = operand.beside }
 
 abbrev pub extents_behind : Filter → Extents → Extents
 extents_behind kind operand = record {

@@ -20,7 +20,7 @@ pub is_clean-returns-in-Choice : goal.is_clean-returns-in-Choice
 is_clean-returns-in-Choice g t c =
     let state = g.P.PhraseHits.state in
     let course = c.args.course in
-    asked_inside _ _ _ _ _ _ _ _ _ _ _ (inside_Choice state course c.args.node.now c.in-Choice.fork c.deref_mut.result.now c.in-Choice.is c.deref_mut.ensures.value) (standing_Choice state course _) c.fork_is_clean.ensures
+    asked_inside course _ _ _ _ _ _ _ _ _ _ _ (inside_Choice state course c.args.node.now c.in-Choice.fork c.deref_mut.result.now c.in-Choice.is c.deref_mut.ensures.value) (standing_Choice state course _) c.fork_is_clean.ensures
 
 pub is_clean-pair_is_clean-requires : goal.is_clean-pair_is_clean-requires
 is_clean-pair_is_clean-requires g t c κs within =
@@ -32,7 +32,7 @@ pub is_clean-returns-in-Both : goal.is_clean-returns-in-Both
 is_clean-returns-in-Both g t c =
     let state = g.P.PhraseHits.state in
     let course = c.args.course in
-    asked_inside _ _ _ _ _ _ _ _ _ _ _ (inside_Both state course c.args.node.now c.in-Both.pair c.deref_mut-in-Both.result.now c.in-Both.is c.deref_mut-in-Both.ensures.value) (standing_Both state course _) c.pair_is_clean.ensures
+    asked_inside course _ _ _ _ _ _ _ _ _ _ _ (inside_Both state course c.args.node.now c.in-Both.pair c.deref_mut-in-Both.result.now c.in-Both.is c.deref_mut-in-Both.ensures.value) (standing_Both state course _) c.pair_is_clean.ensures
 
 pub is_clean-apart_is_clean-requires : goal.is_clean-apart_is_clean-requires
 is_clean-apart_is_clean-requires g t c κs within =
@@ -44,7 +44,7 @@ pub is_clean-returns-in-MildNot : goal.is_clean-returns-in-MildNot
 is_clean-returns-in-MildNot g t c =
     let state = g.P.PhraseHits.state in
     let course = c.args.course in
-    asked_inside _ _ _ _ _ _ _ _ _ _ _ (inside_MildNot state course c.args.node.now c.in-MildNot.pair c.deref_mut-in-MildNot.result.now c.in-MildNot.is c.deref_mut-in-MildNot.ensures.value) (standing_MildNot state course _) c.apart_is_clean.ensures
+    asked_inside course _ _ _ _ _ _ _ _ _ _ _ (inside_MildNot state course c.args.node.now c.in-MildNot.pair c.deref_mut-in-MildNot.result.now c.in-MildNot.is c.deref_mut-in-MildNot.ensures.value) (standing_MildNot state course _) c.apart_is_clean.ensures
 
 pub is_clean-sieve_is_clean-requires : goal.is_clean-sieve_is_clean-requires
 is_clean-sieve_is_clean-requires g t c κs within =
@@ -56,7 +56,7 @@ pub is_clean-returns-in-Filtered : goal.is_clean-returns-in-Filtered
 is_clean-returns-in-Filtered g t c =
     let state = g.P.PhraseHits.state in
     let course = c.args.course in
-    asked_inside _ _ _ _ _ _ _ _ _ _ _ (inside_Filtered state course c.args.node.now c.in-Filtered.sieve c.deref_mut-in-Filtered.result.now c.in-Filtered.is c.deref_mut-in-Filtered.ensures.value) (standing_Filtered state course _) c.sieve_is_clean.ensures
+    asked_inside course _ _ _ _ _ _ _ _ _ _ _ (inside_Filtered state course c.args.node.now c.in-Filtered.sieve c.deref_mut-in-Filtered.result.now c.in-Filtered.is c.deref_mut-in-Filtered.ensures.value) (standing_Filtered state course _) c.sieve_is_clean.ensures
 
 pub is_clean-negation_is_clean-requires : goal.is_clean-negation_is_clean-requires
 is_clean-negation_is_clean-requires g t c =
@@ -66,12 +66,12 @@ pub is_clean-returns-in-Negated : goal.is_clean-returns-in-Negated
 is_clean-returns-in-Negated g t c =
     let state = g.P.PhraseHits.state in
     let course = c.args.course in
-    asked_inside _ _ _ _ _ _ _ _ _ _ _ (inside_Negated state course c.args.node.now c.in-Negated.negation c.deref_mut-in-Negated.result.now c.in-Negated.is c.deref_mut-in-Negated.ensures.value) (standing_Negated state course _) c.negation_is_clean.ensures
+    asked_inside course _ _ _ _ _ _ _ _ _ _ _ (inside_Negated state course c.args.node.now c.in-Negated.negation c.deref_mut-in-Negated.result.now c.in-Negated.is c.deref_mut-in-Negated.ensures.value) (standing_Negated state course _) c.negation_is_clean.ensures
 
 pub is_clean-returns-in-Phrase : goal.is_clean-returns-in-Phrase
 is_clean-returns-in-Phrase g t c =
     let state = g.P.PhraseHits.state in
-    asked_phrase (state c.in-Phrase.field-0) (standing state c.args.course c.args.node.now) c.args.chain.now (vec_capacity c.args.held.now) c.args.steps.now (inside_Phrase state c.args.course c.args.node.now c.in-Phrase.field-0 c.in-Phrase.is)
+    asked_phrase c.args.course (state c.in-Phrase.field-0) (standing state c.args.course c.args.node.now) c.args.chain.now (vec_capacity c.args.held.now) c.args.steps.now (inside_Phrase state c.args.course c.args.node.now c.in-Phrase.field-0 c.in-Phrase.is)
 
 pub apart_is_clean-returns : goal.apart_is_clean-returns
 apart_is_clean-returns g t c =

@@ -20,8 +20,8 @@ pub returns : goal.returns
 returns g c =
     let state = g.P.PhraseHits.state in
     let at = standing state c.args.course in
-    let course = excludes_course c.args.course.item (links_of c.args.chain.now) in
-    let is = c.firsts-firsts.ensures ∙ ap (firsts c.args.course.item) c.bounds.ensures in
+    let course = excludes_course c.args.course (links_of c.args.chain.now) in
+    let is = c.firsts-firsts.ensures ∙ ap (λ bounds. firsts c.args.course.item bounds c.args.course.extent c.args.course.beside) c.bounds.ensures in
     let first = standing state course in
     let old = c.args.negation.now.operand in
     let new = c.some_is_kept.new.node in

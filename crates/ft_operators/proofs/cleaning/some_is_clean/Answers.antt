@@ -15,7 +15,7 @@ returns-then-is_clean g c =
 pub go_on-there-requires : goal.go_on-there-requires
 go_on-there-requires g c =
     let may = deciding_may c.args.course _ _ _ _ _ _ _ _ _ c.loop-there.invariant c.requires.fits c.requires.filters c.requires.hits c.loop-there-test.true in
-    may_go_on _ _ _ _ _ _ _ _ _ _ _ may c.is_clean.ensures
+    may_go_on _ _ _ _ _ _ _ _ _ _ _ _ may c.is_clean.ensures
 
 pub loop-there-smaller : goal.loop-there-smaller
 loop-there-smaller g c =

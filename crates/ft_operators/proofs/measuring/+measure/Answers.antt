@@ -1,6 +1,5 @@
 -- What is found at a node is what is found inside, and that is made of what is found at the operands.
-use Rattle.std.proofs.Common.{refl, arith}
-use Rattle.ft_operators.proofs.FrameLemmas.{frame_Phrase, frame_Choice, frame_Both, frame_MildNot, frame_Filtered, framed_Phrase, framed_Choice, framed_Both, framed_MildNot, framed_Negated, framed_Filtered}
+use Rattle.ft_operators.proofs.FrameLemmas.{frame_Phrase, frame_Choice, frame_Both, frame_MildNot, frame_Negated, frame_Filtered, framed_Phrase, framed_Choice, framed_Both, framed_MildNot, framed_Negated, framed_Filtered}
 use Rattle.ft_operators.proofs.MeasureLemmas.{measured_inside, measured_both, measured_apart}
 use Rattle.ft_operators.proofs.measuring.+measure.Goals as goal
 
@@ -29,8 +28,7 @@ measure-returns-in-MildNot g t c =
 pub measure-returns-in-Negated : goal.measure-returns-in-Negated
 measure-returns-in-Negated g t c =
     let state = g.P.PhraseHits.state in
-    let is = framed_Negated state c.args.node.now c.in-Negated.field-0 c.in-Negated.field-0.value c.in-Negated.is refl in
-    measured_inside _ _ _ _ _ _ _ is is record { same = refl; found = c.extents_of_negated.ensures; grown = omega arith }
+    measured_inside _ _ _ _ _ _ _ (framed_Negated state c.args.node.now c.in-Negated.negation c.deref_mut-in-Negated.result.now c.in-Negated.is c.deref_mut-in-Negated.ensures.value) (frame_Negated state _) c.measure_negation.ensures
 
 pub measure-returns-in-Filtered : goal.measure-returns-in-Filtered
 measure-returns-in-Filtered g t c =

@@ -1,8 +1,8 @@
 -- Some way has all its includes kept exactly where some Match has.
-use Rattle.std.proofs.Common.{◌≤◌, ◌∙◌, ap, sym, subst, arith}
+use Rattle.std.proofs.Common.{◌≤◌, ◌∙◌, ap, sym, subst, true, ◌&&◌, None, arith}
 use Rattle.std.specs.List.{list_any}
 use Rattle.all_matches.specs.Chain.{kept_by}
-use Rattle.ft_operators.specs.Course.{firsts, ways_on}
+use Rattle.ft_operators.specs.Course.{every, firsts, ways_on}
 use Rattle.ft_operators.specs.Chains.{all_kept, links_of}
 use Rattle.ft_operators.specs.steps.Nodes.{frame_of}
 use Rattle.ft_operators.proofs.AnswerLemmas.{passed_shown}
@@ -37,8 +37,8 @@ returns-clause-kept g c bare =
     let kept = kept_by (links_of c.args.chain.now) in
     c.some_is_kept.ensures.found tt
     ∙ ap (λ f. list_any (all_kept kept) (ways_on c.firsts-firsts.result f.operator)) (frame_same g.P.PhraseHits.state c.firsts-firsts.result negated.node)
-    ∙ ap (λ course. list_any (all_kept kept) (ways_on course (frame_of g.P.PhraseHits.state negated.node).operator)) (c.firsts-firsts.ensures ∙ ap (firsts negated.item) c.bounds.ensures)
-    ∙ some_kept negated.item (frame_of g.P.PhraseHits.state negated.node).operator (links_of c.args.chain.now) bare
+    ∙ ap (λ course. list_any (all_kept kept) (ways_on course (frame_of g.P.PhraseHits.state negated.node).operator)) (c.firsts-firsts.ensures ∙ ap (λ bounds. firsts negated.item bounds None None) c.bounds.ensures)
+    ∙ some_kept (every negated.item) (frame_of g.P.PhraseHits.state negated.node).operator (links_of c.args.chain.now) (λ i. bare i && true)
 
 pub returns-clause-walk : goal.returns-clause-walk
 returns-clause-walk g c =

@@ -1,5 +1,5 @@
 -- The node inside is asked, and the includes of its way are held again.
-use Rattle.std.proofs.Common.{◌≤◌, ap, sym, subst, arith, vec_capacity}
+use Rattle.std.proofs.Common.{◌≤◌, ap, sym, subst, true, ◌&&◌, arith, vec_capacity}
 use Rattle.ft_operators.specs.Course.{every}
 use Rattle.ft_operators.specs.Chains.{spare_filters, spare_hits}
 use Rattle.ft_operators.specs.Standing.{frame}
@@ -37,7 +37,7 @@ pub returns-clause-clean : goal.returns-clause-clean
 returns-clause-clean g c plain =
     let self = c.args.self.now in
     asked_answer g.P.PhraseHits.state (every self.item) self.node c.is_clean-clean.new.node self.there c.args.chain.now c.is_clean-clean.new.chain _ _ _ _ c.is_clean-clean.result c.requires.there
-    (seen_asked g.P.PhraseHits.state c.every-every.result (every c.args.self.now.item) c.every-every.ensures c.args.self.now.node c.is_clean-clean.new.node _ _ _ _ _ _ c.is_clean-clean.result c.is_clean-clean.ensures) plain
+    (seen_asked g.P.PhraseHits.state c.every-every.result (every c.args.self.now.item) c.every-every.ensures c.args.self.now.node c.is_clean-clean.new.node _ _ _ _ _ _ c.is_clean-clean.result c.is_clean-clean.ensures) (λ i. plain i && true)
 
 pub returns-clause-walk : goal.returns-clause-walk
 returns-clause-walk g c =

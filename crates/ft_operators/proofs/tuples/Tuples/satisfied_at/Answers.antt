@@ -1,11 +1,12 @@
 -- The walk is aimed, and goes through its ways until one is clean.
-use Rattle.std.proofs.Common.{◌≤◌, ◌∙◌, ap, sym, subst, arith}
+use Rattle.std.proofs.Common.{◌≤◌, ◌∙◌, ap, sym, subst, ◌&&◌, arith}
 use Rattle.std.specs.List.{list_any}
 use Rattle.all_matches.specs.Chain.{kept_by}
-use Rattle.all_matches.specs.Ways.{clean_under, is_plain}
+use Rattle.all_matches.specs.Ways.{clean_under}
 use Rattle.ft_operators.specs.Course.{tellings, ways_on}
 use Rattle.ft_operators.specs.Chains.{links_of}
 use Rattle.ft_operators.specs.Extents.{extent_beside, extent_inside}
+use Rattle.ft_operators.specs.steps.Cleaning.{tells}
 use Rattle.ft_operators.specs.steps.Measuring.{holds}
 use Rattle.ft_operators.specs.steps.Nodes.{standing}
 use Rattle.ft_operators.proofs.AnswerLemmas.{satisfied_ways, through_shown}
@@ -62,11 +63,12 @@ returns-clause-answer g c plain =
     let operator = ap (λ f. f.operator) (frame_same state c.tellings-tellings.result node) ∙ ap (λ f. f.operator) c.extents_inside-extents.ensures.same ∙ aimed in
     let item = ap (λ w. w.item) c.aim.ensures.walk in
     let told = c.extents_inside-extents.result in
-    c.some_is_clean.ensures.search.found (ap is_plain operator ∙ plain)
+    let held = ap (λ o. holds told.inside (extent_inside o)) (sym aimed) ∙ c.extents_inside-extents.ensures.holds_inside in
+    let out = ap (λ o. holds told.beside (extent_beside o)) (sym aimed) ∙ c.extents_inside-extents.ensures.holds_beside in
+    c.some_is_clean.ensures.search.found ((λ i. tells (c.tellings-tellings.ensures i) (operator i)) ∙ (λ i. plain i && (held i && out i)))
     ∙ ap (λ course. list_any (clean_under (kept_by links)) (ways_on course (standing state c.tellings-tellings.result node).operator)) c.tellings-tellings.ensures
     ∙ (λ i. list_any (clean_under (kept_by links)) (ways_on (tellings (item i) told.inside told.beside) (operator i)))
-    ∙ satisfied_ways _ told.inside told.beside _ links c.requires.none plain (ap (λ o. holds told.inside (extent_inside o)) (sym aimed) ∙ c.extents_inside-extents.ensures.holds_inside)
-    (ap (λ o. holds told.beside (extent_beside o)) (sym aimed) ∙ c.extents_inside-extents.ensures.holds_beside)
+    ∙ satisfied_ways _ told.inside told.beside _ links c.requires.none plain held out
 
 pub returns-clause-walk : goal.returns-clause-walk
 returns-clause-walk g c =
