@@ -1,0 +1,4 @@
+pub mod Best
+pub mod Examples
+pub mod Least
+pub mod Showable
