@@ -3,6 +3,7 @@ pub mod FewLemmas
 pub mod SiblingLemmas
 pub mod KeptLemmas
 pub mod CountLemmas
+pub mod NameLemmas
 pub mod NumberLemmas
 pub mod OneElementLemmas
 pub mod StepLemmas

@@ -8,7 +8,7 @@ use Rattle.ordered_tree.specs.Stands.{OnNode}
 use Rattle.ft_base.specs.declared.ids.NodeRef.{NodeRef}
 use Rattle.path_nodes.specs.References.{IsElement, element_of}
 use Rattle.path_nodes.proofs.WayLemmas.{Parent, parent-of}
-use Rattle.element_lines.specs.Lines.{element_line, place_line, step_text}
+use Rattle.element_lines.specs.Lines.{element_line, name_byte, place_line, step_text}
 use Rattle.element_lines.specs.steps.Numbers.{number_of}
 use Rattle.element_lines.specs.LocationSteps.{Step, step, name_of, steps_to}
 use Rattle.element_lines.proofs.StepLemmas.{steps-further, steps-root}
@@ -37,14 +37,14 @@ pub line-further : (document : List ℕ) (root : Numbered) (node parent : NodeRe
     → name ≡ name_of (element_of root node).node → number ≡ number_of root node
     → element_line document (plain root) (element_of root parent) ++ step_text (step name number) ≡ element_line document (plain root) (element_of root node)
 line-further document root node parent p x name number called is =
-    let prefix = codes "doc(\"" ++ document ++ codes "\")" in
+    let prefix = codes "doc(\"" ++ flat_map name_byte document ++ codes "\")" in
     append_assoc prefix (flat_map step_text (steps_to (plain root) (element_of root parent).place)) (step_text (step name number))
     ∙ ap (λ l. prefix ++ l) (text-further root node parent p x name number called is)
 
 pub line-root : (document : List ℕ) (root : Numbered) (node : NodeRef) → IsElement root node → (element_of root node).place ≡ [] → (name : List ℕ)
     → name ≡ name_of (element_of root node).node → place_line document (step name 1 ∷ []) ≡ element_line document (plain root) (element_of root node)
 line-root document root node x none name called =
-    ap (λ l. codes "doc(\"" ++ document ++ codes "\")" ++ l) (append-nil (step_text (step name 1)) ∙ text-root root node x none name called)
+    ap (λ l. codes "doc(\"" ++ flat_map name_byte document ++ codes "\")" ++ l) (append-nil (step_text (step name 1)) ∙ text-root root node x none name called)
 
 -- the node that is found above an element is its parent
 pub parent-found : (root : Numbered) (node parent : NodeRef) → IsElement root node → (above : Option NodeRef) → above ≡ Some parent

@@ -17,5 +17,6 @@ pub fn steps_of_places()
 /// A line names a document and the steps to an element.
 pub fn lines_of_steps()
     ensures root { place_line (codes "x") (steps_to paragraphs []) ≡ codes "doc(\"x\")/d[1]" }
+    ensures quoted { place_line (codes "x\"y \"") (steps_to paragraphs []) ≡ codes "doc(\"x\"\"y \"\"\")/d[1]" }
     ensures second { place_line (codes "x") (steps_to paragraphs (3 ∷ [])) ≡ codes "doc(\"x\")/d[1]/p[2]" }
 {}

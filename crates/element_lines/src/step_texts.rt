@@ -1,19 +1,42 @@
 //! The text of a document's name, and of steps.
 
-ghost use Rattle.std.specs.Prelude.{◌≡◌, ◌++◌, OnOk, codes, string_bytes};
-ghost use Rattle.element_lines.specs.Lines.{place_line, step_text};
+ghost use Rattle.std.specs.Prelude.{◌≡◌, ◌++◌, OnOk, codes, encode_utf8, flat_map, string_bytes};
+ghost use Rattle.element_lines.specs.Lines.{name_byte, place_line, step_text};
 ghost use Rattle.element_lines.specs.LocationSteps.{step};
 ghost use Rattle.std.specs.Prelude.{[], ◌∷◌};
 
 use ft_base::Memory;
 use itoa::Buffer;
 
+/// Puts a letter of a document's name to the end: a quotation mark twice.
+#[tactic(auto, using(crate::proofs::NameLemmas::name_letter))]
+fn push_letter(letter: char, text: &mut String) -> Result<(), Memory>
+    ensures { OnOk result (string_bytes text.new ≡ string_bytes text.old ++ flat_map name_byte (encode_utf8 letter)) }
+{
+    if letter == '"' {
+        text.push_str("\"\"")?;
+    } else {
+        text.push(letter)?;
+    }
+    Ok(())
+}
+
+/// Puts a document's name to the end, as it stands in quotation marks.
+fn push_name(document: &str, text: &mut String) -> Result<(), Memory>
+    ensures { OnOk result (string_bytes text.new ≡ string_bytes text.old ++ flat_map name_byte document.now) }
+{
+    for letter in document.chars() {
+        push_letter(letter, text)?;
+    }
+    Ok(())
+}
+
 /// Puts `doc("NAME")` to the end.
 pub(crate) fn push_document(document: &str, text: &mut String) -> Result<(), Memory>
-    ensures { OnOk result (string_bytes text.new ≡ string_bytes text.old ++ codes "doc(\"" ++ document.now ++ codes "\")") }
+    ensures { OnOk result (string_bytes text.new ≡ string_bytes text.old ++ codes "doc(\"" ++ flat_map name_byte document.now ++ codes "\")") }
 {
     text.push_str("doc(\"")?;
-    text.push_str(document)?;
+    push_name(document, text)?;
     text.push_str("\")")?;
     Ok(())
 }
