@@ -2,6 +2,8 @@
 
 from __future__ import annotations
 
+from pathlib import Path
+
 import pytest
 
 pytest.importorskip("lxml")
@@ -10,6 +12,7 @@ from ftq_ask import lists  # noqa: E402
 from ftq_ask.lists import NoList, Stems, stop_words  # noqa: E402
 from ftq_ask.showing import Asked, shortened  # noqa: E402
 from ftq_ask.words import count_words, key, words_of  # noqa: E402
+from ftq_client import Session  # noqa: E402
 
 
 @pytest.mark.parametrize(
@@ -56,6 +59,16 @@ def test_a_stop_list_that_isnt_there_is_named(monkeypatch: pytest.MonkeyPatch) -
     monkeypatch.setattr(lists, "_whoosh_words", lambda language: ())
     with pytest.raises(NoList, match="python3-whoosh"):
         stop_words("english")
+
+
+@pytest.mark.parametrize("language", ["english", "french", "german"])
+def test_lists_of_abbreviations_have_one_word_in_a_line(language: str, session: Session) -> None:
+    text = (Path(lists.__file__).parent / "abbreviations" / f"{language}.txt").read_text(encoding="utf-8")
+    rows = [it for it in text.splitlines() if not it.startswith("#")]
+    keys = [key(told[0]) for it in rows for told in words_of(it)]
+    assert len(rows) == len(keys) == len(set(keys)) > 50 and all(it.endswith(".") for it in rows)
+    # A stop list is one word in a line too, and the program refuses another one.
+    session.stop(language, text)
 
 
 def test_texts_are_shortened_around_the_words_that_were_asked_for() -> None:
