@@ -39,3 +39,29 @@ pub(crate) const LINES: [Row; 5] = [
 fn lines_and_blocks_are_divided_as_they_are_written(rt: HostRuntime) -> Result<(), Fail> {
     expect_rows(&rt, rt.alloc(), &LINES)
 }
+
+pub(crate) const SIZED: [Row; 3] = [
+    // a block needs a length
+    (
+        "session 2\nload 3 x\n<a/>\nstats\n",
+        "! 1 bad command at line 2\n= documents 0 tokens 0 terms 0 marks 0 plans 0 hits 0\n",
+        Status::SomeRefused,
+    ),
+    // names in quotation marks
+    (
+        "session 2\nload 4 \"a\"\"b\"\n<a/>\nquery collection()/a\ndrop \"\"\n",
+        "ok\n= 1\ndoc(\"a\"\"b\")/a[1]\n! 2 bad name at line 5\n",
+        Status::SomeRefused,
+    ),
+    // only the very first line makes a session of format 2
+    (
+        "stats\nsession 2\nabbreviations\n",
+        "= documents 0 tokens 0 terms 0 marks 0 plans 0 hits 0\n! 1 bad command at line 2\n! 1 bad command at line 3\n",
+        Status::SomeRefused,
+    ),
+];
+
+#[test]
+fn blocks_have_the_lengths_that_their_lines_tell(rt: HostRuntime) -> Result<(), Fail> {
+    expect_rows(&rt, rt.alloc(), &SIZED)
+}

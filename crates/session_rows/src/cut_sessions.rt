@@ -203,6 +203,62 @@ const COMMANDS: [CutRow; 14] = [
     (b"load a\nx\n.\r", b"|load|a|x"),
 ];
 
+/// Sessions of format 2, and their commands.
+const SIZED_COMMANDS: [CutRow; 16] = [
+    (b"session 2", b""),
+    (b"\xEF\xBB\xBFsession 2\r\nstats", b"|stats"),
+    (b" session 2\nstats", b"|bad command|1|stats"),
+    (
+        b"session 2 \n# x\n\nsession 2\n",
+        b"|bad command|1|bad command|4",
+    ),
+    (
+        b"stats\nsession 2\nabbreviations\n",
+        b"|stats|bad command|2|bad command|3",
+    ),
+    (
+        b"session 2\nabbreviations 3\ndr.\nstats\n",
+        b"|bad command|2|bad command|3|stats",
+    ),
+    (
+        b"session 2\nload 3 x\n<a/>\nstats\n",
+        b"|bad command|2|stats",
+    ),
+    (
+        b"session 2\nload 4 \"a\"\"b\"\n<a/>\nquery collection()/a\ndrop \"\"\n",
+        b"|load|a\"b|<a/>|query|collection()/a|bad name|5",
+    ),
+    (
+        b"session 2\n#\nload 7 a\r\n.\n\n.\r\n.\r\n  stop \t 3  b \nthe\n\ndrop c d\n",
+        b"|load|a|.\n\n.\r\n.|stop|b|the|bad command|1",
+    ),
+    (
+        b"session 2\nload 0 x\n\nload 1 y\n\n\nload 0 x\nstats\nstats x\nload 0 x",
+        b"|load|x||load|y|\n|bad command|7|bad command|9|load|x|",
+    ),
+    (
+        b"session 2\nload x\nload 01 x\nload +1 x\nload 67108865 x\nload 4294967297 x\nload 2\nx\n\nload",
+        b"|bad command|2|bad command|3|bad command|4|bad command|5|bad command|6|bad command|7|bad command|0",
+    ),
+    (
+        b"session 2\nload 2 \xFF\nload 2 a\nxyz\nload 2 a\nx",
+        b"|bad command|2|bad command|3|bad command|5",
+    ),
+    (
+        b"session 2\ninsert 1 first a b\nt\ninsert 0 x a\n\nreplace 2 //p\n\xC3\xA9\nstems 7\nrun ran\nthesaurus 0 \"t t\"\n\nstems 0 x\n\nreplace 1\nx\n",
+        b"|insert first|a b|t|bad command|4|replace|//p|\xC3\xA9|stems|run ran|thesaurus|t t||bad command|2|bad command|4",
+    ),
+    (
+        b"session 2\ndrop \"a\nmark \"a\"b\nunmark \"a\tb\"\nmark \"\xC3\xA9 \xC2\x80\" \nmark a\"b\nmark \"a\"\"\nmark \"a\" b\nmark \"a\"\r\r\n",
+        b"|bad command|2|bad command|3|bad name|4|mark|\xC3\xA9 \xC2\x80|bad name|6|bad command|7|bad command|8|bad command|9",
+    ),
+    (
+        b"session 2\nquery at \"m m\" //p\nquery at \"m\"//p\nquery at \"m\"\nquery at \"\" //p\nquery at m //p\nquery at \"m //p\nquery at m\"m //p\n",
+        b"|query at|m m|//p|bad command|3|bad command|4|bad name|5|query at|m|//p|bad command|7|bad name|8",
+    ),
+    (b"session 2\nload 3 x\nab", b"|bad command|2"),
+];
+
 /// Cuts the session in two wherever it can be cut, and compares its commands.
 fn expect_commands(rt: &impl Abort, alloc: Global, row: CutRow) -> Result<(), Fail> {
     let (session, commands) = row;
@@ -225,6 +281,11 @@ fn expect_all_commands(rt: &impl Abort, alloc: Global, rows: &[CutRow]) -> Resul
 #[test]
 fn sessions_are_read_however_they_are_cut_in_two(rt: HostRuntime) -> Result<(), Fail> {
     expect_all_commands(&rt, rt.alloc(), &COMMANDS)
+}
+
+#[test]
+fn sessions_with_sizes_are_read_however_they_are_cut_in_two(rt: HostRuntime) -> Result<(), Fail> {
+    expect_all_commands(&rt, rt.alloc(), &SIZED_COMMANDS)
 }
 
 /// How many bytes a piece has.
@@ -262,6 +323,11 @@ fn expect_rows_same(rt: &impl Abort, alloc: Global, rows: &[Row]) -> Result<(), 
 #[test]
 fn commands_are_read_in_pieces_as_they_are_at_once(rt: HostRuntime) -> Result<(), Fail> {
     expect_cuts_same(&rt, rt.alloc(), &COMMANDS)
+}
+
+#[test]
+fn sized_commands_are_read_in_pieces_as_they_are_at_once(rt: HostRuntime) -> Result<(), Fail> {
+    expect_cuts_same(&rt, rt.alloc(), &SIZED_COMMANDS)
 }
 
 #[test]

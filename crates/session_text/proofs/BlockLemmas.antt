@@ -4,7 +4,7 @@ use Rattle.std.specs.Prelude.{Some, None, if◌then◌else◌}
 use Rattle.std.specs.List.{list_any, take_while, prefix_len, join_with_byte}
 use Rattle.std.proofs.lemmas.List.{take_at, append-nil}
 use Rattle.session_text.specs.steps.Blocks.{without_last, block_after}
-use Rattle.session_text.specs.Commands.{block_of, closes_block, unquoted}
+use Rattle.session_text.specs.PeriodBlocks.{block_of, closes_block, unquoted}
 
 -- lines one after the other, each with a line feed after it
 abbrev written : List (List ℕ) → List ℕ

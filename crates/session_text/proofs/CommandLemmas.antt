@@ -1,13 +1,14 @@
 -- Each command that is read has names that are names, texts that aren't empty, and no block but the one after its line.
-use Rattle.std.proofs.Common.{◌≡◌, refl, ℕ, Bool, true, false, not, cond, List}
+use Rattle.std.proofs.Common.{◌≡◌, ◌∙◌, sym, ap, refl, ℕ, Bool, true, false, not, cond, ◌&&◌, ◌||◌, List}
 use Rattle.std.specs.Prelude.{Option, Some, None, Ok, Err, codes}
 use Rattle.ft_base.specs.Lists.{is_empty}
 use Rattle.command_replies.specs.declared.command.Command.{Command}
 use Rattle.command_replies.specs.declared.command.Command.TheVariants as command
 use Rattle.plain_tree.specs.declared.place.How.{How}
-use Rattle.session_text.specs.Commands.{made, named, with_text, how_of, insertion, query_at, command_of_line, command_of_block}
+use Rattle.session_text.specs.LineCommands.{block_command, command_of_block, command_of_line, command_of_sized_block, how_of, insertion, made, named, query, query_at, query_at_quoted, quoted_name, with_text}
+use Rattle.session_text.specs.Quoted.{is_quoted, quoted}
 use Rattle.text_lines.specs.Lines.{trimmed_line, first_word, after_first_word}
-use Rattle.command_replies.specs.Names.{is_name}
+use Rattle.command_replies.specs.Names.{is_bare_name, is_name, is_quoted_name}
 use Rattle.session_text.specs.Words.{is_text, is_one_word, is_command_line}
 
 -- what holds of both holds of the one that is chosen
@@ -15,15 +16,38 @@ chosen : (P : Command → Type 0) (t : Bool) (a b : Command) → P a → P b →
 chosen P true a b p q = p
 chosen P false a b p q = q
 
--- a name makes a command only where it is a name
-of_name : (P : Command → Type 0) (number : ℕ) (rest : List ℕ) (make : List ℕ → Command)
-    → ((n : ℕ) → P (command.BadCommand n)) → ((n : ℕ) → P (command.BadName n)) → ((name : List ℕ) → is_name name ≡ true → P (make name)) → P (named number rest make)
-of_name P number rest make bad bad_name good = by (is_one_word rest) (is_name rest) refl
+quoted_is_name : (text : List ℕ) → is_quoted_name text ≡ true → is_name text ≡ true
+quoted_is_name text h = by (is_bare_name text)
   where
-    by : (one name : Bool) → is_name rest ≡ name → P (made make (cond (not one) (Err (command.BadCommand number)) (cond name (Ok rest) (Err (command.BadName number)))))
+    by : (bare : Bool) → (bare || is_quoted_name text) ≡ true
+    by true = refl
+    by false = h
+
+bare_is_name : (text : List ℕ) → is_bare_name text ≡ true → is_name text ≡ true
+bare_is_name text h = ap (λ t. t || is_quoted_name text) h
+
+-- a name in quotation marks makes a command only where it is a name
+of_quoted : (P : Command → Type 0) (number : ℕ) (read : Option (List ℕ × List ℕ)) (make : List ℕ → Command)
+    → ((n : ℕ) → P (command.BadCommand n)) → ((n : ℕ) → P (command.BadName n)) → ((name : List ℕ) → is_name name ≡ true → P (make name)) → P (made make (quoted_name number read))
+of_quoted P number None make bad bad_name good = bad number
+of_quoted P number (Some q) make bad bad_name good = by (is_empty q.1) (is_quoted_name q.0) refl
+  where
+    by : (ends name : Bool) → is_quoted_name q.0 ≡ name → P (made make (cond (not ends) (Err (command.BadCommand number)) (cond name (Ok q.0) (Err (command.BadName number)))))
     by false name e = bad number
-    by true true e = good rest e
+    by true true e = good q.0 (quoted_is_name q.0 e)
     by true false e = bad_name number
+
+-- a name makes a command only where it is a name
+of_name : (P : Command → Type 0) (quotes : Bool) (number : ℕ) (rest : List ℕ) (make : List ℕ → Command)
+    → ((n : ℕ) → P (command.BadCommand n)) → ((n : ℕ) → P (command.BadName n)) → ((name : List ℕ) → is_name name ≡ true → P (make name)) → P (named quotes number rest make)
+of_name P quotes number rest make bad bad_name good = by (quotes && is_quoted rest) (is_one_word rest) (is_bare_name rest) refl
+  where
+    by : (quoted_one one name : Bool) → is_bare_name rest ≡ name
+        → P (made make (cond quoted_one (quoted_name number (quoted rest)) (cond (not one) (Err (command.BadCommand number)) (cond name (Ok rest) (Err (command.BadName number))))))
+    by true one name e = of_quoted P number (quoted rest) make bad bad_name good
+    by false false name e = bad number
+    by false true true e = good rest (bare_is_name rest e)
+    by false true false e = bad_name number
 
 -- a text makes a command only where it isn't empty
 of_text : (P : Command → Type 0) (number : ℕ) (rest : List ℕ) (make : List ℕ → Command)
@@ -60,25 +84,42 @@ pub record HoldsOfBlocks (P : Command → Type 0) (block : List ℕ) : Type 0 wh
   pub thesaurus : (name : List ℕ) → is_name name ≡ true → P (command.Thesaurus name block)
 
 query_at_holds : (P : Command → Type 0) → HoldsOfLines P → (number : ℕ) (name path : List ℕ) → P (query_at number name path)
-query_at_holds P h number name path = by (is_empty path) (is_name name) refl refl
+query_at_holds P h number name path = by (is_empty path) (is_bare_name name) refl refl
   where
-    by : (empty named : Bool) → is_empty path ≡ empty → is_name name ≡ named → P (cond empty (command.BadCommand number) (cond named (command.QueryAt name path) (command.BadName number)))
+    by : (empty named : Bool) → is_empty path ≡ empty → is_bare_name name ≡ named → P (cond empty (command.BadCommand number) (cond named (command.QueryAt name path) (command.BadName number)))
     by true named e f = h.bad number
-    by false true e f = h.query_at name path f e
+    by false true e f = h.query_at name path (bare_is_name name f) e
     by false false e f = h.bad_name number
 
-pub holds_of_line : (P : Command → Type 0) → HoldsOfLines P → (number : ℕ) (line : List ℕ) → P (command_of_line number line)
-holds_of_line P h number line =
+query_at_quoted_holds : (P : Command → Type 0) → HoldsOfLines P → (number : ℕ) (read : Option (List ℕ × List ℕ)) → P (query_at_quoted number read)
+query_at_quoted_holds P h number None = h.bad number
+query_at_quoted_holds P h number (Some q) = by (is_empty (first_word q.1)) (is_empty (after_first_word q.1)) (is_quoted_name q.0) refl refl
+  where
+    by : (divided empty named : Bool) → is_empty (after_first_word q.1) ≡ empty → is_quoted_name q.0 ≡ named
+        → P (cond (not divided || empty) (command.BadCommand number) (cond named (command.QueryAt q.0 (after_first_word q.1)) (command.BadName number)))
+    by false empty named e f = h.bad number
+    by true true named e f = h.bad number
+    by true false true e f = h.query_at q.0 (after_first_word q.1) (quoted_is_name q.0 f) e
+    by true false false e f = h.bad_name number
+
+query_holds : (P : Command → Type 0) → HoldsOfLines P → (quotes : Bool) (number : ℕ) (rest : List ℕ) → P (query quotes number rest)
+query_holds P h quotes number rest =
+    chosen P (not (is_text (first_word rest) (codes "at"))) _ _ (of_text P number rest command.Query h.bad h.query)
+    (chosen P (quotes && is_quoted (after_first_word rest)) _ _ (query_at_quoted_holds P h number (quoted (after_first_word rest)))
+    (query_at_holds P h number (first_word (after_first_word rest)) (after_first_word (after_first_word rest))))
+
+pub holds_of_line : (P : Command → Type 0) → HoldsOfLines P → (quotes : Bool) (number : ℕ) (line : List ℕ) → P (command_of_line quotes number line)
+holds_of_line P h quotes number line =
     let word = first_word (trimmed_line line) in
     let rest = after_first_word (trimmed_line line) in
     chosen P (is_command_line line) _ _
-    (chosen P (is_text word (codes "query")) _ _ (chosen P (is_text (first_word rest) (codes "at")) _ _ (query_at_holds P h number (first_word (after_first_word rest)) (after_first_word (after_first_word rest))) (of_text P number rest command.Query h.bad h.query))
+    (chosen P (is_text word (codes "query")) _ _ (query_holds P h quotes number rest)
     (chosen P (is_text word (codes "print")) _ _ (of_text P number rest command.Print h.bad h.print)
     (chosen P (is_text word (codes "explain")) _ _ (of_text P number rest command.Explain h.bad h.explain)
     (chosen P (is_text word (codes "delete")) _ _ (of_text P number rest command.Delete h.bad h.delete)
-    (chosen P (is_text word (codes "drop")) _ _ (of_name P number rest command.Drop h.bad h.bad_name h.drop)
-    (chosen P (is_text word (codes "mark")) _ _ (of_name P number rest command.Mark h.bad h.bad_name h.mark)
-    (chosen P (is_text word (codes "unmark")) _ _ (of_name P number rest command.Unmark h.bad h.bad_name h.unmark)
+    (chosen P (is_text word (codes "drop")) _ _ (of_name P quotes number rest command.Drop h.bad h.bad_name h.drop)
+    (chosen P (is_text word (codes "mark")) _ _ (of_name P quotes number rest command.Mark h.bad h.bad_name h.mark)
+    (chosen P (is_text word (codes "unmark")) _ _ (of_name P quotes number rest command.Unmark h.bad h.bad_name h.unmark)
     (chosen P (is_text word (codes "stats")) _ _ (chosen P (is_empty rest) _ _ h.stats (h.bad number)) (h.bad number)))))))))
     (h.bad number)
 
@@ -86,15 +127,34 @@ insertion_holds : (P : Command → Type 0) (block : List ℕ) → HoldsOfBlocks 
 insertion_holds P block h number None path = h.bad number
 insertion_holds P block h number (Some how) path = of_text P number path (λ p. command.Insert how p block) h.bad (h.insert how)
 
-pub holds_of_block : (P : Command → Type 0) (block : List ℕ) → HoldsOfBlocks P block → (number : ℕ) (line : List ℕ) → P (command_of_block number line block)
-holds_of_block P block h number line =
-    let word = first_word (trimmed_line line) in
-    let rest = after_first_word (trimmed_line line) in
-    chosen P (is_command_line line) _ _
-    (chosen P (is_text word (codes "load")) _ _ (of_name P number rest (λ name. command.Load name block) h.bad h.bad_name h.load)
+words_hold : (P : Command → Type 0) (block : List ℕ) → HoldsOfBlocks P block → (quotes : Bool) (number : ℕ) (word rest : List ℕ) → P (block_command quotes number word rest block)
+words_hold P block h quotes number word rest =
+    chosen P (is_text word (codes "load")) _ _ (of_name P quotes number rest (λ name. command.Load name block) h.bad h.bad_name h.load)
     (chosen P (is_text word (codes "insert")) _ _ (insertion_holds P block h number (how_of (first_word rest)) (after_first_word rest))
     (chosen P (is_text word (codes "replace")) _ _ (of_text P number rest (λ path. command.Replace path block) h.bad h.replace)
-    (chosen P (is_text word (codes "stop")) _ _ (of_name P number rest (λ name. command.Stop name block) h.bad h.bad_name h.stop)
+    (chosen P (is_text word (codes "stop")) _ _ (of_name P quotes number rest (λ name. command.Stop name block) h.bad h.bad_name h.stop)
     (chosen P (is_text word (codes "stems")) _ _ (chosen P (is_empty rest) _ _ h.stems (h.bad number))
-    (chosen P (is_text word (codes "thesaurus")) _ _ (of_name P number rest (λ name. command.Thesaurus name block) h.bad h.bad_name h.thesaurus) (h.bad number)))))))
-    (h.bad number)
+    (chosen P (is_text word (codes "thesaurus")) _ _ (of_name P quotes number rest (λ name. command.Thesaurus name block) h.bad h.bad_name h.thesaurus) (h.bad number))))))
+
+pub holds_of_block : (P : Command → Type 0) (block : List ℕ) → HoldsOfBlocks P block → (number : ℕ) (line : List ℕ) → P (command_of_block number line block)
+holds_of_block P block h number line =
+    chosen P (is_command_line line) _ _ (words_hold P block h false number (first_word (trimmed_line line)) (after_first_word (trimmed_line line))) (h.bad number)
+
+pub holds_of_sized_block : (P : Command → Type 0) (block : List ℕ) → HoldsOfBlocks P block → (number : ℕ) (line : List ℕ) → P (command_of_sized_block number line block)
+holds_of_sized_block P block h number line =
+    chosen P (is_command_line line) _ _ (words_hold P block h true number (first_word (trimmed_line line)) (after_first_word (after_first_word (trimmed_line line)))) (h.bad number)
+
+-- a query at a document whose name stands in quotation marks
+pub bad_query_name : (number : ℕ) (read : Option (List ℕ × List ℕ)) (name suffix : List ℕ) → read ≡ Some (name, suffix)
+    → is_empty (first_word suffix) ≡ true → is_empty (after_first_word suffix) ≡ false → is_quoted_name name ≡ false → command.BadName number ≡ query_at_quoted number read
+bad_query_name number read name suffix is word path quoted =
+    sym (ap (query_at_quoted number) is
+    ∙ (λ i. cond (not (word i) || path i) (command.BadCommand number) (cond (quoted i) (command.QueryAt name (after_first_word suffix)) (command.BadName number))))
+
+pub good_query_name : (number : ℕ) (read : Option (List ℕ × List ℕ)) (name suffix said : List ℕ) → read ≡ Some (name, suffix)
+    → is_empty (first_word suffix) ≡ true → is_empty (after_first_word suffix) ≡ false → is_quoted_name name ≡ true → said ≡ after_first_word suffix
+    → command.QueryAt name said ≡ query_at_quoted number read
+good_query_name number read name suffix said is word path quoted says =
+    ap (command.QueryAt name) says
+    ∙ sym (ap (query_at_quoted number) is
+    ∙ (λ i. cond (not (word i) || path i) (command.BadCommand number) (cond (quoted i) (command.QueryAt name (after_first_word suffix)) (command.BadName number))))

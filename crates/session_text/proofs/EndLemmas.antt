@@ -4,12 +4,13 @@ use Rattle.std.specs.Prelude.{Option, Some, None, ◌==◌}
 use Rattle.std.specs.Option.{option_to_list}
 use Rattle.std.proofs.lemmas.List.{append-nil, nil_from_length}
 use Rattle.command_replies.specs.declared.command.Command.{Command}
-use Rattle.session_text.specs.Commands.{opens_block, closes_block, unquoted, command_of_line, command_of_block}
+use Rattle.session_text.specs.LineCommands.{opens_block, command_of_line, command_of_block}
+use Rattle.session_text.specs.PeriodBlocks.{closes_block, unquoted}
 use Rattle.session_text.specs.steps.Blocks.{without_last}
 use Rattle.text_lines.specs.Lines.{is_skipped, lines}
 use Rattle.std.specs.List.{onto_first}
 use Rattle.std.proofs.lemmas.Bool.{and_parts, not-true}
-use Rattle.session_text.specs.steps.Reading.{Opened, Place, after_lines, commands_on, commands_from, ended_at, line_ended, open_at_end, place_after, is_unended}
+use Rattle.session_text.specs.steps.PeriodReading.{Opened, Place, after_lines, commands_on, commands_from, ended_at, line_ended, open_at_end, place_after, is_unended}
 use Rattle.session_text.proofs.ReadingLemmas.{commands_on-line, unended_after}
 
 -- an open block is all that is left after the last line
@@ -22,8 +23,8 @@ nothing_open : (number : ℕ) (before : Option Opened) (line : List ℕ) (comman
 nothing_open number None line command is = by (is_skipped line) (opens_block line) is
   where
     by : (skipped opens : Bool)
-        → Some command ≡ (let ended : Option Command × Option Opened = cond skipped (None, None) (cond opens (None, Some (record { line = line; number = number; block = [] })) (Some (command_of_line number line), None)) in ended.0)
-        → (let ended : Option Command × Option Opened = cond skipped (None, None) (cond opens (None, Some (record { line = line; number = number; block = [] })) (Some (command_of_line number line), None)) in ended.1) ≡ None
+        → Some command ≡ (let ended : Option Command × Option Opened = cond skipped (None, None) (cond opens (None, Some (record { line = line; number = number; block = [] })) (Some (command_of_line false number line), None)) in ended.0)
+        → (let ended : Option Command × Option Opened = cond skipped (None, None) (cond opens (None, Some (record { line = line; number = number; block = [] })) (Some (command_of_line false number line), None)) in ended.1) ≡ None
     by true opens e = refl
     by false true e = absurd (let impossible : ⊥ = cc in impossible)
     by false false e = refl

@@ -8,13 +8,14 @@ use Rattle.std.proofs.lemmas.List.Sums.{sum_by-append}
 use Rattle.std.proofs.lemmas.Bool.{and_from}
 use Rattle.command_replies.specs.declared.command.Command.{Command}
 use Rattle.session_text.specs.steps.Blocks.{without_last}
-use Rattle.session_text.specs.Commands.{opens_block, closes_block, unquoted, command_of_line, command_of_block}
+use Rattle.session_text.specs.LineCommands.{opens_block, command_of_block, command_of_line, command_of_sized_block}
+use Rattle.session_text.specs.PeriodBlocks.{closes_block, unquoted}
 use Rattle.text_lines.specs.Lines.{is_skipped}
 use Rattle.command_replies.specs.Given.{block_length, block_lengths, is_readable}
-use Rattle.session_text.specs.steps.Reading.{Opened, Place, after_lines, ended_at, held_length, line_ended, opened_length, place_after}
-use Rattle.session_text.proofs.CommandLemmas.{holds_of_line, holds_of_block}
+use Rattle.session_text.specs.steps.PeriodReading.{Opened, Place, after_lines, ended_at, held_length, line_ended, opened_length, place_after}
+use Rattle.session_text.proofs.CommandLemmas.{HoldsOfBlocks, holds_of_block, holds_of_line, holds_of_sized_block}
 
-line_readable : (number : ℕ) (line : List ℕ) → is_readable (command_of_line number line) ≡ true
+pub line_readable : (quotes : Bool) (number : ℕ) (line : List ℕ) → is_readable (command_of_line quotes number line) ≡ true
 line_readable = holds_of_line (λ c. is_readable c ≡ true) (record {
   bad = λ n. refl;
   bad_name = λ n. refl;
@@ -29,8 +30,8 @@ line_readable = holds_of_line (λ c. is_readable c ≡ true) (record {
   query_at = λ n p h k. and_from _ _ h (ap not k);
 })
 
-block_readable : (block : List ℕ) (number : ℕ) (line : List ℕ) → is_readable (command_of_block number line block) ≡ true
-block_readable block = holds_of_block (λ c. is_readable c ≡ true) block (record {
+readable_block : (block : List ℕ) → HoldsOfBlocks (λ c. is_readable c ≡ true) block
+readable_block block = record {
   bad = λ n. refl;
   bad_name = λ n. refl;
   load = λ n h. h;
@@ -39,9 +40,15 @@ block_readable block = holds_of_block (λ c. is_readable c ≡ true) block (reco
   stop = λ n h. h;
   stems = refl;
   thesaurus = λ n h. h;
-})
+}
 
-line_blockless : (number : ℕ) (line : List ℕ) → block_length (command_of_line number line) ≡ 0
+block_readable : (block : List ℕ) (number : ℕ) (line : List ℕ) → is_readable (command_of_block number line block) ≡ true
+block_readable block = holds_of_block (λ c. is_readable c ≡ true) block (readable_block block)
+
+pub sized_block_readable : (block : List ℕ) (number : ℕ) (line : List ℕ) → is_readable (command_of_sized_block number line block) ≡ true
+sized_block_readable block = holds_of_sized_block (λ c. is_readable c ≡ true) block (readable_block block)
+
+pub line_blockless : (quotes : Bool) (number : ℕ) (line : List ℕ) → block_length (command_of_line quotes number line) ≡ 0
 line_blockless = holds_of_line (λ c. block_length c ≡ 0) (record {
   bad = λ n. refl;
   bad_name = λ n. refl;
@@ -56,8 +63,8 @@ line_blockless = holds_of_line (λ c. block_length c ≡ 0) (record {
   query_at = λ n p h k. refl;
 })
 
-block_within : (block : List ℕ) (number : ℕ) (line : List ℕ) → block_length (command_of_block number line block) ≤ length block
-block_within block = holds_of_block (λ c. block_length c ≤ length block) block (record {
+within_block : (block : List ℕ) → HoldsOfBlocks (λ c. block_length c ≤ length block) block
+within_block block = record {
   bad = λ n. omega arith;
   bad_name = λ n. omega arith;
   load = λ n h. omega arith;
@@ -66,16 +73,22 @@ block_within block = holds_of_block (λ c. block_length c ≤ length block) bloc
   stop = λ n h. omega arith;
   stems = omega arith;
   thesaurus = λ n h. omega arith;
-})
+}
+
+block_within : (block : List ℕ) (number : ℕ) (line : List ℕ) → block_length (command_of_block number line block) ≤ length block
+block_within block = holds_of_block (λ c. block_length c ≤ length block) block (within_block block)
+
+pub sized_block_within : (block : List ℕ) (number : ℕ) (line : List ℕ) → block_length (command_of_sized_block number line block) ≤ length block
+sized_block_within block = holds_of_sized_block (λ c. block_length c ≤ length block) block (within_block block)
 
 -- what a line makes whole is readable
 pub readable_ended : (number : ℕ) (before : Option Opened) (line : List ℕ) → list_all is_readable (option_to_list (line_ended number before line).0) ≡ true
 readable_ended number None line = by (is_skipped line) (opens_block line)
   where
-    by : (skipped opens : Bool) → list_all is_readable (option_to_list (let ended : Option Command × Option Opened = cond skipped (None, None) (cond opens (None, Some (record { line = line; number = number; block = [] })) (Some (command_of_line number line), None)) in ended.0)) ≡ true
+    by : (skipped opens : Bool) → list_all is_readable (option_to_list (let ended : Option Command × Option Opened = cond skipped (None, None) (cond opens (None, Some (record { line = line; number = number; block = [] })) (Some (command_of_line false number line), None)) in ended.0)) ≡ true
     by true opens = refl
     by false true = refl
-    by false false = and_from _ _ (line_readable number line) refl
+    by false false = and_from _ _ (line_readable false number line) refl
 readable_ended number (Some o) line = by (closes_block line)
   where
     by : (closes : Bool) → list_all is_readable (option_to_list (let ended : Option Command × Option Opened = cond closes (Some (command_of_block o.number o.line (without_last o.block)), None) (None, Some (record o { block = o.block ++ unquoted line ++ 10 ∷ [] })) in ended.0)) ≡ true
@@ -101,10 +114,10 @@ length-after_lines n bytes = by (n == 0) (starts_with nat_eq bytes (239 ∷ 187 
 pub blocks_ended : (number : ℕ) (before : Option Opened) (line : List ℕ) → block_lengths (option_to_list (line_ended number before line).0) + opened_length (line_ended number before line).1 ≤ opened_length before + length line + 1
 blocks_ended number None line = by (is_skipped line) (opens_block line)
   where
-    by : (skipped opens : Bool) → let ended : Option Command × Option Opened = cond skipped (None, None) (cond opens (None, Some (record { line = line; number = number; block = [] })) (Some (command_of_line number line), None)) in block_lengths (option_to_list ended.0) + opened_length ended.1 ≤ 0 + length line + 1
+    by : (skipped opens : Bool) → let ended : Option Command × Option Opened = cond skipped (None, None) (cond opens (None, Some (record { line = line; number = number; block = [] })) (Some (command_of_line false number line), None)) in block_lengths (option_to_list ended.0) + opened_length ended.1 ≤ 0 + length line + 1
     by true opens = omega arith
     by false true = omega arith
-    by false false = omega (arith, line_blockless number line)
+    by false false = omega (arith, line_blockless false number line)
 blocks_ended number (Some o) line = by (closes_block line)
   where
     by : (closes : Bool) → let ended : Option Command × Option Opened = cond closes (Some (command_of_block o.number o.line (without_last o.block)), None) (None, Some (record o { block = o.block ++ unquoted line ++ 10 ∷ [] })) in block_lengths (option_to_list ended.0) + opened_length ended.1 ≤ length o.block + length line + 1
@@ -135,10 +148,10 @@ added_blocks place new part found after command says moved added =
 pub whole_blocks : (number : ℕ) (before : Option Opened) (line : List ℕ) → block_lengths (option_to_list (line_ended number before line).0) ≤ opened_length before
 whole_blocks number None line = by (is_skipped line) (opens_block line)
   where
-    by : (skipped opens : Bool) → let ended : Option Command × Option Opened = cond skipped (None, None) (cond opens (None, Some (record { line = line; number = number; block = [] })) (Some (command_of_line number line), None)) in block_lengths (option_to_list ended.0) ≤ 0
+    by : (skipped opens : Bool) → let ended : Option Command × Option Opened = cond skipped (None, None) (cond opens (None, Some (record { line = line; number = number; block = [] })) (Some (command_of_line false number line), None)) in block_lengths (option_to_list ended.0) ≤ 0
     by true opens = omega arith
     by false true = omega arith
-    by false false = omega (arith, line_blockless number line)
+    by false false = omega (arith, line_blockless false number line)
 whole_blocks number (Some o) line = by (closes_block line)
   where
     by : (closes : Bool) → let ended : Option Command × Option Opened = cond closes (Some (command_of_block o.number o.line (without_last o.block)), None) (None, Some (record o { block = o.block ++ unquoted line ++ 10 ∷ [] })) in block_lengths (option_to_list ended.0) ≤ length o.block

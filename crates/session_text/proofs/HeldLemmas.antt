@@ -1,16 +1,17 @@
 -- A line that stands at the end of an open block: what is left of it when it ends.
 use Rattle.std.proofs.Common.{◌≡◌, ◌∙◌, sym, ap, refl, ℕ, zero, suc, ◌+◌, ◌-◌, ◌≤◌, Bool, true, false, cond, List, [], ◌∷◌, ◌++◌, length, take, drop, append-nil, arith}
-use Rattle.std.specs.Prelude.{nat_eq, nat_le, codes, Option, Some, None, option_map, ◌==◌}
+use Rattle.std.specs.Prelude.{nat_eq, nat_le, codes, Option, Some, None, ◌==◌}
 use Rattle.std.specs.List.{starts_with}
 use Rattle.std.proofs.Math.Seq.{drop-nil, take-length}
 use Rattle.std.proofs.lemmas.Bool.Decides.{nat_tests}
 use Rattle.std.proofs.lemmas.List.{drop_all, length-drop, take-append-drop}
 use Rattle.std.proofs.lemmas.Bool.{leb-true}
 use Rattle.command_replies.specs.declared.command.Command.{Command}
-use Rattle.session_text.specs.Commands.{closes_block, unquoted, command_of_block}
+use Rattle.session_text.specs.PeriodBlocks.{closes_block, unquoted}
+use Rattle.session_text.specs.LineCommands.{command_of_block}
 use Rattle.session_text.specs.steps.Blocks.{without_last}
 use Rattle.session_text.specs.Lines.{without_mark}
-use Rattle.session_text.specs.steps.Reading.{Opened, OpenLines, Place, after_lines, between_lines, line_ended, open_lines, place_of}
+use Rattle.session_text.specs.steps.PeriodReading.{Opened, OpenLines, Place, after_lines, between_lines, line_ended, open_lines, place_of}
 
 drop_further : (m n : ℕ) (xs : List ℕ) → drop m (drop n xs) ≡ drop (n + m) xs
 drop_further m zero xs = let same : m ≡ zero + m = omega arith in ap (λ k. drop k xs) same

@@ -1,8 +1,17 @@
 pub mod BlockLemmas
 pub mod CommandLemmas
 pub mod EndLemmas
+pub mod FirstLineLemmas
 pub mod GivenLemmas
 pub mod PlaceLemmas
+pub mod QuotedLemmas
+pub mod ReachedLemmas
 pub mod ReadingLemmas
+pub mod SizeLemmas
+pub mod SizedEndLemmas
+pub mod SizedGivenLemmas
+pub mod SizedLemmas
+pub mod SizedPartLemmas
+pub mod SizedPlaceLemmas
 pub mod WordLemmas
 pub mod HeldLemmas

@@ -8,7 +8,7 @@ use Rattle.std.proofs.lemmas.List.Sums.{split_at_first, passes_at_first}
 use Rattle.std.proofs.lemmas.Bool.{and_from}
 use Rattle.ft_base.specs.Characters.{is_line_feed}
 use Rattle.command_replies.specs.declared.command.Command.{Command}
-use Rattle.session_text.specs.steps.Reading.{Place, commands_from, ended_at, place_after, is_unended}
+use Rattle.session_text.specs.steps.PeriodReading.{Place, commands_from, ended_at, place_after, is_unended}
 use Rattle.session_text.proofs.ReadingLemmas.{commands_from-line, unended_append}
 
 -- bytes up to the first line feed
@@ -16,7 +16,7 @@ abbrev pub feed_at : List ℕ → ℕ
 feed_at bytes = position_or_len is_line_feed bytes
 
 -- the bytes before the first line feed hold none
-unended_prefix : (bytes : List ℕ) → is_unended (take (feed_at bytes) bytes) ≡ true
+pub unended_prefix : (bytes : List ℕ) → is_unended (take (feed_at bytes) bytes) ≡ true
 unended_prefix [] = refl
 unended_prefix (byte ∷ bytes) = by (is_line_feed byte) refl (unended_prefix bytes)
   where
@@ -27,7 +27,7 @@ unended_prefix (byte ∷ bytes) = by (is_line_feed byte) refl (unended_prefix by
         ap (λ n. is_unended (take n (byte ∷ bytes))) next ∙ and_from (not (is_line_feed byte)) _ (ap not e) h
 
 -- and the line feed stands after them
-at_feed : (bytes : List ℕ) → feed_at bytes < length bytes → bytes ≡ take (feed_at bytes) bytes ++ 10 ∷ drop (feed_at bytes + 1) bytes
+pub at_feed : (bytes : List ℕ) → feed_at bytes < length bytes → bytes ≡ take (feed_at bytes) bytes ++ 10 ∷ drop (feed_at bytes + 1) bytes
 at_feed bytes within =
     let feed : get_or bytes (feed_at bytes) 0 ≡ 10 = eqb-true _ _ (passes_at_first is_line_feed bytes 0 within) in
     split_at_first is_line_feed bytes 0 within ∙ ap (λ b. take (feed_at bytes) bytes ++ b ∷ drop (feed_at bytes + 1) bytes) feed

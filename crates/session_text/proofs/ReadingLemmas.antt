@@ -9,10 +9,11 @@ use Rattle.std.proofs.lemmas.Bool.{and_parts, and_from, not-true}
 use Rattle.ft_base.specs.Characters.{is_line_feed}
 use Rattle.command_replies.specs.declared.command.Command.{Command}
 use Rattle.session_text.specs.steps.Blocks.{block_after, without_last}
-use Rattle.session_text.specs.Commands.{commands_of_lines, opened, opens_block, closes_block, unquoted, command_of_line, command_of_block, block_of}
+use Rattle.session_text.specs.PeriodBlocks.{commands_of_lines, opened, closes_block, unquoted, block_of}
+use Rattle.session_text.specs.LineCommands.{opens_block, command_of_line, command_of_block}
 use Rattle.text_lines.specs.Lines.{is_skipped, lines}
 use Rattle.session_text.specs.Lines.{ended_lines, lines_of, without_mark, onto_ended}
-use Rattle.session_text.specs.steps.Reading.{Opened, Place, after_lines, commands_on, commands_from, line_ended, ended_at, place_after, is_unended}
+use Rattle.session_text.specs.steps.PeriodReading.{Opened, Place, after_lines, commands_on, commands_from, line_ended, ended_at, place_after, is_unended}
 use Rattle.session_text.proofs.BlockLemmas.{block_of-lines}
 
 -- the commands of what a line says, and of the lines after it
@@ -25,8 +26,8 @@ command_line : (at_end : Bool) (number : ℕ) (line : List ℕ) (suffix : List (
 command_line at_end number line suffix = by (is_skipped line) (opens_block line)
   where
     by : (skipped opens : Bool)
-        → cond skipped (commands_of_lines at_end (number + 1) false suffix) (cond opens (opened at_end number line (block_of suffix) ++ commands_of_lines at_end (number + 1) true suffix) (command_of_line number line ∷ commands_of_lines at_end (number + 1) false suffix))
-        ≡ commands_after at_end number suffix (cond skipped (None, None) (cond opens (None, Some (record { line = line; number = number; block = [] })) (Some (command_of_line number line), None)))
+        → cond skipped (commands_of_lines at_end (number + 1) false suffix) (cond opens (opened at_end number line (block_of suffix) ++ commands_of_lines at_end (number + 1) true suffix) (command_of_line false number line ∷ commands_of_lines at_end (number + 1) false suffix))
+        ≡ commands_after at_end number suffix (cond skipped (None, None) (cond opens (None, Some (record { line = line; number = number; block = [] })) (Some (command_of_line false number line), None)))
     by true opens = refl
     by false true = ap (λ block. opened at_end number line block ++ commands_of_lines at_end (number + 1) true suffix) (block_of-lines suffix)
     by false false = refl
@@ -68,7 +69,7 @@ marked true xs ys zs = refl
 marked false xs ys zs = refl
 
 -- a byte order mark stands in the first line
-mark_in_line : (line more : List ℕ) → without_mark (line ++ 10 ∷ more) ≡ without_mark line ++ 10 ∷ more
+pub mark_in_line : (line more : List ℕ) → without_mark (line ++ 10 ∷ more) ≡ without_mark line ++ 10 ∷ more
 mark_in_line [] more = refl
 mark_in_line (a ∷ []) more =
     unmarked (nat_eq 239 a) false (a ∷ 10 ∷ more) (drop 3 (a ∷ 10 ∷ more)) ∙ sym (ap (λ w. w ++ 10 ∷ more) (unmarked (nat_eq 239 a) false (a ∷ []) []))
@@ -121,7 +122,7 @@ pub piece_rest : (at_end : Bool) (place : Place) (bytes more : List ℕ) → com
 piece_rest at_end place bytes more = ap (λ w. commands_on at_end (place.lines + 1) place.opened (lines_of at_end (after_lines place.lines w))) (append_assoc place.rest bytes more)
 
 -- none of these ends a line
-ended_lines-unended : (bytes : List ℕ) → is_unended bytes ≡ true → ended_lines bytes ≡ []
+pub ended_lines-unended : (bytes : List ℕ) → is_unended bytes ≡ true → ended_lines bytes ≡ []
 ended_lines-unended [] h = refl
 ended_lines-unended (byte ∷ bytes) h =
     ap (λ t. cond t ([] ∷ ended_lines bytes) (onto_ended byte (ended_lines bytes))) (not-true _ (and_parts _ _ h).0)

@@ -1,2 +1,4 @@
 pub mod Blocks
+pub mod PeriodReading
 pub mod Reading
+pub mod SizedReading

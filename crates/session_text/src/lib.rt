@@ -1,10 +1,15 @@
-//! The text of a session: the commands of its bytes, in whatever pieces these come, and the text of each reply.
+//! The text of a session: the commands of its bytes, in whatever pieces these come.
 #![tactic(auto)]
 
+mod add;
 mod line;
 mod named;
 mod parse;
+mod quoted;
+mod reached;
 mod reader;
+mod size;
+mod sized;
 mod unfinished;
 mod words;
 

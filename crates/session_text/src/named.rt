@@ -1,17 +1,27 @@
 //! Commands that one name or one text after their word makes.
 
-ghost use Rattle.std.specs.Prelude.{◌≡◌, IfOk};
-ghost use Rattle.session_text.specs.Commands.{name_in, named, text_in, with_text};
+ghost use Rattle.std.specs.Prelude.{◌≡◌, IfOk, false};
+ghost use Rattle.session_text.specs.Quoted.{unquoted_on};
+ghost use Rattle.session_text.specs.LineCommands.{name_in, named, quoted_name, text_in, with_text};
 
-use crate::words::{can_name, is_single_word};
+use crate::quoted::{behind_quote, read_quoted};
+use crate::words::{can_name, can_quote, is_single_word};
 use crate::{Command, How};
 use ft_base::{Bytes, Line, Memory};
 use std::alloc::Global;
 
 /// What follows a command's word, where that is to be one name.
-fn read_name(alloc: Global, number: u64, rest: &str) -> Result<Result<Line, Command>, Memory>
-    ensures { IfOk result (λ read. read ≡ name_in number rest.now) }
+fn read_name(
+    alloc: Global,
+    quotes: bool,
+    number: u64,
+    rest: &str,
+) -> Result<Result<Line, Command>, Memory>
+    ensures { IfOk result (λ read. read ≡ name_in quotes number rest.now) }
 {
+    if let Some(quoted) = behind_quote(quotes, rest) {
+        return read_quoted_name(alloc, number, quoted);
+    }
     if !is_single_word(rest) {
         return Ok(Err(Command::BadCommand { line: number }));
     }
@@ -19,6 +29,26 @@ fn read_name(alloc: Global, number: u64, rest: &str) -> Result<Result<Line, Comm
         return Ok(Err(Command::BadName { line: number }));
     }
     Ok(Ok(Line::read(alloc, rest)?))
+}
+
+/// The same behind the quotation mark with which a name begins.
+fn read_quoted_name(
+    alloc: Global,
+    number: u64,
+    quoted: &str,
+) -> Result<Result<Line, Command>, Memory>
+    ensures { IfOk result (λ read. read ≡ quoted_name number (unquoted_on false quoted.now)) }
+{
+    let Some((name, suffix)) = read_quoted(alloc, quoted)? else {
+        return Ok(Err(Command::BadCommand { line: number }));
+    };
+    if !suffix.is_empty() {
+        return Ok(Err(Command::BadCommand { line: number }));
+    }
+    if !can_quote(name.as_str()) {
+        return Ok(Err(Command::BadName { line: number }));
+    }
+    Ok(Ok(name))
 }
 
 /// What follows a command's word, where that is to be a path or a selection.
@@ -34,13 +64,14 @@ fn read_text(alloc: Global, number: u64, rest: &str) -> Result<Result<Line, Comm
 /// `load NAME` and its block.
 pub(crate) fn read_load(
     alloc: Global,
+    quotes: bool,
     number: u64,
     rest: &str,
     block: Bytes,
 ) -> Result<Command, Memory>
-    ensures { IfOk result (λ command. command ≡ named number rest.now (λ name. Command.Load name block)) }
+    ensures { IfOk result (λ command. command ≡ named quotes number rest.now (λ name. Command.Load name block)) }
 {
-    Ok(match read_name(alloc, number, rest)? {
+    Ok(match read_name(alloc, quotes, number, rest)? {
         Ok(name) => Command::Load { name, block },
         Err(fault) => fault,
     })
@@ -80,13 +111,14 @@ pub(crate) fn read_insert(
 /// `stop NAME` and its block.
 pub(crate) fn read_stop(
     alloc: Global,
+    quotes: bool,
     number: u64,
     rest: &str,
     block: Bytes,
 ) -> Result<Command, Memory>
-    ensures { IfOk result (λ command. command ≡ named number rest.now (λ name. Command.Stop name block)) }
+    ensures { IfOk result (λ command. command ≡ named quotes number rest.now (λ name. Command.Stop name block)) }
 {
-    Ok(match read_name(alloc, number, rest)? {
+    Ok(match read_name(alloc, quotes, number, rest)? {
         Ok(name) => Command::Stop { name, block },
         Err(fault) => fault,
     })
@@ -95,43 +127,59 @@ pub(crate) fn read_stop(
 /// `thesaurus NAME` and its block.
 pub(crate) fn read_thesaurus(
     alloc: Global,
+    quotes: bool,
     number: u64,
     rest: &str,
     block: Bytes,
 ) -> Result<Command, Memory>
-    ensures { IfOk result (λ command. command ≡ named number rest.now (λ name. Command.Thesaurus name block)) }
+    ensures { IfOk result (λ command. command ≡ named quotes number rest.now (λ name. Command.Thesaurus name block)) }
 {
-    Ok(match read_name(alloc, number, rest)? {
+    Ok(match read_name(alloc, quotes, number, rest)? {
         Ok(name) => Command::Thesaurus { name, block },
         Err(fault) => fault,
     })
 }
 
 /// `drop NAME`.
-pub(crate) fn read_drop(alloc: Global, number: u64, rest: &str) -> Result<Command, Memory>
-    ensures { IfOk result (λ command. command ≡ named number rest.now (λ name. Command.Drop name)) }
+pub(crate) fn read_drop(
+    alloc: Global,
+    quotes: bool,
+    number: u64,
+    rest: &str,
+) -> Result<Command, Memory>
+    ensures { IfOk result (λ command. command ≡ named quotes number rest.now (λ name. Command.Drop name)) }
 {
-    Ok(match read_name(alloc, number, rest)? {
+    Ok(match read_name(alloc, quotes, number, rest)? {
         Ok(name) => Command::Drop { name },
         Err(fault) => fault,
     })
 }
 
 /// `mark NAME`.
-pub(crate) fn read_mark(alloc: Global, number: u64, rest: &str) -> Result<Command, Memory>
-    ensures { IfOk result (λ command. command ≡ named number rest.now (λ name. Command.Mark name)) }
+pub(crate) fn read_mark(
+    alloc: Global,
+    quotes: bool,
+    number: u64,
+    rest: &str,
+) -> Result<Command, Memory>
+    ensures { IfOk result (λ command. command ≡ named quotes number rest.now (λ name. Command.Mark name)) }
 {
-    Ok(match read_name(alloc, number, rest)? {
+    Ok(match read_name(alloc, quotes, number, rest)? {
         Ok(name) => Command::Mark { name },
         Err(fault) => fault,
     })
 }
 
 /// `unmark NAME`.
-pub(crate) fn read_unmark(alloc: Global, number: u64, rest: &str) -> Result<Command, Memory>
-    ensures { IfOk result (λ command. command ≡ named number rest.now (λ name. Command.Unmark name)) }
+pub(crate) fn read_unmark(
+    alloc: Global,
+    quotes: bool,
+    number: u64,
+    rest: &str,
+) -> Result<Command, Memory>
+    ensures { IfOk result (λ command. command ≡ named quotes number rest.now (λ name. Command.Unmark name)) }
 {
-    Ok(match read_name(alloc, number, rest)? {
+    Ok(match read_name(alloc, quotes, number, rest)? {
         Ok(name) => Command::Unmark { name },
         Err(fault) => fault,
     })

@@ -1,7 +1,10 @@
-ghost use Rattle.std.specs.Prelude.{◌≡◌, true, false, IfOk, IfSome, IfNone};
+ghost use Rattle.std.specs.Prelude.{◌≡◌, ◌≤◌, false, true, IfOk, IfSome, IfNone};
 ghost use Rattle.text_lines.specs.Lines.{is_skipped, trimmed_line};
-ghost use Rattle.session_text.specs.Commands.{block_command, command_of_block, command_of_line, how_of, insertion, line_command};
-ghost use Rattle.session_text.specs.Commands.{list_command, name_command, opens_block as block_follows, query, query_at};
+ghost use Rattle.session_text.specs.LineCommands.{block_command, command_of_block, command_of_line, command_of_sized_block, how_of, insertion};
+ghost use Rattle.session_text.specs.LineCommands.{line_command, list_command, name_command, opens_block as block_follows, query, query_at, query_at_quoted};
+ghost use Rattle.session_text.specs.Quoted.{unquoted_on};
+ghost use Rattle.ft_base.specs.Limits.{max_session_bytes};
+ghost use Rattle.session_text.specs.SizedBlocks.{block_size};
 ghost use Rattle.session_text.specs.Words.{is_command_line};
 
 use crate::line::is_word;
@@ -9,7 +12,9 @@ use crate::named::{
     read_delete, read_drop, read_explain, read_insert, read_load, read_mark, read_plain_query,
     read_print, read_replace, read_stop, read_thesaurus, read_unmark,
 };
-use crate::words::{can_name, split_word};
+use crate::quoted::{behind_quote, read_quoted};
+use crate::size::size_of;
+use crate::words::{can_name, can_quote, split_word};
 use crate::{Command, How};
 use ft_base::{Bytes, Line, MAX_LINE_BYTES, Memory};
 use std::alloc::Global;
@@ -48,15 +53,16 @@ fn read_insertion(
 /// The command with that first word and that rest, and the block after it.
 fn read_block_command(
     alloc: Global,
+    quotes: bool,
     number: u64,
     word: &str,
     rest: &str,
     block: Bytes,
 ) -> Result<Command, Memory>
-    ensures { IfOk result (λ command. command ≡ block_command number word.now rest.now block) }
+    ensures { IfOk result (λ command. command ≡ block_command quotes number word.now rest.now block) }
 {
     if word == "load" {
-        return read_load(alloc, number, rest, block);
+        return read_load(alloc, quotes, number, rest, block);
     }
     if word == "insert" {
         let (how, path) = split_word(rest);
@@ -65,21 +71,22 @@ fn read_block_command(
     if word == "replace" {
         return read_replace(alloc, number, rest, block);
     }
-    read_list_command(alloc, number, word, rest, block)
+    read_list_command(alloc, quotes, number, word, rest, block)
 }
 
 /// The same for the commands that read a list.
 fn read_list_command(
     alloc: Global,
+    quotes: bool,
     number: u64,
     word: &str,
     rest: &str,
     block: Bytes,
 ) -> Result<Command, Memory>
-    ensures { IfOk result (λ command. command ≡ list_command number word.now rest.now block) }
+    ensures { IfOk result (λ command. command ≡ list_command quotes number word.now rest.now block) }
 {
     if word == "stop" {
-        return read_stop(alloc, number, rest, block);
+        return read_stop(alloc, quotes, number, rest, block);
     }
     if word == "stems" {
         return Ok(if rest.is_empty() {
@@ -89,7 +96,7 @@ fn read_list_command(
         });
     }
     if word == "thesaurus" {
-        return read_thesaurus(alloc, number, rest, block);
+        return read_thesaurus(alloc, quotes, number, rest, block);
     }
     Ok(Command::BadCommand { line: number })
 }
@@ -110,30 +117,57 @@ fn read_query_at(alloc: Global, number: u64, name: &str, path: &str) -> Result<C
     })
 }
 
+/// The same behind the quotation mark with which the name begins.
+fn read_query_at_quoted(alloc: Global, number: u64, quoted: &str) -> Result<Command, Memory>
+    ensures { IfOk result (λ command. command ≡ query_at_quoted number (unquoted_on false quoted.now)) }
+{
+    let Some((name, suffix)) = read_quoted(alloc, quoted)? else {
+        return Ok(Command::BadCommand { line: number });
+    };
+    let (word, path) = split_word(suffix);
+    if !word.is_empty() || path.is_empty() {
+        return Ok(Command::BadCommand { line: number });
+    }
+    if !can_quote(name.as_str()) {
+        return Ok(Command::BadName { line: number });
+    }
+    let path = Line::read(alloc, path)?;
+    Ok(Command::QueryAt { name, path })
+}
+
 /// `query at NAME PATH` wherever the second word is `at`, else `query PATH`.
-fn read_query(alloc: Global, number: u64, rest: &str) -> Result<Command, Memory>
-    ensures { IfOk result (λ command. command ≡ query number rest.now) }
+fn read_query(alloc: Global, quotes: bool, number: u64, rest: &str) -> Result<Command, Memory>
+    ensures { IfOk result (λ command. command ≡ query quotes number rest.now) }
 {
     let (second, suffix) = split_word(rest);
-    if second == "at" {
-        let (name, path) = split_word(suffix);
-        return read_query_at(alloc, number, name, path);
+    if second != "at" {
+        return read_plain_query(alloc, number, rest);
     }
-    read_plain_query(alloc, number, rest)
+    if let Some(quoted) = behind_quote(quotes, suffix) {
+        return read_query_at_quoted(alloc, number, quoted);
+    }
+    let (name, path) = split_word(suffix);
+    read_query_at(alloc, number, name, path)
 }
 
 /// The command with that first word and that rest, without a block.
-fn read_name_command(alloc: Global, number: u64, word: &str, rest: &str) -> Result<Command, Memory>
-    ensures { IfOk result (λ command. command ≡ name_command number word.now rest.now) }
+fn read_name_command(
+    alloc: Global,
+    quotes: bool,
+    number: u64,
+    word: &str,
+    rest: &str,
+) -> Result<Command, Memory>
+    ensures { IfOk result (λ command. command ≡ name_command quotes number word.now rest.now) }
 {
     if word == "drop" {
-        return read_drop(alloc, number, rest);
+        return read_drop(alloc, quotes, number, rest);
     }
     if word == "mark" {
-        return read_mark(alloc, number, rest);
+        return read_mark(alloc, quotes, number, rest);
     }
     if word == "unmark" {
-        return read_unmark(alloc, number, rest);
+        return read_unmark(alloc, quotes, number, rest);
     }
     if word == "stats" && rest.is_empty() {
         return Ok(Command::Stats);
@@ -142,11 +176,17 @@ fn read_name_command(alloc: Global, number: u64, word: &str, rest: &str) -> Resu
 }
 
 /// The same, and first the commands with a path or a selection.
-fn read_line_command(alloc: Global, number: u64, word: &str, rest: &str) -> Result<Command, Memory>
-    ensures { IfOk result (λ command. command ≡ line_command number word.now rest.now) }
+fn read_line_command(
+    alloc: Global,
+    quotes: bool,
+    number: u64,
+    word: &str,
+    rest: &str,
+) -> Result<Command, Memory>
+    ensures { IfOk result (λ command. command ≡ line_command quotes number word.now rest.now) }
 {
     if word == "query" {
-        return read_query(alloc, number, rest);
+        return read_query(alloc, quotes, number, rest);
     }
     if word == "print" {
         return read_print(alloc, number, rest);
@@ -157,7 +197,7 @@ fn read_line_command(alloc: Global, number: u64, word: &str, rest: &str) -> Resu
     if word == "delete" {
         return read_delete(alloc, number, rest);
     }
-    read_name_command(alloc, number, word, rest)
+    read_name_command(alloc, quotes, number, word, rest)
 }
 
 /// What a command line says, unless it is too long or isn't UTF-8.
@@ -189,13 +229,18 @@ pub(crate) fn opens_block(line: &[u8]) -> bool
 }
 
 /// The command of the line of that number, which no block follows.
-pub(crate) fn read_line(alloc: Global, number: u64, line: &[u8]) -> Result<Command, Memory>
-    ensures { IfOk result (λ command. command ≡ command_of_line number line.now) }
+pub(crate) fn read_line(
+    alloc: Global,
+    quotes: bool,
+    number: u64,
+    line: &[u8],
+) -> Result<Command, Memory>
+    ensures { IfOk result (λ command. command ≡ command_of_line quotes number line.now) }
 {
     match command_text_of(line) {
         Some(text) => {
             let (word, rest) = split_word(text);
-            read_line_command(alloc, number, word, rest)
+            read_line_command(alloc, quotes, number, word, rest)
         }
         None => Ok(Command::BadCommand { line: number }),
     }
@@ -213,8 +258,41 @@ pub(crate) fn read_block(
     match command_text_of(line) {
         Some(text) => {
             let (word, rest) = split_word(text);
-            read_block_command(alloc, number, word, rest, block)
+            read_block_command(alloc, false, number, word, rest, block)
         }
         None => Ok(Command::BadCommand { line: number }),
     }
+}
+
+/// The same, where the block's length is the line's second word.
+pub(crate) fn read_sized_block(
+    alloc: Global,
+    number: u64,
+    line: &[u8],
+    block: Bytes,
+) -> Result<Command, Memory>
+    ensures { IfOk result (λ command. command ≡ command_of_sized_block number line.now block) }
+{
+    match command_text_of(line) {
+        Some(text) => {
+            let (word, sized) = split_word(text);
+            let (_, rest) = split_word(sized);
+            read_block_command(alloc, true, number, word, rest, block)
+        }
+        None => Ok(Command::BadCommand { line: number }),
+    }
+}
+
+/// How many bytes the block has that follows the line, where blocks have lengths.
+pub(crate) fn block_size_of(line: &[u8]) -> Option<usize>
+    ensures size { result ≡ block_size line.now }
+    ensures within { IfSome result (λ size. size ≤ max_session_bytes) }
+{
+    if !opens_block(line) {
+        return None;
+    }
+    let text = command_text_of(line)?;
+    let (_, sized) = split_word(text);
+    let (size, _) = split_word(sized);
+    size_of(size)
 }

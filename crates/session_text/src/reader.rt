@@ -3,9 +3,9 @@ ghost use Rattle.std.specs.Option.{option_to_list};
 ghost use Rattle.std.specs.List.{list_all};
 ghost use Rattle.session_text.specs.Commands.{commands, whole};
 ghost use Rattle.command_replies.specs.Given.{block_lengths, is_readable};
-ghost use Rattle.session_text.specs.steps.Reading.{commands_left, held_length, new_reading, whole_left};
+ghost use Rattle.session_text.specs.steps.Reading.{bytes_held_back, commands_left, new_reading, whole_left};
 
-use crate::unfinished::Unfinished;
+use crate::reached::Reached;
 use crate::{Command, Commands};
 use ft_base::Memory;
 use std::alloc::Global;
@@ -15,20 +15,20 @@ use std::marker::Model;
 #[derive(Drop)]
 pub struct Lines_ {
     alloc: Global,
-    place: Unfinished,
+    place: Reached,
     bytes: u64,
     failed: bool,
 }
 
 impl Model for Lines_ {
     ghost use Rattle.std.specs.Prelude.{◌≡◌, ◌<◌, ◌^◌, false};
-    ghost use Rattle.session_text.specs.steps.Reading.{Reading, IsLineOpen};
+    ghost use Rattle.session_text.specs.steps.Reading.{Reading, IsPlace};
 
     ghost Value = { Reading };
 
     ghost view = { λ reader. record { place = reader.place; bytes = reader.bytes; failed = reader.failed } };
 
-    ghost invariant = { λ reader. (reader.bytes < 2 ^ 63) × (reader.failed ≡ false → IsLineOpen reader.place reader.bytes) };
+    ghost invariant = { λ reader. (reader.bytes < 2 ^ 63) × (reader.failed ≡ false → IsPlace reader.place reader.bytes) };
 }
 
 impl Lines_ {
@@ -40,7 +40,7 @@ impl Lines_ {
     {
         Lines_ {
             alloc,
-            place: Unfinished::new(alloc),
+            place: Reached::new(alloc),
             bytes: 0,
             failed: false,
         }
@@ -56,19 +56,20 @@ impl Lines_ {
             whole_left self.old (piece.now ++ more) ≡ given ++ whole_left self.new more) }
         ensures none_held { OnOk result (whole_left self.new [] ≡ []) }
         ensures readable { IfOk result (λ given. list_all is_readable given ≡ true) }
-        ensures blocks { IfOk result (λ given. block_lengths given + held_length self.new.place ≤ held_length self.old.place + length piece.now) }
+        ensures blocks { IfOk result (λ given. block_lengths given + bytes_held_back self.new.place ≤ bytes_held_back self.old.place + length piece.now) }
 
         // what the reader counts, and that it fails from then on
         ensures bytes { self.new.bytes ≡ self.old.bytes + length piece.now }
         ensures failed { self.new.failed ≡ is_err result }
         ensures fails_on { self.old.failed ≡ true → IsErr result }
     {
+        let taken = self.bytes;
         self.bytes += piece.len() as u64;
         if self.failed {
             return Err(Memory);
         }
         self.failed = true;
-        let given = self.place.take_piece(self.alloc, piece)?;
+        let given = self.place.take_piece(self.alloc, taken, piece)?;
         self.failed = false;
         Ok(given)
     }
@@ -78,7 +79,7 @@ impl Lines_ {
     pub fn end(&mut self) -> Result<Option<Command>, Memory>
         ensures commands { IfOk result (λ last. commands_left self.old [] ≡ option_to_list last) }
         ensures readable { IfOk result (λ last. list_all is_readable (option_to_list last) ≡ true) }
-        ensures blocks { IfOk result (λ last. block_lengths (option_to_list last) ≤ held_length self.old.place) }
+        ensures blocks { IfOk result (λ last. block_lengths (option_to_list last) ≤ bytes_held_back self.old.place) }
         ensures new { OnOk result (self.new ≡ new_reading) }
         ensures failed { OnErr result (self.new.failed ≡ true) }
         ensures bytes { OnErr result (self.new.bytes ≡ self.old.bytes) }
@@ -88,7 +89,7 @@ impl Lines_ {
             return Err(Memory);
         }
         self.failed = true;
-        let last = self.place.finish(self.alloc)?;
+        let last = self.place.finish(self.alloc, self.bytes)?;
         *self = Lines_::new(self.alloc);
         Ok(last)
     }

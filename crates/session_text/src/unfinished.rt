@@ -4,10 +4,11 @@ ghost use Rattle.command_replies.specs.Given.{block_lengths, is_readable};
 ghost use Rattle.std.specs.Option.{option_map, option_to_list};
 ghost use Rattle.ft_base.specs.Characters.{is_line_feed};
 ghost use Rattle.session_text.specs.steps.Blocks.{without_last};
-ghost use Rattle.session_text.specs.Commands.{closes_block, unquoted};
-ghost use Rattle.session_text.specs.steps.Reading.{at_start, after_lines, between_lines, commands_from, ended_at, held_length};
-ghost use Rattle.session_text.specs.steps.Reading.{is_unended, line_ended, open_at_end, open_lines, place_after};
+ghost use Rattle.session_text.specs.PeriodBlocks.{closes_block, unquoted};
+ghost use Rattle.session_text.specs.steps.PeriodReading.{at_start, after_lines, between_lines, commands_from, ended_at, held_length};
+ghost use Rattle.session_text.specs.steps.PeriodReading.{is_unended, line_ended, open_at_end, open_lines, place_after};
 
+use crate::add::add;
 use crate::line::{is_word, skip_mark};
 use crate::parse::{opens_block, read_block, read_line};
 use crate::{Command, Commands};
@@ -28,7 +29,7 @@ struct OpenBlock {
 }
 
 impl Model for OpenBlock {
-    ghost use Rattle.session_text.specs.steps.Reading.{OpenLines, open_lines};
+    ghost use Rattle.session_text.specs.steps.PeriodReading.{OpenLines, open_lines};
 
     ghost Value = { OpenLines };
 
@@ -44,7 +45,7 @@ pub(crate) struct Unfinished {
 }
 
 impl Model for Unfinished {
-    ghost use Rattle.session_text.specs.steps.Reading.{Place, place_of};
+    ghost use Rattle.session_text.specs.steps.PeriodReading.{Place, place_of};
 
     ghost Value = { Place };
 
@@ -205,7 +206,7 @@ fn end_command_line(
         };
         return Ok((None, Some(pending)));
     }
-    Ok((Some(read_line(alloc, number, line)?), None))
+    Ok((Some(read_line(alloc, false, number, line)?), None))
 }
 
 /// What a line says in an open block, whose last part it is.
@@ -223,16 +224,6 @@ fn end_inside(
     }
     pending.hold(part)?;
     end_held_line(alloc, lines, pending)
-}
-
-/// Adds the command, if there is one.
-fn add(found: &mut Commands, command: Option<Command>) -> Result<(), Memory>
-    ensures { OnOk result (found.new ≡ found.old ++ option_to_list command) }
-{
-    match command {
-        Some(command) => found.push(command),
-        None => Ok(()),
-    }
 }
 
 /// The command that an open block is, where the session ends.
@@ -309,7 +300,7 @@ impl Unfinished {
     }
 
     /// The bytes of the line that hasn't ended.
-    fn held(&self) -> &[u8]
+    pub(crate) fn held(&self) -> &[u8]
         ensures { result.now ≡ self.now.rest }
     {
         match &self.opened {
@@ -319,7 +310,7 @@ impl Unfinished {
     }
 
     /// Adds bytes to the line that hasn't ended.
-    fn hold(&mut self, bytes: &[u8]) -> Result<(), Memory>
+    pub(crate) fn hold(&mut self, bytes: &[u8]) -> Result<(), Memory>
         ensures { OnOk result (self.new ≡ record self.old { rest = self.old.rest ++ bytes.now }) }
     {
         match &mut self.opened {

@@ -1,7 +1,8 @@
 ghost use Rattle.std.specs.Prelude.{◌≡◌, ◌≤◌, length, drop};
-ghost use Rattle.std.specs.List.{list_all};
+ghost use Rattle.std.specs.List.{list_all, list_any};
+ghost use Rattle.std.specs.Str.{chars};
 ghost use Rattle.text_lines.specs.Lines.{trimmed_line, first_word, after_first_word};
-ghost use Rattle.command_replies.specs.Names.{is_name, is_name_byte};
+ghost use Rattle.command_replies.specs.Names.{is_bare_name, is_control_byte, is_name_byte, is_quoted_name};
 ghost use Rattle.session_text.specs.Words.{is_one_word};
 
 use ft_base::MAX_NAME_BYTES;
@@ -26,9 +27,9 @@ pub(crate) fn is_single_word(text: &str) -> bool
     !text.is_empty() && rest.is_empty()
 }
 
-/// Whether the text is a name: letters, digits, periods, low lines and hyphens, at least one and at most `MAX_NAME_BYTES`.
+/// Whether the text is a bare name: letters, digits, periods, low lines and hyphens, at least one and at most `MAX_NAME_BYTES`.
 pub(crate) fn can_name(text: &str) -> bool
-    ensures { result ≡ is_name text.now }
+    ensures { result ≡ is_bare_name text.now }
 {
     !text.is_empty() && text.len() <= MAX_NAME_BYTES && has_only_name_letters(text.as_bytes())
 }
@@ -50,4 +51,37 @@ fn is_name_letter(byte: u8) -> bool
     ensures { result ≡ is_name_byte byte }
 {
     byte.is_ascii_alphanumeric() || byte == b'.' || byte == b'_' || byte == b'-'
+}
+
+/// Whether the text is a name that may stand in quotation marks: any characters but controls of ASCII, at least one and at most as many
+/// as a bare name may have.
+pub(crate) fn can_quote(text: &str) -> bool
+    ensures { result ≡ is_quoted_name text.now }
+{
+    !text.is_empty() && count_characters(text) <= MAX_NAME_BYTES && !has_control(text.as_bytes())
+}
+
+fn count_characters(text: &str) -> usize
+    ensures { result ≡ length (chars text.now) }
+{
+    text.chars().count()
+}
+
+/// Whether a control of ASCII is among the bytes.
+fn has_control(bytes: &[u8]) -> bool
+    ensures { result ≡ list_any is_control_byte bytes.now }
+{
+    for byte in bytes {
+        if is_control(*byte) {
+            return true;
+        }
+    }
+    false
+}
+
+/// U+0000 to U+001F, or U+007F.
+fn is_control(byte: u8) -> bool
+    ensures { result ≡ is_control_byte byte }
+{
+    byte <= 31 || byte == 127
 }

@@ -1,6 +1,6 @@
 -- A block that is read line by line.
 use Rattle.std.specs.Prelude.{ℕ, ◌-◌, if◌then◌else◌, List, [], ◌∷◌, ◌++◌, length, take, Option, Some, None}
-use Rattle.session_text.specs.Commands.{closes_block, unquoted}
+use Rattle.session_text.specs.PeriodBlocks.{closes_block, unquoted}
 
 -- what stands before the last byte
 abbrev pub without_last : List ℕ → List ℕ

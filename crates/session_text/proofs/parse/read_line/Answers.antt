@@ -3,7 +3,7 @@ use Rattle.std.proofs.Common.{◌≡◌, ◌∙◌, sym, ap, subst, cond}
 use Rattle.std.specs.Prelude.{IfOk}
 use Rattle.command_replies.specs.declared.command.Command.{Command}
 use Rattle.command_replies.specs.declared.command.Command.TheVariants.{BadCommand}
-use Rattle.session_text.specs.Commands.{command_of_line, line_command}
+use Rattle.session_text.specs.LineCommands.{command_of_line, line_command}
 use Rattle.text_lines.specs.Lines.{trimmed_line, first_word, after_first_word}
 use Rattle.session_text.proofs.parse.read_line.Goals as goal
 
@@ -11,9 +11,10 @@ pub returns-in-Some : goal.returns-in-Some
 returns-in-Some c =
     let line = c.args.line.now in
     let number = c.args.number in
+    let quotes = c.args.quotes in
     let text = c.in-Some.ensures.text in
-    let said : line_command number c.split_word.result.0.now c.split_word.result.1.now ≡ command_of_line number line =
-    ap (λ w. line_command number w c.split_word.result.1.now) (c.split_word.ensures.word ∙ ap first_word text.1)
-    ∙ (ap (line_command number (first_word (trimmed_line line))) (c.split_word.ensures.rest ∙ ap after_first_word text.1)
-    ∙ sym (ap (λ t. cond t (line_command number (first_word (trimmed_line line)) (after_first_word (trimmed_line line))) (BadCommand number)) text.0)) in
+    let said : line_command quotes number c.split_word.result.0.now c.split_word.result.1.now ≡ command_of_line quotes number line =
+    ap (λ w. line_command quotes number w c.split_word.result.1.now) (c.split_word.ensures.word ∙ ap first_word text.1)
+    ∙ (ap (line_command quotes number (first_word (trimmed_line line))) (c.split_word.ensures.rest ∙ ap after_first_word text.1)
+    ∙ sym (ap (λ t. cond t (line_command quotes number (first_word (trimmed_line line)) (after_first_word (trimmed_line line))) (BadCommand number)) text.0)) in
     subst (λ (said : Command). IfOk c.read_line_command.result (λ command. command ≡ said)) said c.read_line_command.ensures

@@ -1,10 +1,10 @@
 -- The line closes the block, or is the block's next.
-use Rattle.std.proofs.Common.{◌≡◌, ◌∙◌, sym, ap, refl, true, false, ◌++◌, ◌∷◌, []}
+use Rattle.std.proofs.Common.{◌∙◌, sym, ap, ◌++◌, ◌∷◌, []}
 use Rattle.std.specs.Prelude.{Option, Some, None}
 use Rattle.command_replies.specs.declared.command.Command.{Command}
 use Rattle.session_text.specs.steps.Blocks.{without_last}
-use Rattle.session_text.specs.Commands.{closes_block, unquoted, command_of_block}
-use Rattle.session_text.specs.steps.Reading.{OpenLines, open_lines}
+use Rattle.session_text.specs.LineCommands.{command_of_block}
+use Rattle.session_text.specs.steps.PeriodReading.{OpenLines, open_lines}
 use Rattle.session_text.proofs.HeldLemmas.{closed, goes_on, whole_block}
 use Rattle.session_text.proofs.unfinished.end_block_line.Goals as goal
 

@@ -1,7 +1,7 @@
 -- The commands of what is left stay the same, whole or with the session's end after them.
 use Rattle.std.proofs.Common.{◌∙◌, sym, ap, ◌++◌, true, false}
 use Rattle.session_text.specs.steps.Reading.{Reading, commands_left, whole_left}
-use Rattle.session_text.proofs.ReadingLemmas.{commands_from-unended}
+use Rattle.session_text.proofs.ReachedLemmas.{none_whole}
 use Rattle.session_text.proofs.reader.Lines_.feed.Goals as goal
 
 pub returns-clause-commands : goal.returns-clause-commands
@@ -13,4 +13,4 @@ returns-clause-whole c = λ more.
     sym (ap (λ (reading : Reading). whole_left reading (c.args.piece.now ++ more)) c.self.view_is) ∙ c.in_ok-given.ensures.commands false more
 
 pub returns-clause-none_held : goal.returns-clause-none_held
-returns-clause-none_held c = commands_from-unended c.take_piece.new.self c.in_ok-given.ensures.unended
+returns-clause-none_held c = none_whole c.take_piece.new.self _ c.in_ok-given.ensures.place

@@ -1,6 +1,6 @@
 -- A command that is whole with the last line is all that is left.
 use Rattle.std.proofs.Common.{◌≡◌, ◌∙◌, sym, ap}
-use Rattle.session_text.specs.steps.Reading.{Place, after_lines}
+use Rattle.session_text.specs.steps.PeriodReading.{Place, after_lines}
 use Rattle.session_text.proofs.EndLemmas.{ends_whole}
 use Rattle.session_text.proofs.GivenLemmas.{last_readable, last_blocks}
 use Rattle.session_text.proofs.unfinished.Unfinished.finish.Goals as goal

@@ -3,7 +3,7 @@ use Rattle.std.proofs.Common.{◌≡◌, ℕ, ◌+◌, ◌≤◌, Bool, true, Li
 use Rattle.std.specs.List.{list_all, position_or_len}
 use Rattle.ft_base.specs.Characters.{is_line_feed}
 use Rattle.command_replies.specs.Given.{block_lengths, is_readable}
-use Rattle.session_text.specs.steps.Reading.{commands_from, held_length, is_unended}
+use Rattle.session_text.specs.steps.PeriodReading.{commands_from, held_length, is_unended}
 use Rattle.session_text.proofs.unfinished.Unfinished.take_piece.Given as goal
 
 abbrev pub invariant-loop-end : goal.invariant-loop-end

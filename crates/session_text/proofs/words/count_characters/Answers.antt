@@ -1,0 +1,7 @@
+-- The number of what `chars` gives.
+use Rattle.std.proofs.Common.{rules}
+use Rattle.std.proofs.lemmas.Str.{chars_from_encodes}
+use Rattle.session_text.proofs.words.count_characters.Goals as goal
+
+pub returns : goal.returns
+returns c = search (rules, chars_from_encodes)

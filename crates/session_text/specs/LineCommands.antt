@@ -1,0 +1,140 @@
+-- The command of a line, and of a line and the block after it.
+use Rattle.std.specs.Prelude.{ℕ, Bool, true, false, not, ◌&&◌, ◌||◌, if◌then◌else◌, List, [], ◌∷◌, codes, Option, Some, None, Result, Ok, Err}
+use Rattle.std.specs.List.{list_any}
+use Rattle.ft_base.specs.Lists.{is_empty}
+use Rattle.command_replies.specs.declared.command.Command.{Command}
+use Rattle.command_replies.specs.declared.command.Command.TheVariants as command
+use Rattle.plain_tree.specs.declared.place.How.{How}
+use Rattle.plain_tree.specs.declared.place.How.TheVariants as how
+use Rattle.text_lines.specs.Lines.{after_first_word, first_word, trimmed_line}
+use Rattle.command_replies.specs.Names.{is_bare_name, is_quoted_name}
+use Rattle.session_text.specs.Words.{is_text, is_command_line, is_one_word}
+use Rattle.session_text.specs.Quoted.{is_quoted, quoted}
+
+-- a line whose command is followed by a block, whatever else it holds
+abbrev pub opens_block : List ℕ → Bool
+opens_block line =
+    list_any (is_text (first_word (trimmed_line line)))
+    (codes "load" ∷ codes "insert" ∷ codes "replace" ∷ codes "stop" ∷ codes "stems" ∷ codes "thesaurus" ∷ [])
+
+-- a name in quotation marks, which stands before nothing else: what it says, or the command that tells the fault. `number` is the line's.
+abbrev pub quoted_name : ℕ → Option (List ℕ × List ℕ) → Result (List ℕ) Command
+quoted_name number None = Err (command.BadCommand number)
+quoted_name number (Some q) =
+    if not (is_empty q.1) then Err (command.BadCommand number)
+    else if is_quoted_name q.0 then Ok q.0
+    else Err (command.BadName number)
+
+-- What follows a command's word, where that is to be one name: the name, or the command that tells the fault. `number` is
+-- the line's, and `quotes` says whether a name may stand in quotation marks.
+abbrev pub name_in : Bool → ℕ → List ℕ → Result (List ℕ) Command
+name_in quotes number rest =
+    if quotes && is_quoted rest then quoted_name number (quoted rest)
+    else if not (is_one_word rest) then Err (command.BadCommand number)
+    else if is_bare_name rest then Ok rest
+    else Err (command.BadName number)
+
+-- what follows a command's word, where that is to be a path or a selection, which are read later
+abbrev pub text_in : ℕ → List ℕ → Result (List ℕ) Command
+text_in number rest = if is_empty rest then Err (command.BadCommand number) else Ok rest
+
+-- the command made of what follows its word
+abbrev pub made : (List ℕ → Command) → Result (List ℕ) Command → Command
+made make (Ok text) = make text
+made make (Err fault) = fault
+
+abbrev pub named : Bool → ℕ → List ℕ → (List ℕ → Command) → Command
+named quotes number rest make = made make (name_in quotes number rest)
+
+abbrev pub with_text : ℕ → List ℕ → (List ℕ → Command) → Command
+with_text number rest make = made make (text_in number rest)
+
+-- the command, where nothing is to follow its word
+abbrev pub alone : ℕ → List ℕ → Command → Command
+alone number rest made = if is_empty rest then made else command.BadCommand number
+
+-- where an insertion puts its content
+abbrev pub how_of : List ℕ → Option How
+how_of word =
+    if is_text word (codes "first") then Some how.First
+    else if is_text word (codes "last") then Some how.Last
+    else if is_text word (codes "before") then Some how.Before
+    else if is_text word (codes "after") then Some how.After
+    else None
+
+abbrev pub insertion : ℕ → Option How → List ℕ → List ℕ → Command
+insertion number None path block = command.BadCommand number
+insertion number (Some h) path block = with_text number path (λ p. command.Insert h p block)
+
+-- the command with that first word and that rest, and the block after it
+abbrev pub list_command : Bool → ℕ → List ℕ → List ℕ → List ℕ → Command
+list_command quotes number word rest block =
+    if is_text word (codes "stop") then named quotes number rest (λ name. command.Stop name block)
+    else if is_text word (codes "stems") then alone number rest (command.Stems block)
+    else if is_text word (codes "thesaurus") then named quotes number rest (λ name. command.Thesaurus name block)
+    else command.BadCommand number
+
+abbrev pub block_command : Bool → ℕ → List ℕ → List ℕ → List ℕ → Command
+block_command quotes number word rest block =
+    if is_text word (codes "load") then named quotes number rest (λ name. command.Load name block)
+    else if is_text word (codes "insert") then insertion number (how_of (first_word rest)) (after_first_word rest) block
+    else if is_text word (codes "replace") then with_text number rest (λ path. command.Replace path block)
+    else list_command quotes number word rest block
+
+-- `query at NAME PATH`
+abbrev pub query_at : ℕ → List ℕ → List ℕ → Command
+query_at number name path =
+    if is_empty path then command.BadCommand number
+    else if is_bare_name name then command.QueryAt name path
+    else command.BadName number
+
+-- the same, where the name stands in quotation marks: a blank is to follow it
+abbrev pub query_at_quoted : ℕ → Option (List ℕ × List ℕ) → Command
+query_at_quoted number None = command.BadCommand number
+query_at_quoted number (Some q) =
+    if not (is_empty (first_word q.1)) || is_empty (after_first_word q.1) then command.BadCommand number
+    else if is_quoted_name q.0 then command.QueryAt q.0 (after_first_word q.1)
+    else command.BadName number
+
+-- `query at NAME PATH` wherever the second word is `at`, else `query PATH`
+abbrev pub query : Bool → ℕ → List ℕ → Command
+query quotes number rest =
+    if not (is_text (first_word rest) (codes "at")) then with_text number rest command.Query
+    else if quotes && is_quoted (after_first_word rest) then query_at_quoted number (quoted (after_first_word rest))
+    else query_at number (first_word (after_first_word rest)) (after_first_word (after_first_word rest))
+
+-- the command with that first word and that rest, without a block
+abbrev pub name_command : Bool → ℕ → List ℕ → List ℕ → Command
+name_command quotes number word rest =
+    if is_text word (codes "drop") then named quotes number rest command.Drop
+    else if is_text word (codes "mark") then named quotes number rest command.Mark
+    else if is_text word (codes "unmark") then named quotes number rest command.Unmark
+    else if is_text word (codes "stats") then alone number rest command.Stats
+    else command.BadCommand number
+
+abbrev pub line_command : Bool → ℕ → List ℕ → List ℕ → Command
+line_command quotes number word rest =
+    if is_text word (codes "query") then query quotes number rest
+    else if is_text word (codes "print") then with_text number rest command.Print
+    else if is_text word (codes "explain") then with_text number rest command.Explain
+    else if is_text word (codes "delete") then with_text number rest command.Delete
+    else name_command quotes number word rest
+
+-- the command of a line that no block follows
+abbrev pub command_of_line : Bool → ℕ → List ℕ → Command
+command_of_line quotes number line =
+    if is_command_line line then line_command quotes number (first_word (trimmed_line line)) (after_first_word (trimmed_line line))
+    else command.BadCommand number
+
+-- the command of a line and the block after it
+abbrev pub command_of_block : ℕ → List ℕ → List ℕ → Command
+command_of_block number line block =
+    if is_command_line line then block_command false number (first_word (trimmed_line line)) (after_first_word (trimmed_line line)) block
+    else command.BadCommand number
+
+-- the same, where the block's length is the line's second word
+abbrev pub command_of_sized_block : ℕ → List ℕ → List ℕ → Command
+command_of_sized_block number line block =
+    if is_command_line line
+    then block_command true number (first_word (trimmed_line line)) (after_first_word (after_first_word (trimmed_line line))) block
+    else command.BadCommand number
