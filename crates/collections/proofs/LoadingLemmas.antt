@@ -31,16 +31,16 @@ has_name-lookup name (e ∷ es) =
     elim (bytes_eq name e.0) as (λ t. (t || has_name name (map to_document es)) ≡ is_some (cond t (Some e.1) (lookup (bytes_eq name) es)))
     [ true ↦ refl | false ↦ has_name-lookup name es ]
 
--- a name is taken in the documents of entries where a look-up for the same name finds it
-pub name-taken : (entries : List (List ℕ × LoadedTree)) (documents : List Named) (name asked : List ℕ) → map to_document entries ≡ documents → name ≡ asked
-    → has_name asked documents ≡ is_some (lookup (bytes_eq name) entries)
-name-taken entries documents name asked there same = ap (has_name asked) (sym there) ∙ (ap (λ n. has_name n (map to_document entries)) (sym same) ∙ has_name-lookup name entries)
+-- the same in the documents of entries
+pub name-taken : (entries : List (List ℕ × LoadedTree)) (documents : List Named) (name : List ℕ) → map to_document entries ≡ documents
+    → has_name name documents ≡ is_some (lookup (bytes_eq name) entries)
+name-taken entries documents name there = ap (has_name name) (sym there) ∙ has_name-lookup name entries
 
 -- what is looked for before a document is loaded: whether its name is taken, and whether there is no room for one more
 module _ (entries : List (List ℕ × LoadedTree)) (documents : List Named) (name asked : List ℕ) (there : map to_document entries ≡ documents) (same : name ≡ asked)
-    (taken full : Bool) (found : is_some (lookup (bytes_eq name) entries) ≡ taken) (long : nat_le max_documents (length entries) ≡ full) where
+    (taken full : Bool) (found : has_name name (map to_document entries) ≡ taken) (long : nat_le max_documents (length entries) ≡ full) where
   has : has_name asked documents ≡ taken
-  has = name-taken entries documents name asked there same ∙ found
+  has = ap (has_name asked) (sym there) ∙ (ap (λ n. has_name n (map to_document entries)) (sym same) ∙ found)
 
   count : nat_le max_documents (length documents) ≡ full
   count = ap (λ ds. nat_le max_documents (length ds)) (sym there) ∙ (ap (nat_le max_documents) (length-map entries to_document) ∙ long)

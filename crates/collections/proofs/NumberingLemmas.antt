@@ -1,7 +1,6 @@
 -- Documents under ascending numbers, and the version that follows them.
 use Rattle.std.proofs.Common.{◌≡◌, ◌≢◌, ◌∙◌, subst, sym, ap, refl, ℕ, ◌+◌, ◌-◌, ◌<◌, ◌≤◌, arith, true, false, cond, not, ◌==◌, List, [], ◌∷◌, ◌++◌, length, map, inl, inr}
 use Rattle.std.specs.Prelude.{Some, nat_lt}
-use Rattle.std.specs.List.{AllByRecursion}
 use Rattle.std.specs.Map.{lookup, remove_entry}
 use Rattle.std.specs.Str.{bytes_eq}
 use Rattle.std.proofs.lemmas.Bool.{and_from, cases_Bool, cond-false, cond-true, eq-eqb, le-ltb, lt-ltb, ne_eqb, or_from, or_left, or_right}
@@ -122,14 +121,6 @@ module _ (name : List ℕ) (found : LoadedTree) where
         let later = found-low (first.doc.0 + 1) rest to up.1 inside in
         cond-false (first.doc.0 == found.doc.0) (tree_document first.tree.root) (document_at found.doc.0 (followed rest)) (ne_eqb first.doc.0 found.doc.0 (λ same. omega (arith, later, same)))
         ∙ found-document (first.doc.0 + 1) rest to up.1 inside
-  ]
-
-  -- what holds of each tree holds of its
-  pub found-tree : (P : ℕ × tree.Numbered → Type 0) (es : Entries) → AllByRecursion P (trees_of es) → lookup (bytes_eq name) es ≡ Some found → P (found.doc.0, found.tree.root)
-  found-tree P [] all is = let no : ⊥ = cc in absurd no
-  found-tree P ((other, first) ∷ rest) all is = elim (cases_Bool (bytes_eq name other)) [
-    | inl same ↦ subst (λ (l : LoadedTree). P (l.doc.0, l.tree.root)) (first-found other first rest same is) all.0
-    | inr differ ↦ found-tree P rest all.1 (rest-found other first rest differ is)
   ]
 
   pub found-follows : (from : ℕ) (es : Entries) (to : ℕ) → Ascend from es to → lookup (bytes_eq name) es ≡ Some found → Follows (followed es) found.doc.0 found.tree.root

@@ -24,7 +24,6 @@ use crate::loading::{Outcome, read_document};
 use crate::making::index_document;
 use crate::planning::plan_all;
 use crate::tokens::token_count;
-use command_replies::{FullOf, LimitOf, Refusal, Reply};
 use ft_base::{DocId, Line, MAX_DOCUMENTS, Memory, Steps};
 use index_updates::drop_doc;
 use index_versions::{Version, WordHints};

@@ -1,6 +1,6 @@
 //! The documents of a collection in the order in which they were loaded.
 
-ghost use Rattle.std.specs.Prelude.{◌≡◌, ◌<◌, ◌+◌, ◌++◌, ◌∷◌, [], None, drop, is_some, length, remove, IfOk, OnErr, OnOk};
+ghost use Rattle.std.specs.Prelude.{◌≡◌, ◌<◌, ◌+◌, ◌++◌, ◌∷◌, [], None, drop, length, map, remove, IfOk, OnErr, OnOk};
 ghost use Rattle.std.specs.Iterator.{at_most};
 ghost use Rattle.std.specs.List.{IsDistinct};
 ghost use Rattle.std.specs.Map.{keys_of, lookup, remove_entry};
@@ -8,6 +8,8 @@ ghost use Rattle.std.specs.Map.Iter.{TakesFirst, deref_pair};
 ghost use Rattle.std.specs.Option.{option_copied};
 ghost use Rattle.std.specs.Str.{bytes_eq};
 ghost use Rattle.indexmap.specs.IndexMap.{set_value_at};
+ghost use Rattle.collections.specs.Documents.{has_name};
+ghost use Rattle.collections.specs.Loaded.{to_document};
 
 use crate::loaded::Loaded;
 use crate::names::Names;
@@ -85,7 +87,7 @@ impl Documents {
 
     /// Whether there is a document of the name.
     pub fn contains_key(&self, name: &Line) -> bool
-        ensures { result ≡ is_some (lookup (bytes_eq name.now) self.now) }
+        ensures { result ≡ has_name name.now (map to_document self.now) }
     {
         match self.get(name) {
             Some(_) => true,

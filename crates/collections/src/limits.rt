@@ -10,7 +10,6 @@ ghost use Rattle.collections.specs.steps.Planning.{root_after};
 
 use crate::fault::NotEdited;
 use crate::planning::Planned;
-use command_replies::LimitOf;
 use ft_base::{MAX_DEPTH, MAX_NODES, MAX_TOKENS};
 
 /// The limit that some of the documents exceed that an edit makes.

@@ -5,7 +5,6 @@ ghost use Rattle.collections.specs.LoadView.{outcome};
 
 use crate::fault::NotLoaded;
 use crate::loaded::Loadable;
-use command_replies::Refusal;
 use doc_profile::{DocFault, read_doc};
 use ft_base::Memory;
 use ordered_tree::load_doc;

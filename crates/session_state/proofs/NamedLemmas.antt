@@ -1,12 +1,13 @@
--- The documents of a name are the one that a look-up finds.
-use Rattle.std.proofs.Common.{◌≡◌, ◌∙◌, sym, ap, refl, ℕ, Bool, true, false, cond, List, [], ◌∷◌, map}
+-- The documents of a name are the one that a look-up finds, and what holds of each holds of it.
+use Rattle.std.proofs.Common.{◌≡◌, ◌∙◌, sym, ap, subst, refl, ℕ, Bool, true, false, cond, List, [], ◌∷◌, map}
 use Rattle.std.specs.Prelude.{Some, None, filter}
 use Rattle.std.specs.List.{AllByRecursion, IsDistinct}
 use Rattle.std.specs.Map.{keys_of, lookup}
 use Rattle.std.specs.Str.{bytes_eq}
 use Rattle.std.proofs.lemmas.Slice.Eq.{bytes_eq-Decides}
 use Rattle.path_meaning.specs.Collection.{Named}
-use Rattle.collections.specs.Loaded.{LoadedTree, to_document}
+use Rattle.ordered_tree.specs.Numbered.{Numbered}
+use Rattle.collections.specs.Loaded.{LoadedTree, to_document, trees_of}
 
 abbrev Entry : Type 0
 Entry = List ℕ × LoadedTree
@@ -47,3 +48,15 @@ one-named name (e ∷ es) found apart h = by (λ is. one-named name es found apa
         ∙ (ap (λ ds. to_document e ∷ ds) (ap (λ n. of_name n es) same ∙ others e.0 es apart.0)
         ∙ (ap (λ n. to_document (n, e.1) ∷ []) (sym same) ∙ ap (λ v. to_document (name, v) ∷ []) value))
     by rest false is = of_name-first name e es false is ∙ rest (sym (lookup-first name e es false is) ∙ h)
+
+-- what holds of each tree holds of that of the document which is found
+pub found-tree : (P : ℕ × Numbered → Type 0) (name : List ℕ) (es : List Entry) (found : LoadedTree) → AllByRecursion P (trees_of es) → lookup (bytes_eq name) es ≡ Some found → P (found.doc.0, found.tree.root)
+found-tree P name [] found all h = let no : ⊥ = cc in absurd no
+found-tree P name ((other, first) ∷ es) found all h = by (found-tree P name es found all.1) (bytes_eq name other) refl
+  where
+    by : (lookup (bytes_eq name) es ≡ Some found → P (found.doc.0, found.tree.root)) → (test : Bool) → bytes_eq name other ≡ test → P (found.doc.0, found.tree.root)
+    by rest true is =
+        let both : Some first ≡ Some found = sym (lookup-first name (other, first) es true is) ∙ h in
+        let value : first ≡ found = cc in
+        subst (λ (l : LoadedTree). P (l.doc.0, l.tree.root)) value all.0
+    by rest false is = rest (sym (lookup-first name (other, first) es false is) ∙ h)

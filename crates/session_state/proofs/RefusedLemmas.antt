@@ -77,7 +77,7 @@ keeps-added documents name (Ok root) = tt
 
 stays-loaded : (documents : List Named) (name : List ℕ) (document : Result Node NotLoaded) → Stays documents (replied_by (load_refusal name) (loaded documents name document))
 stays-loaded documents name document =
-    let room = cond (nat_le max_documents (length documents)) (documents, Err unloaded.Full) (added documents name document) in
+    let room : List Named × Result ⊤ NotLoaded = cond (nat_le max_documents (length documents)) (documents, Err unloaded.Full) (added documents name document) in
     keeps-replied (load_refusal name) documents (loaded documents name document)
     (keeps-if (has_name name documents) documents unloaded.NameTaken room
     (keeps-if (nat_le max_documents (length documents)) documents unloaded.Full (added documents name document) (keeps-added documents name document)))

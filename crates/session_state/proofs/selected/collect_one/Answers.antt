@@ -10,8 +10,7 @@ use Rattle.path_grammar.specs.declared.path.PathRoot.TheVariants.{Doc}
 use Rattle.session_state.specs.PlannedPaths.{planned_lines, planned_price, prices_in}
 use Rattle.session_state.specs.SelectionTests.{AreOver}
 use Rattle.collections.specs.Loaded.{to_document}
-use Rattle.session_state.proofs.NamedLemmas.{none-named, one-named}
-use Rattle.collections.proofs.NumberingLemmas.{found-tree}
+use Rattle.session_state.proofs.NamedLemmas.{found-tree, none-named, one-named}
 use Rattle.session_state.proofs.PathLemmas.{prices-one}
 use Rattle.session_state.proofs.selected.collect_one.Goals as goal
 
@@ -20,7 +19,7 @@ collect_from-requires-clause-over g c =
     let name = c.args.name.now in
     let entries = c.args.documents.now in
     let found : lookup (bytes_eq name) entries ≡ Some c.in-Some.document.now = sym c.get.ensures ∙ ap option_copied c.in-Some.is in
-    found-tree name c.in-Some.document.now (AreOver c.args.runs.now) entries c.requires.over found
+    found-tree (AreOver c.args.runs.now) name entries c.in-Some.document.now c.requires.over found
 
 pub returns-in-Some-clause-lines : goal.returns-in-Some-clause-lines
 returns-in-Some-clause-lines g c =

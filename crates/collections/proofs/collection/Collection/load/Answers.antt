@@ -9,7 +9,7 @@ use Rattle.collections.specs.Indexed.{Indexed}
 use Rattle.collections.specs.LoadView.{outcome}
 use Rattle.collections.specs.Documents.{has_name}
 use Rattle.collections.specs.Documents.{added, loadable, tokens_loaded}
-use Rattle.collections.proofs.LoadingLemmas.{has_name-lookup, changed_to, loaded-by, tokens-come}
+use Rattle.collections.proofs.LoadingLemmas.{changed_to, loaded-by, tokens-come}
 use Rattle.collections.proofs.collection.Collection.load.Goals as goal
 
 pub returns-then-contains_key-clause-answer : goal.returns-then-contains_key-clause-answer
@@ -42,7 +42,7 @@ returns-in-NotLoaded-clause-answer g c =
 pub add-requires : goal.add-requires
 add-requires g c =
     ap (λ (i : Indexed). has_name c.in_ok-name.name i.documents) (sym c.self.view_is)
-    ∙ (has_name-lookup c.in_ok-name.name c.self.inside.documents ∙ (sym c.contains_key.ensures ∙ c.if-contains_key.false))
+    ∙ (sym c.contains_key.ensures ∙ c.if-contains_key.false)
 
 pub returns-in-Ok-clause-answer : goal.returns-in-Ok-clause-answer
 returns-in-Ok-clause-answer g c =
@@ -53,8 +53,8 @@ returns-in-Ok-clause-answer g c =
     let absent = sym c.contains_key.ensures ∙ c.if-contains_key.false in
     let room = ap (nat_le max_documents) (sym c.len.ensures.len) ∙ grind (arith, nat_tests) in
     let read = sym c.in_ok-why.ensures ∙ ap outcome c.in-Document.is in
-    ap (changed_to {NotLoaded}) c.in-Ok.ensures.documents
-    ∙ (ap (λ n. changed_to {NotLoaded} (documents ++ record { name = n; root = root } ∷ [])) same
+    ap (changed_to {E = NotLoaded}) c.in-Ok.ensures.documents
+    ∙ (ap (λ n. changed_to {E = NotLoaded} (documents ++ record { name = n; root = root } ∷ [])) same
     ∙ sym (loaded-by c.self.inside.documents documents c.in_ok-name.name c.args.name.now there same false false absent room (loadable c.args.block.now)
     ∙ ap (added documents c.args.name.now) read))
 

@@ -21,7 +21,7 @@ pub returns-in_default-clause-answer : goal.returns-in_default-clause-answer
 returns-in_default-clause-answer g c =
     let documents = c.args.self.now.documents in
     let none = sym c.get.ensures ∙ ap option_copied c.in_default.is in
-    let absent = name-taken c.self.inside.documents documents c.args.name.now c.args.name.now (ap (λ (i : Indexed). i.documents) c.self.view_is) refl ∙ ap is_some none in
+    let absent = name-taken c.self.inside.documents documents c.args.name.now (ap (λ (i : Indexed). i.documents) c.self.view_is) ∙ ap is_some none in
     sym (dropped-test documents c.args.name.now false absent)
 
 pub drop_doc-requires : goal.drop_doc-requires
@@ -61,9 +61,9 @@ returns-in-Ok-clause-answer g c =
     let name = c.args.name.now in
     let there = ap (λ (i : Indexed). i.documents) c.self.view_is in
     let found = sym c.get.ensures ∙ ap option_copied c.in-Some.is in
-    let has = name-taken old c.args.self.now.documents name name there refl ∙ ap is_some found in
-    ap (λ es. changed_to {NotRemoved} (map to_document es)) c.in-Ok.ensures.ok
-    ∙ (ap (changed_to {NotRemoved}) (without-removed name old ∙ ap (without name) there)
+    let has = name-taken old c.args.self.now.documents name there ∙ ap is_some found in
+    ap (λ es. changed_to {E = NotRemoved} (map to_document es)) c.in-Ok.ensures.ok
+    ∙ (ap (changed_to {E = NotRemoved}) (without-removed name old ∙ ap (without name) there)
     ∙ sym (dropped-test c.args.self.now.documents name true has))
 
 pub returns-in-Ok-clause-rows : goal.returns-in-Ok-clause-rows
