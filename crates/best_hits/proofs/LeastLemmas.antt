@@ -2,6 +2,7 @@
 use Rattle.std.proofs.Common.{◌≡◌, ◌≢◌, refl, ap, sym, ◌∙◌, ℕ, List, [], ◌∷◌, inl, inr, Bool, true, false, true≢false, ◌&&◌, ◌||◌, arith}
 use Rattle.std.specs.Prelude.{map, filter, cond, ◌==◌, nat_lt}
 use Rattle.std.specs.List.{list_any}
+use Rattle.std.proofs.lemmas.Bool.{or_parts}
 use Rattle.std.proofs.lemmas.Bool.Decides.{nat_tests}
 use Rattle.ft_base.specs.declared.hit.Hit.{Hit}
 use Rattle.ft_base.specs.declared.hit.Match.{Match}
@@ -121,10 +122,6 @@ not-over xs ys zs e f = false-from (comes_before xs zs) (λ h. absurd (true≢fa
 
 -- ---- none comes before it
 
-or-parts : (a b : Bool) → (a || b) ≡ false → (a ≡ false) × (b ≡ false)
-or-parts true b h = absurd (true≢false h)
-or-parts false b h = (refl, h)
-
 none-from : (first : List Hit) (rest : List (List Hit)) → list_any (λ l. comes_before l (least_from first rest)) (first ∷ rest) ≡ false
 none-from first [] = ap (λ b. b || false) (not-itself first)
 none-from first (next ∷ rest) = by (comes_before next first) refl (none-from next rest) (none-from first rest)
@@ -134,10 +131,10 @@ none-from first (next ∷ rest) = by (comes_before next first) refl (none-from n
         → (comes_before first (least_from first rest) || list_any (λ l. comes_before l (least_from first rest)) rest) ≡ false
         → (comes_before first (least_from (cond b next first) rest) || (comes_before next (least_from (cond b next first) rest) || list_any (λ l. comes_before l (least_from (cond b next first) rest)) rest)) ≡ false
     by true e one other =
-        let parts = or-parts (comes_before next (least_from next rest)) (list_any (λ l. comes_before l (least_from next rest)) rest) one in
+        let parts = or_parts (comes_before next (least_from next rest)) (list_any (λ l. comes_before l (least_from next rest)) rest) one in
         λ i. not-over first next (least_from next rest) (not-back next first e) parts.0 i || one i
     by false e one other =
-        let parts = or-parts (comes_before first (least_from first rest)) (list_any (λ l. comes_before l (least_from first rest)) rest) other in
+        let parts = or_parts (comes_before first (least_from first rest)) (list_any (λ l. comes_before l (least_from first rest)) rest) other in
         λ i. parts.0 i || (not-over next first (least_from first rest) e parts.0 i || parts.1 i)
 
 pub none-before : (lists : List (List Hit)) → list_any (λ l. comes_before l (least lists)) lists ≡ false

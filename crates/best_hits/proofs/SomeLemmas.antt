@@ -1,7 +1,7 @@
 -- Some item of a list that is joined or mapped; Matches that are both needed.
 use Rattle.std.proofs.Common.{◌≡◌, refl, ap, ◌∙◌, List, [], ◌∷◌, ◌++◌, inl, inr, Bool, true, false, ◌||◌}
 use Rattle.std.specs.Prelude.{map}
-use Rattle.std.proofs.lemmas.Bool.{and_from}
+use Rattle.std.proofs.lemmas.Bool.{and_from, or_right}
 use Rattle.ft_base.specs.declared.hit.Hit.{Hit}
 use Rattle.ft_base.specs.declared.hit.Match.{Match}
 use Rattle.all_matches.specs.Boolean.{both, ft_and, is_clean, satisfied}
@@ -34,11 +34,7 @@ some-and xs ys (a ∷ left) right (inl g) w =
     some-left (Gives (xs ++ ys)) (map (both a) right) (ft_and left right) (some-map (both a) (Gives ys) (Gives (xs ++ ys)) (λ b k. gives-both xs ys a b g k) right w)
 some-and xs ys (a ∷ left) right (inr h) w = some-right (Gives (xs ++ ys)) (map (both a) right) (ft_and left right) (some-and xs ys left right h w)
 
-or-true : (a b : Bool) → b ≡ true → (a || b) ≡ true
-or-true true b e = refl
-or-true false b e = e
-
 pub some-satisfied : (hits : List Hit) (ms : List Match) → SomeOf (Gives hits) ms → satisfied ms ≡ true
 some-satisfied hits [] h = absurd h
 some-satisfied hits (m ∷ ms) (inl g) = ap (λ b. b || satisfied ms) g.clean
-some-satisfied hits (m ∷ ms) (inr h) = or-true (is_clean m) (satisfied ms) (some-satisfied hits ms h)
+some-satisfied hits (m ∷ ms) (inr h) = or_right (is_clean m) (satisfied ms) (some-satisfied hits ms h)

@@ -5,7 +5,7 @@ use Rattle.std.specs.Cmp.{nat_eq_equiv}
 use Rattle.std.specs.List.{AllByRecursion, IsDistinct}
 use Rattle.std.specs.Map.{keys_of, lookup}
 use Rattle.std.specs.Str.{bytes_eq}
-use Rattle.std.proofs.lemmas.Bool.{eq-eqb, eqb-true}
+use Rattle.std.proofs.lemmas.Bool.{eq-eqb, eqb-true, or_right}
 use Rattle.std.proofs.lemmas.List.{map-append, take_more}
 use Rattle.std.proofs.lemmas.List.Concat.{flat_map-append}
 use Rattle.std.proofs.lemmas.List.Elements.{filter-append}
@@ -15,7 +15,7 @@ use Rattle.standing_queries.specs.Answers.{Answers, all_lines, answers_of, stamp
 use Rattle.standing_queries.specs.Changes.{is_among, not_among}
 use Rattle.standing_queries.specs.steps.Staying.{changed_lines, stays}
 use Rattle.standing_queries.specs.declared.turn.Turn.{Turn}
-use Rattle.standing_queries.proofs.SetLemmas.{none-left, or-right}
+use Rattle.standing_queries.proofs.SetLemmas.{none-left}
 
 -- ---- one answer, and the others
 
@@ -87,7 +87,7 @@ within-left : (xs ys zs : List (List ℕ)) → xs ≡ ys → Within xs (ys ++ zs
 within-left xs ys zs same = record { each = λ x there. among-append ys zs x ∙ ap (λ b. b || is_among zs x) (ap (λ l. is_among l x) (sym same) ∙ there) }
 
 within-right : (xs ys zs : List (List ℕ)) → Within xs zs → Within xs (ys ++ zs)
-within-right xs ys zs w = record { each = λ x there. among-append ys zs x ∙ or-right (is_among ys x) (is_among zs x) (w.each x there) }
+within-right xs ys zs w = record { each = λ x there. among-append ys zs x ∙ or_right (is_among ys x) (is_among zs x) (w.each x there) }
 
 found-later : (x : ℕ × List (List ℕ)) (more rest : Answers) → AllByRecursion (λ y. nat_eq x.0 y ≡ false) (keys_of rest)
     → AllByRecursion (λ e. lookup (nat_eq e.0) more ≡ Some e.1) rest → AllByRecursion (λ e. lookup (nat_eq e.0) (x ∷ more) ≡ Some e.1) rest

@@ -1,4 +1,5 @@
 -- A line that is put into a set of lines or taken out of it, and what the lines in a set leave of a list.
+use Rattle.std.proofs.lemmas.Bool.{or_right}
 use Rattle.std.proofs.Common.{◌≡◌, ℕ, ◌&&◌, ◌||◌, Bool, true, false, not, cond, List, [], ◌∷◌, filter, refl, ap, ◌∙◌}
 use Rattle.std.specs.Str.{bytes_eq}
 use Rattle.ft_base.proofs.Truth.{bytes_eq_turned, pointwise_refl}
@@ -25,10 +26,6 @@ take-one text line old = taken-by (bytes_eq text line) (bytes_eq line text) old 
 itself-among : (x : List ℕ) (xs : List (List ℕ)) → is_among (x ∷ xs) x ≡ true
 itself-among x xs = ap (λ b. b || is_among xs x) (pointwise_refl x)
 
-pub or-right : (a b : Bool) → b ≡ true → (a || b) ≡ true
-or-right true b e = refl
-or-right false b e = e
-
 filtered-both : (p q : Bool) (x : List ℕ) (ps qs : List (List ℕ)) → p ≡ q → ps ≡ qs → cond p (x ∷ ps) ps ≡ cond q (x ∷ qs) qs
 filtered-both true q x ps qs e f = ap (λ l. x ∷ l) f ∙ ap (λ b. cond b (x ∷ qs) qs) e
 filtered-both false q x ps qs e f = f ∙ ap (λ b. cond b (x ∷ qs) qs) e
@@ -37,14 +34,14 @@ pub filter-agree : (p q : List ℕ → Bool) (xs : List (List ℕ)) → ((x : Li
 filter-agree p q [] same = refl
 filter-agree p q (x ∷ xs) same =
     filtered-both (p x) (q x) x (filter p xs) (filter q xs) (same x (itself-among x xs))
-    (filter-agree p q xs (λ y there. same y (or-right (bytes_eq y x) (is_among xs y) there)))
+    (filter-agree p q xs (λ y there. same y (or_right (bytes_eq y x) (is_among xs y) there)))
 
 -- no line is left of lines that are all among the others
 pub none-left : (others xs : List (List ℕ)) → ((x : List ℕ) → is_among xs x ≡ true → is_among others x ≡ true) → not_among others xs ≡ []
 none-left others [] all = refl
 none-left others (x ∷ xs) all =
     ap (λ b. cond (not b) (x ∷ not_among others xs) (not_among others xs)) (all x (itself-among x xs))
-    ∙ none-left others xs (λ y there. all y (or-right (bytes_eq y x) (is_among xs y) there))
+    ∙ none-left others xs (λ y there. all y (or_right (bytes_eq y x) (is_among xs y) there))
 
 -- what is in the set: the lines of a list that aren't among the others
 pub left-in-set : (in-set : List ℕ → Bool) (put : List ℕ → Bool) (others xs : List (List ℕ)) → ((x : List ℕ) → put x ≡ (is_among xs x || false))
