@@ -1,14 +1,15 @@
 -- Of Matches without excludes some choice of so many are the first ones; Not of none needs nothing.
 use Rattle.std.proofs.Common.{◌≡◌, refl, ap, sym, subst, ◌∙◌, ℕ, zero, suc, ◌≤◌, ◌<◌, List, [], ◌∷◌, ◌++◌, ◌⊎◌, inl, inr, Bool, true, false, true≢false, not, ◌||◌, length, take, append-nil, arith}
 use Rattle.std.specs.Prelude.{map, nat_lt, cond, Option, Some, None}
-use Rattle.std.proofs.lemmas.Bool.{and_parts}
+use Rattle.std.proofs.lemmas.Bool.{and_parts, not-true}
 use Rattle.ft_base.specs.declared.hit.Match.{Match}
 use Rattle.ft_base.specs.declared.range.Range.{Range}
 use Rattle.ft_base.specs.declared.range.Range.TheVariants.{Exactly, AtLeast, AtMost, FromTo}
 use Rattle.all_matches.specs.Boolean.{both, ft_and, ft_not, is_clean, satisfied}
 use Rattle.all_matches.specs.Times.{at_least, between, occurring}
 use Rattle.all_matches.proofs.BooleanLaws.{satisfied-and, satisfied-not}
-use Rattle.best_hits.specs.Best.{Gives, SomeOf, includes_of, least_times}
+use Rattle.counted_shapes.specs.Shapes.{least_times}
+use Rattle.best_hits.specs.Best.{Gives, SomeOf, includes_of}
 use Rattle.best_hits.proofs.CleanLemmas.{are_clean}
 use Rattle.best_hits.proofs.SomeLemmas.{gives-both, some-and, some-left, some-map, some-right, some-satisfied}
 
@@ -47,17 +48,13 @@ no-more k ms c h = elim (le_or_more k (length ms)) [
   | inr few ↦ too-few k ms few
 ]
 
-from-not : (b : Bool) → not b ≡ true → b ≡ false
-from-not true h = absurd (true≢false (sym h))
-from-not false h = refl
-
 between-chosen : (low high : ℕ) (ms : List Match) → are_clean ms ≡ true → satisfied (between low high ms) ≡ true → SomeOf (Gives (includes_of (take low ms))) (between low high ms)
 between-chosen low high ms c h = by (nat_lt high low) h
   where
     inside : satisfied (ft_and (at_least low ms) (ft_not (at_least (suc high) ms))) ≡ true → SomeOf (Gives (includes_of (take low ms))) (ft_and (at_least low ms) (ft_not (at_least (suc high) ms)))
     inside k =
         let parts = and_parts (satisfied (at_least low ms)) (satisfied (ft_not (at_least (suc high) ms))) (sym (satisfied-and (at_least low ms) (ft_not (at_least (suc high) ms))) ∙ k) in
-        let none : at_least (suc high) ms ≡ [] = no-more (suc high) ms c (from-not (satisfied (at_least (suc high) ms)) (sym (satisfied-not (at_least (suc high) ms)) ∙ parts.1)) in
+        let none : at_least (suc high) ms ≡ [] = no-more (suc high) ms c (not-true (satisfied (at_least (suc high) ms)) (sym (satisfied-not (at_least (suc high) ms)) ∙ parts.1)) in
         subst (λ hits. SomeOf (Gives hits) (ft_and (at_least low ms) (ft_not (at_least (suc high) ms)))) (append-nil (includes_of (take low ms)))
         (some-and (includes_of (take low ms)) [] (at_least low ms) (ft_not (at_least (suc high) ms)) (chosen low ms c parts.0)
         (subst (λ l. SomeOf (Gives []) (ft_not l)) (sym none) (inl (record { clean = refl; same = refl }))))

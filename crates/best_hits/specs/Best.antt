@@ -1,31 +1,23 @@
 -- The best hits of a selection that a text satisfies: those by which it is shown why.
-use Rattle.std.specs.Prelude.{◌≡◌, ℕ, ◌+◌, suc, true, if◌then◌else◌, List, [], ◌∷◌, ◌++◌, ◌⊎◌, flat_map, map, take, Option, Some, None}
+use Rattle.std.specs.Prelude.{◌≡◌, ℕ, ◌+◌, suc, true, if◌then◌else◌, List, [], ◌∷◌, ◌++◌, ◌⊎◌, flat_map, map, take}
 use Rattle.ft_base.specs.declared.hit.Hit.{Hit}
 use Rattle.ft_base.specs.declared.hit.Match.{Match}
 use Rattle.ft_base.specs.declared.options.Options.{Options}
-use Rattle.ft_base.specs.declared.range.Range.{Range}
-use Rattle.ft_base.specs.declared.range.Range.TheVariants.{Exactly, AtLeast, AtMost, FromTo}
 use Rattle.ft_base.specs.declared.span.Span.{Span}
 use Rattle.ft_base.specs.declared.token.Token.{Token}
 use Rattle.ft_base.specs.Selection.{Form, Forms, words, or_of, and_of, mild_not, not_of, filtered, with_options, none, more}
 use Rattle.all_matches.specs.Boolean.{is_clean, satisfied}
 use Rattle.all_matches.specs.Meaning.{all_matches, inside, phrase_count, value_matches}
 use Rattle.all_matches.specs.Variants.{Lexicon}
+use Rattle.counted_shapes.specs.Shapes.{least_times}
 use Rattle.best_hits.specs.Least.{least_includes}
-
--- how many Matches of a value are shown: as many as `occurs` asks for at least, and one without it
-abbrev pub least_times : Option Range → ℕ
-least_times None = 1
-least_times (Some (Exactly n)) = n
-least_times (Some (AtLeast n)) = n
-least_times (Some (AtMost n)) = 0
-least_times (Some (FromTo low high)) = low
 
 abbrev pub includes_of : List Match → List Hit
 includes_of matches = flat_map (λ m. m.includes) matches
 
--- the best hits of a selection under the options that stand round it, its phrases being numbered from `first` on. Of words the first Matches;
--- of an Or those of its first satisfied operand; of an And those of each; of a filter, and of `not in`, the least includes
+-- the best hits of a selection under the options that stand round it, its phrases being numbered from `first` on. Of words the first Matches,
+-- as many as `occurs` asks for at least, and one without it; of an Or those of its first satisfied operand; of an And those of each; of a
+-- filter, and of `not in`, the least includes
 unfoldable mutual
   pub best : Lexicon → Options → ℕ → List Token → Form → List Hit
   best lexicon options first tokens (words value) =

@@ -7,7 +7,8 @@ pub const MAX_PIECE_BYTES: usize = 65_536;
 /// How many bytes a command line may have, without its line end.
 pub const MAX_LINE_BYTES: usize = 65_536;
 
-/// How many bytes a name of a session may have: that of a document, a list or a mark.
+/// How many bytes a name of a session may have, that of a document, a list or a mark; of one in quotation marks, how many
+/// characters.
 pub const MAX_NAME_BYTES: usize = 64;
 
 /// How many documents a session holds at once, at most.

@@ -2,7 +2,7 @@
 use Rattle.std.proofs.Common.{◌≡◌, refl, ap, sym, ◌∙◌, ℕ, zero, suc, ◌+◌, ◌-◌, ◌≤◌, List, [], ◌∷◌, Bool, true, false, not, ◌&&◌, ◌||◌, cond, length, arith}
 use Rattle.std.specs.Prelude.{nat_le, fold, Option, Some, None}
 use Rattle.std.specs.List.{list_any, list_all, range_with_len}
-use Rattle.std.proofs.lemmas.Bool.{and_parts, leb-true}
+use Rattle.std.proofs.lemmas.Bool.{and_parts, leb-true, or_parts}
 use Rattle.std.proofs.lemmas.Bool.Decides.{nat_tests}
 use Rattle.ft_base.specs.Lists.{is_not_empty}
 use Rattle.ft_base.specs.declared.hit.Hit.{Hit}
@@ -39,14 +39,10 @@ out_still item hits = ap (λ (words : UnitBounds). record (every item) { bounds 
 abbrev pub has_word : List Hit → Bool
 has_word hits = list_any (λ hit. nat_le hit.from hit.to) hits
 
-either_false : (a b : Bool) → (a || b) ≡ false → (a ≡ false) × (b ≡ false)
-either_false true b h = cc
-either_false false b h = (refl, h)
-
 no_words : (words : Option ℕ) (hits : List Hit) (bounds : UnitBounds) → has_word hits ≡ false → fold (round_words words) bounds hits ≡ bounds
 no_words words [] bounds none = refl
 no_words words (hit ∷ rest) bounds none =
-    let parts = either_false (nat_le hit.from hit.to) (has_word rest) none in
+    let parts = or_parts (nat_le hit.from hit.to) (has_word rest) none in
     ap (λ (b : Bool). fold (round_words words) (cond b (numbers_round words hit.from hit.to bounds) bounds) rest) parts.0 ∙ no_words words rest bounds parts.1
 
 pub out_wordless : (course : Course) (hits : List Hit) → has_word hits ≡ false → course_out course hits ≡ without_bounds course
@@ -62,11 +58,11 @@ fails_not false h = cc
 ends_pass : (test : ℕ → Bool) (start more : ℕ) → list_any (λ place. not (test place)) (range_with_len start (suc more)) ≡ false → (test start ≡ true) × (test (start + more) ≡ true)
 ends_pass test start zero h =
     let same : start + 0 ≡ start = omega arith in
-    let first = fails_not (test start) (either_false (not (test start)) false h).0 in
+    let first = fails_not (test start) (or_parts (not (test start)) false h).0 in
     (first, ap test same ∙ first)
 ends_pass test start (suc more) h =
     let same : start + suc more ≡ (start + 1) + more = omega arith in
-    let parts = either_false (not (test start)) (list_any (λ place. not (test place)) (range_with_len (start + 1) (suc more))) h in
+    let parts = or_parts (not (test start)) (list_any (λ place. not (test place)) (range_with_len (start + 1) (suc more))) h in
     (fails_not (test start) parts.0, ap test same ∙ (ends_pass test (start + 1) more parts.1).1)
 
 -- a hit that covers each word of another one
@@ -93,7 +89,7 @@ lies_round : (words : ℕ) (other : Hit) → is_short words other ≡ true → (
     → lies_between (fold (round_words (Some words)) bounds hits) other.from other.to ≡ true
 lies_round words other short [] bounds h none = h
 lies_round words other short (hit ∷ rest) bounds h none =
-    let parts = either_false (list_any (λ place. not (covers other place || false)) (places_from_to hit.from hit.to)) (stands_out rest (other ∷ [])) none in
+    let parts = or_parts (list_any (λ place. not (covers other place || false)) (places_from_to hit.from hit.to)) (stands_out rest (other ∷ [])) none in
     lies_round words other short rest (round_words (Some words) bounds hit) (by_test parts.0 (nat_le hit.from hit.to) refl) parts.1
   where
     by_test : list_any (λ place. not (covers other place || false)) (places_from_to hit.from hit.to) ≡ false → (b : Bool) → nat_le hit.from hit.to ≡ b
@@ -152,7 +148,7 @@ out_of_none hits some = any_more (λ hit. nat_le hit.from hit.to) (λ hit. list_
 all_out : (hits : List Hit) → has_word hits ≡ true → (ways : List Way) → list_any (λ way. is_not_empty (way_includes way)) ways ≡ false → list_all (λ way. stands_out hits (way_includes way)) ways ≡ true
 all_out hits some [] none = refl
 all_out hits some (way ∷ rest) none =
-    let parts = either_false (is_not_empty (way_includes way)) (list_any (λ way. is_not_empty (way_includes way)) rest) none in
+    let parts = or_parts (is_not_empty (way_includes way)) (list_any (λ way. is_not_empty (way_includes way)) rest) none in
     λ i. out (way_includes way) parts.0 i && all_out hits some rest parts.1 i
   where
     out : (includes : List Hit) → is_not_empty includes ≡ false → stands_out hits includes ≡ true

@@ -2,7 +2,7 @@
 use Rattle.std.proofs.Common.{◌≡◌, refl, ap, sym, ◌∙◌, ℕ, zero, suc, ◌+◌, ◌-◌, ◌<◌, ◌≤◌, ◌==◌, Bool, true, false, not, cond, ◌&&◌, ◌||◌, List, [], ◌∷◌, ◌++◌, map, filter, flat_map, length, arith, inl, inr}
 use Rattle.std.specs.Prelude.{nat_le, nat_lt}
 use Rattle.std.specs.List.{list_any, range_with_len}
-use Rattle.std.proofs.lemmas.Bool.{and_from, cases_lt, eqb-true, le-leb, lt-ltb}
+use Rattle.std.proofs.lemmas.Bool.{and_from, and_right, cases_lt, eqb-true, le-leb, lt-ltb, not-false, not-true}
 use Rattle.std.proofs.lemmas.List.{length-map}
 use Rattle.std.proofs.lemmas.Map.Views.{any-filter_same}
 use Rattle.ft_base.specs.declared.hit.Hit.{Hit}
@@ -232,18 +232,6 @@ module _ (bounds : Bounds) (number : ℕ) (breaks : Breaks) (span : Span) where
       (nat_le bounds.paragraphs.from (own_number breaks.paragraphs span.from at.place)) (is_before bounds.paragraphs.to (own_number breaks.paragraphs span.from (last_place at)))
       (nat_le bounds.order.from (at.place - (span.from - 1)) || nat_le number bounds.order.query)
 
-  not_false : (a : Bool) → not a ≡ true → a ≡ false
-  not_false true e = cc
-  not_false false e = refl
-
-  not_true : (a : Bool) → not a ≡ false → a ≡ true
-  not_true true e = refl
-  not_true false e = cc
-
-  and_false : (a b : Bool) → b ≡ false → (a && b) ≡ false
-  and_false true b e = e
-  and_false false b e = refl
-
   module _ (version : List Numbered) (doc : ℕ) (terms : List (List WordTerms)) (part : Span) (s : IsPart bounds number breaks span part) where
     abbrev wide : Spot → Bool
     wide at = lies_in bounds (numbered_hit number breaks span at) && some_at span.to (map (map (wanted_at version doc span)) terms) at
@@ -261,14 +249,14 @@ module _ (bounds : Bounds) (number : ℕ) (breaks : Breaks) (span : Span) where
         let first = s.first in
         let past = s.ends.there (p + (n - 1)) (omega (arith, b, c)) (omega (arith, b, d)) in
         ap (λ x. x && some_at span.to (map (map (wanted_at version doc span)) terms) (spot p n))
-        (lies_by_places (spot p n) ∙ and_false (may_begin bounds number breaks span p) (may_end bounds breaks span (p + (n - 1))) (not_false (may_end bounds breaks span (p + (n - 1))) past))
+        (lies_by_places (spot p n) ∙ and_right (may_begin bounds number breaks span p) (may_end bounds breaks span (p + (n - 1))) (not-true (may_end bounds breaks span (p + (n - 1))) past))
 
     between : (p n : ℕ) → part.from ≤ p → 1 ≤ n → p + n ≤ part.to → wide (spot p n) ≡ narrow (spot p n)
     between p n a b c =
         let first = s.first in
         let last = s.last in
         let begins = s.begins.there p a (omega (arith, b, c, last)) in
-        let ends = not_true (may_end bounds breaks span (p + (n - 1))) (s.ends.before (p + (n - 1)) (omega (arith, a, first)) (omega (arith, b, c))) in
+        let ends = not-false (may_end bounds breaks span (p + (n - 1))) (s.ends.before (p + (n - 1)) (omega (arith, a, first)) (omega (arith, b, c))) in
         (λ i. (lies_by_places (spot p n) ∙ and_from (may_begin bounds number breaks span p) (may_end bounds breaks span (p + (n - 1))) begins ends) i
         && some_at span.to (map (map (wanted_at version doc span)) terms) (spot p n))
         ∙ some_in version doc span part s.first s.last terms p n a c

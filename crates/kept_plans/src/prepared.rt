@@ -21,7 +21,7 @@ use plan_compiler::{CompileFault, Lists};
 use std::alloc::Global;
 use std::marker::Model;
 use thesaurus_file::Thesaurus;
-use word_lists::{Stems, StopList};
+use word_lists::{KeySet, Stems};
 
 /// The lists that selections name, and plans that were made under them, by the texts of their selections. The text that was used last
 /// comes first.
@@ -72,7 +72,7 @@ impl Prepared {
     }
 
     /// Puts a stop list under a name, as `Lists::set_stop` does. Then no plan is kept.
-    pub fn set_stop(&mut self, name: &str, list: StopList) -> Result<(), Memory>
+    pub fn set_stop(&mut self, name: &str, list: KeySet) -> Result<(), Memory>
         ensures ok { OnOk result (self.new ≡ with_new_lists (with_stop_list name.now list self.old.lists) self.old) }
         ensures err { OnErr result (self.new ≡ self.old) }
     {

@@ -1,6 +1,6 @@
 -- The words and patterns of a query string.
 use Rattle.std.specs.Prelude.{ℕ, Bool, if◌then◌else◌, List, [], ◌∷◌, map, flat_map}
-use Rattle.tokenizer.specs.Words.{words}
+use Rattle.text_words.specs.Words.{words}
 use Rattle.all_matches.specs.Variants.{Item, word, pattern}
 use Rattle.match_options.specs.Patterns.{parts, is_pattern}
 use Rattle.match_options.specs.declared.item.QueryItem.{QueryItem}

@@ -1,7 +1,7 @@
 //! The words and patterns of a query string.
 
 ghost use Rattle.std.specs.Prelude.{◌≡◌, ◌++◌, IfOk, OnOk, map, true};
-ghost use Rattle.tokenizer.specs.Words.{words};
+ghost use Rattle.text_words.specs.Words.{words};
 ghost use Rattle.all_matches.specs.Variants.{word};
 ghost use Rattle.match_options.specs.Items as spec;
 
@@ -9,7 +9,7 @@ use crate::pattern::is_pattern;
 use crate::splitting::parts;
 use ft_base::{Items, Line, Memory};
 use std::alloc::Global;
-use tokenizer::words_of;
+use text_words::words_of;
 
 /// What one token of a text has to be.
 #[derive(Drop)]

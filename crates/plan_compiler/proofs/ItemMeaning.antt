@@ -14,7 +14,7 @@ use Rattle.ft_base.specs.declared.options.StopSource.{StopSource}
 use Rattle.ft_base.specs.declared.options.StopSource.TheVariants.{At, Written}
 use Rattle.ft_base.proofs.Truth.{bytes_eq_turned}
 use Rattle.text_forms.specs.Forms.{key_of}
-use Rattle.tokenizer.specs.Words.{words}
+use Rattle.text_words.specs.Words.{words}
 use Rattle.all_matches.specs.Variants.{Item, any_word, word, pattern, source_holds, after_term, is_stop_word}
 use Rattle.all_matches.proofs.ListTests.{list_any-map, list_any-flat_map, list_any-alike}
 use Rattle.match_options.specs.TokenTest.{has_case}
@@ -23,7 +23,7 @@ use Rattle.match_options.specs.Wildcards.{pattern_in}
 use Rattle.match_options.specs.WordTests.{is_by_key, item_passes, pattern_passes, forms_as}
 use Rattle.match_options.specs.declared.atom.Atom.{Atom}
 use Rattle.match_options.specs.declared.form_choice.FormChoice.{FormChoice}
-use Rattle.word_lists.specs.StopLists.{with_key}
+use Rattle.word_lists.specs.KeySets.{with_key}
 use Rattle.plan_compiler.specs.Lexicon.{holds_key, lexicon}
 use Rattle.plan_compiler.specs.NamedLists.{NamedLists, list_named}
 use Rattle.plan_compiler.specs.Stops.{item_key, string_keys, source_keys, term_keys, listed_keys, stops_of, has_key, after_keys, is_stop_key}

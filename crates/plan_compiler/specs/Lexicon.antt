@@ -7,7 +7,7 @@ use Rattle.ft_base.specs.declared.options.ThesaurusUse.{ThesaurusUse}
 use Rattle.ft_base.specs.declared.range.Range.{Range}
 use Rattle.ft_base.specs.declared.range.Range.TheVariants.{Exactly, AtLeast, AtMost, FromTo}
 use Rattle.text_forms.specs.Forms.{key_of}
-use Rattle.tokenizer.specs.Words.{words}
+use Rattle.text_words.specs.Words.{words}
 use Rattle.all_matches.specs.Variants.{Item, any_word, word, pattern, Lexicon}
 use Rattle.match_options.specs.Items.{items_of}
 use Rattle.match_options.specs.TokenTest.{is_on, case_of, has_case}

@@ -9,10 +9,10 @@ use Rattle.ft_base.specs.declared.options.StopSource.TheVariants.{At, Written}
 use Rattle.text_forms.specs.Forms.{key_of}
 use Rattle.all_matches.specs.Variants.{Item, any_word, word, pattern}
 use Rattle.match_options.specs.Items.{items_of}
-use Rattle.word_lists.specs.StopLists.{with_key}
+use Rattle.word_lists.specs.KeySets.{with_key}
 use Rattle.plan_compiler.specs.NamedLists.{NamedLists, list_named}
-use Rattle.plan_compiler.specs.declared.stops.KeySet.{KeySet}
-use Rattle.plan_compiler.specs.declared.stops.KeySet.TheVariants.{Listed, Collected}
+use Rattle.plan_compiler.specs.declared.stops.StopSet.{StopSet}
+use Rattle.plan_compiler.specs.declared.stops.StopSet.TheVariants.{Listed, Collected}
 use Rattle.plan_compiler.specs.declared.stops.StopKeys.{StopKeys}
 
 -- the keys of a term, and whether they are taken out
@@ -25,7 +25,7 @@ listed_keys None = []
 listed_keys (Some keys) = keys
 
 -- the keys of a set
-abbrev pub keys_of_set : KeySet → List (List ℕ)
+abbrev pub keys_of_set : StopSet → List (List ℕ)
 keys_of_set (Listed None) = []
 keys_of_set (Listed (Some list)) = list.now
 keys_of_set (Collected keys) = map string_bytes keys.keys

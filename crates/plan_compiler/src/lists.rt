@@ -12,14 +12,14 @@ use std::alloc::Global;
 use std::marker::Model;
 use std::rc::Rc;
 use thesaurus_file::Thesaurus;
-use word_lists::{Stems, StopList};
+use word_lists::{KeySet, Stems};
 
 /// The lists that selections name: stop lists and thesauri by their names, in the order in which the names first came, and one
 /// dictionary of stems.
 #[derive(Drop)]
 pub struct Lists {
     alloc: Global,
-    stops: IndexMap<String, Rc<StopList>>,
+    stops: IndexMap<String, Rc<KeySet>>,
     thesauri: IndexMap<String, Rc<Thesaurus>>,
     stems: Option<Rc<Stems>>,
 }
@@ -74,7 +74,7 @@ impl Lists {
 
     /// Puts a stop list under a name, in the place of the one that has it, or after the others. Where memory runs out, the lists
     /// stay as they were.
-    pub fn set_stop(&mut self, name: &str, list: StopList) -> Result<(), Memory>
+    pub fn set_stop(&mut self, name: &str, list: KeySet) -> Result<(), Memory>
         ensures ok { OnOk result (self.new ≡ with_stop_list name.now list self.old) }
         ensures err { OnErr result (self.new ≡ self.old) }
     {
@@ -129,7 +129,7 @@ impl Lists {
     }
 
     /// The stop list of that name.
-    pub(crate) fn stop<'a>(&'a self, name: &str) -> Option<&'a StopList>
+    pub(crate) fn stop<'a>(&'a self, name: &str) -> Option<&'a KeySet>
         ensures { option_map (λ list. list.now) result ≡ list_named name.now self.now.stops }
     {
         match self.stops.get(name) {

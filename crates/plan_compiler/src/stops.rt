@@ -2,7 +2,7 @@
 
 ghost use Rattle.std.specs.Prelude.{◌≡◌, [], IfOk, OnOk, map, flat_map, fold, Some, option_map, string_bytes};
 ghost use Rattle.match_options.specs.Items.{item};
-ghost use Rattle.word_lists.specs.StopLists.{with_key};
+ghost use Rattle.word_lists.specs.KeySets.{with_key};
 ghost use Rattle.plan_compiler.specs.Stops as spec;
 
 use crate::lists::Lists;
@@ -11,20 +11,20 @@ use indexmap::IndexSet;
 use match_options::{QueryItem, items_of};
 use std::alloc::Global;
 use text_forms::key;
-use word_lists::StopList;
+use word_lists::KeySet;
 
 /// The keys of a term of stop words, and whether they are taken out.
 #[derive(Drop)]
 pub(crate) struct StopKeys<'a> {
     pub(crate) except: bool,
-    pub(crate) keys: KeySet<'a>,
+    pub(crate) keys: StopSet<'a>,
 }
 
-/// A set of keys.
+/// A set of stop words, as keys.
 #[derive(Drop)]
-pub(crate) enum KeySet<'a> {
+pub(crate) enum StopSet<'a> {
     /// Those of a stop list, if there is one of the name.
-    Listed(Option<&'a StopList>),
+    Listed(Option<&'a KeySet>),
     /// Those of the words of written strings.
     Collected(IndexSet<String>),
 }
@@ -77,14 +77,14 @@ fn source_keys<'a>(
     alloc: Global,
     lists: &'a Lists,
     source: &StopSource,
-) -> Result<KeySet<'a>, Memory>
+) -> Result<StopSet<'a>, Memory>
     ensures { IfOk result (λ keys. spec.keys_of_set keys ≡ spec.source_keys lists.now source.now) }
 {
     match source {
-        StopSource::At(name) => Ok(KeySet::Listed(lists.stop(name.as_str()))),
+        StopSource::At(name) => Ok(StopSet::Listed(lists.stop(name.as_str()))),
         StopSource::Written(texts) => {
             let keys = keys_of_texts(alloc, texts.as_slice())?;
-            Ok(KeySet::Collected(keys))
+            Ok(StopSet::Collected(keys))
         }
     }
 }
@@ -142,12 +142,12 @@ fn after_keys(term: &StopKeys<'_>, key: &str, held: bool) -> bool
     }
 }
 
-fn holds(keys: &KeySet<'_>, key: &str) -> bool
+fn holds(keys: &StopSet<'_>, key: &str) -> bool
     ensures { result ≡ spec.has_key (spec.keys_of_set keys.now) key.now }
 {
     match keys {
-        KeySet::Listed(None) => false,
-        KeySet::Listed(Some(list)) => list.holds(key),
-        KeySet::Collected(keys) => keys.contains(key),
+        StopSet::Listed(None) => false,
+        StopSet::Listed(Some(list)) => list.holds(key),
+        StopSet::Collected(keys) => keys.contains(key),
     }
 }

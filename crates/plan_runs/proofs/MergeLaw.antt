@@ -2,7 +2,7 @@
 use Rattle.std.proofs.Common.{◌≡◌, refl, sym, ap, subst, ◌∙◌, ℕ, zero, suc, ◌+◌, ◌-◌, ◌==◌, ◌≤◌, Bool, true, false, ◌&&◌, not, cond, true≢false, List, [], ◌∷◌, ◌++◌, map, filter, flat_map, length, get_or, Some, append-nil, arith}
 use Rattle.std.specs.Prelude.{nat_le}
 use Rattle.std.specs.List.{list_all, list_any, range_with_len}
-use Rattle.std.proofs.lemmas.Bool.{and_from, and_parts, eqb-true, eq-eqb, le-leb, leb-true}
+use Rattle.std.proofs.lemmas.Bool.{and_from, and_parts, eqb-true, eq-eqb, le-leb, leb-true, not-true}
 use Rattle.std.proofs.lemmas.List.{length-map}
 use Rattle.std.proofs.lemmas.List.Folds.{flat_map-map}
 use Rattle.ft_base.specs.declared.filter.Filter.{Filter}
@@ -45,7 +45,6 @@ use Rattle.plan_kinds.specs.declared.merge_kind.MergeKind.{MergeKind}
 use Rattle.plan_compiler.specs.declared.operator_plan.OperatorPlan.{OperatorPlan}
 use Rattle.plan_compiler.specs.declared.operator_plan.PhraseTests.{PhraseTests}
 use Rattle.plan_runs.proofs.OpenedWays.{phrase_law}
-use Rattle.plan_runs.proofs.RunSkipLaw.{not_true}
 use Rattle.plan_runs.proofs.MergeKinds as kinds
 use Rattle.plan_runs.proofs.MergeKinds.{own_unit, stand_counted, stand_in_span, stand_same}
 
@@ -64,7 +63,7 @@ pub one_test : (tests : List ItemTest) → is_single tests ≡ true → IsOne te
 one_test [] h = absurd (true≢false (sym h))
 one_test (test ∷ []) h =
     let asks = and_parts (not (asks_nothing test)) true h in
-    record { test = test; is = refl; asks = not_true (asks_nothing test) asks.0 }
+    record { test = test; is = refl; asks = not-true (asks_nothing test) asks.0 }
 one_test (test ∷ other ∷ rest) h =
     let parts = and_parts (length (test ∷ other ∷ rest) == 1) (list_all (λ t. not (asks_nothing t)) (test ∷ other ∷ rest)) h in
     let long = eqb-true (length (test ∷ other ∷ rest)) 1 parts.0 in

@@ -53,10 +53,6 @@ use Rattle.plan_runs.proofs.SkipLaw.{no_phrase_spots}
 use Rattle.plan_runs.proofs.SkipLemmas.{are_missing, ends_all, ends_any, ends_latest, ends_soonest, ends_variants, is_missing, none_there, nothing_before}
 use Rattle.plan_runs.proofs.RunViews.{shape-Words, shape-Or, shape-And, shape-Not, shape-Ways, shape-Near, shape-Hits, shape-Merge, shape-Placed}
 
-pub not_true : (b : Bool) → not b ≡ true → b ≡ false
-not_true true h = sym h
-not_true false h = refl
-
 -- ---- a term that has no place in a span is empty of its words
 
 is_no_word : (word : List ℕ) (span : Span) (place prefix count : ℕ) (ws : List (List ℕ)) → span.from ≤ place + prefix → place + prefix + count ≤ span.to

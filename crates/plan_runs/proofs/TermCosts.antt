@@ -3,7 +3,7 @@ use Rattle.std.proofs.Common.{◌≡◌, ◌≤◌, ◌<◌, ◌+◌, ◌-◌, �
 use Rattle.std.specs.Prelude.{nat_le, nat_lt}
 use Rattle.std.specs.List.{All, count_by, range_with_len, sum_by}
 use Rattle.std.specs.Ordering.{is_lt}
-use Rattle.std.proofs.lemmas.Bool.{and_left, and_parts, and_right, lt-leb, le-ltb}
+use Rattle.std.proofs.lemmas.Bool.{and_left, and_parts, and_right, false_from_ne_true, lt-leb, le-ltb}
 use Rattle.std.proofs.lemmas.Cmp.{tied_itself}
 use Rattle.std.proofs.lemmas.List.{length-drop, length-map, length-take}
 use Rattle.std.proofs.lemmas.List.Elements.{All-from_get_or, filter-append}
@@ -126,13 +126,9 @@ once w (e ∷ es) sorted keyed =
         none (f ∷ fs) below own =
             let parts = and_parts (is_lt (entry_cmp e f)) (is_below e fs) below in
             let rest = none fs parts.1 (λ k d h. own (suc k) d (omega arith)) in
-            let here : same_word f.word w ≡ false = not_true (same_word f.word w)
+            let here : same_word f.word w ≡ false = false_from_ne_true (same_word f.word w)
             (λ same. true≢false (sym parts.0 ∙ ap (λ g. is_lt (entry_cmp e g)) (sym (same_key f (same_word_is f.word w same) (same_word_is e.word w is) (own 0 f (omega arith)))) ∙ ap is_lt (tied_itself entry_total e))) in
             count_by-cons (λ (g : Entry). same_word g.word w) f fs ∙ (λ i. cond (here i) 1 0 + rest i)
-          where
-            not_true : (b : Bool) → (b ≡ true → ⊥) → b ≡ false
-            not_true true h = absurd (h refl)
-            not_true false h = refl
 
 -- tests of a list's elements, by their numbers
 by_number : {X : Type 0} (q : X → Bool) (d : X) (xs : List X) → count_by (λ n. q (get_or xs n d)) (range_with_len 0 (length xs)) ≡ count_by q xs

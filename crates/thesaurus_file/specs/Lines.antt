@@ -7,7 +7,7 @@ use Rattle.std.specs.Str.{is_utf8}
 use Rattle.text_forms.specs.Forms.{key_of}
 use Rattle.text_lines.specs.Lines.{lines, content_lines, trimmed_start, trimmed_end}
 use Rattle.text_lines.specs.Lists.{read_lines}
-use Rattle.tokenizer.specs.Words.{words}
+use Rattle.text_words.specs.Words.{words}
 use Rattle.thesaurus_file.specs.Links.{Links, with_link}
 use Rattle.thesaurus_file.specs.Phrases.{Phrase}
 use Rattle.thesaurus_file.specs.declared.link.Link.{Link}

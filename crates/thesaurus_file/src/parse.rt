@@ -2,7 +2,7 @@ ghost use Rattle.std.specs.Prelude.{◌≡◌, ◌∷◌, ◌++◌, [], IfOk, Ma
 ghost use Rattle.std.specs.List.{slice_split};
 ghost use Rattle.text_forms.specs.Forms.{key_of};
 ghost use Rattle.thesaurus_file.specs.Lines.{is_bar, line_of, phrase_of, three, trimmed};
-ghost use Rattle.tokenizer.specs.Pieces.{IsPieceOf, bytes_at};
+ghost use Rattle.text_words.specs.Pieces.{IsPieceOf, bytes_at};
 
 use crate::link::Link;
 use crate::phrase::Phrase;
@@ -10,7 +10,7 @@ use ft_base::{Bytes, Memory};
 use std::alloc::Global;
 use text_forms::key;
 use text_lines::{skip_blanks, trim_line};
-use tokenizer::{Piece, words_of};
+use text_words::{Piece, words_of};
 
 /// What a line says: a phrase and where it leads. `None` where the line is bad.
 pub(crate) fn parse_line(alloc: Global, line: &[u8]) -> Result<Option<(Phrase, Link)>, Memory>

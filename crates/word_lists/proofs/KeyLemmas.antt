@@ -3,7 +3,7 @@ use Rattle.std.proofs.Common.{◌≡◌, ◌∙◌, ap, refl, ℕ, Bool, true, f
 use Rattle.std.specs.Prelude.{String, string_bytes, bytes_eq}
 use Rattle.std.specs.List.{list_any}
 use Rattle.std.proofs.lemmas.List.{map-append}
-use Rattle.word_lists.specs.StopLists.{with_key}
+use Rattle.word_lists.specs.KeySets.{with_key}
 
 -- a key is in the set of texts where it is in that of their bytes
 pub any_bytes : {Y : Type 0} (key : List ℕ) (texts : List (String Y)) → list_any (λ t. bytes_eq key (string_bytes t)) texts ≡ list_any (bytes_eq key) (map string_bytes texts)

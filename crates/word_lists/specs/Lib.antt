@@ -1,5 +1,5 @@
 pub mod Adding
-pub mod StopLists
+pub mod KeySets
 pub mod Words
 pub mod Stems
 pub mod View

@@ -1,7 +1,7 @@
 -- The words of a line of a list.
 use Rattle.std.specs.Prelude.{ℕ, if◌then◌else◌, List, [], ◌∷◌, Option, Some, None}
 use Rattle.std.specs.Str.{is_utf8}
-use Rattle.tokenizer.specs.Words.{words}
+use Rattle.text_words.specs.Words.{words}
 
 -- the words of a line, where it is UTF-8
 abbrev pub words_of_line : List ℕ → List (List ℕ)

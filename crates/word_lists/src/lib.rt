@@ -1,10 +1,10 @@
-//! Lists of words as files: stop lists and dictionaries of stems.
+//! Lists of words as files: sets of keys, which are stop lists and abbreviations, and dictionaries of stems.
 #![tactic(auto)]
 
+mod key_set;
 mod stems;
-mod stop_list;
 mod words;
 
 pub use ft_base::ListFault;
+pub use key_set::KeySet;
 pub use stems::Stems;
-pub use stop_list::StopList;

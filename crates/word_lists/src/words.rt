@@ -2,13 +2,13 @@ ghost use Rattle.std.specs.Prelude.{◌≡◌, true, false, IfNone, IfOk, IfSome
 ghost use Rattle.std.specs.Option.{option_copied};
 ghost use Rattle.std.specs.Str.{is_utf8};
 ghost use Rattle.text_forms.specs.Forms.{key_of};
-ghost use Rattle.tokenizer.specs.Pieces.{IsPieceOf, bytes_at};
+ghost use Rattle.text_words.specs.Pieces.{IsPieceOf, bytes_at};
 ghost use Rattle.word_lists.specs.Words.{only, only_two, words_of_line};
 
 use ft_base::Memory;
 use std::alloc::Global;
 use text_forms::key;
-use tokenizer::{Piece, words_of};
+use text_words::{Piece, words_of};
 
 /// The text of a line that is UTF-8.
 fn text_of(line: &[u8]) -> Option<&str>

@@ -1,6 +1,6 @@
 -- The words so far were added.
 use Rattle.std.proofs.Common.{◌≡◌, ◌++◌, map, take}
-use Rattle.tokenizer.specs.Pieces.{bytes_at}
+use Rattle.text_words.specs.Pieces.{bytes_at}
 use Rattle.all_matches.specs.Variants.{word}
 use Rattle.match_options.specs.Items.{item}
 use Rattle.match_options.proofs.item.push_words.Given as goal

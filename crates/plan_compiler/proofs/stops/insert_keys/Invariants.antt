@@ -2,7 +2,7 @@
 use Rattle.std.proofs.Common.{◌≡◌, map, take, fold}
 use Rattle.std.specs.Prelude.{string_bytes}
 use Rattle.match_options.specs.Items.{item}
-use Rattle.word_lists.specs.StopLists.{with_key}
+use Rattle.word_lists.specs.KeySets.{with_key}
 use Rattle.plan_compiler.specs.Stops.{item_key}
 use Rattle.plan_compiler.proofs.stops.insert_keys.Given as goal
 

@@ -1,7 +1,7 @@
 -- The keys of the first strings.
 use Rattle.std.proofs.Common.{◌≡◌, [], map, take, fold}
 use Rattle.std.specs.Prelude.{flat_map, string_bytes}
-use Rattle.word_lists.specs.StopLists.{with_key}
+use Rattle.word_lists.specs.KeySets.{with_key}
 use Rattle.plan_compiler.specs.Stops.{string_keys}
 use Rattle.plan_compiler.proofs.stops.keys_of_texts.Given as goal
 

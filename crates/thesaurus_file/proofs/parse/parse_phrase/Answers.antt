@@ -2,8 +2,8 @@
 use Rattle.std.proofs.Common.{◌≡◌, ◌∙◌, ap, refl, ℕ, List, [], ◌∷◌, map, arith}
 use Rattle.std.proofs.lemmas.List.{take_all}
 use Rattle.text_forms.specs.Forms.{key_of}
-use Rattle.tokenizer.specs.Pieces.{bytes_at}
-use Rattle.tokenizer.specs.declared.words.Piece.{Piece}
+use Rattle.text_words.specs.Pieces.{bytes_at}
+use Rattle.text_words.specs.declared.words.Piece.{Piece}
 use Rattle.thesaurus_file.specs.Lines.{phrase_of}
 use Rattle.thesaurus_file.proofs.parse.parse_phrase.Goals as goal
 

@@ -4,9 +4,9 @@ use Rattle.std.specs.Prelude.{Some, option_map, string_bytes}
 use Rattle.std.specs.Option.{option_copied}
 use Rattle.text_forms.specs.Forms.{key_of}
 use Rattle.word_lists.specs.Words.{only, words_of_line}
-use Rattle.word_lists.specs.StopLists.{with_key}
+use Rattle.word_lists.specs.KeySets.{with_key}
 use Rattle.word_lists.proofs.KeyLemmas.{bytes_with_key}
-use Rattle.word_lists.proofs.stop_list.StopList.add_line.Goals as goal
+use Rattle.word_lists.proofs.key_set.KeySet.add_line.Goals as goal
 
 pub returns : goal.returns
 returns c =

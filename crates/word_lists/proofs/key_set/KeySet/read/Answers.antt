@@ -1,8 +1,8 @@
 -- At first no line is read, and the list is empty.
 use Rattle.std.proofs.Common.{refl}
-use Rattle.word_lists.specs.StopLists.{stop_list_of}
-use Rattle.word_lists.proofs.stop_list.StopList.read.Goals as goal
+use Rattle.word_lists.specs.KeySets.{key_set_of}
+use Rattle.word_lists.proofs.key_set.KeySet.read.Goals as goal
 
 pub loop-line-init : goal.loop-line-init
-unfolding stop_list_of
+unfolding key_set_of
 loop-line-init c = record { left = rw (c.empty-list.ensures, c.of-lines.ensures) refl }

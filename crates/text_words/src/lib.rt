@@ -1,0 +1,6 @@
+//! The words of a text.
+#![tactic(auto)]
+
+mod words;
+
+pub use words::{Piece, count_words, is_word, words_of};
