@@ -20,7 +20,7 @@ same : (n : ℕ) → (n == n) ≡ true
 same n = grind (arith, nat_tests)
 
 -- a number that isn't the one before it was raised
-new_start : (ended : Bool) (n : ℕ) (place : List ℕ) → (if shifted ended n == n then [] else place) ≡ (if ended then place else [])
+pub new_start : (ended : Bool) (n : ℕ) (place : List ℕ) → (if shifted ended n == n then [] else place) ≡ (if ended then place else [])
 new_start true n place = rw (later n) refl
 new_start false n place = rw (same n) refl
 

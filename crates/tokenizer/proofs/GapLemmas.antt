@@ -2,15 +2,15 @@
 use Rattle.std.proofs.lemmas.List.{drop_all}
 use Rattle.std.proofs.Common.{if◌then◌else◌, ◌≡◌, ℕ, Bool, true, false, ◌&&◌, ◌||◌, List, [], ◌∷◌, ◌++◌, refl, sym, ap, ap₂, ◌∙◌, arith, inl, inr, length, drop, get_or, ◌<◌, ◌≤◌, ◌+◌, add-one, drop-cons, zero, suc, suc-le-suc, zero-le, append-nil, encode_utf8, encode_utf8_all, IsUtf8}
 use Rattle.std.proofs.lemmas.Bool.{cases_Bool, cases_lt}
-use Rattle.std.proofs.lemmas.Str.{encode_ascii, length-encode, len_utf8_bounds, inside_one, encodes-chars}
+use Rattle.std.proofs.lemmas.Str.{chars_past_char, encode_ascii, length-encode, len_utf8_bounds, inside_one, encodes-chars}
 use Rattle.std.specs.Str.{chars}
-use Rattle.std.proofs.Math.Bool.{or_assoc, or-false}
+use Rattle.std.proofs.Math.Bool.{or_assoc, or-false, or-true}
 use Rattle.std.proofs.lemmas.Bool.Decides.{nat_tests}
 use Rattle.std.specs.List.{list_any}
 use Rattle.ft_base.proofs.Truth.{or_swap_last}
 use Rattle.ft_base.specs.Characters.{is_blank, is_line_feed}
 use Rattle.tokenizer.specs.Gaps.{is_sentence_end, begins_with_line_end, has_blank_line, is_block_element, characters_of, tags_of, ends_paragraph}
-use Rattle.tokenizer.specs.steps.GapSteps.{after_character, after_characters, after_part, after_tag, both_seen, paragraph_ends_in, sentence_ends_in}
+use Rattle.tokenizer.specs.steps.GapSteps.{after_character, after_characters, after_part, after_tag, both_seen, nothing_seen, with_period, paragraph_ends_in, sentence_ends_in}
 use Rattle.tokenizer.specs.Parts.{Part, gap_characters, gap_tag}
 use Rattle.tokenizer.specs.declared.gap.Gap.{Gap}
 use Rattle.tokenizer.specs.declared.gap_part.GapPart.{GapPart}
@@ -225,3 +225,21 @@ after_part-characters part prefix cs =
       | inl fed ↦ rw fed (both_seen-characters prefix part.after_line_feed cs)
       | inr bare ↦ rw bare (both_seen-characters prefix part.alone cs)
     ]
+
+-- ---- a period directly behind a word
+
+pub with_period-characters : (known : Gap) (cs : List ℕ) → after_characters (with_period known) cs ≡ with_period (after_characters known cs)
+with_period-characters known cs =
+    ap (λ g. after_characters g cs) (sym (with_mark known)) ∙ both_seen-characters mark known cs ∙ with_mark (after_characters known cs)
+  where
+    mark : Gap
+    mark = with_period nothing_seen
+
+    with_mark : (g : Gap) → both_seen mark g ≡ with_period g
+    with_mark g = ap₂ (λ s p. record { sentence_ends = s; paragraph_ends = p; after_line_feed = g.after_line_feed }) (or-true g.sentence_ends) (or-false g.paragraph_ends)
+
+pub period-first : (text rest : List ℕ) → IsUtf8 text → text ≡ 46 ∷ rest → after_characters nothing_seen (chars text) ≡ with_period (after_characters nothing_seen (chars rest))
+unfolding after_characters
+period-first text rest u is =
+    ap (after_characters nothing_seen) (chars_past_char text rest 46 u (is ∙ ap (λ l. l ++ rest) (sym (encode_ascii 46 (omega arith)))))
+    ∙ with_period-characters nothing_seen (chars rest)

@@ -1,15 +1,14 @@
 -- What is known of a text, one segment further, and what going past it brings.
-use Rattle.std.proofs.Common.{◌≡◌, ℕ, zero, suc, ◌+◌, ◌==◌, Bool, List, [], ◌∷◌, ◌++◌, map, refl, sym, ap, ap₂, subst, ◌∙◌, append_assoc, add-one, arith, if◌then◌else◌}
+use Rattle.std.proofs.Common.{◌≡◌, ℕ, zero, suc, ◌+◌, ◌==◌, Bool, List, [], ◌∷◌, ◌++◌, refl, sym, ap, ap₂, subst, ◌∙◌, append_assoc, add-one, arith, if◌then◌else◌}
 use Rattle.std.specs.Str.{chars}
 use Rattle.ft_base.specs.declared.token.Token.{Token}
-use Rattle.unicode_segmentation.specs.Word.{word_bounds}
-use Rattle.tokenizer.specs.Parts.{Part, word, gap_characters, part_of_segment}
+use Rattle.tokenizer.specs.Parts.{Part, word, gap_characters, parts_of_text}
 use Rattle.tokenizer.specs.Tokens.{shifted, starts}
 use Rattle.tokenizer.specs.steps.Begun.{after_begun, places_begun}
 use Rattle.tokenizer.specs.steps.GapSteps.{after_characters, after_part}
 use Rattle.tokenizer.specs.steps.Numbering.{after_word, both_passed, nothing_passed, paragraph_ends, sentence_ends, tokens_left}
 use Rattle.tokenizer.specs.steps.StartsLeft.{sentences_in, paragraphs_in}
-use Rattle.tokenizer.specs.steps.TextsKnown.{Known, Leads, Tells, after_known, known_of, before_first, paragraphs_known, sentences_known, words_known}
+use Rattle.tokenizer.specs.steps.TextsKnown.{Known, Leads, Tells, after_known, known_under, before_first, paragraphs_known, sentences_known, words_known}
 use Rattle.tokenizer.specs.declared.gap.Gap.{Gap}
 use Rattle.tokenizer.specs.declared.gap_part.GapPart.{GapPart}
 use Rattle.tokenizer.specs.declared.numbering.Numbering.{Numbering}
@@ -141,19 +140,19 @@ module _ (parts left : List Part) (bytes : List ℕ) (old : Known) (leads : Lead
 
 -- ---- past a text that is known
 
-module _ (old new : Starts) (known : TextStarts) (words : new.words ≡ old.words + words_known known) (last : new.last ≡ after_known (known_of known) old.last) where
-  pub sentences_in-known : new.breaks.sentences ≡ old.breaks.sentences ++ sentences_known (known_of known) old.last old.words → (text : List ℕ) (rest : List Part) → Tells known text
-      → sentences_in old (map part_of_segment (word_bounds text) ++ rest) ≡ sentences_in new rest
+module _ (abbreviations : List (List ℕ)) (old new : Starts) (known : TextStarts) (words : new.words ≡ old.words + words_known known) (last : new.last ≡ after_known (known_under abbreviations known) old.last) where
+  pub sentences_in-known : new.breaks.sentences ≡ old.breaks.sentences ++ sentences_known (known_under abbreviations known) old.last old.words → (text : List ℕ) (rest : List Part) → Tells known text
+      → sentences_in old (parts_of_text abbreviations text ++ rest) ≡ sentences_in new rest
   unfolding sentences_in
   sentences_in-known places text rest tells =
       rw (places, last, words)
-      (ap (λ l. old.breaks.sentences ++ l) (tells.leads.sentences old.last old.words rest)
-      ∙ sym (append_assoc old.breaks.sentences (sentences_known (known_of known) old.last old.words) _))
+      (ap (λ l. old.breaks.sentences ++ l) ((tells.leads abbreviations).sentences old.last old.words rest)
+      ∙ sym (append_assoc old.breaks.sentences (sentences_known (known_under abbreviations known) old.last old.words) _))
 
-  pub paragraphs_in-known : new.breaks.paragraphs ≡ old.breaks.paragraphs ++ paragraphs_known (known_of known) old.last old.words → (text : List ℕ) (rest : List Part) → Tells known text
-      → paragraphs_in old (map part_of_segment (word_bounds text) ++ rest) ≡ paragraphs_in new rest
+  pub paragraphs_in-known : new.breaks.paragraphs ≡ old.breaks.paragraphs ++ paragraphs_known (known_under abbreviations known) old.last old.words → (text : List ℕ) (rest : List Part) → Tells known text
+      → paragraphs_in old (parts_of_text abbreviations text ++ rest) ≡ paragraphs_in new rest
   unfolding paragraphs_in
   paragraphs_in-known places text rest tells =
       rw (places, last, words)
-      (ap (λ l. old.breaks.paragraphs ++ l) (tells.leads.paragraphs old.last old.words rest)
-      ∙ sym (append_assoc old.breaks.paragraphs (paragraphs_known (known_of known) old.last old.words) _))
+      (ap (λ l. old.breaks.paragraphs ++ l) ((tells.leads abbreviations).paragraphs old.last old.words rest)
+      ∙ sym (append_assoc old.breaks.paragraphs (paragraphs_known (known_under abbreviations known) old.last old.words) _))

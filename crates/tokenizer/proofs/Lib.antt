@@ -1,8 +1,11 @@
 pub mod BegunLemmas
+pub mod ExampleLemmas
 pub mod GapLemmas
 pub mod KnownLemmas
 pub mod NumberingLemmas
+pub mod PartsLemmas
+pub mod PeriodsLemmas
 pub mod PushLemmas
+pub mod ReadsLemmas
 pub mod StartsLemmas
 pub mod WalksLemmas
-pub mod WordsLemmas

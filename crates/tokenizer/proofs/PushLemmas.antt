@@ -1,5 +1,5 @@
 -- Ascending places: what is left of them, and how great they are.
-use Rattle.std.proofs.Common.{◌≡◌, ℕ, zero, suc, ◌+◌, ◌<◌, ◌≤◌, nat_lt, true, All, List, [], ◌∷◌, ◌++◌, Some, map, drop, length, get_or, add-one, drop-cons, append_assoc, refl, sym, ap, ◌∙◌, subst, arith}
+use Rattle.std.proofs.Common.{◌≡◌, ℕ, ◌+◌, ◌<◌, ◌≤◌, nat_lt, true, All, List, [], ◌∷◌, ◌++◌, Some, map, drop, length, get_or, add-one, drop-cons, append_assoc, refl, sym, ap, ◌∙◌, subst, arith}
 use Rattle.std.proofs.lemmas.Bool.{and_parts, ltb-true}
 use Rattle.std.proofs.lemmas.List.Elements.{All-nil, All-cons, All-get_or, All-head}
 use Rattle.std.specs.Option.{ForSome}
@@ -27,7 +27,7 @@ all-most b most (x ∷ y ∷ ys) up last =
 -- ---- one place further
 
 module _ (before : ℕ) (items : List ℕ) (i : ℕ) (more : i < length items) where
-  left-head : drop i items ≡ get_or items i 0 ∷ drop (i + 1) items
+  pub left-head : drop i items ≡ get_or items i 0 ∷ drop (i + 1) items
   left-head = drop-cons items i 0 more ∙ ap (λ k. get_or items i 0 ∷ drop k items) (sym (add-one i))
 
   pub next-above : (last : ℕ) → All (λ p. last < before + p) (drop i items) → last < before + get_or items i 0
@@ -41,12 +41,12 @@ module _ (before : ℕ) (items : List ℕ) (i : ℕ) (more : i < length items) w
       let least : get_or items i 0 ≤ get_or items i 0 = omega arith in
       above before (get_or items i 0) (get_or items i 0) (drop (i + 1) items) least (ap is_ascending (sym left-head) ∙ ascending-drop i items up)
 
-  pub pushed-done : (places new all : List ℕ) → new ≡ places ++ (before + get_or items i 0) ∷ [] → places ++ map (λ place. before + place) (drop i items) ≡ all
-      → new ++ map (λ place. before + place) (drop (i + 1) items) ≡ all
-  pushed-done places new all pushed so_far =
-      ap (λ l. l ++ map (λ place. before + place) (drop (i + 1) items)) pushed
-      ∙ append_assoc places ((before + get_or items i 0) ∷ []) (map (λ place. before + place) (drop (i + 1) items))
-      ∙ ap (λ l. places ++ map (λ place. before + place) l) (sym left-head) ∙ so_far
+-- one of those that were to be put to the end was
+pub pushed-done : (before place : ℕ) (left rest places new all : List ℕ) → left ≡ place ∷ rest → new ≡ places ++ (before + place) ∷ [] → places ++ map (λ p. before + p) left ≡ all
+    → new ++ map (λ p. before + p) rest ≡ all
+pushed-done before place left rest places new all head pushed so_far =
+    ap (λ l. l ++ map (λ p. before + p) rest) pushed ∙ append_assoc places ((before + place) ∷ []) (map (λ p. before + p) rest)
+    ∙ ap (λ l. places ++ map (λ p. before + p) l) (sym head) ∙ so_far
 
 -- the last place is the one that was pushed
 pub last-pushed : (places new : List ℕ) (place x : ℕ) → new ≡ places ++ place ∷ [] → last_place new ≡ Some x → place ≡ x

@@ -1,5 +1,6 @@
 -- The gap between two neighbouring tokens: the characters of all texts and the tags that stand between them. Here it is
--- a list of parts without words, and its characters are one run, wherever the texts that they stand in end.
+-- a list of parts without words, and its characters are one run, wherever the texts that they stand in end. The period directly behind an
+-- abbreviation is none of them; since it stands before all others, it changes nothing of blank lines.
 use Rattle.std.specs.Prelude.{ℕ, Bool, false, ◌&&◌, ◌||◌, ◌==◌, List, [], ◌∷◌, flat_map, bytes_eq, codes}
 use Rattle.std.specs.List.{list_any}
 use Rattle.std.specs.Str.{chars}

@@ -1,4 +1,5 @@
 pub mod Begun
+pub mod Behind
 pub mod GapSteps
 pub mod Numbering
 pub mod StartsLeft

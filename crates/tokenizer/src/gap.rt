@@ -1,6 +1,6 @@
 ghost use Rattle.std.specs.Prelude.{◌≡◌, false, true};
 ghost use Rattle.std.specs.Str.{chars};
-ghost use Rattle.tokenizer.specs.steps.GapSteps.{after_character, after_characters, after_tag};
+ghost use Rattle.tokenizer.specs.steps.GapSteps.{after_character, after_characters, after_tag, sentence_ended};
 
 use crate::blocks::is_block_element;
 
@@ -54,6 +54,13 @@ impl Gap {
         if !self.paragraph_ends && is_block_element(name) {
             self.paragraph_ends = true;
         }
+    }
+
+    /// Whether what was seen ends a sentence.
+    pub(crate) fn ends_sentence(&self) -> bool
+        ensures { result ≡ sentence_ended self.now }
+    {
+        self.sentence_ends | self.paragraph_ends
     }
 
     fn pass_byte(&mut self, byte: u8)

@@ -2,15 +2,16 @@ ghost use Rattle.std.specs.Prelude.{◌≡◌, ◌==◌, ◌+◌, ◌≤◌, ◌
 ghost use Rattle.std.specs.Option.{ForSome};
 ghost use Rattle.ft_base.specs.Places.{last_place};
 ghost use Rattle.unicode_segmentation.specs.Word.{word_bounds};
-ghost use Rattle.tokenizer.specs.Parts.{Part, word, gap_characters, gap_tag, part_of_segment};
+ghost use Rattle.tokenizer.specs.Parts.{Part, word, gap_characters, gap_tag, parts_of_text};
 ghost use Rattle.tokenizer.specs.Tokens.{tokens_from, sentence_starts, paragraph_starts};
-ghost use Rattle.tokenizer.specs.Words.{words};
+ghost use Rattle.text_words.specs.Words.{words};
 
 use crate::numbering::Numbering;
 use crate::text_starts::TextRead;
 use crate::tokens::TokenFault;
 use ft_base::{Breaks, Memory, Places};
 use std::alloc::Global;
+use word_lists::KeySet;
 
 /// The places at which sentences and paragraphs start, as far as a document was seen, and how many words were. Whoever walks
 /// over a document hands it the tags and the texts, in the order in which they are written.
@@ -92,12 +93,13 @@ impl Starts {
         self.last.pass_tag(name);
     }
 
-    /// Reads a text, and goes past it. `Tokens` comes where more than `most` words stand in what was seen with this text; no
-    /// more than that many are made.
+    /// Reads a text, and goes past it; a period directly behind an abbreviation ends no sentence. `Tokens` comes where more than
+    /// `most` words stand in what was seen with this text; no more than that many are made.
     pub fn pass_text(
         &mut self,
         alloc: Global,
         text: &str,
+        abbreviations: &KeySet,
         most: u32,
     ) -> Result<TextRead, TokenFault>
         requires few { words_seen self.old ≤ most }
@@ -108,12 +110,12 @@ impl Starts {
         ensures few { words_seen self.new ≤ most }
         ensures full { result ≡ Err TokenFault.Tokens → most < words_seen self.old + length (words text.now) }
         ensures sentences { OnOk result ((rest : List Part) →
-            sentences_in self.old (map part_of_segment (word_bounds text.now) ++ rest) ≡ sentences_in self.new rest) }
+            sentences_in self.old (parts_of_text abbreviations.now text.now ++ rest) ≡ sentences_in self.new rest) }
         ensures paragraphs { OnOk result ((rest : List Part) →
-            paragraphs_in self.old (map part_of_segment (word_bounds text.now) ++ rest) ≡ paragraphs_in self.new rest) }
+            paragraphs_in self.old (parts_of_text abbreviations.now text.now ++ rest) ≡ paragraphs_in self.new rest) }
     {
         let read = TextRead::read(alloc, text, most - self.words)?;
-        match self.pass_known(&read.starts, most) {
+        match self.pass_known(&read.starts, abbreviations, most) {
             Ok(()) => Ok(read),
             Err(fault) => {
                 drop(read);
@@ -134,6 +136,7 @@ impl Starts {
         ensures begun { Begun self.old → Begun self.new }
         ensures sentence_places { OnOk result (self.new.breaks.sentences ≡ self.old.breaks.sentences
             ++ (if self.new.last.sentence == self.old.last.sentence then [] else self.new.words ∷ [])) }
+        ensures sentences_kept { OnErr result (self.new.breaks.sentences ≡ self.old.breaks.sentences) }
         ensures paragraph_places { OnOk result (self.new.breaks.paragraphs ≡ self.old.breaks.paragraphs
             ++ (if self.new.last.paragraph == self.old.last.paragraph then [] else self.new.words ∷ [])) }
     {
@@ -142,16 +145,16 @@ impl Starts {
         self.last.pass_word();
         let (sentence, paragraph) = (self.last.sentence, self.last.paragraph);
         push_start(
-            &mut self.breaks.sentences,
-            self.words,
-            before.sentence,
-            sentence,
-        )?;
-        push_start(
             &mut self.breaks.paragraphs,
             self.words,
             before.paragraph,
             paragraph,
+        )?;
+        push_start(
+            &mut self.breaks.sentences,
+            self.words,
+            before.sentence,
+            sentence,
         )?;
         Ok(())
     }

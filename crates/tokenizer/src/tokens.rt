@@ -2,16 +2,18 @@ ghost use Rattle.std.specs.Prelude.{◌≡◌, ◌≤◌, ◌<◌, List, ◌∷�
 ghost use Rattle.plain_tree.specs.View.{node};
 ghost use Rattle.unicode_segmentation.specs.Word.{word_bounds};
 ghost use Rattle.tokenizer.specs.steps.Numbering.{tokens_left};
-ghost use Rattle.tokenizer.specs.Parts.{Part, word, part_of_segment};
-ghost use Rattle.tokenizer.specs.Tokens.{tokens};
+ghost use Rattle.tokenizer.specs.Parts.{Part, word, parts_of_text};
+ghost use Rattle.tokenizer.specs.Tokens.{tokens, words_in};
 
+use crate::behind::characters_behind;
 use crate::numbering::Numbering;
 use crate::walk::{Event, Walk};
-use crate::words::is_word;
 use ft_base::{Line, MAX_TOKENS, Memory, Token};
 use plain_tree::{PlainDoc, Tree};
 use std::alloc::{AllocFailed, Global};
+use text_words::is_word;
 use unicode::segmentation::UnicodeSegmentation;
+use word_lists::KeySet;
 
 /// Why a document's tokens are not given.
 #[derive(Clone, Copy, PartialEq, Eq)]
@@ -43,20 +45,30 @@ impl From<AllocFailed<Token>> for TokenFault {
     }
 }
 
-/// The tokens of the document, in order.
-pub fn tokens_of(alloc: Global, doc: &PlainDoc) -> Result<Vec<Token>, TokenFault>
-    ensures tokens { IfOk result (λ out. out.items ≡ tokens doc.now) }
-    ensures few { OnOk result (length (tokens doc.now) ≤ MAX_TOKENS) }
-    ensures full { result ≡ Err TokenFault.Tokens → MAX_TOKENS < length (tokens doc.now) }
+/// The tokens of the document, in order. A period directly behind an abbreviation ends no sentence. `Tokens` comes where the document
+/// has more than `MAX_TOKENS` words.
+pub fn tokens_of(
+    alloc: Global,
+    doc: &PlainDoc,
+    abbreviations: &KeySet,
+) -> Result<Vec<Token>, TokenFault>
+    ensures tokens { IfOk result (λ out. out.items ≡ tokens abbreviations.now doc.now) }
+    ensures few { OnOk result (length (words_in doc.now) ≤ MAX_TOKENS) }
+    ensures full { result ≡ Err TokenFault.Tokens → MAX_TOKENS < length (words_in doc.now) }
 {
-    tokens_of_tree(alloc, doc.root())
+    tokens_of_tree(alloc, doc.root(), abbreviations)
 }
 
-/// The tokens of an element or a text by itself, in order: sentences and paragraphs count from its own first token.
-pub fn tokens_of_tree(alloc: Global, tree: &Tree) -> Result<Vec<Token>, TokenFault>
-    ensures tokens { IfOk result (λ out. out.items ≡ tokens (node tree.now)) }
-    ensures few { OnOk result (length (tokens (node tree.now)) ≤ MAX_TOKENS) }
-    ensures full { result ≡ Err TokenFault.Tokens → MAX_TOKENS < length (tokens (node tree.now)) }
+/// The tokens of an element or a text by itself, in order: sentences and paragraphs count from its own first token. `Tokens` comes where
+/// it has more than `MAX_TOKENS` words.
+pub fn tokens_of_tree(
+    alloc: Global,
+    tree: &Tree,
+    abbreviations: &KeySet,
+) -> Result<Vec<Token>, TokenFault>
+    ensures tokens { IfOk result (λ out. out.items ≡ tokens abbreviations.now (node tree.now)) }
+    ensures few { OnOk result (length (words_in (node tree.now)) ≤ MAX_TOKENS) }
+    ensures full { result ≡ Err TokenFault.Tokens → MAX_TOKENS < length (words_in (node tree.now)) }
 {
     let mut out = Vec::new(alloc);
     let mut last = Numbering::new();
@@ -64,7 +76,7 @@ pub fn tokens_of_tree(alloc: Global, tree: &Tree) -> Result<Vec<Token>, TokenFau
     while let Some(event) = walk.next()? {
         match event {
             Event::Tag(name) => last.pass_tag(name),
-            Event::Text(text) => push_tokens(alloc, &mut out, &mut last, text)?,
+            Event::Text(text) => push_tokens(alloc, &mut out, &mut last, text, abbreviations)?,
         }
     }
     Ok(out)
@@ -76,24 +88,28 @@ fn push_tokens(
     out: &mut Vec<Token>,
     last: &mut Numbering,
     text: &str,
+    abbreviations: &KeySet,
 ) -> Result<(), TokenFault>
     requires few { length out.old.items ≤ MAX_TOKENS }
     requires sentence { last.old.sentence ≤ length out.old.items }
     requires paragraph { last.old.paragraph ≤ length out.old.items }
     ensures ok { OnOk result ((rest : List Part) →
-        out.old.items ++ tokens_left last.old (map part_of_segment (word_bounds text.now) ++ rest)
+        out.old.items ++ tokens_left last.old (parts_of_text abbreviations.now text.now ++ rest)
         ≡ out.new.items ++ tokens_left last.new rest) }
     ensures full { result ≡ Err TokenFault.Tokens → (rest : List Part) → MAX_TOKENS
-        < length (out.old.items ++ tokens_left last.old (map part_of_segment (word_bounds text.now) ++ rest)) }
+        < length (out.old.items ++ tokens_left last.old (parts_of_text abbreviations.now text.now ++ rest)) }
     ensures few { OnOk result (length out.new.items ≤ MAX_TOKENS) }
     ensures sentence { OnOk result (last.new.sentence ≤ length out.new.items) }
     ensures paragraph { OnOk result (last.new.paragraph ≤ length out.new.items) }
 {
+    let mut word = None;
     for segment in text.split_word_bounds() {
         if is_word(segment) {
             push_token(alloc, out, last, segment)?;
+            word = Some(segment);
         } else {
-            last.pass_characters(segment);
+            last.pass_characters(characters_behind(alloc, word, segment, abbreviations)?);
+            word = None;
         }
     }
     Ok(())

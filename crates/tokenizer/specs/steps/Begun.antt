@@ -1,5 +1,5 @@
 -- What was seen from the first word of a text on, where it is known only elsewhere which gap stands before that word.
-use Rattle.std.specs.Prelude.{◌≡◌, ◌<◌, ℕ, zero, suc, ◌+◌, Bool, All, List, [], ◌∷◌, ◌++◌, map, if◌then◌else◌}
+use Rattle.std.specs.Prelude.{◌≡◌, ◌<◌, ◌≤◌, ℕ, zero, suc, ◌+◌, Bool, All, List, [], ◌∷◌, ◌++◌, map, length, if◌then◌else◌}
 use Rattle.tokenizer.specs.steps.Numbering.{after_word, both_passed, nothing_passed}
 use Rattle.tokenizer.specs.declared.numbering.Numbering.{Numbering}
 use Rattle.tokenizer.specs.declared.starts.Starts.{Starts}
@@ -20,6 +20,7 @@ pub record Begun (after : Starts) : Type 0 where
   pub paragraphs : All (λ place. 1 < place) after.breaks.paragraphs
   pub sentences_few : 0 < after.words → after.last.sentence < after.words
   pub paragraphs_few : 0 < after.words → after.last.paragraph < after.words
+  pub counted : length after.breaks.sentences ≤ after.last.sentence
   pub none : after.words ≡ 0 → after.last ≡ nothing_passed
   pub no_sentences : after.words ≡ 0 → after.breaks.sentences ≡ []
   pub no_paragraphs : after.words ≡ 0 → after.breaks.paragraphs ≡ []

@@ -1,7 +1,7 @@
 -- Each place is after the last one, as the places ascend, and none is greater than the last of them.
 use Rattle.std.proofs.Common.{◌≡◌, ◌+◌, ◌<◌, ◌≤◌, true, All, drop, sym, ap, ◌∙◌, subst, arith}
 use Rattle.ft_base.specs.Places.{is_ascending, last_place}
-use Rattle.tokenizer.proofs.PushLemmas.{last-pushed, next-above, next-most, pushed-done, rest-above}
+use Rattle.tokenizer.proofs.PushLemmas.{last-pushed, left-head, next-above, next-most, pushed-done, rest-above}
 use Rattle.tokenizer.proofs.text_starts.push_places.Goals as goal
 
 pub overflow_add-before : goal.overflow_add-before
@@ -28,7 +28,7 @@ loop-place-preserved c =
     let up : is_ascending items ≡ true = rw same c.as_slice-place-items.ensures.ascending in
     let pushed = c.in_ok-push.ensures.ok in
     record {
-      done = pushed-done c.args.before items i c.loop-place-test.true c.loop-place.places c.push.new.self _ pushed c.loop-place.invariant.done;
+      done = pushed-done c.args.before _ (drop i items) (drop (i + 1) items) c.loop-place.places c.push.new.self _ (left-head c.args.before items i c.loop-place-test.true) pushed c.loop-place.invariant.done;
       above = λ x last. subst (λ n. All (λ p. n < c.args.before + p) (drop (i + 1) items)) (last-pushed c.loop-place.places c.push.new.self _ x pushed last)
           (rest-above c.args.before items i c.loop-place-test.true up);
       most = λ most old added x last. subst (λ n. n ≤ most) (last-pushed c.loop-place.places c.push.new.self _ x pushed last)

@@ -10,7 +10,7 @@ use Rattle.tokenizer.proofs.tokens.tokens_of_tree.Given as goal
 
 abbrev pub invariant-loop-walk : goal.invariant-loop-walk
 invariant-loop-walk l = record {
-  left : tokens (node l.tree) ≡ l.out.items ++ tokens_left l.last (flat_map parts_of_event (events_left l.walk));
+  left : tokens l.abbreviations (node l.tree) ≡ l.out.items ++ tokens_left l.last (flat_map (parts_of_event l.abbreviations) (events_left l.walk));
   few : length l.out.items ≤ MAX_TOKENS;
   sentence : l.last.sentence ≤ length l.out.items;
   paragraph : l.last.paragraph ≤ length l.out.items;

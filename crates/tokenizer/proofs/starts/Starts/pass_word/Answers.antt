@@ -14,7 +14,7 @@ returns-clause-sentences c bytes rest =
     let old = c.args.self.now in
     ap (λ l. old.breaks.sentences ++ starts number old.last.sentence (old.words + 1) l) (c.pass_word.ensures.tokens bytes rest)
     ∙ starts-token number old.last.sentence (old.words + 1) _ (tokens_left c.pass_word.new.self rest) old.breaks.sentences
-    ∙ ap (λ l. l ++ starts number c.pass_word.new.self.sentence (old.words + 1 + 1) (tokens_left c.pass_word.new.self rest)) (sym c.in_ok-push_start.ensures.ok)
+    ∙ ap (λ l. l ++ starts number c.pass_word.new.self.sentence (old.words + 1 + 1) (tokens_left c.pass_word.new.self rest)) (sym c.in_ok-push_start-2.ensures.ok)
 
 pub returns-clause-paragraphs : goal.returns-clause-paragraphs
 unfolding paragraphs_in
@@ -23,4 +23,4 @@ returns-clause-paragraphs c bytes rest =
     let old = c.args.self.now in
     ap (λ l. old.breaks.paragraphs ++ starts number old.last.paragraph (old.words + 1) l) (c.pass_word.ensures.tokens bytes rest)
     ∙ starts-token number old.last.paragraph (old.words + 1) _ (tokens_left c.pass_word.new.self rest) old.breaks.paragraphs
-    ∙ ap (λ l. l ++ starts number c.pass_word.new.self.paragraph (old.words + 1 + 1) (tokens_left c.pass_word.new.self rest)) (sym c.in_ok-push_start-2.ensures.ok)
+    ∙ ap (λ l. l ++ starts number c.pass_word.new.self.paragraph (old.words + 1 + 1) (tokens_left c.pass_word.new.self rest)) (sym c.in_ok-push_start.ensures.ok)

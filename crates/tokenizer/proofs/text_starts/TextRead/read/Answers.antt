@@ -1,26 +1,66 @@
--- A word is the next of those that are left, and stands after those so far.
-use Rattle.std.proofs.Common.{◌≡◌, ◌∷◌, ◌++◌, [], map, filter, length, sym, ap, ◌∙◌, append_assoc, subst, arith}
-use Rattle.std.proofs.lemmas.Bool.{cond-true}
+-- A word is the next of the segments that are left, and stands after those so far; other characters are the next as well.
+use Rattle.std.proofs.Common.{◌≡◌, ◌∷◌, ◌++◌, [], false, filter, length, append_assoc, rules, subst, sym, ap, ◌∙◌, arith}
+use Rattle.std.specs.Option.{option_copied}
 use Rattle.unicode_segmentation.specs.Iter.{word_bounds_left}
 use Rattle.unicode_segmentation.specs.Word.{word_bounds}
-use Rattle.tokenizer.specs.Parts.{part_of_segment}
-use Rattle.tokenizer.specs.Words.{is_word}
-use Rattle.tokenizer.specs.steps.TextsKnown.{Leads, known_of}
-use Rattle.tokenizer.proofs.WordsLemmas.{length-kept}
+use Rattle.text_words.specs.Words.{is_word}
+use Rattle.tokenizer.specs.Parts.{is_abbreviation, parts_behind, parts_of_text}
+use Rattle.tokenizer.specs.steps.Behind.{spares}
+use Rattle.tokenizer.specs.steps.TextsKnown.{Leads, Reads, known_under}
+use Rattle.tokenizer.proofs.PartsLemmas.{filter-characters, filter-word, next-characters, next-none, next-word}
 use Rattle.tokenizer.proofs.text_starts.TextRead.read.Goals as goal
 
-pub loop-segment-preserved-in-Continue-branch-2 : goal.loop-segment-preserved-in-Continue-branch-2
-loop-segment-preserved-in-Continue-branch-2 c =
-    let segment = c.in-Some.segment.now in
-    let left = word_bounds_left c.next.new.self in
-    let steps : word_bounds_left c.loop-segment.segment-iterator ≡ segment ∷ left = c.in-Some.ensures.steps in
-    let holds = sym c.if-is_word.ensures in
-    let taken = c.in_ok-take_word.ensures in
+pub loop-segment-init : goal.loop-segment-init
+loop-segment-init c =
+    let same : word_bounds_left c.into_iter-segment-iterator.result ≡ word_bounds c.args.text.now = search rules in
     record {
-      leads = taken.leads _ _ (subst (λ ps. Leads (map part_of_segment (word_bounds c.args.text.now)) (known_of c.loop-segment.starts) ps)
-          (ap (map part_of_segment) steps ∙ ap (λ p. p ∷ map part_of_segment left) (cond-true _ _ _ holds)) c.loop-segment.invariant.leads);
-      counted = omega (arith, taken.counted, c.loop-segment.invariant.counted, ap (λ l. length (filter is_word l)) steps, length-kept is_word segment left holds);
-      list = ap (λ l. l ++ filter is_word left) taken.list ∙ append_assoc c.loop-segment.words (segment ∷ []) (filter is_word left)
-          ∙ ap (λ l. c.loop-segment.words ++ l) (sym (ap (filter is_word) steps ∙ cond-true _ _ _ holds)) ∙ c.loop-segment.invariant.list;
+      reads = subst (λ segments. Reads c.args.text.now c.new-starts.result (λ abbreviations. parts_behind abbreviations false segments)) (sym same) (c.new-starts.ensures.reads c.args.text.now);
+      at_word = λ word is. cc;
+      counted = omega (arith, c.new-starts.ensures.words, ap (λ l. length (filter is_word l)) same);
+      list = ap (λ l. l ++ filter is_word (word_bounds_left c.into_iter-segment-iterator.result)) c.in_ok-words.ensures ∙ ap (filter is_word) same;
+      few = omega (arith, c.new-starts.ensures.words);
+    }
+
+pub loop-segment-preserved-then-is_word : goal.loop-segment-preserved-then-is_word
+loop-segment-preserved-then-is_word c =
+    let segment = c.in-Some.segment.now in
+    let segments = word_bounds_left c.loop-segment.segment-iterator in
+    let left = word_bounds_left c.next.new.self in
+    let steps = c.in-Some.ensures.steps in
+    let passed = c.in_ok-take_word.ensures in
+    record {
+      reads = passed.reads c.args.text.now (λ abbreviations. parts_behind abbreviations (is_abbreviation abbreviations segment) left)
+          (subst (Reads c.args.text.now c.loop-segment.starts)
+          (λ i abbreviations. next-word abbreviations (spares abbreviations (option_copied c.loop-segment.word)) segments segment left steps c.if-is_word.ensures i) c.loop-segment.invariant.reads);
+      at_word = λ word is. passed.at_word;
+      counted = omega (arith, passed.counted, c.loop-segment.invariant.counted, ap length (filter-word segments segment left steps c.if-is_word.ensures));
+      list = ap (λ l. l ++ filter is_word left) passed.list ∙ append_assoc c.loop-segment.words (segment ∷ []) (filter is_word left)
+          ∙ ap (λ l. c.loop-segment.words ++ l) (sym (filter-word segments segment left steps c.if-is_word.ensures)) ∙ c.loop-segment.invariant.list;
       few = c.take_word.ensures.few;
+    }
+
+pub loop-segment-preserved : goal.loop-segment-preserved
+loop-segment-preserved c =
+    let segment = c.in-Some.segment.now in
+    let segments = word_bounds_left c.loop-segment.segment-iterator in
+    let left = word_bounds_left c.next.new.self in
+    let steps = c.in-Some.ensures.steps in
+    let passed = c.in_ok-pass_characters.ensures in
+    record {
+      reads = passed.reads c.args.text.now (λ abbreviations. parts_behind abbreviations false left)
+          (subst (Reads c.args.text.now c.loop-segment.starts)
+          (λ i abbreviations. next-characters abbreviations (spares abbreviations (option_copied c.loop-segment.word)) segments segment left steps c.if-is_word.ensures i) c.loop-segment.invariant.reads);
+      at_word = λ word is. cc;
+      counted = omega (arith, passed.words, c.loop-segment.invariant.counted, ap length (filter-characters segments segment left steps c.if-is_word.ensures));
+      list = ap (λ l. c.loop-segment.words ++ l) (sym (filter-characters segments segment left steps c.if-is_word.ensures)) ∙ c.loop-segment.invariant.list;
+      few = omega (arith, passed.words, c.loop-segment.invariant.few);
+    }
+
+pub returns-clause-tells : goal.returns-clause-tells
+returns-clause-tells c =
+    let ended = c.in-None.ensures.steps.0 in
+    record {
+      words = omega (arith, c.loop-segment.invariant.counted, ap (λ l. length (filter is_word l)) ended);
+      leads = λ abbreviations. subst (Leads (parts_of_text abbreviations c.args.text.now) (known_under abbreviations c.loop-segment.starts))
+          (next-none abbreviations (spares abbreviations (option_copied c.loop-segment.word)) (word_bounds_left c.loop-segment.segment-iterator) ended) (c.loop-segment.invariant.reads.leads abbreviations);
     }

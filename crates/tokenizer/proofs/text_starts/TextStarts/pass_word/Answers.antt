@@ -1,15 +1,11 @@
--- The word is one more of those that were seen.
+-- The word is one more of those that were seen, and nothing was seen behind it.
 use Rattle.std.proofs.Common.{refl}
-use Rattle.tokenizer.specs.steps.TextsKnown.{known_of}
-use Rattle.tokenizer.proofs.KnownLemmas.{Leads-word}
+use Rattle.tokenizer.proofs.ReadsLemmas.{Reads-word}
 use Rattle.tokenizer.proofs.text_starts.TextStarts.pass_word.Goals as goal
 
-pub invariant_of-self : goal.invariant_of-self
-invariant_of-self c = record { begun = c.pass_word.ensures.begun c.args.self.now.begun }
-
-pub returns-clause-leads : goal.returns-clause-leads
-returns-clause-leads c parts left bytes leads =
+pub returns-clause-reads : goal.returns-clause-reads
+returns-clause-reads c bytes segment left reads =
     let old = c.args.self.now in
+    let told = c.in_ok-push_key.ensures in
     let more = c.in_ok-pass_word.ensures in
-    Leads-word parts left bytes (known_of old) leads old.begun.none old.begun.no_sentences old.begun.no_paragraphs _ refl c.pass_word.ensures.words c.pass_word.ensures.last
-    more.sentence_places more.paragraph_places
+    Reads-word bytes segment left old _ old.period_seen old.begun refl more.words more.last refl told.by_period told.keys more.sentence_places more.paragraph_places reads
