@@ -8,13 +8,13 @@ ghost use Rattle.index_meaning.specs.Documents as index;
 ghost use Rattle.index_meaning.specs.Documents.{document_at, with_document};
 ghost use Rattle.index_meaning.specs.Index.{index};
 ghost use Rattle.index_updates.specs.Follows.{Follows, tree_document};
+ghost use Rattle.ordered_tree.specs.Counts.{word_count};
 ghost use Rattle.ordered_tree.specs.Numbered.{plain};
 ghost use Rattle.ordered_tree.specs.RefView.{ref_node};
 ghost use Rattle.path_nodes.specs.References.{IsElement};
 ghost use Rattle.plain_tree.specs.Document.{nodes};
 ghost use Rattle.plain_tree.specs.View as view;
 ghost use Rattle.text_forms.specs.Forms.{key_of};
-ghost use Rattle.tokenizer.specs.Tokens.{tokens};
 ghost use Rattle.tree_edits.specs.Changed.{KeepsOrder, touched};
 ghost use Rattle.tree_edits.specs.Drafted.{IsDrafted};
 ghost use Rattle.tree_edits.specs.steps.Acts.{act_on, stays};
@@ -29,6 +29,7 @@ use plain_tree::{How, Kids};
 use std::alloc::Global;
 use std::sync::ledger::Ledger;
 use tree_edits::{Draft, draft};
+use word_lists::KeySet;
 
 /// The document that an edit makes of a tree, whose elements are chosen by their references: content is inserted into each of
 /// them or beside it, or, where it isn't said how, put in its place. The root stays an element, and only one element is chosen
@@ -64,24 +65,26 @@ pub struct EditedDoc {
 }
 
 /// The tree of a draft, and the version with it in the place of the document of before, of which it is a draft and which the
-/// version follows. Counts a row for each word of the texts that don't stay; where memory runs out, no more than that.
+/// version follows under the abbreviations. Counts a row for each word of the texts that don't stay; where memory runs out, no
+/// more than that.
 pub fn apply_draft<L: Ledger>(
     alloc: Global,
     version: &Version,
     doc: DocId,
     old: &DocTree,
     draft: Draft,
+    abbreviations: &KeySet,
     rows: &mut Steps<L>,
 ) -> Result<EditedDoc, Memory>
-    requires follows { Follows version.now doc.0 old.now.root }
+    requires follows { Follows abbreviations.now version.now doc.0 old.now.root }
     requires order { KeepsOrder old.now.root (ref_node draft.root) }
-    requires few { length (tokens (plain (ref_node draft.root))) < 2 ^ 31 }
+    requires few { word_count (plain (ref_node draft.root)) < 2 ^ 31 }
     ensures tree { IfOk result (λ made. made.tree ≡ record { root = ref_node draft.root; slots = draft.slots }) }
     ensures documents { IfOk result (λ made. made.version
-        ≡ with_document (index.numbered doc.0 (tree_document (ref_node draft.root))) version.now) }
+        ≡ with_document (index.numbered doc.0 (tree_document abbreviations.now (ref_node draft.root))) version.now) }
     ensures index { IfOk result (λ made. index key_of made.version
-        ≡ index key_of (with_document (index.numbered doc.0 (tree_document (ref_node draft.root))) version.now)) }
-    ensures follows { IfOk result (λ made. Follows made.version doc.0 (ref_node draft.root)) }
+        ≡ index key_of (with_document (index.numbered doc.0 (tree_document abbreviations.now (ref_node draft.root))) version.now)) }
+    ensures follows { IfOk result (λ made. Follows abbreviations.now made.version doc.0 (ref_node draft.root)) }
     ensures others { IfOk result (λ made. (other : ℕ) → other ≢ doc.0 → document_at other made.version ≡ document_at other version.now) }
     ensures counted { OnOk result (rows.new ≡ rows.old + touched old.now.root (ref_node draft.root)) }
     ensures at_most { rows.new ≤ rows.old + touched old.now.root (ref_node draft.root) }
@@ -100,7 +103,7 @@ pub fn apply_draft<L: Ledger>(
             return Err(memory);
         }
     };
-    let changed = apply_change(version, doc, &tree, &change, rows);
+    let changed = apply_change(version, doc, &tree, &change, abbreviations, rows);
     drop(change);
     match changed {
         Ok(version) => Ok(EditedDoc { tree, version }),

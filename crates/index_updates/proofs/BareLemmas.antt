@@ -8,7 +8,7 @@ use Rattle.ordered_tree.specs.Numbering.{numbered}
 use Rattle.ordered_tree.specs.Stands.{references}
 use Rattle.plain_tree.specs.Document.{Node, element, nodes}
 use Rattle.plain_tree.specs.declared.tree.Attr.{Attr}
-use Rattle.tokenizer.specs.Words.{words}
+use Rattle.text_words.specs.Words.{words}
 use Rattle.tree_edits.specs.Changed.{Made, Text, put_after, text_references, without}
 use Rattle.tree_edits.specs.Edits.{is_among}
 use Rattle.tree_edits.specs.declared.change.Change.{Change}

@@ -10,7 +10,7 @@ use Rattle.ordered_tree.specs.Leaves.{leaf_of, leaves_after, texts}
 use Rattle.ordered_tree.specs.Numbered as tree
 use Rattle.ordered_tree.specs.Numbered.{plain}
 use Rattle.tokenizer.specs.Tokens.{tokens, sentence_starts, paragraph_starts}
-use Rattle.tokenizer.specs.Words.{words}
+use Rattle.text_words.specs.Words.{words}
 use Rattle.tree_edits.specs.Changed.{Made, Text, is_one_of, put, stays, take_all, taken, text_leaf, text_leaves, touched, without, word_total}
 use Rattle.tree_edits.specs.declared.change.Change.{Change}
 use Rattle.tree_edits.proofs.EditLemmas.{leaves_lead, texts_apart, words_touched}
@@ -26,19 +26,27 @@ unfolding leaves_after
 leaves_of_texts before [] = refl
 leaves_of_texts before ((r, bytes) ∷ ts) = ap (λ ls. index.leaf_of r.0 (words bytes) ∷ ls) (leaves_of_texts (Some (leaf_of r)) ts)
 
-abbrev sentences : tree.Numbered → List ℕ
-sentences root = sentence_starts (tokens (plain root))
+module _ (abbreviations : List (List ℕ)) where
+  abbrev sentences : tree.Numbered → List ℕ
+  sentences root = sentence_starts (tokens abbreviations (plain root))
 
-abbrev paragraphs : tree.Numbered → List ℕ
-paragraphs root = paragraph_starts (tokens (plain root))
+  abbrev paragraphs : tree.Numbered → List ℕ
+  paragraphs root = paragraph_starts (tokens abbreviations (plain root))
 
-tree_document-is : (root : tree.Numbered) → tree_document root ≡ document (sentences root) (paragraphs root) (text_leaves root)
-unfolding tree_document
-tree_document-is root = ap (document (sentences root) (paragraphs root)) (leaves_of_texts _ (texts root))
+  tree_document-is : (root : tree.Numbered) → tree_document abbreviations root ≡ document (sentences root) (paragraphs root) (text_leaves root)
+  unfolding tree_document
+  tree_document-is root = ap (document (sentences root) (paragraphs root)) (leaves_of_texts _ (texts root))
 
-module _ (version : List Numbered) (doc : ℕ) (old new : tree.Numbered) (change : Change) (follows : Follows version doc old) (made : Made old change new) where
-  is : document_at doc version ≡ document (sentences old) (paragraphs old) (text_leaves old)
-  is = follows.document ∙ tree_document-is old
+module _ (abbreviations : List (List ℕ)) (version : List Numbered) (doc : ℕ) (old new : tree.Numbered) (change : Change)
+    (follows : Follows abbreviations version doc old) (made : Made old change new) where
+  abbrev sentences_before : List ℕ
+  sentences_before = sentences abbreviations old
+
+  abbrev paragraphs_before : List ℕ
+  paragraphs_before = paragraphs abbreviations old
+
+  is : document_at doc version ≡ document sentences_before paragraphs_before (text_leaves old)
+  is = follows.document ∙ tree_document-is abbreviations old
 
   before : Distinct (refs_of (texts old))
   before = texts_apart old made.keeps_order.apart_before
@@ -50,12 +58,12 @@ module _ (version : List Numbered) (doc : ℕ) (old new : tree.Numbered) (change
   change-there =
       subst (λ ids. AreThere ids (document_at doc version)) (sym made.went)
       (subst (AreThere (taken old new)) (sym is)
-      (all_there (sentences old) (paragraphs old) (without (texts new) (texts old)) (texts old)
+      (all_there sentences_before paragraphs_before (without (texts new) (texts old)) (texts old)
       (still_distinct (λ t. not (stays (texts new) t)) (texts old) before) (fewer (λ t. not (stays (texts new) t)) (texts old))))
 
-  left : without_all change.taken (document_at doc version) ≡ document (sentences old) (paragraphs old) (take_all (taken old new) (text_leaves old))
+  left : without_all change.taken (document_at doc version) ≡ document sentences_before paragraphs_before (take_all (taken old new) (text_leaves old))
   left =
-      ap₂ without_all made.went is ∙ taken_of (sentences old) (paragraphs old) (taken old new) (text_leaves old)
+      ap₂ without_all made.went is ∙ taken_of sentences_before paragraphs_before (taken old new) (text_leaves old)
 
   stayed : take_all (taken old new) (text_leaves old) ≡ map text_leaf (filter (stays (texts old)) (texts new))
   stayed = stay_left (texts new) (texts old) before ∙ ap (map text_leaf) (stay_same (texts old) (texts new) before after made.keeps_order.order)
@@ -63,21 +71,21 @@ module _ (version : List Numbered) (doc : ℕ) (old new : tree.Numbered) (change
   pub change-new : AreNew change.put (without_all change.taken (document_at doc version))
   change-new =
       subst (λ ls. AreNew ls (without_all change.taken (document_at doc version))) (sym made.came)
-      (subst (AreNew (put old new)) (sym (left ∙ ap (document (sentences old) (paragraphs old)) stayed))
-      (all_new (sentences old) (paragraphs old) (texts old) (texts new) after))
+      (subst (AreNew (put old new)) (sym (left ∙ ap (document sentences_before paragraphs_before) stayed))
+      (all_new sentences_before paragraphs_before (texts old) (texts new) after))
 
-  change-document : (breaks : Breaks) → breaks ≡ breaks_in (plain new)
-      → with_breaks breaks (with_all change.put (without_all change.taken (document_at doc version))) ≡ tree_document new
+  change-document : (breaks : Breaks) → breaks ≡ breaks_in abbreviations (plain new)
+      → with_breaks breaks (with_all change.put (without_all change.taken (document_at doc version))) ≡ tree_document abbreviations new
   change-document breaks found =
       ap₂ with_breaks found
       (ap₂ with_all made.came left
-      ∙ put_of (sentences old) (paragraphs old) (put old new) (take_all (taken old new) (text_leaves old))
-      ∙ ap (document (sentences old) (paragraphs old)) (leaves_lead old new made.keeps_order))
-      ∙ sym (tree_document-is new)
+      ∙ put_of sentences_before paragraphs_before (put old new) (take_all (taken old new) (text_leaves old))
+      ∙ ap (document sentences_before paragraphs_before) (leaves_lead old new made.keeps_order))
+      ∙ sym (tree_document-is abbreviations new)
 
-  pub change-version : (copy next : List Numbered) (breaks : Breaks) → copy ≡ version → breaks ≡ breaks_in (plain new)
+  pub change-version : (copy next : List Numbered) (breaks : Breaks) → copy ≡ version → breaks ≡ breaks_in abbreviations (plain new)
       → next ≡ with_document (numbered doc (with_breaks breaks (with_all change.put (without_all change.taken (document_at doc copy))))) copy
-      → next ≡ with_document (numbered doc (tree_document new)) version
+      → next ≡ with_document (numbered doc (tree_document abbreviations new)) version
   change-version copy next breaks same found made_of =
       made_of
       ∙ ap (λ v. with_document (numbered doc (with_breaks breaks (with_all change.put (without_all change.taken (document_at doc v))))) v) same
@@ -85,8 +93,8 @@ module _ (version : List Numbered) (doc : ℕ) (old new : tree.Numbered) (change
 
   pub change-words : words_taken change.taken (document_at doc version) + words_put change.put ≡ touched old new
   change-words =
-      let words_left = ap word_total (ap (λ (d : Document). d.leaves) (taken_of (sentences old) (paragraphs old) (taken old new) (text_leaves old))) in
-      let words_gone = all_words (sentences old) (paragraphs old) (without (texts new) (texts old)) (texts old) before in
+      let words_left = ap word_total (ap (λ (d : Document). d.leaves) (taken_of sentences_before paragraphs_before (taken old new) (text_leaves old))) in
+      let words_gone = all_words sentences_before paragraphs_before (without (texts new) (texts old)) (texts old) before in
       let both = sum_by-filter_both (is_one_of (taken old new)) (λ leaf. not (is_one_of (taken old new) leaf)) (λ _. refl) (λ leaf. length leaf.words) (text_leaves old) in
       let counted = words_touched old new made.keeps_order.apart_before in
       omega (arith, words_left, words_gone, both, counted, ap₂ words_taken made.went is, ap words_put made.came, words_of_put (put old new))

@@ -9,7 +9,7 @@ use Rattle.ft_base.specs.declared.ids.NodeRef.{NodeRef}
 use Rattle.index_meaning.specs.Documents.{Document, Leaf, leaf_words, without_leaf}
 use Rattle.ordered_tree.specs.Leaves.{leaf_of}
 use Rattle.ordered_tree.specs.declared.leaf.LeafWords.{LeafWords}
-use Rattle.tokenizer.specs.Words.{words}
+use Rattle.text_words.specs.Words.{words}
 use Rattle.tree_edits.specs.Changed.{Text, index_leaf, is_one_of, put_all, put_after, stays, take_all, text_leaf, word_total}
 use Rattle.tree_edits.specs.Edits.{is_among, is_same}
 use Rattle.tree_edits.proofs.References.{Distinct, distinct_first, distinct_rest, none_among, same_ref, same_self, some_among, times, times_filter, weight_yes, weight_zero}

@@ -2,11 +2,12 @@
 use Rattle.std.proofs.Common.{◌≡◌, ◌≢◌, ◌∙◌, sym, ap, ap₂, refl, ℕ, true, false, cond, ◌||◌, ◌==◌, nat_lt, List, [], ◌∷◌, inl, inr}
 use Rattle.std.proofs.lemmas.Bool.{cases_Bool, cond-false, cond-true, eq-eqb, eqb-true, eqb-false, ne_eqb, or_from, or_left, or_right}
 use Rattle.ft_base.specs.declared.places.Breaks.{Breaks}
-use Rattle.index_meaning.specs.Documents.{Document, Leaf, Numbered, document_of, numbered, document_at, has_document, with_document, without_document}
+use Rattle.index_meaning.specs.Documents.{Document, Leaf, Numbered, document_of, numbered, document_at, has_document, with_breaks, with_document, without_document}
 use Rattle.ordered_tree.specs.Leaves.{leaves}
 use Rattle.ordered_tree.specs.Numbered as tree
+use Rattle.ordered_tree.specs.Numbered.{plain}
 use Rattle.ordered_tree.specs.declared.leaf.LeafWords.{LeafWords}
-use Rattle.index_updates.specs.Follows.{AreOf, Follows, tree_document, word_leaves}
+use Rattle.index_updates.specs.Follows.{AreOf, Follows, breaks_in, tree_document, word_leaves}
 
 module _ (id : ℕ) (document : Document) where
   abbrev new : Numbered
@@ -63,19 +64,26 @@ others-without id (d ∷ rest) other apart = elim (cases_Bool (d.id == id)) [
 ]
 
 -- a version with the document of a tree follows the tree
-pub follows-with : (id : ℕ) (root : tree.Numbered) (ds version : List Numbered) → version ≡ with_document (numbered id (tree_document root)) ds → Follows version id root
-follows-with id root ds version is = record {
-  there = ap (has_document id) is ∙ has-with id (tree_document root) ds;
-  document = ap (document_at id) is ∙ at-with id (tree_document root) ds;
+pub follows-with : (abbreviations : List (List ℕ)) (id : ℕ) (root : tree.Numbered) (ds version : List Numbered)
+    → version ≡ with_document (numbered id (tree_document abbreviations root)) ds → Follows abbreviations version id root
+follows-with abbreviations id root ds version is = record {
+  there = ap (has_document id) is ∙ has-with id (tree_document abbreviations root) ds;
+  document = ap (document_at id) is ∙ at-with id (tree_document abbreviations root) ds;
 }
 
 -- what was found of a tree is its document
-pub found-document : (root : tree.Numbered) (found : List LeafWords) (breaks : Breaks) (texts : List Leaf) → AreOf root found breaks → texts ≡ word_leaves found
-    → document_of texts breaks ≡ tree_document root
+pub found-document : (abbreviations : List (List ℕ)) (root : tree.Numbered) (found : List LeafWords) (breaks : Breaks) (texts : List Leaf)
+    → AreOf abbreviations root found breaks → texts ≡ word_leaves found → document_of texts breaks ≡ tree_document abbreviations root
 unfolding tree_document
-found-document root found breaks texts of is =
+found-document abbreviations root found breaks texts of is =
     ap (λ ls. made ls breaks.sentences breaks.paragraphs) (is ∙ ap word_leaves of.leaves)
     ∙ ap₂ (made (word_leaves (leaves root))) of.sentences of.paragraphs
   where
     made : List Leaf → List ℕ → List ℕ → Document
     made ls sentences paragraphs = record { leaves = ls; sentences = sentences; paragraphs = paragraphs }
+
+-- with the breaks of a tree under other abbreviations, the tree's document is that under these
+pub rebroken : (before abbreviations : List (List ℕ)) (root : tree.Numbered) (breaks : Breaks) → breaks ≡ breaks_in abbreviations (plain root)
+    → with_breaks breaks (tree_document before root) ≡ tree_document abbreviations root
+unfolding tree_document
+rebroken before abbreviations root breaks is = ap (document_of (word_leaves (leaves root))) is

@@ -1,10 +1,10 @@
-ghost use Rattle.std.specs.Prelude.{◌≡◌, ◌≢◌, ◌≤◌, ◌<◌, ◌+◌, ◌^◌, ◌++◌, ◌∷◌, [], ℕ, false, true, length, IfOk, OnOk};
+ghost use Rattle.std.specs.Prelude.{◌≡◌, ◌≢◌, ◌≤◌, ◌<◌, ◌+◌, ◌^◌, ◌++◌, ◌∷◌, [], ℕ, false, true, IfOk, OnOk};
 ghost use Rattle.doc_index.specs.Terms.{are_distinct};
 ghost use Rattle.index_meaning.specs.Documents.{document_at, document_of, has_document, leaf_ids, numbered, token_count, with_document};
 ghost use Rattle.index_meaning.specs.Index.{index};
+ghost use Rattle.ordered_tree.specs.Counts.{word_count};
 ghost use Rattle.ordered_tree.specs.Numbered.{plain};
 ghost use Rattle.text_forms.specs.Forms.{key_of};
-ghost use Rattle.tokenizer.specs.Tokens.{tokens};
 ghost use Rattle.index_updates.specs.Follows.{AreOf, Follows, tree_document, word_leaf, word_leaves};
 
 use ft_base::{Breaks, DocId, Memory, Steps};
@@ -12,30 +12,33 @@ use index_versions::{Version, WordHints, WordLeaf, WordLeaves};
 use ordered_tree::{DocTree, LeafWords, Leaves};
 use std::alloc::Global;
 use std::sync::ledger::Ledger;
+use word_lists::KeySet;
 
-/// The version with the document of a tree more, under a number that it doesn't have. The hints may be of any version, and
-/// those of the new words are noted. Counts a row for each of the tree's tokens; where memory runs out, no more than that.
+/// The version with the document of a tree more, under a number that it doesn't have and with its breaks under the abbreviations.
+/// The hints may be of any version, and those of the new words are noted. Counts a row for each of the tree's tokens; where memory
+/// runs out, no more than that.
 pub fn add_doc<L: Ledger>(
     alloc: Global,
     version: &Version,
     hints: &mut WordHints,
     doc: DocId,
     tree: &DocTree,
+    abbreviations: &KeySet,
     rows: &mut Steps<L>,
 ) -> Result<Version, Memory>
     requires absent { has_document doc.0 version.now ≡ false }
-    ensures documents { IfOk result (λ new. new ≡ with_document (numbered doc.0 (tree_document tree.now.root)) version.now) }
-    ensures index { IfOk result (λ new. index key_of new ≡ index key_of (with_document (numbered doc.0 (tree_document tree.now.root)) version.now)) }
-    ensures follows { IfOk result (λ new. Follows new doc.0 tree.now.root) }
+    ensures documents { IfOk result (λ new. new ≡ with_document (numbered doc.0 (tree_document abbreviations.now tree.now.root)) version.now) }
+    ensures index { IfOk result (λ new. index key_of new ≡ index key_of (with_document (numbered doc.0 (tree_document abbreviations.now tree.now.root)) version.now)) }
+    ensures follows { IfOk result (λ new. Follows abbreviations.now new doc.0 tree.now.root) }
     ensures others { IfOk result (λ new. (other : ℕ) → other ≢ doc.0 → document_at other new ≡ document_at other version.now) }
-    ensures counted { OnOk result (rows.new ≡ rows.old + length (tokens (plain tree.now.root))) }
-    ensures at_most { rows.new ≤ rows.old + length (tokens (plain tree.now.root)) }
+    ensures counted { OnOk result (rows.new ≡ rows.old + word_count (plain tree.now.root)) }
+    ensures at_most { rows.new ≤ rows.old + word_count (plain tree.now.root) }
 {
     let leaves = tree.all_leaves()?;
-    match tree.breaks() {
+    match tree.breaks(abbreviations) {
         Ok(breaks) => {
             let found = Found { leaves, breaks };
-            add_loaded(alloc, version, hints, doc, tree, found, rows)
+            add_loaded(alloc, version, hints, doc, tree, abbreviations, found, rows)
         }
         Err(memory) => {
             drop(leaves);
@@ -51,24 +54,25 @@ pub struct Found {
     pub breaks: Breaks,
 }
 
-/// The same where the leaves of the tree and its breaks are known, as they are when it was just read.
+/// The same where the leaves of the tree and its breaks under the abbreviations are known, as they are when it was just read.
 pub fn add_loaded<L: Ledger>(
     alloc: Global,
     version: &Version,
     hints: &mut WordHints,
     doc: DocId,
     tree: &DocTree,
+    abbreviations: &KeySet,
     found: Found,
     rows: &mut Steps<L>,
 ) -> Result<Version, Memory>
     requires absent { has_document doc.0 version.now ≡ false }
-    requires found { AreOf tree.now.root found.leaves found.breaks }
-    ensures documents { IfOk result (λ new. new ≡ with_document (numbered doc.0 (tree_document tree.now.root)) version.now) }
-    ensures index { IfOk result (λ new. index key_of new ≡ index key_of (with_document (numbered doc.0 (tree_document tree.now.root)) version.now)) }
-    ensures follows { IfOk result (λ new. Follows new doc.0 tree.now.root) }
+    requires found { AreOf abbreviations.now tree.now.root found.leaves found.breaks }
+    ensures documents { IfOk result (λ new. new ≡ with_document (numbered doc.0 (tree_document abbreviations.now tree.now.root)) version.now) }
+    ensures index { IfOk result (λ new. index key_of new ≡ index key_of (with_document (numbered doc.0 (tree_document abbreviations.now tree.now.root)) version.now)) }
+    ensures follows { IfOk result (λ new. Follows abbreviations.now new doc.0 tree.now.root) }
     ensures others { IfOk result (λ new. (other : ℕ) → other ≢ doc.0 → document_at other new ≡ document_at other version.now) }
-    ensures counted { OnOk result (rows.new ≡ rows.old + length (tokens (plain tree.now.root))) }
-    ensures at_most { rows.new ≤ rows.old + length (tokens (plain tree.now.root)) }
+    ensures counted { OnOk result (rows.new ≡ rows.old + word_count (plain tree.now.root)) }
+    ensures at_most { rows.new ≤ rows.old + word_count (plain tree.now.root) }
 {
     // No two nodes have one reference, as the clauses of `root` say.
     let _root = tree.root();

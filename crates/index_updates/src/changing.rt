@@ -12,27 +12,30 @@ use index_versions::Version;
 use ordered_tree::{DocTree, LeafWords};
 use std::sync::ledger::Ledger;
 use tree_edits::Change;
+use word_lists::KeySet;
 
 /// The version with a document as it is after an edit, of which this is the tree and the change. The version follows the tree
-/// of before. Counts a row for each word of the texts that don't stay; where memory runs out, no more than that.
+/// of before under the same abbreviations. Counts a row for each word of the texts that don't stay; where memory runs out, no
+/// more than that.
 pub fn apply_change<L: Ledger>(
     version: &Version,
     doc: DocId,
     tree: &DocTree,
     change: &Change,
+    abbreviations: &KeySet,
     rows: &mut Steps<L>,
 ) -> Result<Version, Memory>
-    requires edited { (old : Numbered) × Follows version.now doc.0 old × Made old change.now tree.now.root }
-    ensures documents { IfOk result (λ new. new ≡ with_document (numbered doc.0 (tree_document tree.now.root)) version.now) }
-    ensures index { IfOk result (λ new. index key_of new ≡ index key_of (with_document (numbered doc.0 (tree_document tree.now.root)) version.now)) }
-    ensures follows { IfOk result (λ new. Follows new doc.0 tree.now.root) }
+    requires edited { (old : Numbered) × Follows abbreviations.now version.now doc.0 old × Made old change.now tree.now.root }
+    ensures documents { IfOk result (λ new. new ≡ with_document (numbered doc.0 (tree_document abbreviations.now tree.now.root)) version.now) }
+    ensures index { IfOk result (λ new. index key_of new ≡ index key_of (with_document (numbered doc.0 (tree_document abbreviations.now tree.now.root)) version.now)) }
+    ensures follows { IfOk result (λ new. Follows abbreviations.now new doc.0 tree.now.root) }
     ensures others { IfOk result (λ new. (other : ℕ) → other ≢ doc.0 → document_at other new ≡ document_at other version.now) }
-    ensures counted { OnOk result ((old : Numbered) → Follows version.now doc.0 old → Made old change.now tree.now.root
+    ensures counted { OnOk result ((old : Numbered) → Follows abbreviations.now version.now doc.0 old → Made old change.now tree.now.root
         → rows.new ≡ rows.old + touched old tree.now.root) }
-    ensures at_most { (old : Numbered) → Follows version.now doc.0 old → Made old change.now tree.now.root
+    ensures at_most { (old : Numbered) → Follows abbreviations.now version.now doc.0 old → Made old change.now tree.now.root
         → rows.new ≤ rows.old + touched old tree.now.root }
 {
-    let breaks = tree.breaks()?;
+    let breaks = tree.breaks(abbreviations)?;
     let mut next = match version.clone_version() {
         Ok(next) => next,
         Err(memory) => {

@@ -1,12 +1,13 @@
 // What no contract says: that memory suffices. `<a>Hello. Hello world</a>` is read, comes into an index and goes out of it, and so
-// does its text alone.
-ghost use Rattle.std.specs.Prelude.{◌≡◌, ◌<◌, ◌^◌, [], map, IfOk};
+// does its text alone. A period behind a title, as in `<a>Dr. Hill ran</a>`, ends no sentence once titles are abbreviations.
+ghost use Rattle.std.specs.Prelude.{◌≡◌, ◌<◌, ◌^◌, [], false, map, IfOk};
 ghost use Rattle.doc_grammar.specs.Limits.{node_count};
+ghost use Rattle.ft_base.specs.Lists as list;
 ghost use Rattle.ordered_tree.specs.Leaves.{leaves, texts};
 ghost use Rattle.ordered_tree.specs.Numbering.{numbered};
 ghost use Rattle.index_updates.specs.Follows.{Follows};
 
-use crate::{add_doc, apply_change, drop_doc};
+use crate::{add_doc, apply_change, drop_doc, rebreak};
 use ft_base::{Breaks, DocId, Line, Memory, Span, Steps};
 use index_versions::{Version, WordHints};
 use ordered_tree::{DocTree, LeafIds, Leaves, Read, load_doc};
@@ -15,15 +16,16 @@ use std::alloc::Global;
 use std::marker::Brand;
 use std::sync::ledger::{Blank, Ledger};
 use tree_edits::Change;
+use word_lists::KeySet;
 
 const DOC: DocId = DocId(3);
 
-// A document with its leaves and its breaks.
+// A document with its leaves and its breaks where nothing is an abbreviation.
 fn read(alloc: Global, document: PlainDoc) -> Result<Read, Memory>
     requires { node_count document < 2 ^ 31 }
     ensures { IfOk result (λ read. read.tree.root ≡ numbered 0 document) }
 {
-    match load_doc(alloc, document) {
+    match load_doc(alloc, document, &KeySet::empty(alloc)) {
         Ok(read) => Ok(read),
         Err(_) => Err(Memory),
     }
@@ -31,9 +33,11 @@ fn read(alloc: Global, document: PlainDoc) -> Result<Read, Memory>
 
 // An element with one text in it.
 #[tactic(auto, using(plain_tree::proofs::Views::views))]
-fn full(alloc: Global) -> Result<Read, Memory> {
+fn full(alloc: Global, text: &str) -> Result<Read, Memory>
+    requires { list.is_empty text.now ≡ false }
+{
     let name = Line::read(alloc, "a")?;
-    let text = Line::read(alloc, "Hello. Hello world")?;
+    let text = Line::read(alloc, text)?;
     let mut kids = Kids::new(alloc);
     kids.push(Tree::Text { text })?;
     let attrs = Attrs::new(alloc);
@@ -107,7 +111,15 @@ fn comes_and_goes<L: Ledger>(
 ) -> Result<bool, Memory> {
     let empty = Version::empty(alloc);
     let mut hints = WordHints::new(alloc);
-    let added = add_doc(alloc, &empty, &mut hints, DOC, tree, rows);
+    let added = add_doc(
+        alloc,
+        &empty,
+        &mut hints,
+        DOC,
+        tree,
+        &KeySet::empty(alloc),
+        rows,
+    );
     let kept = is_empty(&empty);
     drop((empty, hints));
     match added {
@@ -126,11 +138,12 @@ fn texts_come<L: Ledger>(
     version: &Version,
     bare: &DocTree,
     full: &DocTree,
+    none: &KeySet,
     rows: &mut Steps<L>,
 ) -> Result<Version, Memory>
-    requires follows { Follows version.now 3 bare.now.root }
+    requires follows { Follows none.now version.now 3 bare.now.root }
     requires none { texts bare.now.root ≡ [] }
-    ensures { IfOk result (λ new. Follows new 3 full.now.root) }
+    ensures { IfOk result (λ new. Follows none.now new 3 full.now.root) }
 {
     let (_bare, _full) = (bare.root(), full.root());
     let put = full.all_leaves()?;
@@ -138,7 +151,7 @@ fn texts_come<L: Ledger>(
         taken: LeafIds::new(alloc),
         put,
     };
-    let made = apply_change(version, DOC, full, &change, rows);
+    let made = apply_change(version, DOC, full, &change, none, rows);
     drop(change);
     made
 }
@@ -149,11 +162,12 @@ fn texts_go<L: Ledger>(
     version: &Version,
     full: &DocTree,
     bare: &DocTree,
+    none: &KeySet,
     rows: &mut Steps<L>,
 ) -> Result<Version, Memory>
-    requires follows { Follows version.now 3 full.now.root }
+    requires follows { Follows none.now version.now 3 full.now.root }
     requires none { texts bare.now.root ≡ [] }
-    ensures { IfOk result (λ new. Follows new 3 bare.now.root) }
+    ensures { IfOk result (λ new. Follows none.now new 3 bare.now.root) }
 {
     let (_full, _bare) = (full.root(), bare.root());
     let taken = leaf_ids(alloc, full)?;
@@ -161,7 +175,7 @@ fn texts_go<L: Ledger>(
         taken,
         put: Leaves::new(alloc),
     };
-    let made = apply_change(version, DOC, bare, &change, rows);
+    let made = apply_change(version, DOC, bare, &change, none, rows);
     drop(change);
     made
 }
@@ -191,12 +205,13 @@ fn stays_full<L: Ledger>(
     version: &Version,
     full: &DocTree,
     bare: &DocTree,
+    none: &KeySet,
     rows: &mut Steps<L>,
 ) -> Result<bool, Memory>
-    requires follows { Follows version.now 3 full.now.root }
+    requires follows { Follows none.now version.now 3 full.now.root }
     requires none { texts bare.now.root ≡ [] }
 {
-    let left = texts_go(alloc, version, full, bare, rows)?;
+    let left = texts_go(alloc, version, full, bare, none, rows)?;
     let gone = is_bare(&left);
     drop(left);
     Ok(gone && is_full(version))
@@ -208,13 +223,14 @@ fn changes<L: Ledger>(
     version: &Version,
     bare: &DocTree,
     full: &DocTree,
+    none: &KeySet,
     rows: &mut Steps<L>,
 ) -> Result<bool, Memory>
-    requires follows { Follows version.now 3 bare.now.root }
+    requires follows { Follows none.now version.now 3 bare.now.root }
     requires none { texts bare.now.root ≡ [] }
 {
-    let filled = texts_come(alloc, version, bare, full, rows)?;
-    let done = stays_full(alloc, &filled, full, bare, rows);
+    let filled = texts_come(alloc, version, bare, full, none, rows)?;
+    let done = stays_full(alloc, &filled, full, bare, none, rows);
     drop(filled);
     Ok(done? && is_bare(version))
 }
@@ -224,17 +240,18 @@ fn texts_come_and_go<L: Ledger>(
     alloc: Global,
     bare: &DocTree,
     full: &DocTree,
+    none: &KeySet,
     rows: &mut Steps<L>,
 ) -> Result<bool, Memory>
     requires none { texts bare.now.root ≡ [] }
 {
     let empty = Version::empty(alloc);
     let mut hints = WordHints::new(alloc);
-    let added = add_doc(alloc, &empty, &mut hints, DOC, bare, rows);
+    let added = add_doc(alloc, &empty, &mut hints, DOC, bare, none, rows);
     drop((empty, hints));
     match added {
         Ok(version) => {
-            let done = changes(alloc, &version, bare, full, rows);
+            let done = changes(alloc, &version, bare, full, none, rows);
             drop(version);
             done
         }
@@ -242,20 +259,84 @@ fn texts_come_and_go<L: Ledger>(
     }
 }
 
-// Both.
+// Whether the version has the three words of the text with a title, and a sentence starts at the second where it says so.
+fn is_titled(version: &Version, second_starts: bool) -> bool {
+    if !version.has_doc(DOC) {
+        return false;
+    }
+    if version.token_count(DOC) != 3 {
+        return false;
+    }
+    let breaks = version.breaks(DOC);
+    let last = if second_starts { 2 } else { 1 };
+    let sentences = breaks.sentence_of(1) == 1 && breaks.sentence_of(2) == last;
+    sentences && breaks.sentence_of(3) == last && version.term_count() == 3
+}
+
+// Whether the breaks of the document are others where titles are abbreviations, and are as before where nothing is.
+fn turns(version: &Version, tree: &DocTree, none: &KeySet, titles: &KeySet) -> Result<bool, Memory>
+    requires { Follows none.now version.now 3 tree.now.root }
+{
+    let spared = rebreak(version, DOC, tree, titles)?;
+    let fewer = is_titled(&spared, false);
+    let again = rebreak(&spared, DOC, tree, none);
+    drop(spared);
+    let again = again?;
+    let as_before = is_titled(&again, true);
+    drop(again);
+    Ok(fewer && as_before && is_titled(version, true))
+}
+
+// The same over an index with the document alone, which is put in where nothing is an abbreviation.
+fn breaks_turn<L: Ledger>(
+    alloc: Global,
+    tree: &DocTree,
+    titles: &KeySet,
+    rows: &mut Steps<L>,
+) -> Result<bool, Memory> {
+    let none = KeySet::empty(alloc);
+    let empty = Version::empty(alloc);
+    let mut hints = WordHints::new(alloc);
+    let added = add_doc(alloc, &empty, &mut hints, DOC, tree, &none, rows);
+    drop((empty, hints));
+    let done = match added {
+        Ok(version) => {
+            let done = turns(&version, tree, &none, titles);
+            drop(version);
+            done
+        }
+        Err(memory) => Err(memory),
+    };
+    drop(none);
+    done
+}
+
+// Whether the breaks of a document with a title turn.
+fn titles_work<L: Ledger>(alloc: Global, rows: &mut Steps<L>) -> Result<bool, Memory> {
+    let Ok(titles) = KeySet::read(alloc, b"Dr") else {
+        return Err(Memory);
+    };
+    let read = full(alloc, "Dr. Hill ran")?;
+    let done = breaks_turn(alloc, &read.tree, &titles, rows);
+    drop((read, titles));
+    done
+}
+
+// All of it.
 fn all_work<L: Ledger>(alloc: Global, blank: Blank) -> Result<bool, Memory>
     requires name { blank.name ≡ L.name }
     requires parts { blank.parts ≡ L.parts }
     requires whole { 0 < blank.parts }
 {
     let mut rows = Steps::<L>::new(blank);
-    let read = full(alloc)?;
+    let none = KeySet::empty(alloc);
+    let read = full(alloc, "Hello. Hello world")?;
     let found = has_breaks(&read.breaks);
     let done = comes_and_goes(alloc, &read.tree, &mut rows);
     let other = bare(alloc)?;
-    let changed = texts_come_and_go(alloc, &other.tree, &read.tree, &mut rows);
-    drop((read, other));
-    Ok(found & done? & changed?)
+    let changed = texts_come_and_go(alloc, &other.tree, &read.tree, &none, &mut rows);
+    drop((read, other, none));
+    Ok(found & done? & changed? & titles_work(alloc, &mut rows)?)
 }
 
 #[test]

@@ -7,7 +7,7 @@ use Rattle.plain_tree.specs.Document.{Node, element, text, Nodes, no_nodes, node
 use Rattle.plain_tree.specs.View.{node}
 use Rattle.plain_tree.specs.declared.tree.Attr.{Attr}
 use Rattle.plain_tree.specs.declared.tree.Tree.{Tree}
-use Rattle.tokenizer.specs.Words.{words}
+use Rattle.text_words.specs.Words.{words}
 use Rattle.ordered_tree.specs.Counts.{word_count, word_counts, element_depth, element_depths}
 use Rattle.ordered_tree.specs.Numbered.{Children, no_children, child_then, plain, plain_children, reference, first_of, last_from, last_of}
 use Rattle.ordered_tree.specs.Numbering.{numbered, children_numbered, next_sibling}

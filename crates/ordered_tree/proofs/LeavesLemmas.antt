@@ -1,6 +1,6 @@
 -- The leaves of a list of texts, part by part.
 use Rattle.std.proofs.Common.{◌≡◌, ℕ, List, [], ◌∷◌, ◌++◌, Option, Some, refl, ap}
-use Rattle.tokenizer.specs.Words.{words}
+use Rattle.text_words.specs.Words.{words}
 use Rattle.ordered_tree.specs.Leaves.{texts, texts_of, leaf_of, leaves_after, last_leaf}
 use Rattle.ordered_tree.specs.Numbered.{Numbered, element_at, text_at, reference, children}
 use Rattle.ordered_tree.specs.Slots.{held}

@@ -1,9 +1,8 @@
 -- The starts that were seen, one part of a document further.
-use Rattle.std.proofs.Common.{ℕ, List, [], ◌∷◌, ◌++◌, map, refl, sym, ap, ◌∙◌, append_assoc, append-nil, subst}
+use Rattle.std.proofs.Common.{ℕ, List, [], ◌∷◌, ◌++◌, refl, sym, ap, ◌∙◌, append_assoc, append-nil, subst}
 use Rattle.plain_tree.specs.Document.{element, text, Nodes, no_nodes}
 use Rattle.plain_tree.specs.declared.tree.Attr.{Attr}
-use Rattle.unicode_segmentation.specs.Word.{word_bounds}
-use Rattle.tokenizer.specs.Parts.{Part, gap_tag, part_of_segment, events, events_of, parts}
+use Rattle.tokenizer.specs.Parts.{Part, gap_tag, parts_of_text, events, events_of, parts}
 use Rattle.tokenizer.specs.steps.StartsLeft.{sentences_in, paragraphs_in}
 use Rattle.tokenizer.specs.declared.starts.Starts.{Starts}
 use Rattle.ordered_tree.specs.steps.Gathering.{parts_of}
@@ -16,16 +15,18 @@ Passes-append a b c ps qs one two = record {
   paragraphs = λ rest. ap (paragraphs_in a) (append_assoc ps qs rest) ∙ one.paragraphs (qs ++ rest) ∙ two.paragraphs rest;
 }
 
-pub Passes-none : (a : Starts) → Passes a (parts_of no_nodes) a
-unfolding events_of
-Passes-none a = record { sentences = λ rest. refl; paragraphs = λ rest. refl }
+module _ (abbreviations : List (List ℕ)) where
+  pub Passes-none : (a : Starts) → Passes a (parts_of abbreviations no_nodes) a
+  unfolding events_of
+  Passes-none a = record { sentences = λ rest. refl; paragraphs = λ rest. refl }
 
-pub Passes-text : (a b : Starts) (bytes : List ℕ) → Passes a (map part_of_segment (word_bounds bytes)) b → Passes a (parts (text bytes)) b
-unfolding events
-Passes-text a b bytes one = subst (λ (ps : List Part). Passes a ps b) (sym (append-nil (map part_of_segment (word_bounds bytes)))) one
+  pub Passes-text : (a b : Starts) (bytes : List ℕ) → Passes a (parts_of_text abbreviations bytes) b → Passes a (parts abbreviations (text bytes)) b
+  unfolding events
+  Passes-text a b bytes one = subst (λ (ps : List Part). Passes a ps b) (sym (append-nil (parts_of_text abbreviations bytes))) one
 
-pub Passes-element : (a b c d : Starts) (name : List ℕ) (attrs : List Attr) (kids : Nodes)
-    → Passes a (gap_tag name ∷ []) b → Passes b (parts_of kids) c → Passes c (gap_tag name ∷ []) d → Passes a (parts (element name attrs kids)) d
-Passes-element a b c d name attrs kids open' inner close =
-    subst (λ (ps : List Part). Passes a ps d) (sym (parts-element name attrs kids))
-    (Passes-append a b d (gap_tag name ∷ []) (parts_of kids ++ gap_tag name ∷ []) open' (Passes-append b c d (parts_of kids) (gap_tag name ∷ []) inner close))
+  pub Passes-element : (a b c d : Starts) (name : List ℕ) (attrs : List Attr) (kids : Nodes)
+      → Passes a (gap_tag name ∷ []) b → Passes b (parts_of abbreviations kids) c → Passes c (gap_tag name ∷ []) d → Passes a (parts abbreviations (element name attrs kids)) d
+  Passes-element a b c d name attrs kids open' inner close =
+      let inside = parts_of abbreviations kids in
+      subst (λ (ps : List Part). Passes a ps d) (sym (parts-element abbreviations name attrs kids))
+      (Passes-append a b d (gap_tag name ∷ []) (inside ++ gap_tag name ∷ []) open' (Passes-append b c d inside (gap_tag name ∷ []) inner close))

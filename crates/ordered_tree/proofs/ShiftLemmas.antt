@@ -2,14 +2,15 @@
 use Rattle.std.proofs.Common.{◌≡◌, ℕ, suc, ◌+◌, ◌-◌, ◌<◌, ◌≤◌, Bool, true, false, List, [], ◌∷◌, ◌++◌, map, filter, take, drop, length, refl, sym, ap, ap₂, ◌∙◌, arith, inl, inr, append_assoc, append-nil}
 use Rattle.std.specs.List.{All}
 use Rattle.std.proofs.lemmas.Bool.{cases_Bool, cases_lt}
+use Rattle.std.proofs.lemmas.List.{length-append}
 use Rattle.std.proofs.lemmas.List.Concat.{flat_map-append}
 use Rattle.std.proofs.lemmas.List.Elements.{All-nil, All-cons, All-append, All-weaker}
 use Rattle.ft_base.specs.declared.token.Token.{Token}
 use Rattle.plain_tree.specs.Document.{Node, element, text, Nodes, no_nodes, node_then}
 use Rattle.tokenizer.specs.Gaps.{gap, ends_sentence, ends_paragraph}
-use Rattle.tokenizer.specs.Parts.{Part, word, gap_characters, gap_tag, events, events_of, parts, parts_of_event, part_of_segment}
-use Rattle.tokenizer.specs.Tokens.{shifted, tokens_from, tokens}
-use Rattle.tokenizer.specs.Words.{is_word}
+use Rattle.tokenizer.specs.Parts.{Part, word, gap_characters, gap_tag, events, events_of, parts, parts_of_event, parts_behind, is_abbreviation}
+use Rattle.tokenizer.specs.Tokens.{shifted, tokens_from, tokens, words_in, words_in_all}
+use Rattle.text_words.specs.Words.{is_word}
 use Rattle.unicode_segmentation.specs.Word.{word_bounds}
 use Rattle.ordered_tree.specs.Counts.{word_count, word_counts}
 use Rattle.ordered_tree.specs.Numbered.{Numbered, element_at, text_at, Children, no_children, child_then, plain, plain_children, first_of}
@@ -121,124 +122,137 @@ part-tokens_from xs ys zs =
 
 -- ---- the parts of a node
 
-pub parts-element : (name : List ℕ) (attrs : _) (kids : Nodes) → parts (element name attrs kids) ≡ gap_tag name ∷ (parts_of kids ++ gap_tag name ∷ [])
+pub parts-element : (abbreviations : List (List ℕ)) (name : List ℕ) (attrs : _) (kids : Nodes)
+    → parts abbreviations (element name attrs kids) ≡ gap_tag name ∷ (parts_of abbreviations kids ++ gap_tag name ∷ [])
 unfolding events
-parts-element name attrs kids = ap (λ ps. gap_tag name ∷ ps) (flat_map-append parts_of_event (events_of kids) _)
+parts-element abbreviations name attrs kids = ap (λ ps. gap_tag name ∷ ps) (flat_map-append (parts_of_event abbreviations) (events_of kids) _)
 
-pub parts_of-then : (n : Node) (ns : Nodes) → parts_of (node_then n ns) ≡ parts n ++ parts_of ns
+pub parts_of-then : (abbreviations : List (List ℕ)) (n : Node) (ns : Nodes) → parts_of abbreviations (node_then n ns) ≡ parts abbreviations n ++ parts_of abbreviations ns
 unfolding events_of
-parts_of-then n ns = flat_map-append parts_of_event (events n) (events_of ns)
+parts_of-then abbreviations n ns = flat_map-append (parts_of_event abbreviations) (events n) (events_of ns)
 
-word_parts-segments : (ss : List (List ℕ)) → word_parts (map part_of_segment ss) ≡ length (filter is_word ss)
-word_parts-segments [] = refl
-word_parts-segments (s ∷ ss) =
+word_parts-behind : (abbreviations : List (List ℕ)) (spares : Bool) (ss : List (List ℕ)) → word_parts (parts_behind abbreviations spares ss) ≡ length (filter is_word ss)
+unfolding parts_behind
+word_parts-behind abbreviations spares [] = refl
+word_parts-behind abbreviations spares (s ∷ ss) =
     elim (cases_Bool (is_word s)) [
-      | inl is ↦ rw is (ap suc (word_parts-segments ss))
-      | inr other ↦ rw other (word_parts-segments ss)
+      | inl is ↦ rw is (ap suc (word_parts-behind abbreviations (is_abbreviation abbreviations s) ss))
+      | inr other ↦ rw other (word_parts-behind abbreviations false ss)
     ]
 
-word_parts-text : (bytes : List ℕ) → word_parts (parts (text bytes)) ≡ word_count (text bytes)
+word_parts-text : (abbreviations : List (List ℕ)) (bytes : List ℕ) → word_parts (parts abbreviations (text bytes)) ≡ word_count (text bytes)
 unfolding events
-word_parts-text bytes = ap word_parts (append-nil (map part_of_segment (word_bounds bytes))) ∙ word_parts-segments (word_bounds bytes)
+word_parts-text abbreviations bytes = ap word_parts (append-nil (parts_behind abbreviations false (word_bounds bytes))) ∙ word_parts-behind abbreviations false (word_bounds bytes)
 
-word_parts-no_nodes : word_parts (parts_of no_nodes) ≡ 0
+word_parts-no_nodes : (abbreviations : List (List ℕ)) → word_parts (parts_of abbreviations no_nodes) ≡ 0
 unfolding events_of
-word_parts-no_nodes = refl
+word_parts-no_nodes abbreviations = refl
 
 mutual
-  pub word_parts-parts : (n : Node) → word_parts (parts n) ≡ word_count n
-  word_parts-parts (element name attrs kids) =
-      ap word_parts (parts-element name attrs kids) ∙ word_parts-append (parts_of kids) (gap_tag name ∷ [])
-      ∙ (let e = word_parts-parts_of kids in omega arith)
-  word_parts-parts (text bytes) = word_parts-text bytes
+  pub word_parts-parts : (abbreviations : List (List ℕ)) (n : Node) → word_parts (parts abbreviations n) ≡ word_count n
+  word_parts-parts abbreviations (element name attrs kids) =
+      ap word_parts (parts-element abbreviations name attrs kids) ∙ word_parts-append (parts_of abbreviations kids) (gap_tag name ∷ [])
+      ∙ (let e = word_parts-parts_of abbreviations kids in omega arith)
+  word_parts-parts abbreviations (text bytes) = word_parts-text abbreviations bytes
 
-  word_parts-parts_of : (ns : Nodes) → word_parts (parts_of ns) ≡ word_counts ns
-  word_parts-parts_of no_nodes = word_parts-no_nodes
-  word_parts-parts_of (node_then n ns) =
-      ap word_parts (parts_of-then n ns) ∙ word_parts-append (parts n) (parts_of ns) ∙ ap₂ (λ a b. a + b) (word_parts-parts n) (word_parts-parts_of ns)
+  word_parts-parts_of : (abbreviations : List (List ℕ)) (ns : Nodes) → word_parts (parts_of abbreviations ns) ≡ word_counts ns
+  word_parts-parts_of abbreviations no_nodes = word_parts-no_nodes abbreviations
+  word_parts-parts_of abbreviations (node_then n ns) =
+      ap word_parts (parts_of-then abbreviations n ns) ∙ word_parts-append (parts abbreviations n) (parts_of abbreviations ns)
+      ∙ ap₂ (λ a b. a + b) (word_parts-parts abbreviations n) (word_parts-parts_of abbreviations ns)
 
-pub length-tokens : (n : Node) → length (tokens n) ≡ word_count n
+pub length-tokens : (abbreviations : List (List ℕ)) (n : Node) → length (tokens abbreviations n) ≡ word_count n
 unfolding tokens
-length-tokens n = length-tokens_from (parts n) 1 1 ∙ word_parts-parts n
+length-tokens abbreviations n = length-tokens_from (parts abbreviations n) 1 1 ∙ word_parts-parts abbreviations n
+
+mutual
+  pub length-words_in : (n : Node) → length (words_in n) ≡ word_count n
+  length-words_in (element name attrs kids) = length-words_in_all kids
+  length-words_in (text bytes) = refl
+
+  length-words_in_all : (ns : Nodes) → length (words_in_all ns) ≡ word_counts ns
+  length-words_in_all no_nodes = refl
+  length-words_in_all (node_then n ns) = length-append (words_in n) (words_in_all ns) ∙ ap₂ (λ a b. a + b) (length-words_in n) (length-words_in_all ns)
 
 -- ---- where the parts of a node stand
 
--- The parts of the node stand in these, after as many words as its span says.
-record Inside (outer : List Part) (base : ℕ) (s : Stand) : Type 0 where
-  ahead : List Part
-  suffix : List Part
-  is : outer ≡ ahead ++ (parts (plain s.node) ++ suffix)
-  counts : base + word_parts ahead ≡ s.around.before
+module _ (abbreviations : List (List ℕ)) where
+  -- The parts of the node stand in these, after as many words as its span says.
+  record Inside (outer : List Part) (base : ℕ) (s : Stand) : Type 0 where
+    ahead : List Part
+    suffix : List Part
+    is : outer ≡ ahead ++ (parts abbreviations (plain s.node) ++ suffix)
+    counts : base + word_parts ahead ≡ s.around.before
 
-regrouped : (x mid ahead own suffix z : List Part) → mid ≡ ahead ++ (own ++ suffix) → x ++ (mid ++ z) ≡ (x ++ ahead) ++ (own ++ (suffix ++ z))
-regrouped x mid ahead own suffix z e = ap (λ m. x ++ (m ++ z)) e ∙ simp append_assoc
+  regrouped : (x mid ahead own suffix z : List Part) → mid ≡ ahead ++ (own ++ suffix) → x ++ (mid ++ z) ≡ (x ++ ahead) ++ (own ++ (suffix ++ z))
+  regrouped x mid ahead own suffix z e = ap (λ m. x ++ (m ++ z)) e ∙ simp append_assoc
 
-widened : (x mid z outer : List Part) (base base' : ℕ) (s : Stand) → outer ≡ x ++ (mid ++ z) → base + word_parts x ≡ base' → Inside mid base' s → Inside outer base s
-widened x mid z outer base base' s e counts i = record {
-  ahead = x ++ i.ahead;
-  suffix = i.suffix ++ z;
-  is = e ∙ regrouped x mid i.ahead (parts (plain s.node)) i.suffix z i.is;
-  counts = let more = word_parts-append x i.ahead in let rest = i.counts in omega arith;
-}
+  widened : (x mid z outer : List Part) (base base' : ℕ) (s : Stand) → outer ≡ x ++ (mid ++ z) → base + word_parts x ≡ base' → Inside mid base' s → Inside outer base s
+  widened x mid z outer base base' s e counts i = record {
+    ahead = x ++ i.ahead;
+    suffix = i.suffix ++ z;
+    is = e ∙ regrouped x mid i.ahead (parts abbreviations (plain s.node)) i.suffix z i.is;
+    counts = let more = word_parts-append x i.ahead in let rest = i.counts in omega arith;
+  }
 
-itself : (a : Around) (n : Numbered) → Inside (parts (plain n)) a.before (record { node = n; around = a })
-itself a n = record { ahead = []; suffix = []; is = sym (append-nil (parts (plain n))); counts = omega arith }
+  itself : (a : Around) (n : Numbered) → Inside (parts abbreviations (plain n)) a.before (record { node = n; around = a })
+  itself a n = record { ahead = []; suffix = []; is = sym (append-nil (parts abbreviations (plain n))); counts = omega arith }
 
-mutual
-  unfolding stands child_stands
+  mutual
+    unfolding stands child_stands
 
-  stands-inside : (a : Around) (n : Numbered) → All (Inside (parts (plain n)) a.before) (stands a n)
-  stands-inside a (element_at r name attrs kids) =
-      let outer : List Part = parts (element name attrs (plain_children kids)) in
-      All-cons (Inside outer a.before) _ _ (itself a (element_at r name attrs kids))
-      (All-weaker (Inside (parts_of (plain_children kids)) a.before) (Inside outer a.before)
-      (λ s i. widened (gap_tag name ∷ []) (parts_of (plain_children kids)) (gap_tag name ∷ []) outer a.before a.before s (parts-element name attrs (plain_children kids)) (omega arith) i)
-      (child_stands (round_first a.before r) kids) (child_stands-inside (round_first a.before r) kids))
-  stands-inside a (text_at r bytes) =
-      All-cons (Inside (parts (text bytes)) a.before) _ [] (itself a (text_at r bytes)) (All-nil (Inside (parts (text bytes)) a.before))
+    stands-inside : (a : Around) (n : Numbered) → All (Inside (parts abbreviations (plain n)) a.before) (stands a n)
+    stands-inside a (element_at r name attrs kids) =
+        let outer : List Part = parts abbreviations (element name attrs (plain_children kids)) in
+        All-cons (Inside outer a.before) _ _ (itself a (element_at r name attrs kids))
+        (All-weaker (Inside (parts_of abbreviations (plain_children kids)) a.before) (Inside outer a.before)
+        (λ s i. widened (gap_tag name ∷ []) (parts_of abbreviations (plain_children kids)) (gap_tag name ∷ []) outer a.before a.before s (parts-element abbreviations name attrs (plain_children kids)) (omega arith) i)
+        (child_stands (round_first a.before r) kids) (child_stands-inside (round_first a.before r) kids))
+    stands-inside a (text_at r bytes) =
+        All-cons (Inside (parts abbreviations (text bytes)) a.before) _ [] (itself a (text_at r bytes)) (All-nil (Inside (parts abbreviations (text bytes)) a.before))
 
-  child_stands-inside : (a : Around) (ns : Children) → All (Inside (parts_of (plain_children ns)) a.before) (child_stands a ns)
-  child_stands-inside a no_children = All-nil (Inside (parts_of no_nodes) a.before)
-  child_stands-inside a (child_then n ns) =
-      let outer : List Part = parts_of (node_then (plain n) (plain_children ns)) in
-      let first : Around = record a { next = first_of ns } in
-      All-append (Inside outer a.before) (stands first n) (child_stands (round_next a n) ns)
-      (All-weaker (Inside (parts (plain n)) a.before) (Inside outer a.before)
-      (λ s i. widened [] (parts (plain n)) (parts_of (plain_children ns)) outer a.before a.before s (parts_of-then (plain n) (plain_children ns)) (omega arith) i)
-      (stands first n) (stands-inside first n))
-      (All-weaker (Inside (parts_of (plain_children ns)) (a.before + word_count (plain n))) (Inside outer a.before)
-      (λ s i. widened (parts (plain n)) (parts_of (plain_children ns)) [] outer a.before (a.before + word_count (plain n)) s
-      (parts_of-then (plain n) (plain_children ns) ∙ ap (λ l. parts (plain n) ++ l) (sym (append-nil (parts_of (plain_children ns)))))
-      (ap (λ w. a.before + w) (word_parts-parts (plain n))) i)
-      (child_stands (round_next a n) ns) (child_stands-inside (round_next a n) ns))
+    child_stands-inside : (a : Around) (ns : Children) → All (Inside (parts_of abbreviations (plain_children ns)) a.before) (child_stands a ns)
+    child_stands-inside a no_children = All-nil (Inside (parts_of abbreviations no_nodes) a.before)
+    child_stands-inside a (child_then n ns) =
+        let outer : List Part = parts_of abbreviations (node_then (plain n) (plain_children ns)) in
+        let first : Around = record a { next = first_of ns } in
+        All-append (Inside outer a.before) (stands first n) (child_stands (round_next a n) ns)
+        (All-weaker (Inside (parts abbreviations (plain n)) a.before) (Inside outer a.before)
+        (λ s i. widened [] (parts abbreviations (plain n)) (parts_of abbreviations (plain_children ns)) outer a.before a.before s (parts_of-then abbreviations (plain n) (plain_children ns)) (omega arith) i)
+        (stands first n) (stands-inside first n))
+        (All-weaker (Inside (parts_of abbreviations (plain_children ns)) (a.before + word_count (plain n))) (Inside outer a.before)
+        (λ s i. widened (parts abbreviations (plain n)) (parts_of abbreviations (plain_children ns)) [] outer a.before (a.before + word_count (plain n)) s
+        (parts_of-then abbreviations (plain n) (plain_children ns) ∙ ap (λ l. parts abbreviations (plain n) ++ l) (sym (append-nil (parts_of abbreviations (plain_children ns)))))
+        (ap (λ w. a.before + w) (word_parts-parts abbreviations (plain n))) i)
+        (child_stands (round_next a n) ns) (child_stands-inside (round_next a n) ns))
 
-part-inside : (outer : Node) (s : Stand) → Inside (parts outer) 0 s → part (tokens outer) (span s) ≡ tokens (plain s.node)
-unfolding tokens
-part-inside outer s i =
-    let words = word_parts-parts (plain s.node) in
-    let counts = i.counts in
-    let from : s.around.before + 1 - 1 ≡ word_parts i.ahead = omega arith in
-    let long : (s.around.before + 1 + word_count (plain s.node) - 1) - (s.around.before + 1 - 1) ≡ word_parts (parts (plain s.node)) = omega arith in
-    ap₂ (λ l d. renumbered (take l (drop d (tokens_from 1 1 (parts outer))))) long from
-    ∙ ap (λ ps. renumbered (take (word_parts (parts (plain s.node))) (drop (word_parts i.ahead) (tokens_from 1 1 ps)))) i.is
-    ∙ part-tokens_from i.ahead (parts (plain s.node)) i.suffix
+  part-inside : (outer : Node) (s : Stand) → Inside (parts abbreviations outer) 0 s → part (tokens abbreviations outer) (span s) ≡ tokens abbreviations (plain s.node)
+  unfolding tokens
+  part-inside outer s i =
+      let words = word_parts-parts abbreviations (plain s.node) in
+      let counts = i.counts in
+      let from : s.around.before + 1 - 1 ≡ word_parts i.ahead = omega arith in
+      let long : (s.around.before + 1 + word_count (plain s.node) - 1) - (s.around.before + 1 - 1) ≡ word_parts (parts abbreviations (plain s.node)) = omega arith in
+      ap₂ (λ l d. renumbered (take l (drop d (tokens_from 1 1 (parts abbreviations outer))))) long from
+      ∙ ap (λ ps. renumbered (take (word_parts (parts abbreviations (plain s.node))) (drop (word_parts i.ahead) (tokens_from 1 1 ps)))) i.is
+      ∙ part-tokens_from i.ahead (parts abbreviations (plain s.node)) i.suffix
+
+  pub shift : (root : Numbered) → All (λ s. part (tokens abbreviations (plain root)) (span s) ≡ tokens abbreviations (plain s.node)) (stands_in root)
+  shift root =
+      All-weaker (Inside (parts abbreviations (plain root)) 0) (λ s. part (tokens abbreviations (plain root)) (span s) ≡ tokens abbreviations (plain s.node))
+      (part-inside (plain root)) (stands round_root root) (stands-inside round_root root)
 
 -- the words of a node, and those before it, are among the document's
 pub stands-few : (root : Numbered) → All (λ s. s.around.before + word_count (plain s.node) ≤ word_count (plain root)) (stands_in root)
 stands-few root =
-    All-weaker (Inside (parts (plain root)) 0) (λ s. s.around.before + word_count (plain s.node) ≤ word_count (plain root))
+    All-weaker (Inside [] (parts [] (plain root)) 0) (λ s. s.around.before + word_count (plain s.node) ≤ word_count (plain root))
     (λ s i. omega (
       arith,
       i.counts,
-      word_parts-parts (plain s.node),
-      word_parts-parts (plain root),
+      word_parts-parts [] (plain s.node),
+      word_parts-parts [] (plain root),
       ap word_parts i.is,
-      word_parts-append i.ahead (parts (plain s.node) ++ i.suffix),
-      word_parts-append (parts (plain s.node)) i.suffix,
+      word_parts-append i.ahead (parts [] (plain s.node) ++ i.suffix),
+      word_parts-append (parts [] (plain s.node)) i.suffix,
     ))
-    (stands round_root root) (stands-inside round_root root)
-
-pub shift : (root : Numbered) → All (λ s. part (tokens (plain root)) (span s) ≡ tokens (plain s.node)) (stands_in root)
-shift root =
-    All-weaker (Inside (parts (plain root)) 0) (λ s. part (tokens (plain root)) (span s) ≡ tokens (plain s.node))
-    (part-inside (plain root)) (stands round_root root) (stands-inside round_root root)
+    (stands round_root root) (stands-inside [] round_root root)

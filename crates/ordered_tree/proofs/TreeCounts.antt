@@ -7,7 +7,7 @@ use Rattle.plain_tree.specs.declared.tree.Attr.{Attr}
 use Rattle.plain_tree.specs.declared.tree.Tree.{Tree}
 use Rattle.plain_tree.specs.declared.tree.Tree.TheVariants.{Elem, Text}
 use Rattle.plain_tree.proofs.Views.{node_elem, node_text}
-use Rattle.tokenizer.specs.Words.{words}
+use Rattle.text_words.specs.Words.{words}
 use Rattle.ordered_tree.specs.Counts.{word_count, word_counts, element_depth, element_depths}
 
 module _ (name : List ℕ) (attrs : List Attr) (kids : List Tree) where

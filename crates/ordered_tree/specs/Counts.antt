@@ -1,7 +1,7 @@
 -- How many words a node has, and how deep its elements stand in one another.
 use Rattle.std.specs.Prelude.{ℕ, ◌+◌, max, length}
 use Rattle.plain_tree.specs.Document.{Node, element, text, Nodes, no_nodes, node_then}
-use Rattle.tokenizer.specs.Words.{words}
+use Rattle.text_words.specs.Words.{words}
 
 abbrev mutual
   -- the words of a node's texts

@@ -1,6 +1,6 @@
 -- The leaves of a document: one for each text, in document order, with the text's words.
 use Rattle.std.specs.Prelude.{List, ℕ, [], ◌∷◌, ◌++◌, Option, Some, None}
-use Rattle.tokenizer.specs.Words.{words}
+use Rattle.text_words.specs.Words.{words}
 use Rattle.ordered_tree.specs.Numbered.{Numbered, element_at, text_at, Children, no_children, child_then}
 use Rattle.ft_base.specs.declared.ids.LeafId.{LeafId}
 use Rattle.ordered_tree.specs.declared.leaf.LeafWords.{LeafWords}

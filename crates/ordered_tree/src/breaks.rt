@@ -17,15 +17,22 @@ use crate::slots::{SlotAt, Slots};
 use crate::{DocTree, NodeRef};
 use ft_base::{Breaks, Memory};
 use tokenizer::Starts;
+use word_lists::KeySet;
 
 impl DocTree {
-    /// The places, counted from 1, of the tokens at which sentences and paragraphs start. No text is read.
-    pub fn breaks(&self) -> Result<Breaks, Memory>
-        ensures sentences { IfOk result (λ breaks. breaks.sentences ≡ sentence_starts (tokens (plain self.now.root))) }
-        ensures paragraphs { IfOk result (λ breaks. breaks.paragraphs ≡ paragraph_starts (tokens (plain self.now.root))) }
+    /// The places, counted from 1, of the tokens at which sentences and paragraphs start under a set of abbreviations. No text is read.
+    pub fn breaks(&self, abbreviations: &KeySet) -> Result<Breaks, Memory>
+        ensures sentences { IfOk result (λ breaks. breaks.sentences ≡ sentence_starts (tokens abbreviations.now (plain self.now.root))) }
+        ensures paragraphs { IfOk result (λ breaks. breaks.paragraphs ≡ paragraph_starts (tokens abbreviations.now (plain self.now.root))) }
     {
         let mut starts = Starts::new(self.alloc);
-        pass_node(&self.slots, NodeRef(0), self.slots.get(0), &mut starts)?;
+        pass_node(
+            &self.slots,
+            abbreviations,
+            NodeRef(0),
+            self.slots.get(0),
+            &mut starts,
+        )?;
         Ok(starts.into_breaks())
     }
 }
@@ -34,6 +41,7 @@ impl DocTree {
 #[cycle(breaks)]
 fn pass_node(
     slots: &Slots,
+    abbreviations: &KeySet,
     here: NodeRef,
     slot: SlotAt<'_>,
     starts: &mut Starts,
@@ -41,14 +49,14 @@ fn pass_node(
     requires row { IsRow slots.now (Some here) }
     requires slot { slot_of slot ≡ slice_index_or slots.now here.0 (slot_of slot) }
     requires few { words_seen starts.old < 2 ^ 31 }
-    ensures passed { OnOk result (Passes starts.old (parts (plain (node_at slots.now here))) starts.new) }
+    ensures passed { OnOk result (Passes starts.old (parts abbreviations.now (plain (node_at slots.now here))) starts.new) }
     ensures few { words_seen starts.new < 2 ^ 31 }
 {
     match slot.held {
-        Held::Text { text } => pass_text(text, starts),
+        Held::Text { text } => pass_text(text, abbreviations, starts),
         Held::Element { name, .. } => {
             starts.pass_tag(name.as_str());
-            pass_nodes(slots, slot.first_child, starts)?;
+            pass_nodes(slots, abbreviations, slot.first_child, starts)?;
             starts.pass_tag(name.as_str());
             Ok(())
         }
@@ -59,28 +67,37 @@ fn pass_node(
 
 /// Goes past the nodes from a link on, and all below them.
 #[cycle(breaks)]
-fn pass_nodes(slots: &Slots, first: Option<NodeRef>, starts: &mut Starts) -> Result<(), Memory>
+fn pass_nodes(
+    slots: &Slots,
+    abbreviations: &KeySet,
+    first: Option<NodeRef>,
+    starts: &mut Starts,
+) -> Result<(), Memory>
     requires row { IsRow slots.now first }
     requires few { words_seen starts.old < 2 ^ 31 }
-    ensures passed { OnOk result (Passes starts.old (parts_of (plain_children (row slots.now first))) starts.new) }
+    ensures passed { OnOk result (Passes starts.old (parts_of abbreviations.now (plain_children (row slots.now first))) starts.new) }
     ensures few { words_seen starts.new < 2 ^ 31 }
 {
     let mut link = first;
     while let Some(here) = link {
         let slot = slots.get(here.0 as usize);
-        pass_node(slots, here, slot, starts)?;
+        pass_node(slots, abbreviations, here, slot, starts)?;
         link = slot.around.next;
     }
     Ok(())
 }
 
 /// Goes past a text.
-fn pass_text(content: &SharedText, starts: &mut Starts) -> Result<(), Memory>
+fn pass_text(
+    content: &SharedText,
+    abbreviations: &KeySet,
+    starts: &mut Starts,
+) -> Result<(), Memory>
     requires { words_seen starts.old < 2 ^ 31 }
-    ensures passed { OnOk result (Passes starts.old (parts (text content.now)) starts.new) }
+    ensures passed { OnOk result (Passes starts.old (parts abbreviations.now (text content.now)) starts.new) }
     ensures few { words_seen starts.new < 2 ^ 31 }
 {
-    match starts.pass_known(content.starts(), 2_147_483_647) {
+    match starts.pass_known(content.starts(), abbreviations, 2_147_483_647) {
         Ok(()) => Ok(()),
         // No document has more words.
         Err(_) => Err(Memory),

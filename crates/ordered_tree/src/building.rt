@@ -3,7 +3,7 @@ ghost use Rattle.doc_grammar.specs.Limits.{node_count, nodes_count};
 ghost use Rattle.plain_tree.specs.Document.{element, text, nodes};
 ghost use Rattle.plain_tree.specs.View.{node};
 ghost use Rattle.tokenizer.specs.Parts.{parts};
-ghost use Rattle.tokenizer.specs.Words.{words};
+ghost use Rattle.text_words.specs.Words.{words};
 ghost use Rattle.tokenizer.specs.steps.StartsLeft.{words_seen};
 ghost use Rattle.ordered_tree.specs.Counts.{word_count, word_counts, element_depth, element_depths};
 ghost use Rattle.ordered_tree.specs.Leaves.{texts, texts_of};
@@ -44,7 +44,7 @@ struct Row {
 #[tactic(auto, using(crate::proofs::TreeCounts::tree_counts))]
 pub(crate) fn add_tree(
     slots: &mut Vec<Slot>,
-    read: &mut TextsRead,
+    read: &mut TextsRead<'_>,
     tree: Tree,
     around: Around,
     is_last: bool,
@@ -57,7 +57,8 @@ pub(crate) fn add_tree(
     ensures words { IfOk result (λ added. added.words ≡ word_count (node tree)) }
     ensures levels { IfOk result (λ added. added.levels ≡ element_depth (node tree)) }
     ensures counted { OnOk result (words_seen read.new.starts ≡ words_seen read.old.starts + word_count (node tree)) }
-    ensures gathers { OnOk result (Gathers read.old (texts (numbered (length slots.old.items) (node tree))) (parts (node tree)) read.new) }
+    ensures gathers { OnOk result (Gathers read.old (texts (numbered (length slots.old.items) (node tree)))
+        (parts read.old.abbreviations.now (node tree)) read.new) }
     ensures full { result ≡ Err TokenFault.Tokens → read.old.most < words_seen read.old.starts + word_count (node tree) }
 {
     match tree {
@@ -72,7 +73,7 @@ pub(crate) fn add_tree(
 #[cycle(adding)]
 fn add_element(
     slots: &mut Vec<Slot>,
-    read: &mut TextsRead,
+    read: &mut TextsRead<'_>,
     name: Line,
     attrs: Attrs,
     kids: Kids,
@@ -89,7 +90,7 @@ fn add_element(
     ensures counted { OnOk result (words_seen read.new.starts ≡ words_seen read.old.starts + word_counts (nodes (map node kids))) }
     ensures gathers { OnOk result (Gathers read.old
         (texts (numbered (length slots.old.items) (element name attrs (nodes (map node kids)))))
-        (parts (element name attrs (nodes (map node kids)))) read.new) }
+        (parts read.old.abbreviations.now (element name attrs (nodes (map node kids)))) read.new) }
     ensures full { result ≡ Err TokenFault.Tokens
         → read.old.most < words_seen read.old.starts + word_counts (nodes (map node kids)) }
 {
@@ -110,7 +111,7 @@ fn add_element(
 #[cycle(adding)]
 fn add_children(
     slots: &mut Vec<Slot>,
-    read: &mut TextsRead,
+    read: &mut TextsRead<'_>,
     kids: Kids,
     parent: NodeRef,
     before: u32,
@@ -126,7 +127,8 @@ fn add_children(
     ensures levels { IfOk result (λ row. row.levels ≡ element_depths (nodes (map node kids))) }
     ensures counted { OnOk result (words_seen read.new.starts ≡ words_seen read.old.starts + word_counts (nodes (map node kids))) }
     ensures gathers { OnOk result (Gathers read.old
-        (texts_of (children_numbered (length slots.old.items) (nodes (map node kids)))) (parts_of (nodes (map node kids))) read.new) }
+        (texts_of (children_numbered (length slots.old.items) (nodes (map node kids))))
+        (parts_of read.old.abbreviations.now (nodes (map node kids))) read.new) }
     ensures full { result ≡ Err TokenFault.Tokens
         → read.old.most < words_seen read.old.starts + word_counts (nodes (map node kids)) }
 {
@@ -150,7 +152,7 @@ fn add_children(
 /// Puts the slot of a text to the end, and reads it.
 fn add_text(
     slots: &mut Vec<Slot>,
-    read: &mut TextsRead,
+    read: &mut TextsRead<'_>,
     content: Line,
     around: Around,
     is_last: bool,
@@ -162,7 +164,8 @@ fn add_text(
     ensures words { IfOk result (λ added. added.words ≡ length (words content)) }
     ensures levels { IfOk result (λ added. added.levels ≡ 0) }
     ensures counted { OnOk result (words_seen read.new.starts ≡ words_seen read.old.starts + length (words content)) }
-    ensures gathers { OnOk result (Gathers read.old (texts (numbered (length slots.old.items) (text content))) (parts (text content)) read.new) }
+    ensures gathers { OnOk result (Gathers read.old (texts (numbered (length slots.old.items) (text content)))
+        (parts read.old.abbreviations.now (text content)) read.new) }
     ensures full { result ≡ Err TokenFault.Tokens → read.old.most < words_seen read.old.starts + length (words content) }
 {
     let here = slots.len();

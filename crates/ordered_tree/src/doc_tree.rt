@@ -17,6 +17,7 @@ use plain_tree::{PlainDoc, Tree};
 use std::alloc::Global;
 use std::marker::Model;
 use tokenizer::TokenFault;
+use word_lists::KeySet;
 
 /// A document in slots, which its copies share: each node has a reference, which is the number of its slot.
 #[derive(Drop)]
@@ -47,7 +48,7 @@ impl DocTree {
     ghost use Rattle.std.specs.Prelude.{◌≡◌, ◌≢◌, ◌+◌, ◌≤◌, ◌<◌, ◌^◌, length, true, All, AllPairs, Contains, Err, IfOk, IfSome, OnOk, Some};
     ghost use Rattle.doc_grammar.specs.Limits.{node_count};
     ghost use Rattle.plain_tree.specs.View as view;
-    ghost use Rattle.ordered_tree.specs.Counts.{element_depth};
+    ghost use Rattle.ordered_tree.specs.Counts.{element_depth, word_count};
     ghost use Rattle.ordered_tree.specs.Leaves.{leaves};
     ghost use Rattle.ordered_tree.specs.Numbered.{is_element, plain, reference};
     ghost use Rattle.ordered_tree.specs.Numbering.{numbered};
@@ -59,10 +60,15 @@ impl DocTree {
     /// The document, with references in document order, from 0.
     pub fn from_doc(alloc: Global, doc: &PlainDoc) -> Result<DocTree, Memory>
         requires few_nodes { node_count doc.now < 2 ^ 31 }
-        requires few_words { length (tokens doc.now) < 2 ^ 31 }
+        requires few_words { word_count doc.now < 2 ^ 31 }
         ensures { IfOk result (λ tree. tree ≡ record { root = numbered 0 doc.now; slots = node_count doc.now }) }
     {
-        match DocTree::read(alloc, doc.copy(alloc)?, 2_147_483_647) {
+        match DocTree::read(
+            alloc,
+            doc.copy(alloc)?,
+            &KeySet::empty(alloc),
+            2_147_483_647,
+        ) {
             Ok(
                 Read {
                     tree,
@@ -78,24 +84,29 @@ impl DocTree {
         }
     }
 
-    /// The document, with references in document order, from 0; its leaves; and where its sentences and paragraphs start. Its
-    /// names, attributes and texts stay in their memory. `Tokens` comes where it has more than `most` words.
-    pub(crate) fn read(alloc: Global, doc: PlainDoc, most: u32) -> Result<Read, TokenFault>
+    /// The document, with references in document order, from 0; its leaves; and where its sentences and paragraphs start under a set
+    /// of abbreviations. Its names, attributes and texts stay in their memory. `Tokens` comes where it has more than `most` words.
+    pub(crate) fn read(
+        alloc: Global,
+        doc: PlainDoc,
+        abbreviations: &KeySet,
+        most: u32,
+    ) -> Result<Read, TokenFault>
         requires few_nodes { node_count doc < 2 ^ 31 }
         requires countable { most < 2 ^ 31 }
         ensures tree { IfOk result (λ read. read.tree ≡ record { root = numbered 0 doc; slots = node_count doc }) }
         ensures leaves { IfOk result (λ read. read.leaves ≡ leaves (numbered 0 doc)) }
-        ensures sentences { IfOk result (λ read. read.breaks.sentences ≡ sentence_starts (tokens doc)) }
-        ensures paragraphs { IfOk result (λ read. read.breaks.paragraphs ≡ paragraph_starts (tokens doc)) }
-        ensures few { OnOk result (length (tokens doc) ≤ most) }
-        ensures full { result ≡ Err TokenFault.Tokens → most < length (tokens doc) }
+        ensures sentences { IfOk result (λ read. read.breaks.sentences ≡ sentence_starts (tokens abbreviations.now doc)) }
+        ensures paragraphs { IfOk result (λ read. read.breaks.paragraphs ≡ paragraph_starts (tokens abbreviations.now doc)) }
+        ensures few { OnOk result (word_count doc ≤ most) }
+        ensures full { result ≡ Err TokenFault.Tokens → most < word_count doc }
     {
         let root = doc.into_tree();
         let Ok(mut slots) = Vec::with_capacity(alloc, count_nodes(&root)) else {
             drop(root);
             return Err(TokenFault::Memory);
         };
-        let mut texts = TextsRead::new(alloc, most);
+        let mut texts = TextsRead::new(alloc, abbreviations, most);
         let added = add_tree(&mut slots, &mut texts, root, Around::root(), true)?;
         let slots = Slots::from_vec(alloc, slots)?;
         let nodes = slots.len();

@@ -1,15 +1,23 @@
 //! What holds: each law is the contract of a function without a body.
 
-ghost use Rattle.std.specs.Prelude.{◌≡◌, ◌≢◌, All, AllPairs, Contains};
+ghost use Rattle.std.specs.Prelude.{◌≡◌, ◌≢◌, ℕ, List, length, All, AllPairs, Contains};
+ghost use Rattle.plain_tree.specs.Document.{Node};
+ghost use Rattle.ordered_tree.specs.Counts.{word_count};
 ghost use Rattle.ordered_tree.specs.Numbered.{Numbered, plain, reference};
 ghost use Rattle.ordered_tree.specs.Part.{part};
 ghost use Rattle.ordered_tree.specs.Stands.{Stand, stands, stands_in, references, span};
-ghost use Rattle.tokenizer.specs.Tokens.{tokens};
+ghost use Rattle.tokenizer.specs.Tokens.{tokens, words_in};
 
 /// The tokens of a node by itself are the document's tokens at the places of the node's span, with sentences and paragraphs
-/// counted from 1 again.
+/// counted from 1 again, whatever the abbreviations are.
 pub fn shift_law()
-    ensures { (root : Numbered) → All (λ s. part (tokens (plain root)) (span s) ≡ tokens (plain s.node)) (stands_in root) }
+    ensures { (abbreviations : List (List ℕ)) (root : Numbered)
+        → All (λ s. part (tokens abbreviations (plain root)) (span s) ≡ tokens abbreviations (plain s.node)) (stands_in root) }
+{}
+
+/// The words of a node are as many as are counted of it.
+pub fn count_law()
+    ensures { (n : Node) → length (words_in n) ≡ word_count n }
 {}
 
 /// A reference names one node, where no two nodes have the same.

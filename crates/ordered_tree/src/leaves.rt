@@ -1,5 +1,5 @@
 ghost use Rattle.std.specs.Prelude.{◌≡◌, ◌++◌, ◌∷◌, [], Some, IfOk, OnOk};
-ghost use Rattle.tokenizer.specs.Words.{words};
+ghost use Rattle.text_words.specs.Words.{words};
 ghost use Rattle.ordered_tree.specs.Leaves.{texts, texts_of, leaf_of, leaves_after, last_leaf};
 ghost use Rattle.ordered_tree.specs.Slots.{IsRow, row, node_at};
 
@@ -10,7 +10,7 @@ use crate::{Leaves, NodeRef};
 use ft_base::{LeafId, Memory};
 use std::alloc::Global;
 use text_list::TextList;
-use tokenizer::words_of;
+use text_words::words_of;
 
 /// Puts the leaves of a node to the end, and gives the last one.
 #[cycle(leaves)]

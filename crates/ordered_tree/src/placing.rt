@@ -2,7 +2,7 @@
 
 ghost use Rattle.std.specs.Prelude.{◌≡◌, ◌+◌, ◌<◌, ◌^◌, length, map, IfOk, OnOk};
 ghost use Rattle.doc_grammar.specs.Limits.{node_count, nodes_count};
-ghost use Rattle.tokenizer.specs.Words.{words};
+ghost use Rattle.text_words.specs.Words.{words};
 ghost use Rattle.ordered_tree.specs.Counts.{word_count, word_counts, element_depth, element_depths};
 ghost use Rattle.ordered_tree.specs.Numbered.{element_at, first_of, last_of, plain, plain_children, text_at};
 ghost use Rattle.ordered_tree.specs.RefView.{ref_node, ref_nodes};

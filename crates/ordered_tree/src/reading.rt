@@ -1,4 +1,4 @@
-ghost use Rattle.std.specs.Prelude.{◌≡◌, Contains, IfSome, IsTrue, Some, option_map};
+ghost use Rattle.std.specs.Prelude.{◌≡◌, ℕ, List, Contains, IfSome, IsTrue, Some, option_map};
 ghost use Rattle.ordered_tree.specs.Numbered.{plain, is_element, has_name, name_of, attrs_of, attribute, children, first_of};
 ghost use Rattle.ordered_tree.specs.Part.{part};
 ghost use Rattle.ordered_tree.specs.Stands.{OnNode, references, span};
@@ -107,7 +107,8 @@ impl DocTree {
     pub fn span_of(&self, node: NodeRef) -> Span
         requires { Contains (references self.now.root) node }
         ensures positions { OnNode self.now.root node (λ s. result ≡ span s) }
-        ensures tokens { OnNode self.now.root node (λ s. part (tokens (plain self.now.root)) result ≡ tokens (plain s.node)) }
+        ensures tokens { (abbreviations : List (List ℕ))
+            → OnNode self.now.root node (λ s. part (tokens abbreviations (plain self.now.root)) result ≡ tokens abbreviations (plain s.node)) }
     {
         let head = self.head(node);
         let from = head.before + 1;

@@ -3,12 +3,12 @@
 ghost use Rattle.std.specs.Prelude.{◌≡◌, ◌≢◌, ◌+◌, ◌<◌, ◌^◌, ◌++◌, length, map, max, slice_index_or, All, AllPairs, IfOk, IsTrue, Some};
 ghost use Rattle.doc_grammar.specs.Limits.{node_count};
 ghost use Rattle.plain_tree.specs.Document.{is_document};
+ghost use Rattle.ordered_tree.specs.Counts.{word_count};
 ghost use Rattle.ordered_tree.specs.Numbered.{plain, reference};
 ghost use Rattle.ordered_tree.specs.RefView.{ref_node, ref_nodes};
 ghost use Rattle.ordered_tree.specs.Slots.{IsRow, node_at, root_ref, row};
 ghost use Rattle.ordered_tree.specs.Stands.{references};
 ghost use Rattle.ordered_tree.specs.steps.Parts.{slot_of};
-ghost use Rattle.tokenizer.specs.Tokens.{tokens};
 
 use crate::around::Around;
 use crate::free_slots::{free_slots, link_free, spare_refs};
@@ -37,7 +37,7 @@ impl DocTree {
         requires apart { AllPairs (λ a b. a ≢ b) (references (ref_node tree)) }
         requires below { All (λ r. r.0 < slots) (references (ref_node tree)) }
         requires few_slots { slots < 2 ^ 31 }
-        requires few_words { length (tokens (plain (ref_node tree))) < 2 ^ 31 }
+        requires few_words { word_count (plain (ref_node tree)) < 2 ^ 31 }
         ensures { IfOk result (λ doc. doc ≡ record { root = ref_node tree; slots = slots }) }
     {
         let Ok(mut filled) = free_slots(alloc, slots) else {

@@ -1,7 +1,7 @@
 //! Texts of documents with what is known of their words.
 
 ghost use Rattle.std.specs.Prelude.{◌≡◌, length, IfOk};
-ghost use Rattle.tokenizer.specs.Words.{words};
+ghost use Rattle.text_words.specs.Words.{words};
 ghost use Rattle.tokenizer.specs.steps.TextsKnown.{Tells};
 
 use ft_base::{Line, Memory};

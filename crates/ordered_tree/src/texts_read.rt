@@ -1,8 +1,7 @@
-ghost use Rattle.std.specs.Prelude.{◌≡◌, ◌+◌, ◌≤◌, ◌<◌, ◌^◌, ◌∷◌, [], List, map, length, None, Err, IfOk, OnOk};
-ghost use Rattle.unicode_segmentation.specs.Word.{word_bounds};
-ghost use Rattle.tokenizer.specs.Parts.{Part, gap_tag, part_of_segment};
+ghost use Rattle.std.specs.Prelude.{◌≡◌, ◌+◌, ◌≤◌, ◌<◌, ◌^◌, ◌∷◌, [], List, length, None, Err, IfOk, OnOk};
+ghost use Rattle.tokenizer.specs.Parts.{Part, gap_tag, parts_of_text};
 ghost use Rattle.tokenizer.specs.Tokens.{tokens_from, sentence_starts, paragraph_starts};
-ghost use Rattle.tokenizer.specs.Words.{words};
+ghost use Rattle.text_words.specs.Words.{words};
 ghost use Rattle.tokenizer.specs.steps.StartsLeft.{words_seen, sentences_in, paragraphs_in};
 
 use crate::leaf::LeafWords;
@@ -13,11 +12,14 @@ use crate::{Leaves, NodeRef};
 use ft_base::{Breaks, LeafId, Line, Memory};
 use std::alloc::Global;
 use tokenizer::{Starts, TextRead, TokenFault};
+use word_lists::KeySet;
 
-/// What was read of a document's texts, as far as it was passed: the leaves, and where sentences and paragraphs start.
+/// What was read of a document's texts, as far as it was passed: the leaves, and where sentences and paragraphs start under a set of
+/// abbreviations.
 #[derive(Drop)]
-pub(crate) struct TextsRead {
+pub(crate) struct TextsRead<'a> {
     alloc: Global,
+    abbreviations: &'a KeySet,
     leaves: Leaves,
     /// The last leaf.
     last: Option<LeafId>,
@@ -29,11 +31,11 @@ pub(crate) struct TextsRead {
     ghost countable: { most < 2 ^ 31 },
 }
 
-impl TextsRead {
+impl<'a> TextsRead<'a> {
     ghost use Rattle.ordered_tree.specs.steps.Gathering.{Gathers};
 
     /// Before the document.
-    pub(crate) fn new(alloc: Global, most: u32) -> TextsRead
+    pub(crate) fn new(alloc: Global, abbreviations: &'a KeySet, most: u32) -> TextsRead<'a>
         requires { most < 2 ^ 31 }
         ensures leaves { result.leaves ≡ [] }
         ensures last { result.last ≡ None }
@@ -43,9 +45,11 @@ impl TextsRead {
             paragraphs_in result.starts rest ≡ paragraph_starts (tokens_from 1 1 rest) }
         ensures words { words_seen result.starts ≡ 0 }
         ensures most { result.most ≡ most }
+        ensures abbreviations { result.abbreviations.now ≡ abbreviations.now }
     {
         TextsRead {
             alloc,
+            abbreviations,
             leaves: Leaves::new(alloc),
             last: None,
             starts: Starts::new(alloc),
@@ -74,12 +78,14 @@ impl TextsRead {
 
     /// Goes past the text of a node, and gives it back with what is known of its words.
     pub(crate) fn pass_text(&mut self, node: NodeRef, text: Line) -> Result<SharedText, TokenFault>
-        ensures gathers { OnOk result (Gathers self.old ((node, text) ∷ []) (map part_of_segment (word_bounds text)) self.new) }
+        ensures gathers { OnOk result (Gathers self.old ((node, text) ∷ []) (parts_of_text self.old.abbreviations.now text) self.new) }
         ensures text { IfOk result (λ shared. shared ≡ text) }
         ensures counted { OnOk result (words_seen self.new.starts ≡ words_seen self.old.starts + length (words text)) }
         ensures full { result ≡ Err TokenFault.Tokens → self.old.most < words_seen self.old.starts + length (words text) }
     {
-        let read = self.starts.pass_text(self.alloc, text.as_str(), self.most)?;
+        let read = self
+            .starts
+            .pass_text(self.alloc, text.as_str(), self.abbreviations, self.most)?;
         let TextRead { words, starts } = read;
         let shared = SharedText::with_starts(self.alloc, text, starts)?;
         let leaf = LeafId(node.0);
@@ -94,9 +100,9 @@ impl TextsRead {
 
     /// The leaves and the places, where the document ends here.
     pub(crate) fn into_parts(self) -> (Leaves, Breaks)
-        ensures leaves { result.0 ≡ self.leaves }
-        ensures sentences { result.1.sentences ≡ sentences_in self.starts [] }
-        ensures paragraphs { result.1.paragraphs ≡ paragraphs_in self.starts [] }
+        ensures leaves { result.0 ≡ self.entry.leaves }
+        ensures sentences { result.1.sentences ≡ sentences_in self.entry.starts [] }
+        ensures paragraphs { result.1.paragraphs ≡ paragraphs_in self.entry.starts [] }
     {
         (self.leaves, self.starts.into_breaks())
     }

@@ -13,7 +13,7 @@ use Rattle.ordered_tree.specs.Leaves.{leaf_of, text_of, texts}
 use Rattle.ordered_tree.specs.Numbered.{Numbered}
 use Rattle.ordered_tree.specs.Stands.{references}
 use Rattle.ordered_tree.proofs.ApartLemmas.{All-before_map}
-use Rattle.tokenizer.specs.Words.{words}
+use Rattle.text_words.specs.Words.{words}
 use Rattle.tree_edits.specs.Changed.{Text, is_text, put_by, stays}
 use Rattle.tree_edits.specs.Edits.{is_same}
 use Rattle.ordered_tree.specs.declared.texts.TextAt.{TextAt}

@@ -9,7 +9,7 @@ use Rattle.ordered_tree.specs.Leaves.{leaf_of, texts}
 use Rattle.ordered_tree.specs.Numbered.{Numbered}
 use Rattle.ordered_tree.specs.Stands.{references}
 use Rattle.ordered_tree.specs.declared.leaf.LeafWords.{LeafWords}
-use Rattle.tokenizer.specs.Words.{words}
+use Rattle.text_words.specs.Words.{words}
 use Rattle.tree_edits.specs.Edits.{is_among, is_same}
 use Rattle.tree_edits.specs.declared.change.Change.{Change}
 

@@ -4,7 +4,7 @@ ghost use Rattle.std.specs.Prelude.{◌≡◌, ◌≢◌, ◌<◌, ◌++◌, All
 ghost use Rattle.ordered_tree.specs.Leaves.{leaf_of, text_of, texts, texts_of};
 ghost use Rattle.ordered_tree.specs.RefView.{ref_node, ref_nodes};
 ghost use Rattle.ordered_tree.specs.Stands.{references};
-ghost use Rattle.tokenizer.specs.Words.{words};
+ghost use Rattle.text_words.specs.Words.{words};
 ghost use Rattle.tree_edits.specs.Changed as spec;
 ghost use Rattle.tree_edits.specs.Changed.{put_by};
 ghost use Rattle.tree_edits.specs.steps.TextTable.{is_held};
@@ -14,7 +14,7 @@ use ft_base::{LeafId, Memory};
 use ordered_tree::{DocTree, LeafIds, LeafWords, Leaves, RefTree, TextAt};
 use std::alloc::Global;
 use text_list::TextList;
-use tokenizer::words_of;
+use text_words::words_of;
 
 /// The texts of a document, in its order and by the numbers of their references.
 #[derive(Drop)]

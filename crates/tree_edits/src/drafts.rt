@@ -1,11 +1,10 @@
 //! Documents that edits made, looked at before they are put into slots.
 
-ghost use Rattle.std.specs.Prelude.{◌≡◌, length, nat_lt, IfOk};
+ghost use Rattle.std.specs.Prelude.{◌≡◌, nat_lt, IfOk};
 ghost use Rattle.doc_grammar.specs.Limits.{height, node_count};
-ghost use Rattle.ordered_tree.specs.Counts.{element_depth};
+ghost use Rattle.ordered_tree.specs.Counts.{element_depth, word_count};
 ghost use Rattle.ordered_tree.specs.Numbered.{plain};
 ghost use Rattle.ordered_tree.specs.RefView.{ref_node};
-ghost use Rattle.tokenizer.specs.Tokens.{tokens};
 ghost use Rattle.tree_edits.specs.Changed.{KeepsOrder, Made};
 ghost use Rattle.tree_edits.specs.Fitting.{FitsSlots};
 ghost use Rattle.tree_edits.specs.steps.Drafting.{IsSizeOf};
@@ -48,7 +47,7 @@ impl Draft {
 
     /// Whether the document has more tokens than so many.
     pub fn has_more_tokens_than(&self, most: usize) -> bool
-        ensures { result ≡ nat_lt most (length (tokens (plain (ref_node self.now.root)))) }
+        ensures { result ≡ nat_lt most (word_count (plain (ref_node self.now.root))) }
     {
         self.size.words > most as u128
     }

@@ -6,7 +6,7 @@ ghost use Rattle.ordered_tree.specs.Numbered.{no_children};
 ghost use Rattle.plain_tree.specs.Document as plain;
 ghost use Rattle.plain_tree.specs.EditExamples as plain_example;
 ghost use Rattle.plain_tree.specs.declared.place.How.TheVariants as H;
-ghost use Rattle.tokenizer.specs.Words.{words};
+ghost use Rattle.text_words.specs.Words.{words};
 ghost use Rattle.tree_edits.specs.Changed.{KeepsOrder, Made, put, put_all, take_all, taken, text_leaves, touched, word_total};
 ghost use Rattle.tree_edits.specs.Edits.{inserted, insertion, is_among, only, references_in, removal, replacement};
 ghost use Rattle.tree_edits.specs.Examples.{a, b, c, change_of, children_of, leaf_id, letters, nested, put_leaf, ref, seen, text, without_b};

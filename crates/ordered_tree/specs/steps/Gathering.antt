@@ -7,9 +7,9 @@ use Rattle.tokenizer.specs.steps.StartsLeft.{sentences_in, paragraphs_in}
 use Rattle.ordered_tree.specs.Leaves.{leaves_after, last_leaf}
 use Rattle.ordered_tree.specs.declared.texts_read.TextsRead.{TextsRead}
 
--- the parts of children
-abbrev pub parts_of : Nodes → List Part
-parts_of ns = flat_map parts_of_event (events_of ns)
+-- the parts of children under a set of abbreviations
+abbrev pub parts_of : List (List ℕ) → Nodes → List Part
+parts_of abbreviations ns = flat_map (parts_of_event abbreviations) (events_of ns)
 
 -- these texts with their references, and these parts of the document, lead from `old` to `new`
 pub record Gathers (old : TextsRead) (texts : List (NodeRef × List ℕ)) (parts : List Part) (new : TextsRead) : Type 0 where
@@ -17,4 +17,5 @@ pub record Gathers (old : TextsRead) (texts : List (NodeRef × List ℕ)) (parts
   pub last : new.last ≡ last_leaf old.last texts
   pub sentences : (rest : List Part) → sentences_in old.starts (parts ++ rest) ≡ sentences_in new.starts rest
   pub paragraphs : (rest : List Part) → paragraphs_in old.starts (parts ++ rest) ≡ paragraphs_in new.starts rest
+  pub abbreviations : new.abbreviations.now ≡ old.abbreviations.now
   pub most : new.most ≡ old.most

@@ -1,7 +1,7 @@
 -- By computation, with the words of the texts.
 use Rattle.std.proofs.Common.{refl}
 use Rattle.ordered_tree.specs.Numbering.{numbered, children_numbered}
-use Rattle.tokenizer.specs.Words.{is_letter_or_number, is_word}
+use Rattle.text_words.specs.Words.{is_letter_or_number, is_word}
 use Rattle.ucd_category.proofs.Computing.{ucd_category}
 use Rattle.unicode_segmentation.proofs.Computing.{unicode_segmentation}
 use Rattle.document_edits.specs.Targets.{touched_by}

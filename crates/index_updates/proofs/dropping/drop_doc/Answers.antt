@@ -15,12 +15,12 @@ returns-in-Ok-clause-others g c = λ other apart.
     let made = c.in-Ok.ensures.ok ∙ ap (λ ds. without_document c.args.doc.0 ds) c.in_ok-next.ensures in
     ap (document_at other) made ∙ others-without c.args.doc.0 c.args.version.now other apart
 
-pub returns-in-Ok-clause-tokens : goal.returns-in-Ok-clause-tokens
-returns-in-Ok-clause-tokens g c = λ root follows.
-    let count = ap token_count (ap (document_at c.args.doc.0) c.in_ok-next.ensures ∙ follows.document) ∙ count-tree root in
+pub returns-in-Ok-clause-words : goal.returns-in-Ok-clause-words
+returns-in-Ok-clause-words g c = λ abbreviations root follows.
+    let count = ap token_count (ap (document_at c.args.doc.0) c.in_ok-next.ensures ∙ follows.document) ∙ count-tree abbreviations root in
     omega (arith, count, c.take_document.ensures.counted)
 
-pub returns-in-Err-clause-tokens : goal.returns-in-Err-clause-tokens
-returns-in-Err-clause-tokens g c = λ root follows.
-    let count = ap token_count (ap (document_at c.args.doc.0) c.in_ok-next.ensures ∙ follows.document) ∙ count-tree root in
+pub returns-in-Err-clause-words : goal.returns-in-Err-clause-words
+returns-in-Err-clause-words g c = λ abbreviations root follows.
+    let count = ap token_count (ap (document_at c.args.doc.0) c.in_ok-next.ensures ∙ follows.document) ∙ count-tree abbreviations root in
     omega (arith, count, c.take_document.ensures.counted)

@@ -11,3 +11,7 @@ returns-clause-ids c = refl
 pub returns-clause-no_leaves : goal.returns-clause-no_leaves
 unfolding tree_document leaves_after
 returns-clause-no_leaves c = refl
+
+pub returns-clause-under_titles : goal.returns-clause-under_titles
+unfolding tree_document leaves_after
+returns-clause-under_titles c = refl

@@ -32,6 +32,7 @@ pass_nodes-loop-link-smaller t c =
 pub pass_nodes-loop-link-preserved : goal.pass_nodes-loop-link-preserved
 pass_nodes-loop-link-preserved t c =
     let slots = c.args.slots.now in
+    let abbreviations = c.args.abbreviations.now in
     let link = c.loop-link.link in
     let left = c.loop-link.invariant.left in
     let s = slot_of c.get-slot.result in
@@ -40,17 +41,17 @@ pass_nodes-loop-link-preserved t c =
     let all : row slots link ≡ child_then st.n st.ns = row-link slots link c.in-Some.here left c.in-Some.is s c.get-slot.ensures in
     let old = c.loop-link.starts in
     let new = c.pass_node.new.starts in
-    let one : Passes old (parts (plain st.n)) new = subst (λ n. Passes old (parts (plain n)) new) (node_at-is slots c.in-Some.here st) c.in_ok-pass_node.ensures.passed in
-    let prefix : parts_of (plain_children (row slots link)) ≡ parts (plain st.n) ++ parts_of (plain_children st.ns) =
-    ap (λ ns. parts_of (plain_children ns)) all ∙ parts_of-then (plain st.n) (plain_children st.ns) in
+    let one : Passes old (parts abbreviations (plain st.n)) new = subst (λ n. Passes old (parts abbreviations (plain n)) new) (node_at-is slots c.in-Some.here st) c.in_ok-pass_node.ensures.passed in
+    let prefix : parts_of abbreviations (plain_children (row slots link)) ≡ parts abbreviations (plain st.n) ++ parts_of abbreviations (plain_children st.ns) =
+    ap (λ ns. parts_of abbreviations (plain_children ns)) all ∙ parts_of-then abbreviations (plain st.n) (plain_children st.ns) in
     record {
       left = left-next slots link c.in-Some.here left c.in-Some.is s c.get-slot.ensures;
       sentences = λ rest. c.loop-link.invariant.sentences rest ∙ ap (λ ps. sentences_in old (ps ++ rest)) prefix
-          ∙ ap (sentences_in old) (append_assoc (parts (plain st.n)) (parts_of (plain_children st.ns)) rest) ∙ one.sentences (parts_of (plain_children st.ns) ++ rest)
-          ∙ ap (λ ns. sentences_in new (parts_of (plain_children ns) ++ rest)) (sym rest-is);
+          ∙ ap (sentences_in old) (append_assoc (parts abbreviations (plain st.n)) (parts_of abbreviations (plain_children st.ns)) rest) ∙ one.sentences (parts_of abbreviations (plain_children st.ns) ++ rest)
+          ∙ ap (λ ns. sentences_in new (parts_of abbreviations (plain_children ns) ++ rest)) (sym rest-is);
       paragraphs = λ rest. c.loop-link.invariant.paragraphs rest ∙ ap (λ ps. paragraphs_in old (ps ++ rest)) prefix
-          ∙ ap (paragraphs_in old) (append_assoc (parts (plain st.n)) (parts_of (plain_children st.ns)) rest) ∙ one.paragraphs (parts_of (plain_children st.ns) ++ rest)
-          ∙ ap (λ ns. paragraphs_in new (parts_of (plain_children ns) ++ rest)) (sym rest-is);
+          ∙ ap (paragraphs_in old) (append_assoc (parts abbreviations (plain st.n)) (parts_of abbreviations (plain_children st.ns)) rest) ∙ one.paragraphs (parts_of abbreviations (plain_children st.ns) ++ rest)
+          ∙ ap (λ ns. paragraphs_in new (parts_of abbreviations (plain_children ns) ++ rest)) (sym rest-is);
       few = c.pass_node.ensures.few;
       fewer = omega (arith, c.loop-link.invariant.fewer, ap (λ ns. nodes_count (plain_children ns)) rest-is, ap (λ ns. nodes_count (plain_children ns)) all);
     }
@@ -59,11 +60,12 @@ pub pass_nodes-returns-clause-passed : goal.pass_nodes-returns-clause-passed
 unfolding events_of
 pass_nodes-returns-clause-passed t c =
     let slots = c.args.slots.now in
+    let abbreviations = c.args.abbreviations.now in
     let starts = c.loop-link.starts in
     let none : row slots c.loop-link.link ≡ no_children = ap (row slots) c.in_default.is ∙ from_link-none slots (length slots) in
     record {
-      sentences = λ rest. c.loop-link.invariant.sentences rest ∙ ap (λ ns. sentences_in starts (parts_of (plain_children ns) ++ rest)) none;
-      paragraphs = λ rest. c.loop-link.invariant.paragraphs rest ∙ ap (λ ns. paragraphs_in starts (parts_of (plain_children ns) ++ rest)) none;
+      sentences = λ rest. c.loop-link.invariant.sentences rest ∙ ap (λ ns. sentences_in starts (parts_of abbreviations (plain_children ns) ++ rest)) none;
+      paragraphs = λ rest. c.loop-link.invariant.paragraphs rest ∙ ap (λ ns. paragraphs_in starts (parts_of abbreviations (plain_children ns) ++ rest)) none;
     }
 
 -- ---- pass_node
@@ -80,15 +82,17 @@ pass_node-pass_nodes-requires t c =
 pub pass_node-returns-in-Text-clause-passed : goal.pass_node-returns-in-Text-clause-passed
 pass_node-returns-in-Text-clause-passed t c =
     let slots = c.args.slots.now in
+    let abbreviations = c.args.abbreviations.now in
     let s = slot_of c.args.slot in
     let st : Step slots c.args.here = step slots c.args.here c.requires.row in
     let is : held st.n ≡ Text c.in-Text.text = held-here slots c.args.here c.requires.row s c.requires.slot (Text c.in-Text.text) c.in-Text.is in
     let one : text c.in-Text.text ≡ plain (node_at slots c.args.here) = sym (plain-text st.n c.in-Text.text is) ∙ sym (ap plain (node_at-is slots c.args.here st)) in
-    subst (λ n. OnOk c.pass_text.result (Passes c.args.starts.now (parts n) c.pass_text.new.starts)) one c.pass_text.ensures.passed
+    subst (λ n. OnOk c.pass_text.result (Passes c.args.starts.now (parts abbreviations n) c.pass_text.new.starts)) one c.pass_text.ensures.passed
 
 pub pass_node-returns-in_ok-pass_nodes-in-Element-clause-passed : goal.pass_node-returns-in_ok-pass_nodes-in-Element-clause-passed
 pass_node-returns-in_ok-pass_nodes-in-Element-clause-passed t c =
     let slots = c.args.slots.now in
+    let abbreviations = c.args.abbreviations.now in
     let s = slot_of c.args.slot in
     let name = c.in-Element.name in
     let attrs = c.in-Element.attrs in
@@ -100,10 +104,10 @@ pass_node-returns-in_ok-pass_nodes-in-Element-clause-passed t c =
     let last = c.pass_nodes.new.starts in
     let open' : Passes c.args.starts.now (gap_tag name ∷ []) first =
     subst (λ n. Passes c.args.starts.now (gap_tag n ∷ []) first) c.as_str.ensures (record { sentences = c.pass_tag.ensures.sentences; paragraphs = c.pass_tag.ensures.paragraphs }) in
-    let inner : Passes first (parts_of kids) last =
-    subst (λ ns. Passes first (parts_of (plain_children ns)) last) (row-here slots c.args.here c.requires.row s c.requires.slot) c.in_ok-pass_nodes-in-Element.ensures.passed in
+    let inner : Passes first (parts_of abbreviations kids) last =
+    subst (λ ns. Passes first (parts_of abbreviations (plain_children ns)) last) (row-here slots c.args.here c.requires.row s c.requires.slot) c.in_ok-pass_nodes-in-Element.ensures.passed in
     let close : Passes last (gap_tag name ∷ []) c.pass_tag-in-Element.new.self =
     subst (λ n. Passes last (gap_tag n ∷ []) c.pass_tag-in-Element.new.self) c.as_str-in-Element.ensures
     (record { sentences = c.pass_tag-in-Element.ensures.sentences; paragraphs = c.pass_tag-in-Element.ensures.paragraphs }) in
-    subst (λ n. Passes c.args.starts.now (parts n) c.pass_tag-in-Element.new.self) one
-    (Passes-element c.args.starts.now first last c.pass_tag-in-Element.new.self name attrs kids open' inner close)
+    subst (λ n. Passes c.args.starts.now (parts abbreviations n) c.pass_tag-in-Element.new.self) one
+    (Passes-element abbreviations c.args.starts.now first last c.pass_tag-in-Element.new.self name attrs kids open' inner close)

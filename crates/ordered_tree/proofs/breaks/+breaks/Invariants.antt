@@ -20,8 +20,8 @@ decreases-pass_nodes-loop-link l = nodes_count (plain_children (row l.slots l.li
 abbrev pub invariant-pass_nodes-loop-link : goal.invariant-pass_nodes-loop-link
 invariant-pass_nodes-loop-link l = record {
   left : IsRow l.slots l.link;
-  sentences : (rest : List Part) → sentences_in l.fn.starts (parts_of (plain_children (row l.slots l.fn.first)) ++ rest) ≡ sentences_in l.starts (parts_of (plain_children (row l.slots l.link)) ++ rest);
-  paragraphs : (rest : List Part) → paragraphs_in l.fn.starts (parts_of (plain_children (row l.slots l.fn.first)) ++ rest) ≡ paragraphs_in l.starts (parts_of (plain_children (row l.slots l.link)) ++ rest);
+  sentences : (rest : List Part) → sentences_in l.fn.starts (parts_of l.abbreviations (plain_children (row l.slots l.fn.first)) ++ rest) ≡ sentences_in l.starts (parts_of l.abbreviations (plain_children (row l.slots l.link)) ++ rest);
+  paragraphs : (rest : List Part) → paragraphs_in l.fn.starts (parts_of l.abbreviations (plain_children (row l.slots l.fn.first)) ++ rest) ≡ paragraphs_in l.starts (parts_of l.abbreviations (plain_children (row l.slots l.link)) ++ rest);
   few : words_seen l.starts < 2 ^ 31;
   fewer : nodes_count (plain_children (row l.slots l.link)) ≤ nodes_count (plain_children (row l.slots l.fn.first));
 }

@@ -6,5 +6,5 @@ pub returns-in-Ok-clause-passed : goal.returns-in-Ok-clause-passed
 returns-in-Ok-clause-passed c =
     let bytes = c.args.content.now in
     let done = c.in-Ok.ensures in
-    Passes-text c.args.starts.now c.pass_known.new.self bytes
+    Passes-text c.args.abbreviations.now c.args.starts.now c.pass_known.new.self bytes
     (record { sentences = λ rest. done.sentences bytes rest c.starts.ensures; paragraphs = λ rest. done.paragraphs bytes rest c.starts.ensures })

@@ -6,10 +6,10 @@ use Rattle.doc_grammar.specs.Limits.{node_count, nodes_count}
 use Rattle.plain_tree.specs.Document.{element, nodes}
 use Rattle.plain_tree.specs.View.{node}
 use Rattle.plain_tree.proofs.Views.{node_elem}
-use Rattle.tokenizer.specs.Parts.{gap_tag}
+use Rattle.tokenizer.specs.Parts.{gap_tag, parts}
 use Rattle.tokenizer.specs.declared.tokens.TokenFault.TheVariants as Fault
 use Rattle.ordered_tree.specs.Counts.{word_counts, element_depths}
-use Rattle.ordered_tree.specs.Leaves.{texts_of}
+use Rattle.ordered_tree.specs.Leaves.{texts, texts_of}
 use Rattle.ordered_tree.specs.Numbered.{last_from}
 use Rattle.ordered_tree.specs.Numbering.{numbered, children_numbered, next_sibling}
 use Rattle.ordered_tree.specs.Slots.{slot}
@@ -36,8 +36,9 @@ add_children-loop-kid-init t c =
       fewer = omega (arith, ap (λ ks. nodes_count (nodes (map node ks))) all);
       number = omega (arith, ap (λ a. a.number) around, c.requires.some);
       before = ap (λ a. a.before) around ∙ c.requires.before;
+      abbreviations = refl;
       most = refl;
-      gathers = λ end g. subst (λ ks. Gathers c.args.read.now (texts_of (children_numbered (length slots) (nodes (map node ks)))) (parts_of (nodes (map node ks))) end) all g;
+      gathers = λ end g. subst (λ ks. Gathers c.args.read.now (texts_of (children_numbered (length slots) (nodes (map node ks)))) (parts_of c.args.read.now.abbreviations.now (nodes (map node ks))) end) all g;
     }
 
 pub add_children-overflow_sub-left : goal.add_children-overflow_sub-left
@@ -76,6 +77,7 @@ add_children-loop-kid-preserved t c =
     let here : c.len.result ≡ length before = omega arith in
     let next : into_iter_items c.loop-kid.kid-iterator ≡ kid ∷ kids = c.in-Some.ensures.steps.0 in
     let inv = c.loop-kid.invariant in
+    let abbreviations = c.args.read.now.abbreviations.now in
     let done = c.in_ok-added.ensures.slots in
     let added = c.in_ok-added.ensures.words in
     let levels = c.in_ok-added.ensures.levels in
@@ -101,10 +103,12 @@ add_children-loop-kid-preserved t c =
       fewer = omega (arith, ap (λ l. nodes_count (nodes (map node l))) next, inv.fewer);
       number = omega (arith, ap (λ a. a.number) following, longer, node_count-some n, inv.number);
       before = omega (arith, ap (λ a. a.before) following, c.in_ok-added.ensures.counted, inv.before);
+      abbreviations = c.in_ok-added.ensures.gathers.abbreviations ∙ inv.abbreviations;
       most = c.in_ok-added.ensures.gathers.most ∙ inv.most;
       gathers = λ end g. inv.gathers end
-          (subst (λ l. Gathers c.loop-kid.read (texts_of (children_numbered (length before) (nodes (map node l)))) (parts_of (nodes (map node l))) end) (sym next)
-          (Gathers-then c.loop-kid.read c.add_tree.new.read end n rest (length before) (length after) longer c.in_ok-added.ensures.gathers g));
+          (subst (λ l. Gathers c.loop-kid.read (texts_of (children_numbered (length before) (nodes (map node l)))) (parts_of abbreviations (nodes (map node l))) end) (sym next)
+          (Gathers-then abbreviations c.loop-kid.read c.add_tree.new.read end n rest (length before) (length after) longer
+          (subst (λ a. Gathers c.loop-kid.read (texts (numbered (length before) n)) (parts a n) c.add_tree.new.read) inv.abbreviations c.in_ok-added.ensures.gathers) g));
     }
 
 pub add_children-overflow_sub-result : goal.add_children-overflow_sub-result
@@ -143,8 +147,9 @@ add_children-returns-clause-gathers t c =
     let inv = c.loop-kid.invariant in
     let read = c.loop-kid.read in
     let slots = length c.loop-kid.slots.items in
+    let abbreviations = c.args.read.now.abbreviations.now in
     let none = kids-none _ _ inv.ends c.in-None.ensures.steps.0 in
-    inv.gathers read (subst (λ ns. Gathers read (texts_of (children_numbered slots ns)) (parts_of ns) read) (sym none) (Gathers-none read slots))
+    inv.gathers read (subst (λ ns. Gathers read (texts_of (children_numbered slots ns)) (parts_of abbreviations ns) read) (sym none) (Gathers-none abbreviations read slots))
 
 pub add_element-finish-requires-clause-few : goal.add_element-finish-requires-clause-few
 add_element-finish-requires-clause-few t c =
@@ -168,11 +173,14 @@ add_element-returns-clause-slots t c =
 pub add_element-returns-clause-gathers : goal.add_element-returns-clause-gathers
 add_element-returns-clause-gathers t c =
     let before = c.args.slots.now.items in
+    let abbreviations = c.args.read.now.abbreviations.now in
+    let kids = nodes (map node c.args.kids) in
     let opened : length c.open_element.new.slots.items ≡ length before + 1 = ap length c.in_ok-open_element.ensures ∙ length_push before _ in
-    Gathers-element c.args.read.now c.pass_first_tag.new.self c.add_children.new.read c.pass_tag.new.self c.args.name c.args.attrs
-    (nodes (map node c.args.kids)) (length before) (length c.open_element.new.slots.items) opened
+    Gathers-element abbreviations c.args.read.now c.pass_first_tag.new.self c.add_children.new.read c.pass_tag.new.self c.args.name c.args.attrs
+    kids (length before) (length c.open_element.new.slots.items) opened
     c.pass_first_tag.ensures.gathers
-    c.in_ok-row.ensures.gathers
+    (subst (λ a. Gathers c.pass_first_tag.new.self (texts_of (children_numbered (length c.open_element.new.slots.items) kids)) (parts_of a kids) c.add_children.new.read)
+    c.pass_first_tag.ensures.gathers.abbreviations c.in_ok-row.ensures.gathers)
     (subst (λ (n : List ℕ). Gathers c.add_children.new.read [] (gap_tag n ∷ []) c.pass_tag.new.self) (c.as_str.ensures ∙ c.in_ok-name.ensures.name) c.pass_tag.ensures.gathers)
 
 pub add_tree-add_element-requires : goal.add_tree-add_element-requires

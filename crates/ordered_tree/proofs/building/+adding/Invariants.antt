@@ -38,7 +38,8 @@ invariant-add_children-loop-kid l = record {
   fewer : nodes_count (nodes (map node (into_iter_items l.kid-iterator))) ≤ nodes_count (nodes (map node l.fn.kids));
   number : l.around.number ≤ length l.slots.items;
   before : l.around.before ≡ words_seen l.read.starts;
+  abbreviations : l.read.abbreviations.now ≡ l.fn.read.abbreviations.now;
   most : l.read.most ≡ l.fn.read.most;
-  gathers : (end : TextsRead) → Gathers l.read (texts_of (children_numbered (length l.slots.items) (nodes (map node (into_iter_items l.kid-iterator))))) (parts_of (nodes (map node (into_iter_items l.kid-iterator)))) end
-      → Gathers l.fn.read (texts_of (children_numbered (length l.fn.slots.items) (nodes (map node l.fn.kids)))) (parts_of (nodes (map node l.fn.kids))) end;
+  gathers : (end : TextsRead) → Gathers l.read (texts_of (children_numbered (length l.slots.items) (nodes (map node (into_iter_items l.kid-iterator))))) (parts_of l.fn.read.abbreviations.now (nodes (map node (into_iter_items l.kid-iterator)))) end
+      → Gathers l.fn.read (texts_of (children_numbered (length l.fn.slots.items) (nodes (map node l.fn.kids)))) (parts_of l.fn.read.abbreviations.now (nodes (map node l.fn.kids))) end;
 }

@@ -1,6 +1,6 @@
 -- The new slot is that of the text where it stands, and what was read has the text's leaf and words.
 use Rattle.std.proofs.Common.{◌≡◌, sym, ap, ◌∙◌, ◌+◌, ◌++◌, ◌∷◌, [], None, length, rules, arith}
-use Rattle.tokenizer.specs.Words.{words}
+use Rattle.text_words.specs.Words.{words}
 use Rattle.ordered_tree.specs.Numbering.{next_sibling}
 use Rattle.ordered_tree.specs.declared.slot.Held.TheVariants.{Text}
 use Rattle.ordered_tree.proofs.BuildingLemmas.{stands-text}
@@ -19,5 +19,5 @@ returns-clause-gathers c =
     let old = c.args.read.now in
     let new = c.pass_text.new.self in
     let here = c.len-here.result in
-    Gathers-text old new c.args.content (length c.args.slots.now.items) here (omega arith)
+    Gathers-text old.abbreviations.now old new c.args.content (length c.args.slots.now.items) here (omega arith)
     c.in_ok-text.ensures.gathers

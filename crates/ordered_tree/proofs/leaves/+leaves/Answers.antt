@@ -1,7 +1,7 @@
 -- A text has one leaf, an element has those of its children, and each link leads to the next sibling until there is none.
 use Rattle.std.proofs.Common.{◌≡◌, ℕ, [], ◌∷◌, ◌++◌, length, sym, ap, ap₂, ◌∙◌, subst, arith, append_assoc, append-nil, OnOk, IfOk}
 use Rattle.doc_grammar.specs.Limits.{nodes_count}
-use Rattle.tokenizer.specs.Words.{words}
+use Rattle.text_words.specs.Words.{words}
 use Rattle.ordered_tree.specs.Leaves.{texts, texts_of, leaf_of, leaves_after, last_leaf}
 use Rattle.ordered_tree.specs.Numbered.{plain_children, no_children, child_then}
 use Rattle.ordered_tree.specs.Slots.{IsRow, held, row, node_at}

@@ -22,13 +22,15 @@ pass_node-requires-clause-row c =
 pub returns-clause-sentences : goal.returns-clause-sentences
 unfolding root_of tokens
 returns-clause-sentences c =
-    let all = parts (plain (root_of c.self.inside.slots)) in
+    let abbreviations = c.args.abbreviations.now in
+    let all = parts abbreviations (plain (root_of c.self.inside.slots)) in
     c.into_breaks.ensures.sentences ∙ sym (c.in_ok-pass_node.ensures.passed.sentences []) ∙ c.new-starts.ensures.sentences (all ++ [])
-    ∙ ap (λ ps. sentence_starts (tokens_from 1 1 ps)) (append-nil all) ∙ ap (λ v. sentence_starts (tokens (plain v.root))) c.self.view_is
+    ∙ ap (λ ps. sentence_starts (tokens_from 1 1 ps)) (append-nil all) ∙ ap (λ v. sentence_starts (tokens abbreviations (plain v.root))) c.self.view_is
 
 pub returns-clause-paragraphs : goal.returns-clause-paragraphs
 unfolding root_of tokens
 returns-clause-paragraphs c =
-    let all = parts (plain (root_of c.self.inside.slots)) in
+    let abbreviations = c.args.abbreviations.now in
+    let all = parts abbreviations (plain (root_of c.self.inside.slots)) in
     c.into_breaks.ensures.paragraphs ∙ sym (c.in_ok-pass_node.ensures.passed.paragraphs []) ∙ c.new-starts.ensures.paragraphs (all ++ [])
-    ∙ ap (λ ps. paragraph_starts (tokens_from 1 1 ps)) (append-nil all) ∙ ap (λ v. paragraph_starts (tokens (plain v.root))) c.self.view_is
+    ∙ ap (λ ps. paragraph_starts (tokens_from 1 1 ps)) (append-nil all) ∙ ap (λ v. paragraph_starts (tokens abbreviations (plain v.root))) c.self.view_is

@@ -10,7 +10,6 @@ use Rattle.ordered_tree.specs.declared.slot.Slot.{Slot}
 use Rattle.ordered_tree.specs.steps.FreeSlots.{free_numbers}
 use Rattle.ordered_tree.specs.steps.Placing.{Below, placed}
 use Rattle.ordered_tree.proofs.ReferencedLemmas.{empty, filled, low-empty, nodes-fit, length-filled, root-is, IsDocument-filled}
-use Rattle.ordered_tree.proofs.ShiftLemmas.{length-tokens}
 use Rattle.ordered_tree.proofs.doc_tree.DocTree.from_referenced.Goals.{In_ok-slots}
 use Rattle.ordered_tree.proofs.doc_tree.DocTree.from_referenced.Goals as goal
 
@@ -26,7 +25,7 @@ pub place_tree-requires-clause-few_nodes : goal.place_tree-requires-clause-few_n
 place_tree-requires-clause-few_nodes c = omega (arith, nodes-fit (ref_node c.args.tree) c.args.slots c.requires.apart c.requires.below, c.requires.few_slots)
 
 pub place_tree-requires-clause-few_words : goal.place_tree-requires-clause-few_words
-place_tree-requires-clause-few_words c = omega (arith, ap (λ a. a.before) c.root.ensures, length-tokens (plain (ref_node c.args.tree)), c.requires.few_words)
+place_tree-requires-clause-few_words c = omega (arith, ap (λ a. a.before) c.root.ensures, c.requires.few_words)
 
 filled-is : (c : In_ok-slots) → c.place_tree.new.slots.items ≡ filled c.args.slots (ref_node c.args.tree)
 filled-is c =
@@ -60,7 +59,7 @@ module _ (c : In_ok-slots) where
   stored : IsDocument new c.link_free-free.result root
   stored =
       IsDocument-filled root c.args.slots c.requires.apart c.requires.below new c.link_free-free.result long kept links c.requires.rooted c.requires.document c.requires.few_slots
-      (omega (arith, length-tokens (plain root), c.requires.few_words))
+      c.requires.few_words
 
 pub invariant_of-result : goal.invariant_of-result
 invariant_of-result c =

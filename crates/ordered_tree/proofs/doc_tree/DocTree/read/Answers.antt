@@ -12,8 +12,8 @@ use Rattle.ordered_tree.specs.Numbered.{plain}
 use Rattle.ordered_tree.specs.Numbering.{numbered, next_sibling}
 use Rattle.ordered_tree.specs.Slots.{slot, root_of, IsDocument}
 use Rattle.ordered_tree.specs.Stands.{stands, stands_in}
+use Rattle.ordered_tree.specs.steps.Gathering.{Gathers}
 use Rattle.ordered_tree.proofs.BuildingLemmas.{plain-numbered, length-filled-root}
-use Rattle.ordered_tree.proofs.ShiftLemmas.{length-tokens}
 use Rattle.ordered_tree.proofs.SlotsLemmas.{IsDocument-numbered, root_of-numbered}
 use Rattle.ordered_tree.proofs.doc_tree.DocTree.read.Goals.{After-into_parts-leaves}
 use Rattle.ordered_tree.proofs.doc_tree.DocTree.read.Goals as goal
@@ -27,9 +27,16 @@ filled c =
     ∙ ap (λ n. map slot (stands_in (numbered 0 n))) c.into_tree-root.ensures.tree
 
 -- all words that were seen are the document's
-counted : (c : After-into_parts-leaves) → words_seen c.add_tree.new.read.starts ≡ length (tokens c.args.doc)
+counted : (c : After-into_parts-leaves) → words_seen c.add_tree.new.read.starts ≡ word_count c.args.doc
 counted c =
-    omega (arith, c.in_ok-added.ensures.counted, c.new-texts.ensures.words, ap word_count c.into_tree-root.ensures.tree, length-tokens c.args.doc)
+    omega (arith, c.in_ok-added.ensures.counted, c.new-texts.ensures.words, ap word_count c.into_tree-root.ensures.tree)
+
+-- what was read of the texts is read under the abbreviations that were lent
+gathered : (c : After-into_parts-leaves) → Gathers c.new-texts.result (texts (numbered (length c.in-Ok.slots.items) (node c.into_tree-root.result)))
+    (parts c.args.abbreviations.now (node c.into_tree-root.result)) c.add_tree.new.read
+gathered c =
+    subst (λ a. Gathers c.new-texts.result (texts (numbered (length c.in-Ok.slots.items) (node c.into_tree-root.result))) (parts a (node c.into_tree-root.result)) c.add_tree.new.read)
+    c.new-texts.ensures.abbreviations c.in_ok-added.ensures.gathers
 
 pub invariant_of-tree : goal.invariant_of-tree
 invariant_of-tree c =
@@ -39,7 +46,7 @@ invariant_of-tree c =
     let plain-is : plain (root_of slots) ≡ doc = ap plain is ∙ plain-numbered doc 0 in
     record {
       stored = subst (IsDocument slots None) (sym is) (IsDocument-numbered slots doc c.into_tree-root.ensures.document (filled c) c.requires.few_nodes
-          (omega (arith, counted c, length-tokens doc, c.add_tree.new.read.few, c.add_tree.new.read.countable)));
+          (omega (arith, counted c, c.add_tree.new.read.few, c.add_tree.new.read.countable)));
       nodes_are = omega (arith, c.len-nodes.ensures, length-filled-root slots doc (filled c), ap node_count plain-is);
       levels_are = c.in_ok-added.ensures.levels ∙ ap element_depth (c.into_tree-root.ensures.tree ∙ sym plain-is);
     }
@@ -60,17 +67,19 @@ pub returns-clause-sentences : goal.returns-clause-sentences
 unfolding tokens
 returns-clause-sentences c =
     let root = node c.into_tree-root.result in
-    c.into_parts-leaves.ensures.sentences ∙ sym (c.in_ok-added.ensures.gathers.sentences []) ∙ c.new-texts.ensures.sentences (parts root ++ [])
-    ∙ ap (λ ps. sentence_starts (tokens_from 1 1 ps)) (append-nil (parts root))
-    ∙ ap (λ n. sentence_starts (tokens_from 1 1 (parts n))) c.into_tree-root.ensures.tree
+    let all = parts c.args.abbreviations.now root in
+    c.into_parts-leaves.ensures.sentences ∙ sym ((gathered c).sentences []) ∙ c.new-texts.ensures.sentences (all ++ [])
+    ∙ ap (λ ps. sentence_starts (tokens_from 1 1 ps)) (append-nil all)
+    ∙ ap (λ n. sentence_starts (tokens_from 1 1 (parts c.args.abbreviations.now n))) c.into_tree-root.ensures.tree
 
 pub returns-clause-paragraphs : goal.returns-clause-paragraphs
 unfolding tokens
 returns-clause-paragraphs c =
     let root = node c.into_tree-root.result in
-    c.into_parts-leaves.ensures.paragraphs ∙ sym (c.in_ok-added.ensures.gathers.paragraphs []) ∙ c.new-texts.ensures.paragraphs (parts root ++ [])
-    ∙ ap (λ ps. paragraph_starts (tokens_from 1 1 ps)) (append-nil (parts root))
-    ∙ ap (λ n. paragraph_starts (tokens_from 1 1 (parts n))) c.into_tree-root.ensures.tree
+    let all = parts c.args.abbreviations.now root in
+    c.into_parts-leaves.ensures.paragraphs ∙ sym ((gathered c).paragraphs []) ∙ c.new-texts.ensures.paragraphs (all ++ [])
+    ∙ ap (λ ps. paragraph_starts (tokens_from 1 1 ps)) (append-nil all)
+    ∙ ap (λ n. paragraph_starts (tokens_from 1 1 (parts c.args.abbreviations.now n))) c.into_tree-root.ensures.tree
 
 pub returns-clause-few : goal.returns-clause-few
 returns-clause-few c = omega (arith, counted c, c.add_tree.new.read.few, c.in_ok-added.ensures.gathers.most, c.new-texts.ensures.most)
@@ -78,4 +87,4 @@ returns-clause-few c = omega (arith, counted c, c.add_tree.new.read.few, c.in_ok
 pub returns-in_err-added-clause-full : goal.returns-in_err-added-clause-full
 returns-in_err-added-clause-full c full =
     let same : Fault.Tokens ≡ c.in_err-added.field-0.0 = rw full at c.from_residual.ensures.1 in
-    omega (arith, c.in_err-added.ensures.full (ap Err (sym same)), c.new-texts.ensures.most, c.new-texts.ensures.words, ap word_count c.into_tree-root.ensures.tree, length-tokens c.args.doc)
+    omega (arith, c.in_err-added.ensures.full (ap Err (sym same)), c.new-texts.ensures.most, c.new-texts.ensures.words, ap word_count c.into_tree-root.ensures.tree)

@@ -9,7 +9,7 @@ use Rattle.ordered_tree.proofs.ShiftLemmas.{shift}
 use Rattle.ordered_tree.proofs.doc_tree.DocTree.span_of.Goals as goal
 
 pub returns-clause-tokens : goal.returns-clause-tokens
-returns-clause-tokens c s among refers =
+returns-clause-tokens c abbreviations s among refers =
     let root = c.args.self.now.root in
-    ap (λ x. part (tokens (plain root)) (record { from = x.before + 1; to = x.before + 1 + x.words })) (c.head-head.ensures.stands s among refers)
-    ∙ All-contains (λ t. part (tokens (plain root)) (span t) ≡ tokens (plain t.node)) (stands_in root) s (shift root) among
+    ap (λ x. part (tokens abbreviations (plain root)) (record { from = x.before + 1; to = x.before + 1 + x.words })) (c.head-head.ensures.stands s among refers)
+    ∙ All-contains (λ t. part (tokens abbreviations (plain root)) (span t) ≡ tokens abbreviations (plain t.node)) (stands_in root) s (shift abbreviations root) among

@@ -13,5 +13,6 @@ returns-clause-gathers c =
       last = sym (last_leaf-nil old.last);
       sentences = λ rest. ap (λ n. sentences_in old.starts (gap_tag n ∷ rest)) (sym c.as_str.ensures) ∙ c.pass_tag.ensures.sentences rest;
       paragraphs = λ rest. ap (λ n. paragraphs_in old.starts (gap_tag n ∷ rest)) (sym c.as_str.ensures) ∙ c.pass_tag.ensures.paragraphs rest;
+      abbreviations = refl;
       most = refl;
     }

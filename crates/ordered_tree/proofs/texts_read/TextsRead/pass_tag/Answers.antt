@@ -11,5 +11,6 @@ returns-clause-gathers c =
       last = sym (last_leaf-nil old.last);
       sentences = c.pass_tag.ensures.sentences;
       paragraphs = c.pass_tag.ensures.paragraphs;
+      abbreviations = refl;
       most = refl;
     }
