@@ -16,12 +16,12 @@ use Rattle.ft_base.specs.declared.ids.NodeRef.{NodeRef}
 use Rattle.index_meaning.specs.Documents.{Numbered, with_document}
 use Rattle.index_updates.specs.Follows.{Follows, under_tree}
 use Rattle.indexmap.specs.IndexMap.{set_value_at}
+use Rattle.ordered_tree.specs.Counts.{word_count}
 use Rattle.ordered_tree.specs.Numbered.{plain}
 use Rattle.ordered_tree.specs.RefView.{ref_node}
 use Rattle.ordered_tree.specs.Stored.{Stored}
 use Rattle.path_meaning.specs.Collection.{Named}
 use Rattle.plain_tree.specs.Document.{Node}
-use Rattle.tokenizer.specs.Tokens.{tokens}
 use Rattle.collections.specs.Documents.{Edit, changed_roots, edited_documents, edited_root, limit_of, token_total, touched_in}
 use Rattle.collections.specs.Indexed.{FollowsEach}
 use Rattle.collections.specs.Loaded.{LoadedTree, to_document, tree_of, trees_of}
@@ -32,16 +32,17 @@ use Rattle.collections.specs.declared.planning.Planned.{Planned}
 use Rattle.collections.specs.steps.Numbering.{Ascend, IsNumbered}
 use Rattle.collections.specs.steps.Planning.{root_after, ArePlanned, IsDrafted, IsPutAt}
 use Rattle.collections.proofs.NameLemmas.{all-at}
-use Rattle.collections.proofs.NumberingLemmas.{follows-each}
+use Rattle.collections.proofs.NumberingLemmas.{followed, follows-each}
 
 abbrev Entries : Type 0
 Entries = List (List ℕ × LoadedTree)
 
-abbrev followed : Entries → List Numbered
-followed entries = map under_tree (trees_of entries)
-
 abbrev loaded_as : DocId → Stored → LoadedTree
 loaded_as doc tree = record { doc = doc; tree = tree }
+
+followed-append : (abbreviations : List (List ℕ)) (es fs : Entries) → followed abbreviations (es ++ fs) ≡ followed abbreviations es ++ followed abbreviations fs
+followed-append abbreviations es fs =
+    ap (map (under_tree abbreviations)) (map-append tree_of es fs) ∙ map-append (under_tree abbreviations) (trees_of es) (trees_of fs)
 
 -- ---- one document with another tree
 
@@ -52,7 +53,7 @@ module _ (name : List ℕ) (doc : DocId) (before after : Stored) where
   abbrev is : List ℕ × LoadedTree
   is = (name, loaded_as doc after)
 
-  low-at : (from : ℕ) (es rest : Entries) (to : ℕ) → Ascend from (es ++ was ∷ rest) to → from ≤ doc.0
+  pub low-at : (from : ℕ) (es rest : Entries) (to : ℕ) → Ascend from (es ++ was ∷ rest) to → from ≤ doc.0
   low-at from [] rest to up = up.0
   low-at from ((other, first) ∷ es) rest to up = let low = up.0 in let later = low-at (first.doc.0 + 1) es rest to up.1 in omega (arith, low, later)
 
@@ -60,37 +61,42 @@ module _ (name : List ℕ) (doc : DocId) (before after : Stored) where
   ascend-at from [] rest to up = up
   ascend-at from ((other, first) ∷ es) rest to up = (up.0, ascend-at (first.doc.0 + 1) es rest to up.1)
 
-  with-at : (from : ℕ) (es rest : Entries) (to : ℕ) → Ascend from (es ++ was ∷ rest) to
-      → with_document (under_tree (doc.0, after.root)) (followed (es ++ was ∷ rest)) ≡ followed (es ++ is ∷ rest)
-  with-at from [] rest to up =
-      let new = under_tree (doc.0, after.root) in
-      let old = under_tree (doc.0, before.root) in
-      cond-false (nat_lt doc.0 doc.0) (new ∷ old ∷ followed rest) (cond (doc.0 == doc.0) (new ∷ followed rest) (old ∷ with_document new (followed rest))) (le-ltb doc.0 doc.0 (omega arith))
-      ∙ cond-true (doc.0 == doc.0) (new ∷ followed rest) (old ∷ with_document new (followed rest)) (eq-eqb doc.0 doc.0 refl)
-  with-at from ((other, first) ∷ es) rest to up =
-      let new = under_tree (doc.0, after.root) in
-      let d = under_tree (tree_of (other, first)) in
-      let ds = followed (es ++ was ∷ rest) in
+  -- the tree in the place of the one of before, where the documents ahead stand under some abbreviations, and those behind under some
+  pub with-at : (ahead behind abbreviations : List (List ℕ)) (from : ℕ) (es rest : Entries) (to : ℕ) → Ascend from (es ++ was ∷ rest) to
+      → with_document (under_tree abbreviations (doc.0, after.root)) (followed ahead es ++ followed behind (was ∷ rest))
+      ≡ followed ahead es ++ under_tree abbreviations (doc.0, after.root) ∷ followed behind rest
+  with-at ahead behind abbreviations from [] rest to up =
+      let new = under_tree abbreviations (doc.0, after.root) in
+      let old = under_tree behind (doc.0, before.root) in
+      let ds = followed behind rest in
+      cond-false (nat_lt doc.0 doc.0) (new ∷ old ∷ ds) (cond (doc.0 == doc.0) (new ∷ ds) (old ∷ with_document new ds)) (le-ltb doc.0 doc.0 (omega arith))
+      ∙ cond-true (doc.0 == doc.0) (new ∷ ds) (old ∷ with_document new ds) (eq-eqb doc.0 doc.0 refl)
+  with-at ahead behind abbreviations from ((other, first) ∷ es) rest to up =
+      let new = under_tree abbreviations (doc.0, after.root) in
+      let d = under_tree ahead (tree_of (other, first)) in
+      let ds = followed ahead es ++ followed behind (was ∷ rest) in
       let low = low-at (first.doc.0 + 1) es rest to up.1 in
       cond-false (nat_lt doc.0 first.doc.0) (new ∷ d ∷ ds) (cond (doc.0 == first.doc.0) (new ∷ ds) (d ∷ with_document new ds)) (le-ltb doc.0 first.doc.0 (omega (arith, low)))
       ∙ (cond-false (doc.0 == first.doc.0) (new ∷ ds) (d ∷ with_document new ds) (ne_eqb doc.0 first.doc.0 (λ same. omega (arith, low, same)))
-      ∙ ap (λ l. d ∷ l) (with-at (first.doc.0 + 1) es rest to up.1))
+      ∙ ap (λ l. d ∷ l) (with-at ahead behind abbreviations (first.doc.0 + 1) es rest to up.1))
 
-  pub numbered-ahead : (draft : Draft) (es rest : Entries) (version next_version : List Numbered) (next : ℕ) → after.root ≡ ref_node draft.root
-      → next_version ≡ with_document (under_tree (doc.0, ref_node draft.root)) version → IsNumbered (es ++ was ∷ rest) version next → IsNumbered (es ++ is ∷ rest) next_version next
-  numbered-ahead draft es rest version next_version next root made held = record {
+  pub numbered-ahead : (abbreviations : List (List ℕ)) (draft : Draft) (es rest : Entries) (version next_version : List Numbered) (next : ℕ) → after.root ≡ ref_node draft.root
+      → next_version ≡ with_document (under_tree abbreviations (doc.0, ref_node draft.root)) version → IsNumbered abbreviations (es ++ was ∷ rest) version next
+      → IsNumbered abbreviations (es ++ is ∷ rest) next_version next
+  numbered-ahead abbreviations draft es rest version next_version next root made held = record {
     ascend = ascend-at 0 es rest next held.ascend;
     follows = made
-        ∙ (ap (λ r. with_document (under_tree (doc.0, r)) version) (sym root)
-        ∙ (ap (with_document (under_tree (doc.0, after.root))) held.follows ∙ with-at 0 es rest next held.ascend));
+        ∙ (ap (λ r. with_document (under_tree abbreviations (doc.0, r)) version) (sym root)
+        ∙ (ap (with_document (under_tree abbreviations (doc.0, after.root))) (held.follows ∙ followed-append abbreviations es (was ∷ rest))
+        ∙ (with-at abbreviations abbreviations abbreviations 0 es rest next held.ascend ∙ sym (followed-append abbreviations es (is ∷ rest)))));
   }
 
 -- the version follows a document that stands after others
-pub follows-at : (es : Entries) (name : List ℕ) (loaded : LoadedTree) (rest : Entries) (version : List Numbered) (next : ℕ) → IsNumbered (es ++ (name, loaded) ∷ rest) version next
-    → Follows version loaded.doc.0 loaded.tree.root
-follows-at es name loaded rest version next held =
-    all-at (λ t. Follows version t.0 t.1) (trees_of es) (tree_of (name, loaded)) (trees_of rest)
-    (subst (FollowsEach version) (map-append tree_of es ((name, loaded) ∷ rest)) (follows-each (es ++ (name, loaded) ∷ rest) version next held))
+pub follows-at : (abbreviations : List (List ℕ)) (es : Entries) (name : List ℕ) (loaded : LoadedTree) (rest : Entries) (version : List Numbered) (next : ℕ)
+    → IsNumbered abbreviations (es ++ (name, loaded) ∷ rest) version next → Follows abbreviations version loaded.doc.0 loaded.tree.root
+follows-at abbreviations es name loaded rest version next held =
+    all-at (λ t. Follows abbreviations version t.0 t.1) (trees_of es) (tree_of (name, loaded)) (trees_of rest)
+    (subst (FollowsEach abbreviations version) (map-append tree_of es ((name, loaded) ∷ rest)) (follows-each abbreviations (es ++ (name, loaded) ∷ rest) version next held))
 
 -- ---- limits
 
@@ -110,7 +116,7 @@ abbrev many : Node → Bool
 many root = nat_lt max_nodes (node_count root)
 
 abbrev long : Node → Bool
-long root = nat_lt max_tokens (length (tokens root))
+long root = nat_lt max_tokens (word_count root)
 
 split-any : (test : Node → Bool) (xs ys : List Node) → list_any test (xs ++ ys) ≡ false → (list_any test xs ≡ false) × (list_any test ys ≡ false)
 split-any test xs ys none = or_parts (list_any test xs) (list_any test ys) (sym (list_any-append test xs ys) ∙ none)
@@ -257,16 +263,16 @@ set-ahead (e ∷ es) name before after rest = ap (λ fs. e ∷ fs) (set-ahead es
 -- its tokens in place of those of before
 total-ahead : (es : Entries) (name : List ℕ) (loaded : LoadedTree) (rest : Entries)
     → token_total (map to_document (es ++ (name, loaded) ∷ rest))
-    ≡ token_total (map to_document (es ++ rest)) + length (tokens (plain loaded.tree.root))
+    ≡ token_total (map to_document (es ++ rest)) + word_count (plain loaded.tree.root)
 total-ahead [] name loaded rest =
-    let first = sum_by-cons (λ (d : Named). length (tokens d.root)) (to_document (name, loaded)) (map to_document rest) in omega (arith, first)
+    let first = sum_by-cons (λ (d : Named). word_count d.root) (to_document (name, loaded)) (map to_document rest) in omega (arith, first)
 total-ahead (e ∷ es) name loaded rest =
     let later = total-ahead es name loaded rest in
-    let here = sum_by-cons (λ (d : Named). length (tokens d.root)) (to_document e) (map to_document (es ++ (name, loaded) ∷ rest)) in
-    let there = sum_by-cons (λ (d : Named). length (tokens d.root)) (to_document e) (map to_document (es ++ rest)) in
+    let here = sum_by-cons (λ (d : Named). word_count d.root) (to_document e) (map to_document (es ++ (name, loaded) ∷ rest)) in
+    let there = sum_by-cons (λ (d : Named). word_count d.root) (to_document e) (map to_document (es ++ rest)) in
     omega (arith, later, here, there)
 
-module _ (edit : Edit) (all : Entries) (targets : Lists) (version : List Numbered) (rows : ℕ) where
+module _ (abbreviations : List (List ℕ)) (edit : Edit) (all : Entries) (targets : Lists) (version : List Numbered) (rows : ℕ) where
   -- The documents before a place are as they are after the edit, in the version too; those from it on are as they were, and the drafts that are left are theirs.
   pub record Applied (now : Entries) (made : List Numbered) (counted now_rows : ℕ) (rest : List Planned) : Type 0 where
     pub done : Entries
@@ -275,7 +281,7 @@ module _ (edit : Edit) (all : Entries) (targets : Lists) (version : List Numbere
     pub split : now ≡ done ++ left
     pub suffix : drop (length done) all ≡ left
     pub planned : ArePlanned edit (length done) left lists rest
-    pub numbered : (next : ℕ) → IsNumbered all version next → IsNumbered now made next
+    pub numbered : (next : ℕ) → IsNumbered abbreviations all version next → IsNumbered abbreviations now made next
     pub after : map to_document done ++ edited edit left lists ≡ edited edit all targets
     pub total : counted ≡ token_total (map to_document now)
     pub most : now_rows + words edit left lists ≤ rows + words edit all targets
@@ -343,19 +349,19 @@ module _ (edit : Edit) (all : Entries) (targets : Lists) (version : List Numbere
       ahead : drop (p.at + 1) all ≡ next.back
       ahead = tail-same (name, document) (drop (p.at + 1) all) (next.name, next.loaded) next.back (sym found ∙ from-place)
 
-      pub next-follows : (number : ℕ) → IsNumbered all version number → Follows made document.doc.0 document.tree.root
+      pub next-follows : (number : ℕ) → IsNumbered abbreviations all version number → Follows abbreviations made document.doc.0 document.tree.root
       next-follows number numbered =
-          subst (λ (l : LoadedTree). Follows made l.doc.0 l.tree.root) (sym same-document)
-          (follows-at before next.name next.loaded next.back made number
-          (subst (λ es. IsNumbered es made number) now-is (held.numbered number numbered)))
+          subst (λ (l : LoadedTree). Follows abbreviations made l.doc.0 l.tree.root) (sym same-document)
+          (follows-at abbreviations before next.name next.loaded next.back made number
+          (subst (λ es. IsNumbered abbreviations es made number) now-is (held.numbered number numbered)))
 
       pub next-order : KeepsOrder document.tree.root (ref_node p.draft.root)
       next-order = subst (λ (l : LoadedTree). KeepsOrder l.tree.root (ref_node p.draft.root)) (sym same-document) next.drafted.keeps_order
 
-      pub next-counted : length (tokens (plain document.tree.root)) ≤ counted
+      pub next-counted : word_count (plain document.tree.root) ≤ counted
       next-counted =
           let total = held.total ∙ (ap (λ es. token_total (map to_document es)) now-is ∙ total-ahead before next.name next.loaded next.back) in
-          let same = ap (λ (l : LoadedTree). length (tokens (plain l.tree.root))) same-document in
+          let same = ap (λ (l : LoadedTree). word_count (plain l.tree.root)) same-document in
           omega (arith, total, same)
 
       pub next-touched : (more : ℕ) → more ≤ now_rows + touched document.tree.root (ref_node p.draft.root) → more ≤ rows + words edit all targets
@@ -366,8 +372,8 @@ module _ (edit : Edit) (all : Entries) (targets : Lists) (version : List Numbere
           omega (arith, most, same, parts, whole)
 
       pub applied-next : (now' : Entries) (made' : List Numbered) (counted' more : ℕ) → IsPutAt now document.doc p now'
-          → made' ≡ with_document (under_tree (document.doc.0, ref_node p.draft.root)) made
-          → counted' ≡ counted - length (tokens (plain document.tree.root)) + length (tokens (root_after p))
+          → made' ≡ with_document (under_tree abbreviations (document.doc.0, ref_node p.draft.root)) made
+          → counted' ≡ counted - word_count (plain document.tree.root) + word_count (root_after p)
           → more ≤ now_rows + touched document.tree.root (ref_node p.draft.root) → Applied now' made' counted' more ps
       applied-next now' made' counted' more put version' words' most =
           let old : LoadedTree = next.loaded in
@@ -381,12 +387,12 @@ module _ (edit : Edit) (all : Entries) (targets : Lists) (version : List Numbere
           ∙ (set-ahead before next.name old (loaded_as document.doc put.tree) next.back ∙ ap (λ d. before ++ (next.name, loaded_as d put.tree) ∷ next.back) doc_same))) in
           let joined : now' ≡ (before ++ new ∷ []) ++ next.back = changed ∙ sym (append_assoc before (new ∷ []) next.back) in
           let longer : length (before ++ new ∷ []) ≡ p.at + 1 = length-append before (new ∷ []) ∙ ap (λ k. k + 1) before-long in
-          let place : made' ≡ with_document (under_tree (old.doc.0, ref_node p.draft.root)) made =
-          version' ∙ ap (λ (d : DocId). with_document (under_tree (d.0, ref_node p.draft.root)) made) doc_same in
-          let count : length (tokens (plain document.tree.root)) ≡ length (tokens (plain old.tree.root)) = ap (λ r. length (tokens (plain r))) root_same in
+          let place : made' ≡ with_document (under_tree abbreviations (old.doc.0, ref_node p.draft.root)) made =
+          version' ∙ ap (λ (d : DocId). with_document (under_tree abbreviations (d.0, ref_node p.draft.root)) made) doc_same in
+          let count : word_count (plain document.tree.root) ≡ word_count (plain old.tree.root) = ap (λ r. word_count (plain r)) root_same in
           let before_total = held.total ∙ (ap (λ es. token_total (map to_document es)) now-is ∙ total-ahead before next.name old next.back) in
           let after_total = ap (λ es. token_total (map to_document es)) changed ∙ total-ahead before next.name (loaded_as old.doc put.tree) next.back in
-          let new_count : length (tokens (plain put.tree.root)) ≡ length (tokens (root_after p)) = ap (λ r. length (tokens (plain r))) put.root in
+          let new_count : word_count (plain put.tree.root) ≡ word_count (root_after p) = ap (λ r. word_count (plain r)) put.root in
           let touch : touched document.tree.root (ref_node p.draft.root) ≡ touched old.tree.root (ref_node p.draft.root) = ap (λ r. touched r (ref_node p.draft.root)) root_same in
           let parts = next.costs in
           let whole = held.most in
@@ -398,9 +404,9 @@ module _ (edit : Edit) (all : Entries) (targets : Lists) (version : List Numbere
             suffix = ap (λ k. drop k all) longer ∙ ahead;
             planned = subst (λ k. ArePlanned edit k next.back next.left ps) (sym longer) next.planned;
             numbered = λ number numbered.
-                subst (λ es. IsNumbered es made' number) (sym changed)
-                (numbered-ahead next.name old.doc old.tree put.tree p.draft before next.back made made' number put.root place
-                (subst (λ es. IsNumbered es made number) now-is (held.numbered number numbered)));
+                subst (λ es. IsNumbered abbreviations es made' number) (sym changed)
+                (numbered-ahead next.name old.doc old.tree put.tree abbreviations p.draft before next.back made made' number put.root place
+                (subst (λ es. IsNumbered abbreviations es made number) now-is (held.numbered number numbered)));
             after = ap (λ ds. ds ++ edited edit next.back next.left) (map-append to_document before (new ∷ []))
                 ∙ (append_assoc (map to_document before) (to_document new ∷ []) (edited edit next.back next.left)
                 ∙ (ap (λ ds. ds ++ to_document new ∷ edited edit next.back next.left) (map-append to_document held.done next.prefix)

@@ -9,7 +9,6 @@ use Rattle.std.specs.declared.cmp.Ordering.{Ordering}
 use Rattle.std.specs.declared.cmp.Ordering.TheVariants.{Less, Equal, Greater}
 use Rattle.std.proofs.lemmas.Bool.{and_parts, cases_Bool}
 use Rattle.std.proofs.lemmas.Cmp.{nat_list_cmp_total, nat_list_eq_equiv}
-use Rattle.std.proofs.lemmas.List.{map-append}
 use Rattle.std.proofs.lemmas.Map.Made.{length-from_keys}
 use Rattle.std.proofs.lemmas.Slice.Eq.{bytes_eq-Decides}
 use Rattle.index_meaning.specs.Documents.{Numbered, words_of}
@@ -17,14 +16,11 @@ use Rattle.index_meaning.specs.Entries.{Entry, by_order, entry_cmp, is_below, is
 use Rattle.index_meaning.specs.Index.{term_of, terms}
 use Rattle.index_versions.proofs.TermsLemmas.{sorted_all}
 use Rattle.term_dict.proofs.OrderLemmas.{keys_in_order, less_is, same_entry, squeezed}
-use Rattle.ft_base.specs.declared.token.Token.{Token}
-use Rattle.index_updates.specs.Follows.{tree_document, under_tree}
+use Rattle.index_updates.specs.Follows.{under_tree}
 use Rattle.index_updates.proofs.WordsLemmas.{words-tree}
 use Rattle.index_versions.specs.Versions.{terms_of}
-use Rattle.ordered_tree.specs.Numbered.{plain}
-use Rattle.path_meaning.specs.Collection.{Named}
 use Rattle.text_forms.specs.Forms.{key_of}
-use Rattle.tokenizer.specs.Tokens.{tokens}
+use Rattle.tokenizer.specs.Tokens.{words_in}
 use Rattle.collections.specs.Documents.{key_total}
 use Rattle.collections.specs.Loaded.{LoadedTree, to_document, trees_of}
 use Rattle.collections.specs.steps.Numbering.{IsKept}
@@ -169,20 +165,12 @@ module _ (key_by : List ℕ → List ℕ) where
 
 -- ---- the words of documents
 
-module _ where
-  keys-of-documents : (es : Entries) → map key_of (flat_map (λ d. words_of d.document) (map under_tree (trees_of es)))
-      ≡ map (λ (token : Token). key_of token.word) (flat_map (λ d. tokens d.root) (map to_document es))
-  keys-of-documents [] = refl
-  keys-of-documents (e ∷ es) =
-      let root = plain e.1.tree.root in
-      map-append key_of (words_of (tree_document e.1.tree.root)) (flat_map (λ (d : Numbered). words_of d.document) (map under_tree (trees_of es)))
-      ∙ (ap₂ (λ a b. a ++ b) (ap (map key_of) (words-tree e.1.tree.root) ∙ map-map (tokens root)) (keys-of-documents es)
-      ∙ sym (map-append (λ (token : Token). key_of token.word) (tokens root) (flat_map (λ (d : Named). tokens d.root) (map to_document es))))
-    where
-      map-map : (ts : List Token) → map key_of (map (λ (token : Token). token.word) ts) ≡ map (λ (token : Token). key_of token.word) ts
-      map-map [] = refl
-      map-map (t ∷ ts) = ap (λ ks. key_of t.word ∷ ks) (map-map ts)
+module _ (abbreviations : List (List ℕ)) where
+  words-of-documents : (es : Entries) → flat_map (λ d. words_of d.document) (map (under_tree abbreviations) (trees_of es)) ≡ flat_map (λ d. words_in d.root) (map to_document es)
+  words-of-documents [] = refl
+  words-of-documents (e ∷ es) = ap₂ (λ a b. a ++ b) (words-tree abbreviations e.1.tree.root) (words-of-documents es)
 
-pub keys-total : (es : Entries) (version : List Numbered) (next words : ℕ) → IsKept es version next words → key_count (terms_of version) ≡ key_total (map to_document es)
-keys-total es version next words held =
-    ap (λ v. key_count (terms_of v)) held.numbered.follows ∙ (keys-counted key_of (map under_tree (trees_of es)) ∙ ap (distinct_count bytes_eq) (keys-of-documents es))
+  pub keys-total : (es : Entries) (version : List Numbered) (next words : ℕ) → IsKept abbreviations es version next words → key_count (terms_of version) ≡ key_total (map to_document es)
+  keys-total es version next words held =
+      ap (λ v. key_count (terms_of v)) held.numbered.follows
+      ∙ (keys-counted key_of (map (under_tree abbreviations) (trees_of es)) ∙ ap (λ ws. distinct_count bytes_eq (map key_of ws)) (words-of-documents es))

@@ -3,6 +3,7 @@ pub mod NumberingLemmas
 pub mod ApplyLemmas
 pub mod PlanLemmas
 pub mod NameLemmas
+pub mod RebreakLemmas
 pub mod RootLemmas
 pub mod EditLemmas
 pub mod KeyLemmas

@@ -8,13 +8,13 @@ use Rattle.std.proofs.lemmas.List.{length-map}
 use Rattle.doc_profile.specs.declared.fault.DocFault.{DocFault}
 use Rattle.doc_profile.specs.declared.fault.DocFault.TheVariants as faults
 use Rattle.doc_grammar.specs.Limits.{node_count}
+use Rattle.ordered_tree.specs.Counts.{word_count}
 use Rattle.ordered_tree.specs.Numbered.{plain}
 use Rattle.ordered_tree.specs.Numbering.{numbered}
 use Rattle.ordered_tree.specs.Stored.{Stored}
 use Rattle.ordered_tree.proofs.BuildingLemmas.{plain-numbered}
 use Rattle.path_meaning.specs.Collection.{Named}
 use Rattle.plain_tree.specs.Document.{Node}
-use Rattle.tokenizer.specs.Tokens.{tokens}
 use Rattle.doc_profile.specs.Readings.{Faults, document_of}
 use Rattle.collections.specs.declared.fault.NotLoaded.{NotLoaded}
 use Rattle.collections.specs.declared.fault.NotLoaded.TheVariants as unloaded
@@ -53,9 +53,9 @@ module _ (entries : List (List ℕ × LoadedTree)) (documents : List Named) (nam
       ∙ ap (λ t. cond taken (documents, Err NameTaken) (cond t (documents, Err Full) (added documents asked read))) count
 
   -- the tokens of a document that comes
-  pub tokens-come : (root : Node) → tokens_loaded documents asked (Ok root) ≡ cond (taken || full) 0 (length (tokens root))
+  pub tokens-come : (root : Node) → tokens_loaded documents asked (Ok root) ≡ cond (taken || full) 0 (word_count root)
   tokens-come root =
-      ap (λ t. cond (t || nat_le max_documents (length documents)) 0 (length (tokens root))) has ∙ ap (λ t. cond (taken || t) 0 (length (tokens root))) count
+      ap (λ t. cond (t || nat_le max_documents (length documents)) 0 (word_count root)) has ∙ ap (λ t. cond (taken || t) 0 (word_count root)) count
 
 pub dropped-test : (documents : List Named) (name : List ℕ) (there : Bool) → has_name name documents ≡ there
     → dropped documents name ≡ cond there (without name documents, Ok tt) (documents, Err NoSuchName)
@@ -73,11 +73,11 @@ abbrev pub changed_to : {E : Type 0} → List Named → List Named × Result ⊤
 changed_to documents = (documents, Ok tt)
 
 -- a document that was read, and too many tokens
-pub with_few_tokens-many : (root : Node) → max_tokens < length (tokens root) → with_few_tokens (Ok root) ≡ Err TooManyTokens
-with_few_tokens-many root many = ap (λ t. cond t (Err TooManyTokens) (Ok root)) (lt-ltb max_tokens (length (tokens root)) many)
+pub with_few_tokens-many : (root : Node) → max_tokens < word_count root → with_few_tokens (Ok root) ≡ Err TooManyTokens
+with_few_tokens-many root many = ap (λ t. cond t (Err TooManyTokens) (Ok root)) (lt-ltb max_tokens (word_count root) many)
 
-pub with_few_tokens-few : (root : Node) → length (tokens root) ≤ max_tokens → with_few_tokens (Ok root) ≡ Ok root
-with_few_tokens-few root few = ap (λ t. cond t (Err TooManyTokens) (Ok root)) (le-ltb max_tokens (length (tokens root)) few)
+pub with_few_tokens-few : (root : Node) → word_count root ≤ max_tokens → with_few_tokens (Ok root) ≡ Ok root
+with_few_tokens-few root few = ap (λ t. cond t (Err TooManyTokens) (Ok root)) (le-ltb max_tokens (word_count root) few)
 
 -- a block's fault, or its document
 module _ (block : List ℕ) where

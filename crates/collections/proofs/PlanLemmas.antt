@@ -1,5 +1,5 @@
 -- What is planned for documents, one after the other, is what an edit makes of all.
-use Rattle.std.proofs.Common.{◌≡◌, ◌≢◌, ◌∙◌, subst, sym, ap, refl, ℕ, ◌+◌, ◌<◌, ◌≤◌, arith, true, false, true≢false, Bool, not, ◌||◌, All, List, [], ◌∷◌, ◌++◌, length, drop, get_or, nat_le, append_assoc, append-nil, sum_by, Option, Some, None}
+use Rattle.std.proofs.Common.{◌≡◌, ◌∙◌, subst, sym, ap, refl, ℕ, ◌+◌, ◌<◌, ◌≤◌, arith, true, false, true≢false, Bool, not, ◌||◌, All, List, [], ◌∷◌, ◌++◌, length, drop, get_or, nat_le, append_assoc, append-nil, sum_by, Option, Some, None}
 use Rattle.std.specs.List.{list_any}
 use Rattle.std.proofs.lemmas.Bool.{le-leb, leb-true, or_left}
 use Rattle.std.proofs.lemmas.List.{drop_all, drop_more, length-drop}

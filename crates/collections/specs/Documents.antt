@@ -13,7 +13,8 @@ use Rattle.path_meaning.specs.Collection.{Named}
 use Rattle.plain_tree.specs.Document.{Node, Nodes}
 use Rattle.plain_tree.specs.declared.place.How.{How}
 use Rattle.text_forms.specs.Forms.{key_of}
-use Rattle.tokenizer.specs.Tokens.{tokens}
+use Rattle.ordered_tree.specs.Counts.{word_count}
+use Rattle.tokenizer.specs.Tokens.{words_in}
 use Rattle.collections.specs.declared.fault.NotEdited.{NotEdited}
 use Rattle.collections.specs.declared.fault.NotEdited.TheVariants as unedited
 use Rattle.collections.specs.declared.fault.NotLoaded.{NotLoaded}
@@ -29,7 +30,7 @@ has_name name documents = list_any (λ d. bytes_eq name d.name) documents
 -- a document that was read, unless it has too many tokens
 abbrev pub with_few_tokens : Result Node DocFault → Result Node NotLoaded
 with_few_tokens (Err fault) = Err (unloaded.Document fault)
-with_few_tokens (Ok root) = if nat_lt max_tokens (length (tokens root)) then Err unloaded.TooManyTokens else Ok root
+with_few_tokens (Ok root) = if nat_lt max_tokens (word_count root) then Err unloaded.TooManyTokens else Ok root
 
 -- the document that a block is, or why it can't be loaded
 unfoldable pub loadable : List ℕ → Result Node NotLoaded
@@ -61,12 +62,12 @@ dropped documents name =
 abbrev pub tokens_loaded : List Named → List ℕ → Result Node NotLoaded → ℕ
 tokens_loaded documents name (Err why) = 0
 tokens_loaded documents name (Ok root) =
-    if has_name name documents || nat_le max_documents (length documents) then 0 else length (tokens root)
+    if has_name name documents || nat_le max_documents (length documents) then 0 else word_count root
 
 -- how many tokens the document of a name has; none, where there is no such document
 abbrev pub tokens_named : List Named → List ℕ → ℕ
 tokens_named [] name = 0
-tokens_named (d ∷ ds) name = if bytes_eq name d.name then length (tokens d.root) else tokens_named ds name
+tokens_named (d ∷ ds) name = if bytes_eq name d.name then word_count d.root else tokens_named ds name
 
 -- ---- editing
 
@@ -101,7 +102,7 @@ abbrev pub limit_of : List Node → Option NotEdited
 limit_of roots =
     if list_any (λ root. nat_lt max_depth (height root)) roots then Some unedited.TooDeep
     else if list_any (λ root. nat_lt max_nodes (node_count root)) roots then Some unedited.TooManyNodes
-    else if list_any (λ root. nat_lt max_tokens (length (tokens root))) roots then Some unedited.TooManyTokens
+    else if list_any (λ root. nat_lt max_tokens (word_count root)) roots then Some unedited.TooManyTokens
     else None
 
 abbrev pub or_limited : List Named → Option NotEdited → List Named → List Named × Result ⊤ NotEdited
@@ -125,8 +126,8 @@ touched_in edit (places ∷ rest) (d ∷ ds) = touched_root edit places d.root +
 -- ---- counts
 
 abbrev pub token_total : List Named → ℕ
-token_total documents = sum_by (λ d. length (tokens d.root)) documents
+token_total documents = sum_by (λ d. word_count d.root) documents
 
 -- how many different keys the tokens of documents have
 abbrev pub key_total : List Named → ℕ
-key_total documents = distinct_count bytes_eq (map (λ token. key_of token.word) (flat_map (λ d. tokens d.root) documents))
+key_total documents = distinct_count bytes_eq (map key_of (flat_map (λ d. words_in d.root) documents))

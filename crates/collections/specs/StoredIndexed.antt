@@ -25,6 +25,7 @@ document_code =
 
 abbrev pub indexed_code : Coded Indexed
 indexed_code =
-    code_by (List Named × (List (ℕ × tree.Numbered) × List Numbered))
-    (coded× (coded_list document_code) (coded× (coded_list (coded× coded_ℕ numbered_code)) version.the_row.coded))
-    (λ i. (i.documents, (i.trees, i.version))) (λ p. record { documents = p.0; trees = p.1.0; version = p.1.1 }) (λ _. refl)
+    code_by (List Named × (List (List ℕ) × (List (ℕ × tree.Numbered) × List Numbered)))
+    (coded× (coded_list document_code) (coded× (coded_list (coded_list coded_ℕ)) (coded× (coded_list (coded× coded_ℕ numbered_code)) version.the_row.coded)))
+    (λ i. (i.documents, (i.abbreviations, (i.trees, i.version))))
+    (λ p. record { documents = p.0; abbreviations = p.1.0; trees = p.1.1.0; version = p.1.1.1 }) (λ _. refl)

@@ -4,10 +4,11 @@ ghost use Rattle.std.specs.Prelude.{◌≡◌, ◌≤◌, ◌+◌, ◌++◌, ◌
 ghost use Rattle.std.specs.List.{list_any, sum_by};
 ghost use Rattle.doc_profile.specs.Faults.{AreWithin};
 ghost use Rattle.ft_base.specs.Lists.{is_empty};
+ghost use Rattle.index_updates.specs.Follows.{AreOf};
+ghost use Rattle.ordered_tree.specs.Counts.{word_count};
 ghost use Rattle.ordered_tree.specs.Numbered.{plain};
 ghost use Rattle.plain_tree.specs.Document.{nodes};
 ghost use Rattle.plain_tree.specs.View.{node};
-ghost use Rattle.tokenizer.specs.Tokens.{tokens};
 ghost use Rattle.tree_edits.specs.steps.Acts.{stays};
 ghost use Rattle.collections.specs.Documents.{dropped, edited_within, has_name, key_total, loadable, loaded};
 ghost use Rattle.collections.specs.Documents.{token_total, tokens_loaded, tokens_named, touched_in};
@@ -15,6 +16,7 @@ ghost use Rattle.collections.specs.Indexed.{nothing_indexed, FollowsEach, IsInde
 ghost use Rattle.collections.specs.Loaded.{to_document, trees_of};
 ghost use Rattle.collections.specs.Targets.{edit_of, places_of_targets, AreTargets};
 
+use crate::abbreviations::Abbreviations;
 use crate::applying::{Edited, apply_all};
 use crate::documents::Documents;
 use crate::fault::{NotEdited, NotLoaded, NotRemoved};
@@ -23,6 +25,7 @@ use crate::loaded::Loadable;
 use crate::loading::{Outcome, read_document};
 use crate::making::index_document;
 use crate::planning::plan_all;
+use crate::rebreaking::rebreak_all;
 use crate::tokens::token_count;
 use ft_base::{DocId, Line, MAX_DOCUMENTS, Memory, Steps};
 use index_updates::drop_doc;
@@ -32,6 +35,7 @@ use plain_tree::{How, Kids};
 use std::alloc::Global;
 use std::marker::Model;
 use std::sync::ledger::Ledger;
+use word_lists::KeySet;
 
 /// The documents of a session by their names, in the order in which they were loaded, and their index. Each document has
 /// a number in it, which is greater than those of the documents that were loaded before.
@@ -39,6 +43,8 @@ use std::sync::ledger::Ledger;
 pub struct Collection {
     alloc: Global,
     documents: Documents,
+    /// The keys of words directly behind which a period ends no sentence.
+    abbreviations: Abbreviations,
     version: Version,
     /// Where the version's dictionary has words: what a document that comes looks at first.
     hints: WordHints,
@@ -62,11 +68,12 @@ impl Model for Collection {
 
     ghost view = { λ inside. record {
       documents = map to_document inside.documents;
+      abbreviations = inside.abbreviations;
       trees = trees_of inside.documents;
       version = inside.version;
     } };
 
-    ghost invariant = { λ inside. IsKept inside.documents inside.version inside.next inside.tokens };
+    ghost invariant = { λ inside. IsKept inside.abbreviations inside.documents inside.version inside.next inside.tokens };
 }
 
 impl Collection {
@@ -77,6 +84,7 @@ impl Collection {
         Collection {
             alloc,
             documents: Documents::new(alloc),
+            abbreviations: Abbreviations::empty(alloc),
             version: Version::empty(alloc),
             hints: WordHints::new(alloc),
             next: 0,
@@ -84,34 +92,39 @@ impl Collection {
         }
     }
 
-    /// The same documents with their index once more. The two share names, trees and the index's memory, and neither sees a
-    /// change to the other.
+    /// The same documents with their index once more. The two share names, trees, abbreviations and the index's memory, and
+    /// neither sees a change to the other.
     pub fn copy(&self) -> Result<Collection, Memory>
         ensures { IfOk result (λ copy. copy ≡ self.now) }
     {
         let documents = self.documents.share()?;
+        let Ok(abbreviations) = self.abbreviations.share(self.alloc) else {
+            drop(documents);
+            return Err(Memory);
+        };
         match self.version.clone_version() {
             Ok(version) => Ok(Collection {
                 alloc: self.alloc,
                 documents,
+                abbreviations,
                 version,
                 hints: WordHints::new(self.alloc),
                 next: self.next,
                 tokens: self.tokens,
             }),
             Err(memory) => {
-                drop(documents);
+                drop((documents, abbreviations));
                 Err(memory)
             }
         }
     }
 
-    /// The documents. The version is their index, and it follows the tree of each under its number.
+    /// The documents. The version is their index under the abbreviations, and it follows the tree of each under its number.
     pub fn documents(&self) -> &Documents
         ensures documents { map to_document result.now ≡ self.now.documents }
         ensures trees { trees_of result.now ≡ self.now.trees }
-        ensures indexed { IsIndexOf self.now.documents self.now.version }
-        ensures followed { FollowsEach self.now.version self.now.trees }
+        ensures indexed { IsIndexOf self.now.abbreviations self.now.documents self.now.version }
+        ensures followed { FollowsEach self.now.abbreviations self.now.version self.now.trees }
     {
         &self.documents
     }
@@ -121,6 +134,35 @@ impl Collection {
         ensures { result.now ≡ self.now.version }
     {
         &self.version
+    }
+
+    /// The keys of words directly behind which a period ends no sentence.
+    pub fn abbreviations(&self) -> &KeySet
+        ensures { result.now ≡ self.now.abbreviations }
+    {
+        self.abbreviations.as_set()
+    }
+
+    /// Sets the abbreviations, and with them where the sentences of all documents end. No row of the index is put or taken, and no text
+    /// is read.
+    pub fn set_abbreviations(&mut self, abbreviations: KeySet) -> Result<(), Memory>
+        ensures documents { self.new.documents ≡ self.old.documents }
+        ensures trees { self.new.trees ≡ self.old.trees }
+        ensures abbreviations { OnOk result (self.new.abbreviations ≡ abbreviations) }
+        ensures err { OnErr result (self.new ≡ self.old) }
+    {
+        let abbreviations = Abbreviations::of(self.alloc, abbreviations)?;
+        match rebreak_all(&self.documents, &self.version, abbreviations.as_set()) {
+            Ok(rebroken) => {
+                drop(std::mem::replace(&mut self.abbreviations, abbreviations));
+                drop(std::mem::replace(&mut self.version, rebroken));
+                Ok(())
+            }
+            Err(memory) => {
+                drop(abbreviations);
+                Err(memory)
+            }
+        }
     }
 
     /// How many documents there are.
@@ -153,6 +195,7 @@ impl Collection {
         rows: &mut Steps<L>,
     ) -> Result<Result<(), NotLoaded>, Memory>
         ensures answer { IfOk result (λ answer. (self.new.documents, answer) ≡ loaded self.old.documents name.now (loadable block.now)) }
+        ensures abbreviations { self.new.abbreviations ≡ self.old.abbreviations }
         ensures err { OnErr result (self.new ≡ self.old) }
         ensures refused { IfOk result (λ answer. OnErr answer (self.new ≡ self.old)) }
         ensures rows { rows.new ≤ rows.old + tokens_loaded self.old.documents name.now (loadable block.now) }
@@ -164,7 +207,7 @@ impl Collection {
         if self.documents.len() >= MAX_DOCUMENTS {
             return Ok(Err(NotLoaded::Full));
         }
-        match read_document(self.alloc, block)? {
+        match read_document(self.alloc, block, self.abbreviations.as_set())? {
             Outcome::NotLoaded(why) => Ok(Err(why)),
             Outcome::Document(document) => match self.add(name, document, rows) {
                 Ok(()) => Ok(Ok(())),
@@ -180,14 +223,23 @@ impl Collection {
         document: Loadable,
         rows: &mut Steps<L>,
     ) -> Result<(), Memory>
-        requires { has_name name self.old.documents ≡ false }
+        requires new { has_name name self.old.documents ≡ false }
+        requires found { AreOf self.old.abbreviations document.read.tree.root document.read.leaves document.read.breaks }
         ensures documents { OnOk result (self.new.documents ≡ self.old.documents ++ record { name = name; root = plain document.read.tree.root } ∷ []) }
+        ensures abbreviations { self.new.abbreviations ≡ self.old.abbreviations }
         ensures err { OnErr result (self.new ≡ self.old) }
-        ensures rows { rows.new ≤ rows.old + length (tokens (plain document.read.tree.root)) }
+        ensures rows { rows.new ≤ rows.old + word_count (plain document.read.tree.root) }
     {
         let doc = DocId(self.next);
-        let hints = &mut self.hints;
-        let made = index_document(self.alloc, &self.version, hints, doc, document, rows);
+        let made = index_document(
+            self.alloc,
+            &self.version,
+            &mut self.hints,
+            doc,
+            document,
+            self.abbreviations.as_set(),
+            rows,
+        );
         let Ok((loaded, version)) = made else {
             drop(name);
             return Err(Memory);
@@ -221,6 +273,7 @@ impl Collection {
         rows: &mut Steps<L>,
     ) -> Result<Result<(), NotRemoved>, Memory>
         ensures answer { IfOk result (λ answer. (self.new.documents, answer) ≡ dropped self.old.documents name.now) }
+        ensures abbreviations { self.new.abbreviations ≡ self.old.abbreviations }
         ensures err { OnErr result (self.new ≡ self.old) }
         ensures refused { IfOk result (λ answer. OnErr answer (self.new ≡ self.old)) }
         ensures rows { rows.new ≤ rows.old + tokens_named self.old.documents name.now }
@@ -260,6 +313,7 @@ impl Collection {
         requires few_nodes { AreWithin (nodes (map node content.now)) }
         ensures edited { IfOk result (λ answer. (self.new.documents, answer)
             ≡ edited_within (edit_of how content.now) (places_of_targets self.old.trees targets.now) self.old.documents) }
+        ensures abbreviations { self.new.abbreviations ≡ self.old.abbreviations }
         ensures err { OnErr result (self.new ≡ self.old) }
         ensures refused { IfOk result (λ answer. OnErr answer (self.new ≡ self.old)) }
         ensures rows { rows.new ≤ rows.old + touched_in (edit_of how content.now) (places_of_targets self.old.trees targets.now) self.old.documents }
@@ -279,6 +333,7 @@ impl Collection {
             &self.version,
             self.tokens,
             planned,
+            self.abbreviations.as_set(),
             rows,
         )?;
         drop(std::mem::replace(&mut self.documents, documents));

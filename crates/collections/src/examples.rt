@@ -1,10 +1,15 @@
 //! The definitions on small documents, by computation.
 
-ghost use Rattle.std.specs.Prelude.{◌≡◌, ◌∷◌, [], None, codes, false, true};
+ghost use Rattle.std.specs.Prelude.{◌≡◌, ◌≢◌, ◌∷◌, [], ℕ, List, None, codes, false, true};
 ghost use Rattle.std.specs.Set.{distinct_count, unique_keys};
 ghost use Rattle.std.specs.Str.{bytes_eq};
+ghost use Rattle.index_meaning.specs.Documents.{numbered};
+ghost use Rattle.index_updates.specs.Follows.{token_document};
+ghost use Rattle.plain_tree.specs.Document.{Node};
+ghost use Rattle.tokenizer.specs.Tokens.{sentence_starts, tokens};
 ghost use Rattle.collections.specs.Documents.{changed_roots, edited_documents, has_name, limit_of, without};
-ghost use Rattle.collections.specs.Examples.{bare, deletion, first_named, last_named, second_named};
+ghost use Rattle.collections.specs.Examples.{bare, deletion, first_named, last_named, nested, second_named};
+ghost use Rattle.collections.specs.Indexed.{IsIndexOf};
 
 /// Documents by their names.
 pub fn named_documents()
@@ -28,4 +33,15 @@ pub fn different_texts()
     ensures once { unique_keys bytes_eq (codes "a" ∷ codes "b" ∷ codes "a" ∷ []) ≡ codes "b" ∷ codes "a" ∷ [] }
     ensures count { distinct_count bytes_eq (codes "a" ∷ codes "b" ∷ codes "a" ∷ []) ≡ 2 }
     ensures nothing { distinct_count bytes_eq [] ≡ 0 }
+{}
+
+/// A version is the index of documents under the abbreviations that their sentences are of, and under no others.
+pub fn indexes_of_documents()
+    ensures nothing { (abbreviations : List (List ℕ)) → IsIndexOf abbreviations [] [] }
+    ensures two { (abbreviations : List (List ℕ)) → IsIndexOf abbreviations (first_named ∷ last_named ∷ [])
+        (numbered 2 (token_document abbreviations nested) ∷ numbered 5 (token_document abbreviations nested) ∷ []) }
+    ensures too_few { (abbreviations : List (List ℕ)) → IsIndexOf abbreviations (first_named ∷ []) [] → ⊥ }
+    ensures other_sentences { (abbreviations others : List (List ℕ)) (root : Node)
+        → sentence_starts (tokens abbreviations root) ≢ sentence_starts (tokens others root)
+        → IsIndexOf abbreviations (record { name = codes "a"; root = root } ∷ []) (numbered 0 (token_document others root) ∷ []) → ⊥ }
 {}

@@ -1,6 +1,7 @@
 //! The documents of a session with their index: what loading, dropping and editing do to them, and how much there is.
 #![tactic(auto)]
 
+mod abbreviations;
 mod applying;
 mod collection;
 mod documents;
@@ -12,6 +13,7 @@ mod loading;
 mod making;
 mod names;
 mod planning;
+mod rebreaking;
 mod tokens;
 
 pub use collection::Collection;

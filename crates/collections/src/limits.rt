@@ -1,10 +1,10 @@
 //! Whether documents would exceed a limit after an edit.
 
-ghost use Rattle.std.specs.Prelude.{◌≡◌, length, map, nat_lt};
+ghost use Rattle.std.specs.Prelude.{◌≡◌, map, nat_lt};
 ghost use Rattle.std.specs.List.{list_any};
 ghost use Rattle.doc_grammar.specs.Limits.{height, node_count};
 ghost use Rattle.ft_base.specs.Limits.{max_depth, max_nodes, max_tokens};
-ghost use Rattle.tokenizer.specs.Tokens.{tokens};
+ghost use Rattle.ordered_tree.specs.Counts.{word_count};
 ghost use Rattle.collections.specs.Documents.{limit_of};
 ghost use Rattle.collections.specs.steps.Planning.{root_after};
 
@@ -43,7 +43,7 @@ fn any_with_too_many_nodes(planned: &[Planned]) -> bool
 
 /// Whether one of them has too many tokens.
 fn any_with_too_many_tokens(planned: &[Planned]) -> bool
-    ensures { result ≡ list_any (λ p. nat_lt max_tokens (length (tokens (root_after p)))) planned.now }
+    ensures { result ≡ list_any (λ p. nat_lt max_tokens (word_count (root_after p))) planned.now }
 {
     planned.iter().any(|one| has_too_many_tokens(one))
 }
@@ -64,7 +64,7 @@ fn has_too_many_nodes(planned: &Planned) -> bool
 
 /// Whether it has too many tokens.
 fn has_too_many_tokens(planned: &Planned) -> bool
-    ensures { result ≡ nat_lt max_tokens (length (tokens (root_after planned.now))) }
+    ensures { result ≡ nat_lt max_tokens (word_count (root_after planned.now)) }
 {
     planned.draft.has_more_tokens_than(MAX_TOKENS)
 }

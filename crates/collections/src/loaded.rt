@@ -1,7 +1,6 @@
 ghost use Rattle.std.specs.Prelude.{◌≡◌, ◌≤◌, IfOk};
 ghost use Rattle.doc_grammar.specs.Limits.{node_count};
 ghost use Rattle.ft_base.specs.Limits.{max_nodes};
-ghost use Rattle.index_updates.specs.Follows.{AreOf};
 ghost use Rattle.ordered_tree.specs.Numbered.{plain};
 
 use ft_base::{DocId, Memory};
@@ -11,11 +10,10 @@ use std::alloc::Global;
 use std::marker::Model;
 use std::rc::Rc;
 
-/// A document that can be loaded, as it was just read: its words and breaks that were found on the way are the tree's.
+/// A document that can be loaded, as it was just read, with its words and breaks that were found on the way.
 #[derive(Drop)]
 pub(crate) struct Loadable {
     pub(crate) read: Read,
-    ghost found: { AreOf read.tree.root read.leaves read.breaks },
     ghost within: { node_count (plain read.tree.root) ≤ max_nodes },
 }
 

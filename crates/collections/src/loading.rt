@@ -1,7 +1,7 @@
 ghost use Rattle.std.specs.Prelude.{◌≡◌, ◌≢◌, IfOk, Ok, OnOk};
 ghost use Rattle.doc_profile.specs.Faults.{IsWithin};
 ghost use Rattle.collections.specs.Documents.{loadable, with_few_tokens};
-ghost use Rattle.collections.specs.LoadView.{outcome};
+ghost use Rattle.collections.specs.LoadView.{outcome, IsFoundUnder};
 
 use crate::fault::NotLoaded;
 use crate::loaded::Loadable;
@@ -11,6 +11,7 @@ use ordered_tree::load_doc;
 use plain_tree::PlainDoc;
 use std::alloc::Global;
 use tokenizer::TokenFault;
+use word_lists::KeySet;
 
 /// What a block is: a document that can be loaded, or why none can.
 #[derive(Drop)]
@@ -30,22 +31,28 @@ fn refuse(fault: DocFault) -> Result<NotLoaded, Memory>
     }
 }
 
-/// Reads the block as a document with references.
-pub(crate) fn read_document(alloc: Global, block: &[u8]) -> Result<Outcome, Memory>
-    ensures { IfOk result (λ read. outcome read ≡ loadable block.now) }
+/// Reads the block as a document with references. Its breaks are those under the abbreviations.
+pub(crate) fn read_document(
+    alloc: Global,
+    block: &[u8],
+    abbreviations: &KeySet,
+) -> Result<Outcome, Memory>
+    ensures outcome { IfOk result (λ read. outcome read ≡ loadable block.now) }
+    ensures found { IfOk result (IsFoundUnder abbreviations.now) }
 {
     match read_doc(alloc, block) {
-        Ok(document) => load(alloc, document),
+        Ok(document) => load(alloc, document, abbreviations),
         Err(fault) => Ok(Outcome::NotLoaded(refuse(fault)?)),
     }
 }
 
 /// The document with references, unless it has too many tokens.
-fn load(alloc: Global, document: PlainDoc) -> Result<Outcome, Memory>
+fn load(alloc: Global, document: PlainDoc, abbreviations: &KeySet) -> Result<Outcome, Memory>
     requires { IsWithin document }
-    ensures { IfOk result (λ read. outcome read ≡ with_few_tokens (Ok document)) }
+    ensures outcome { IfOk result (λ read. outcome read ≡ with_few_tokens (Ok document)) }
+    ensures found { IfOk result (IsFoundUnder abbreviations.now) }
 {
-    match load_doc(alloc, document) {
+    match load_doc(alloc, document, abbreviations) {
         Ok(read) => Ok(Outcome::Document(Loadable { read })),
         Err(TokenFault::Tokens) => Ok(Outcome::NotLoaded(NotLoaded::TooManyTokens)),
         Err(TokenFault::Memory) => Err(Memory),

@@ -12,9 +12,9 @@ loop-one-init g c =
     let given : into_iter_items c.into_iter-one-iterator.result ≡ c.args.planned.items = search rules in
     record {
       applied = λ edit targets plans.
-          subst (Applied edit all targets made.version c.args.rows.now made.documents made.version made.tokens c.args.rows.now) (sym given)
-          (subst (λ es. Applied edit all targets made.version c.args.rows.now es made.version made.tokens c.args.rows.now c.args.planned.items) (sym c.requires.same)
-          (applied-first edit all targets made.version c.args.rows.now made.tokens c.args.planned.items plans c.requires.counted c.requires.limits));
+          subst (Applied c.args.abbreviations.now edit all targets made.version c.args.rows.now made.documents made.version made.tokens c.args.rows.now) (sym given)
+          (subst (λ es. Applied c.args.abbreviations.now edit all targets made.version c.args.rows.now es made.version made.tokens c.args.rows.now c.args.planned.items) (sym c.requires.same)
+          (applied-first c.args.abbreviations.now edit all targets made.version c.args.rows.now made.tokens c.args.planned.items plans c.requires.counted c.requires.limits));
       ends = search rules;
     }
 
@@ -26,10 +26,10 @@ entry-requires g c =
     let rest = into_iter_items c.next.new.self in
     let edit = c.requires.plans.0 in
     let targets = c.requires.plans.1.0 in
-    let held : Applied edit all targets made.version c.args.rows.now now.documents now.version now.tokens c.loop-one.rows (c.in-Some.one ∷ rest) =
-    subst (Applied edit all targets made.version c.args.rows.now now.documents now.version now.tokens c.loop-one.rows) c.in-Some.ensures.steps.0
+    let held : Applied c.args.abbreviations.now edit all targets made.version c.args.rows.now now.documents now.version now.tokens c.loop-one.rows (c.in-Some.one ∷ rest) =
+    subst (Applied c.args.abbreviations.now edit all targets made.version c.args.rows.now now.documents now.version now.tokens c.loop-one.rows) c.in-Some.ensures.steps.0
     (c.loop-one.invariant.applied edit targets c.requires.plans.1.1) in
-    (place-there edit all targets made.version c.args.rows.now now.documents now.version now.tokens c.loop-one.rows c.in-Some.one rest held).0
+    (place-there c.args.abbreviations.now edit all targets made.version c.args.rows.now now.documents now.version now.tokens c.loop-one.rows c.in-Some.one rest held).0
 
 pub put-requires-clause-follows : goal.put-requires-clause-follows
 put-requires-clause-follows g c =
@@ -39,10 +39,10 @@ put-requires-clause-follows g c =
     let rest = into_iter_items c.next.new.self in
     let edit = c.requires.plans.0 in
     let targets = c.requires.plans.1.0 in
-    let held : Applied edit all targets made.version c.args.rows.now now.documents now.version now.tokens c.loop-one.rows (c.in-Some.one ∷ rest) =
-    subst (Applied edit all targets made.version c.args.rows.now now.documents now.version now.tokens c.loop-one.rows) c.in-Some.ensures.steps.0
+    let held : Applied c.args.abbreviations.now edit all targets made.version c.args.rows.now now.documents now.version now.tokens c.loop-one.rows (c.in-Some.one ∷ rest) =
+    subst (Applied c.args.abbreviations.now edit all targets made.version c.args.rows.now now.documents now.version now.tokens c.loop-one.rows) c.in-Some.ensures.steps.0
     (c.loop-one.invariant.applied edit targets c.requires.plans.1.1) in
-    next-follows edit all targets made.version c.args.rows.now now.documents now.version now.tokens c.loop-one.rows c.in-Some.one rest held
+    next-follows c.args.abbreviations.now edit all targets made.version c.args.rows.now now.documents now.version now.tokens c.loop-one.rows c.in-Some.one rest held
     c.entry.result.0.now c.entry.result.1.now c.entry.ensures c.requires.numbered.0 c.requires.numbered.1
 
 pub put-requires-clause-order : goal.put-requires-clause-order
@@ -53,10 +53,10 @@ put-requires-clause-order g c =
     let rest = into_iter_items c.next.new.self in
     let edit = c.requires.plans.0 in
     let targets = c.requires.plans.1.0 in
-    let held : Applied edit all targets made.version c.args.rows.now now.documents now.version now.tokens c.loop-one.rows (c.in-Some.one ∷ rest) =
-    subst (Applied edit all targets made.version c.args.rows.now now.documents now.version now.tokens c.loop-one.rows) c.in-Some.ensures.steps.0
+    let held : Applied c.args.abbreviations.now edit all targets made.version c.args.rows.now now.documents now.version now.tokens c.loop-one.rows (c.in-Some.one ∷ rest) =
+    subst (Applied c.args.abbreviations.now edit all targets made.version c.args.rows.now now.documents now.version now.tokens c.loop-one.rows) c.in-Some.ensures.steps.0
     (c.loop-one.invariant.applied edit targets c.requires.plans.1.1) in
-    next-order edit all targets made.version c.args.rows.now now.documents now.version now.tokens c.loop-one.rows c.in-Some.one rest held
+    next-order c.args.abbreviations.now edit all targets made.version c.args.rows.now now.documents now.version now.tokens c.loop-one.rows c.in-Some.one rest held
     c.entry.result.0.now c.entry.result.1.now c.entry.ensures
 
 pub put-requires-clause-counted : goal.put-requires-clause-counted
@@ -67,10 +67,10 @@ put-requires-clause-counted g c =
     let rest = into_iter_items c.next.new.self in
     let edit = c.requires.plans.0 in
     let targets = c.requires.plans.1.0 in
-    let held : Applied edit all targets made.version c.args.rows.now now.documents now.version now.tokens c.loop-one.rows (c.in-Some.one ∷ rest) =
-    subst (Applied edit all targets made.version c.args.rows.now now.documents now.version now.tokens c.loop-one.rows) c.in-Some.ensures.steps.0
+    let held : Applied c.args.abbreviations.now edit all targets made.version c.args.rows.now now.documents now.version now.tokens c.loop-one.rows (c.in-Some.one ∷ rest) =
+    subst (Applied c.args.abbreviations.now edit all targets made.version c.args.rows.now now.documents now.version now.tokens c.loop-one.rows) c.in-Some.ensures.steps.0
     (c.loop-one.invariant.applied edit targets c.requires.plans.1.1) in
-    next-counted edit all targets made.version c.args.rows.now now.documents now.version now.tokens c.loop-one.rows c.in-Some.one rest held
+    next-counted c.args.abbreviations.now edit all targets made.version c.args.rows.now now.documents now.version now.tokens c.loop-one.rows c.in-Some.one rest held
     c.entry.result.0.now c.entry.result.1.now c.entry.ensures
 
 pub loop-one-preserved : goal.loop-one-preserved
@@ -82,9 +82,9 @@ loop-one-preserved g c =
     let next = c.in-Some.ensures.steps.0 in
     record {
       applied = λ edit targets plans.
-          let held : Applied edit all targets made.version c.args.rows.now now.documents now.version now.tokens c.loop-one.rows (c.in-Some.one ∷ rest) =
-          subst (Applied edit all targets made.version c.args.rows.now now.documents now.version now.tokens c.loop-one.rows) next (c.loop-one.invariant.applied edit targets plans) in
-          applied-next edit all targets made.version c.args.rows.now now.documents now.version now.tokens c.loop-one.rows c.in-Some.one rest held
+          let held : Applied c.args.abbreviations.now edit all targets made.version c.args.rows.now now.documents now.version now.tokens c.loop-one.rows (c.in-Some.one ∷ rest) =
+          subst (Applied c.args.abbreviations.now edit all targets made.version c.args.rows.now now.documents now.version now.tokens c.loop-one.rows) next (c.loop-one.invariant.applied edit targets plans) in
+          applied-next c.args.abbreviations.now edit all targets made.version c.args.rows.now now.documents now.version now.tokens c.loop-one.rows c.in-Some.one rest held
           c.entry.result.0.now c.entry.result.1.now c.entry.ensures c.put.new.made.documents c.put.new.made.version c.put.new.made.tokens c.put.new.rows
           c.in_ok-put.ensures.documents c.in_ok-put.ensures.version c.in_ok-put.ensures.tokens c.in_ok-put.ensures.rows;
       ends = omega (arith, c.in-Some.ensures.steps.1, ap length next, c.loop-one.invariant.ends);
@@ -96,10 +96,10 @@ returns-in_err-put-clause-rows g c = λ edit targets plans.
     let made = c.args.made.now in
     let now = c.loop-one.made in
     let rest = into_iter_items c.next.new.self in
-    let held : Applied edit all targets made.version c.args.rows.now now.documents now.version now.tokens c.loop-one.rows (c.in-Some.one ∷ rest) =
-    subst (Applied edit all targets made.version c.args.rows.now now.documents now.version now.tokens c.loop-one.rows) c.in-Some.ensures.steps.0
+    let held : Applied c.args.abbreviations.now edit all targets made.version c.args.rows.now now.documents now.version now.tokens c.loop-one.rows (c.in-Some.one ∷ rest) =
+    subst (Applied c.args.abbreviations.now edit all targets made.version c.args.rows.now now.documents now.version now.tokens c.loop-one.rows) c.in-Some.ensures.steps.0
     (c.loop-one.invariant.applied edit targets plans) in
-    next-touched edit all targets made.version c.args.rows.now now.documents now.version now.tokens c.loop-one.rows c.in-Some.one rest held
+    next-touched c.args.abbreviations.now edit all targets made.version c.args.rows.now now.documents now.version now.tokens c.loop-one.rows c.in-Some.one rest held
     c.entry.result.0.now c.entry.result.1.now c.entry.ensures c.put.new.rows c.in_err-put.ensures.rows
 
 pub returns-clause-documents : goal.returns-clause-documents
@@ -109,5 +109,5 @@ returns-clause-documents g c = λ edit targets plans.
     let now = c.loop-one.made in
     let none : into_iter_items c.loop-one.one-iterator ≡ [] =
     nil_from_length (into_iter_items c.loop-one.one-iterator) (sym c.loop-one.invariant.ends ∙ c.in-None.ensures.steps.0) in
-    applied-last edit all targets made.version c.args.rows.now now.documents now.version now.tokens c.loop-one.rows
-    (subst (Applied edit all targets made.version c.args.rows.now now.documents now.version now.tokens c.loop-one.rows) none (c.loop-one.invariant.applied edit targets plans))
+    applied-last c.args.abbreviations.now edit all targets made.version c.args.rows.now now.documents now.version now.tokens c.loop-one.rows
+    (subst (Applied c.args.abbreviations.now edit all targets made.version c.args.rows.now now.documents now.version now.tokens c.loop-one.rows) none (c.loop-one.invariant.applied edit targets plans))

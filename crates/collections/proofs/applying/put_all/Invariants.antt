@@ -10,6 +10,6 @@ use Rattle.collections.proofs.applying.put_all.Given as goal
 abbrev pub invariant-loop-one : goal.invariant-loop-one
 invariant-loop-one g l = record {
   applied : (edit : Edit) → (targets : List (List NodeRef)) → ArePlanned edit 0 l.documents targets l.fn.planned.items
-      → Applied edit l.documents targets l.fn.made.version l.fn.rows l.made.documents l.made.version l.made.tokens l.rows (into_iter_items l.one-iterator);
+      → Applied l.abbreviations edit l.documents targets l.fn.made.version l.fn.rows l.made.documents l.made.version l.made.tokens l.rows (into_iter_items l.one-iterator);
   ends : into_iter_len l.one-iterator ≡ length (into_iter_items l.one-iterator);
 }

@@ -10,19 +10,20 @@ use Rattle.collections.proofs.LoadingLemmas.{tree-is, with_few_tokens-few, with_
 use Rattle.collections.proofs.loading.load.Goals as goal
 
 pub invariant_of-result : goal.invariant_of-result
-invariant_of-result c =
+invariant_of-result c = record { within = subst (λ n. node_count n ≤ max_nodes) (sym (tree-is c.in-Ok.read.tree c.args.document c.in-Ok.ensures.tree)) c.requires.1 }
+
+pub returns-in-Ok-clause-found : goal.returns-in-Ok-clause-found
+returns-in-Ok-clause-found c =
+    let keys = c.args.abbreviations.now in
     let is = sym (tree-is c.in-Ok.read.tree c.args.document c.in-Ok.ensures.tree) in
     record {
-      found = record {
-        leaves = c.in-Ok.ensures.leaves ∙ sym (ap (λ (t : Stored). leaves t.root) c.in-Ok.ensures.tree);
-        sentences = c.in-Ok.ensures.sentences ∙ ap (λ n. sentence_starts (tokens n)) is;
-        paragraphs = c.in-Ok.ensures.paragraphs ∙ ap (λ n. paragraph_starts (tokens n)) is;
-      };
-      within = subst (λ n. node_count n ≤ max_nodes) is c.requires.1;
+      leaves = c.in-Ok.ensures.leaves ∙ sym (ap (λ (t : Stored). leaves t.root) c.in-Ok.ensures.tree);
+      sentences = c.in-Ok.ensures.sentences ∙ ap (λ n. sentence_starts (tokens keys n)) is;
+      paragraphs = c.in-Ok.ensures.paragraphs ∙ ap (λ n. paragraph_starts (tokens keys n)) is;
     }
 
-pub returns-in-Ok : goal.returns-in-Ok
-returns-in-Ok c = ap Ok (tree-is c.in-Ok.read.tree c.args.document c.in-Ok.ensures.tree) ∙ sym (with_few_tokens-few c.args.document c.in-Ok.ensures.few)
+pub returns-in-Ok-clause-outcome : goal.returns-in-Ok-clause-outcome
+returns-in-Ok-clause-outcome c = ap Ok (tree-is c.in-Ok.read.tree c.args.document c.in-Ok.ensures.tree) ∙ sym (with_few_tokens-few c.args.document c.in-Ok.ensures.few)
 
-pub returns-in-Err-Tokens : goal.returns-in-Err-Tokens
-returns-in-Err-Tokens c = sym (with_few_tokens-many c.args.document (c.in-Err-Tokens.ensures.full (ap Err c.in-Err-Tokens.field-0-is)))
+pub returns-in-Err-Tokens-clause-outcome : goal.returns-in-Err-Tokens-clause-outcome
+returns-in-Err-Tokens-clause-outcome c = sym (with_few_tokens-many c.args.document (c.in-Err-Tokens.ensures.full (ap Err c.in-Err-Tokens.field-0-is)))

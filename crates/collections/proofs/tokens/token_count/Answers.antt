@@ -1,9 +1,7 @@
 -- The span of the root has a position for each token.
 use Rattle.std.proofs.Common.{◌≡◌, sym, ap, arith}
 use Rattle.ft_base.specs.declared.span.Span.{Span}
-use Rattle.ordered_tree.specs.Numbered.{plain}
 use Rattle.ordered_tree.specs.Stands.{span}
-use Rattle.ordered_tree.proofs.ShiftLemmas.{length-tokens}
 use Rattle.collections.proofs.RootLemmas.{root-stands, root-stand}
 use Rattle.collections.proofs.tokens.token_count.Goals as goal
 
@@ -21,5 +19,4 @@ returns c =
     let is : c.span_of-span.result ≡ span (root-stand root) = c.span_of-span.ensures.positions (root-stand root) (root-stands root) (sym c.root.ensures.root) in
     let from = ap (λ (s : Span). s.from) is in
     let to = ap (λ (s : Span). s.to) is in
-    let count = length-tokens (plain root) in
-    omega (arith, from, to, count)
+    omega (arith, from, to)

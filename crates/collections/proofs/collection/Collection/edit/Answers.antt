@@ -1,10 +1,11 @@
 -- The documents after the edit, unless one would exceed a limit.
-use Rattle.std.proofs.Common.{◌≡◌, ◌∙◌, subst, sym, ap, map, None, Some}
+use Rattle.std.proofs.Common.{◌≡◌, ◌∙◌, subst, sym, ap, ℕ, List, map, None, Some}
 use Rattle.std.specs.Prelude.{Ok, Err}
 use Rattle.collections.specs.Documents.{edited_within, limit_of}
 use Rattle.collections.specs.Indexed.{Indexed}
 use Rattle.collections.specs.Loaded.{to_document, trees_of}
 use Rattle.collections.specs.Targets.{edit_of, places_of_targets}
+use Rattle.collections.specs.steps.Numbering.{IsNumbered}
 use Rattle.collections.specs.steps.Planning.{root_after}
 use Rattle.collections.proofs.ApplyLemmas.{roots-planned}
 use Rattle.collections.proofs.EditLemmas.{edited-all, edited-limited}
@@ -23,7 +24,11 @@ returns-in-Some-clause-edited g c =
     (edited-limited edit places (map to_document entries) c.in-Some.why (sym (ap limit_of roots) ∙ found))
 
 pub apply_all-requires-clause-numbered : goal.apply_all-requires-clause-numbered
-apply_all-requires-clause-numbered g c = (c.self.inside.next, c.self.invariant.numbered)
+apply_all-requires-clause-numbered g c =
+    let inside = c.self.inside in (
+      inside.next,
+      subst (λ (keys : List (List ℕ)). IsNumbered keys inside.documents inside.version inside.next) (sym c.as_set.ensures) c.self.invariant.numbered,
+    )
 
 pub apply_all-requires-clause-plans : goal.apply_all-requires-clause-plans
 apply_all-requires-clause-plans g c = (edit_of c.args.how c.args.content.now, (c.args.targets.now, c.in_ok-planned.ensures))

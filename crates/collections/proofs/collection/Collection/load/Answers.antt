@@ -35,12 +35,12 @@ returns-in-NotLoaded-clause-answer g c =
     let same = c.in_ok-name.ensures ∙ c.as_str.ensures in
     let absent = sym c.contains_key.ensures ∙ c.if-contains_key.false in
     let room = ap (nat_le max_documents) (sym c.len.ensures.len) ∙ grind (arith, nat_tests) in
-    let read = sym c.in_ok-why.ensures ∙ ap outcome c.in-NotLoaded.is in
+    let read = sym c.in_ok-why.ensures.outcome ∙ ap outcome c.in-NotLoaded.is in
     sym (loaded-by c.self.inside.documents documents c.in_ok-name.name c.args.name.now there same false false absent room (loadable c.args.block.now)
     ∙ ap (added documents c.args.name.now) read)
 
-pub add-requires : goal.add-requires
-add-requires g c =
+pub add-requires-clause-new : goal.add-requires-clause-new
+add-requires-clause-new g c =
     ap (λ (i : Indexed). has_name c.in_ok-name.name i.documents) (sym c.self.view_is)
     ∙ (sym c.contains_key.ensures ∙ c.if-contains_key.false)
 
@@ -52,7 +52,7 @@ returns-in-Ok-clause-answer g c =
     let same = c.in_ok-name.ensures ∙ c.as_str.ensures in
     let absent = sym c.contains_key.ensures ∙ c.if-contains_key.false in
     let room = ap (nat_le max_documents) (sym c.len.ensures.len) ∙ grind (arith, nat_tests) in
-    let read = sym c.in_ok-why.ensures ∙ ap outcome c.in-Document.is in
+    let read = sym c.in_ok-why.ensures.outcome ∙ ap outcome c.in-Document.is in
     ap (changed_to {E = NotLoaded}) c.in-Ok.ensures.documents
     ∙ (ap (λ n. changed_to {E = NotLoaded} (documents ++ record { name = n; root = root } ∷ [])) same
     ∙ sym (loaded-by c.self.inside.documents documents c.in_ok-name.name c.args.name.now there same false false absent room (loadable c.args.block.now)
@@ -63,7 +63,7 @@ returns-in-Ok-clause-rows g c =
     let there = ap (λ (i : Indexed). i.documents) c.self.view_is in
     let absent = sym c.contains_key.ensures ∙ c.if-contains_key.false in
     let room = ap (nat_le max_documents) (sym c.len.ensures.len) ∙ grind (arith, nat_tests) in
-    let most = ap (tokens_loaded c.args.self.now.documents c.args.name.now) (sym c.in_ok-why.ensures ∙ ap outcome c.in-Document.is)
+    let most = ap (tokens_loaded c.args.self.now.documents c.args.name.now) (sym c.in_ok-why.ensures.outcome ∙ ap outcome c.in-Document.is)
     ∙ tokens-come c.self.inside.documents c.args.self.now.documents c.in_ok-name.name c.args.name.now there (c.in_ok-name.ensures ∙ c.as_str.ensures)
     false false absent room (plain c.in-Document.document.read.tree.root) in
     omega (arith, most, c.add.ensures.rows)
@@ -73,7 +73,7 @@ returns-in-Err-clause-rows g c =
     let there = ap (λ (i : Indexed). i.documents) c.self.view_is in
     let absent = sym c.contains_key.ensures ∙ c.if-contains_key.false in
     let room = ap (nat_le max_documents) (sym c.len.ensures.len) ∙ grind (arith, nat_tests) in
-    let most = ap (tokens_loaded c.args.self.now.documents c.args.name.now) (sym c.in_ok-why.ensures ∙ ap outcome c.in-Document.is)
+    let most = ap (tokens_loaded c.args.self.now.documents c.args.name.now) (sym c.in_ok-why.ensures.outcome ∙ ap outcome c.in-Document.is)
     ∙ tokens-come c.self.inside.documents c.args.self.now.documents c.in_ok-name.name c.args.name.now there (c.in_ok-name.ensures ∙ c.as_str.ensures)
     false false absent room (plain c.in-Document.document.read.tree.root) in
     omega (arith, most, c.add.ensures.rows)
