@@ -12,6 +12,7 @@ block_length (command.Insert how path block) = length block
 block_length (command.Replace path block) = length block
 block_length (command.Stop name block) = length block
 block_length (command.Stems block) = length block
+block_length (command.Abbreviations block) = length block
 block_length (command.Thesaurus name block) = length block
 block_length _ = 0
 
@@ -28,6 +29,7 @@ is_readable (command.Replace path block) = not (is_empty path)
 is_readable (command.Delete path) = not (is_empty path)
 is_readable (command.Stop name block) = is_name name
 is_readable (command.Stems block) = true
+is_readable (command.Abbreviations block) = true
 is_readable (command.Thesaurus name block) = is_name name
 is_readable (command.Query path) = not (is_empty path)
 is_readable (command.QueryAt name path) = is_name name && not (is_empty path)

@@ -1,8 +1,9 @@
 use crate::How;
 use ft_base::{Bytes, Items, Line};
 
-/// A command of a session. A name is letters, digits, periods, low lines and hyphens, at least one and at most `MAX_NAME_BYTES`; a path
-/// or a selection is UTF-8 that isn't empty, and is read where the command is carried out.
+/// A command of a session. A name has at least one character and at most `MAX_NAME_BYTES`: letters, digits, periods, low lines and hyphens,
+/// or, where it stood in quotation marks, any but controls (U+0000 to U+001F, U+007F). A path or a selection is UTF-8 that isn't empty,
+/// and is read where the command is carried out.
 #[derive(Drop)]
 pub enum Command {
     /// Load the document in the block under the name.
@@ -19,6 +20,8 @@ pub enum Command {
     Stop { name: Line, block: Bytes },
     /// Read the dictionary of stems in the block.
     Stems { block: Bytes },
+    /// Read the abbreviations in the block, behind which a period ends no sentence.
+    Abbreviations { block: Bytes },
     /// Read the thesaurus in the block.
     Thesaurus { name: Line, block: Bytes },
     /// Print the nodes that the path selects.

@@ -81,6 +81,7 @@ pub record HoldsOfBlocks (P : Command → Type 0) (block : List ℕ) : Type 0 wh
   pub replace : (path : List ℕ) → is_empty path ≡ false → P (command.Replace path block)
   pub stop : (name : List ℕ) → is_name name ≡ true → P (command.Stop name block)
   pub stems : P (command.Stems block)
+  pub abbreviations : P (command.Abbreviations block)
   pub thesaurus : (name : List ℕ) → is_name name ≡ true → P (command.Thesaurus name block)
 
 query_at_holds : (P : Command → Type 0) → HoldsOfLines P → (number : ℕ) (name path : List ℕ) → P (query_at number name path)
@@ -134,7 +135,8 @@ words_hold P block h quotes number word rest =
     (chosen P (is_text word (codes "replace")) _ _ (of_text P number rest (λ path. command.Replace path block) h.bad h.replace)
     (chosen P (is_text word (codes "stop")) _ _ (of_name P quotes number rest (λ name. command.Stop name block) h.bad h.bad_name h.stop)
     (chosen P (is_text word (codes "stems")) _ _ (chosen P (is_empty rest) _ _ h.stems (h.bad number))
-    (chosen P (is_text word (codes "thesaurus")) _ _ (of_name P quotes number rest (λ name. command.Thesaurus name block) h.bad h.bad_name h.thesaurus) (h.bad number))))))
+    (chosen P (is_text word (codes "abbreviations")) _ _ (chosen P (is_empty rest) _ _ h.abbreviations (h.bad number))
+    (chosen P (is_text word (codes "thesaurus")) _ _ (of_name P quotes number rest (λ name. command.Thesaurus name block) h.bad h.bad_name h.thesaurus) (h.bad number)))))))
 
 pub holds_of_block : (P : Command → Type 0) (block : List ℕ) → HoldsOfBlocks P block → (number : ℕ) (line : List ℕ) → P (command_of_block number line block)
 holds_of_block P block h number line =

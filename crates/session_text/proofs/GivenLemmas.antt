@@ -39,6 +39,7 @@ readable_block block = record {
   replace = λ p h. ap not h;
   stop = λ n h. h;
   stems = refl;
+  abbreviations = refl;
   thesaurus = λ n h. h;
 }
 
@@ -72,6 +73,7 @@ within_block block = record {
   replace = λ p h. omega arith;
   stop = λ n h. omega arith;
   stems = omega arith;
+  abbreviations = omega arith;
   thesaurus = λ n h. omega arith;
 }
 

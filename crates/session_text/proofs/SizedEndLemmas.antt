@@ -11,7 +11,7 @@ use Rattle.command_replies.specs.declared.command.Command.{Command}
 use Rattle.command_replies.specs.declared.command.Command.TheVariants as command
 use Rattle.command_replies.specs.Given.{block_lengths, is_readable}
 use Rattle.text_lines.specs.Lines.{after_first_word, first_word, is_skipped, trimmed_line, without_return}
-use Rattle.session_text.specs.LineCommands.{command_of_line, command_of_sized_block, opens_block}
+use Rattle.session_text.specs.LineCommands.{command_of_line, command_of_sized_block, opens_sized_block}
 use Rattle.session_text.specs.SizedBlocks.{block_size, first_line, said, size_in, sized_commands}
 use Rattle.session_text.specs.Words.{is_command_line}
 use Rattle.session_text.specs.steps.PeriodReading.{is_unended}
@@ -47,7 +47,7 @@ line_end number line (Some (suc size)) =
 no_block : block_size [] ≡ None
 no_block = by (is_command_line [])
   where
-    by : (t : Bool) → cond (t && opens_block []) (size_in (first_word (after_first_word (trimmed_line [])))) None ≡ None
+    by : (t : Bool) → cond (t && opens_sized_block []) (size_in (first_word (after_first_word (trimmed_line [])))) None ≡ None
     by true = refl
     by false = refl
 

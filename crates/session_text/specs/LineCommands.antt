@@ -17,6 +17,10 @@ opens_block line =
     list_any (is_text (first_word (trimmed_line line)))
     (codes "load" ∷ codes "insert" ∷ codes "replace" ∷ codes "stop" ∷ codes "stems" ∷ codes "thesaurus" ∷ [])
 
+-- the same where blocks have lengths, which one more command has
+abbrev pub opens_sized_block : List ℕ → Bool
+opens_sized_block line = opens_block line || is_text (first_word (trimmed_line line)) (codes "abbreviations")
+
 -- a name in quotation marks, which stands before nothing else: what it says, or the command that tells the fault. `number` is the line's.
 abbrev pub quoted_name : ℕ → Option (List ℕ × List ℕ) → Result (List ℕ) Command
 quoted_name number None = Err (command.BadCommand number)
@@ -71,6 +75,7 @@ abbrev pub list_command : Bool → ℕ → List ℕ → List ℕ → List ℕ �
 list_command quotes number word rest block =
     if is_text word (codes "stop") then named quotes number rest (λ name. command.Stop name block)
     else if is_text word (codes "stems") then alone number rest (command.Stems block)
+    else if is_text word (codes "abbreviations") then alone number rest (command.Abbreviations block)
     else if is_text word (codes "thesaurus") then named quotes number rest (λ name. command.Thesaurus name block)
     else command.BadCommand number
 

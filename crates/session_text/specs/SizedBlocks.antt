@@ -10,7 +10,7 @@ use Rattle.ft_base.specs.Lists.{is_empty}
 use Rattle.command_replies.specs.declared.command.Command.{Command}
 use Rattle.command_replies.specs.declared.command.Command.TheVariants as command
 use Rattle.text_lines.specs.Lines.{after_first_word, first_word, is_skipped, trimmed_line, without_return}
-use Rattle.session_text.specs.LineCommands.{opens_block, command_of_line, command_of_sized_block}
+use Rattle.session_text.specs.LineCommands.{opens_sized_block, command_of_line, command_of_sized_block}
 use Rattle.session_text.specs.Words.{is_command_line}
 
 -- the bytes before the first line feed, and those after it
@@ -34,7 +34,7 @@ size_in word = size_as (digits_value 10 word) word
 -- how many bytes the block has that follows a line; none where no block follows it
 abbrev pub block_size : List ℕ → Option ℕ
 block_size line =
-    if is_command_line line && opens_block line then size_in (first_word (after_first_word (trimmed_line line))) else None
+    if is_command_line line && opens_sized_block line then size_in (first_word (after_first_word (trimmed_line line))) else None
 
 -- how many bytes a first line has with the line feed that ends it, which is counted where it is missing, too
 abbrev pub line_size : List ℕ → ℕ

@@ -2,6 +2,7 @@
 #![tactic(auto)]
 
 mod add;
+pub mod examples;
 mod line;
 mod named;
 mod parse;

@@ -1,7 +1,8 @@
 ghost use Rattle.std.specs.Prelude.{◌≡◌, ◌≤◌, false, true, IfOk, IfSome, IfNone};
 ghost use Rattle.text_lines.specs.Lines.{is_skipped, trimmed_line};
-ghost use Rattle.session_text.specs.LineCommands.{block_command, command_of_block, command_of_line, command_of_sized_block, how_of, insertion};
-ghost use Rattle.session_text.specs.LineCommands.{line_command, list_command, name_command, opens_block as block_follows, query, query_at, query_at_quoted};
+ghost use Rattle.session_text.specs.LineCommands.{alone as made_alone, block_command, command_of_block, command_of_line, command_of_sized_block, how_of, insertion};
+ghost use Rattle.session_text.specs.LineCommands.{line_command, list_command, name_command, opens_block as block_follows};
+ghost use Rattle.session_text.specs.LineCommands.{opens_sized_block as sized_block_follows, query, query_at, query_at_quoted};
 ghost use Rattle.session_text.specs.Quoted.{unquoted_on};
 ghost use Rattle.ft_base.specs.Limits.{max_session_bytes};
 ghost use Rattle.session_text.specs.SizedBlocks.{block_size};
@@ -30,6 +31,17 @@ fn read_how(word: &str) -> Option<How>
         "before" => Some(How::Before),
         "after" => Some(How::After),
         _ => None,
+    }
+}
+
+/// The command, where nothing is to follow its word.
+fn alone(number: u64, rest: &str, command: Command) -> Command
+    ensures { result ≡ made_alone number rest.now command }
+{
+    if rest.is_empty() {
+        command
+    } else {
+        Command::BadCommand { line: number }
     }
 }
 
@@ -89,11 +101,10 @@ fn read_list_command(
         return read_stop(alloc, quotes, number, rest, block);
     }
     if word == "stems" {
-        return Ok(if rest.is_empty() {
-            Command::Stems { block }
-        } else {
-            Command::BadCommand { line: number }
-        });
+        return Ok(alone(number, rest, Command::Stems { block }));
+    }
+    if word == "abbreviations" {
+        return Ok(alone(number, rest, Command::Abbreviations { block }));
     }
     if word == "thesaurus" {
         return read_thesaurus(alloc, quotes, number, rest, block);
@@ -169,8 +180,8 @@ fn read_name_command(
     if word == "unmark" {
         return read_unmark(alloc, quotes, number, rest);
     }
-    if word == "stats" && rest.is_empty() {
-        return Ok(Command::Stats);
+    if word == "stats" {
+        return Ok(alone(number, rest, Command::Stats));
     }
     Ok(Command::BadCommand { line: number })
 }
@@ -226,6 +237,14 @@ pub(crate) fn opens_block(line: &[u8]) -> bool
         || is_word(word, "stop")
         || is_word(word, "stems")
         || is_word(word, "thesaurus")
+}
+
+/// The same where blocks have lengths.
+fn opens_sized_block(line: &[u8]) -> bool
+    ensures { result ≡ sized_block_follows line.now }
+{
+    let text = trim_line(line);
+    opens_block(line) || is_word(&text[..word_end(text)], "abbreviations")
 }
 
 /// The command of the line of that number, which no block follows.
@@ -288,7 +307,7 @@ pub(crate) fn block_size_of(line: &[u8]) -> Option<usize>
     ensures size { result ≡ block_size line.now }
     ensures within { IfSome result (λ size. size ≤ max_session_bytes) }
 {
-    if !opens_block(line) {
+    if !opens_sized_block(line) {
         return None;
     }
     let text = command_text_of(line)?;

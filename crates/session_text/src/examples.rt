@@ -1,0 +1,10 @@
+//! Sessions of format 2, by computation.
+
+mod names;
+mod sizes;
+
+pub use names::{names_in_quotation_marks, queries_at_quoted_names, texts_in_quotation_marks};
+pub use sizes::{
+    abbreviations, blocks_of_lines, commands_with_blocks, first_lines, lengths, lengths_in_lines,
+    open_blocks, sizes_of_first_lines,
+};
